@@ -56,7 +56,7 @@ puts_first log block q ahead h fresh = record {
   others = λ k o r e. put_unseen log.held q (Some block) k o r (not_seen k o block e) (ap (seen_as k o) fresh);
 }
 
--- what stands in an option, or the other
+-- what is in an option, or the other
 abbrev pub inside : Option (Place × Log) → Place × Log → Place × Log
 inside None other = other
 inside (Some x) other = x

@@ -10,7 +10,7 @@ pub record Stored : Type 0 where
   pub object : ℕ
   pub bytes : List ℕ
 
--- The block that each held pointer leads to, the places that the next appends take, in order, how many places were ever
+-- The block that each held pointer refers to, the places that the next appends take, in order, how many places were ever
 -- taken, and how many times the data block at a place is named.
 pub record Log : Type 0 where
   pub held : Place → Option Stored

@@ -4,7 +4,7 @@ use Rattle.std.specs.List.{Contains}
 use Rattle.s4_types.specs.Pointer.{Place}
 use Rattle.block_log.specs.Log.{Log}
 
--- The first n places ahead were taken, and each counts as spent; what wasn't held before and is held now stands at one of them.
+-- The first n places ahead were taken, and each counts as spent; what wasn't held before and is held now is at one of them.
 pub record TakesPlaces (n : ℕ) (before after : Log) : Type 0 where
   pub ahead : after.ahead ≡ drop n before.ahead
   pub spent : after.spent ≡ n + before.spent

@@ -1,8 +1,10 @@
-ghost use Rattle.std.specs.Prelude.{◌≡◌, ◌≢◌, ℕ, ◌+◌, ◌-◌, ◌^◌, ◌<◌, ◌≤◌, ◌++◌, true, length, take, drop, Option, Some, None, IsSome, IfSome, IfOk, OnOk, IfErr};
+ghost use Rattle.std.specs.Prelude.{◌≡◌, ◌≢◌, ℕ, ◌+◌, ◌-◌, ◌^◌, ◌<◌, ◌≤◌, ◌++◌, true, length, take};
+ghost use Rattle.std.specs.Prelude.{drop, Option, Some, None, IsSome, IfSome, IfOk, OnOk, IfErr};
 ghost use Rattle.s4_types.specs.Pointer.{IsPlace};
 ghost use Rattle.s4_types.specs.declared.limits.TheConstants.{BLOCK_BYTES};
 ghost use Rattle.s4_types.specs.declared.refusals.Refusal.TheVariants.{NoMemory, NoSpace};
-ghost use Rattle.block_log.specs.Log.{Log, Stored, appended, dropped, held_more, is_data, NamesAreOfData};
+ghost use Rattle.block_log.specs.Log.{Log, Stored, appended, dropped, held_more, is_data};
+ghost use Rattle.block_log.specs.Log.{NamesAreOfData};
 
 use crate::kinds::BlockKind;
 use s4_types::limits::BLOCK_BYTES;
@@ -11,13 +13,14 @@ use s4_types::{ObjectId, Ptr, Refusal};
 /// 512 bytes, the unit of the log.
 pub type Block = [u8; BLOCK_BYTES];
 
-/// A table of blocks behind pointers.
+/// A table of blocks that pointers refer to.
 pub trait Blocks {
-    // What the held pointers lead to, where the next appends go, how many places were ever taken, and how often data is named.
+    // What the held pointers refer to, where the next appends go, how many places were ever taken,
+    // and how often data is named.
     ghost log: { Self → Log };
 
-    /// Appends a block, and answers the pointer by which it is held from now on. No held pointer equals it. A data block has
-    /// one name then.
+    /// Appends a block, and answers the pointer by which it is held from now on. No held pointer
+    /// equals it. A data block has one name then.
     ///
     /// NoSpace exactly where no place is left; then nothing has changed.
     fn append(&mut self, kind: BlockKind, object: ObjectId, block: &Block) -> Result<Ptr, Refusal>
@@ -26,16 +29,16 @@ pub trait Blocks {
         ensures fresh { IfOk result (λ p. (log self.old).held p ≡ None) }
         ensures full { IfErr result (λ e. (e ≡ NoSpace) × ((length (log self.old).ahead ≡ 0) × (log self.new ≡ log self.old))) };
 
-    /// The block that a held pointer leads to.
+    /// The block that a held pointer refers to.
     fn get(&mut self, place: Ptr) -> Block
         requires { IsSome ((log self.old).held place) }
         ensures bytes { IfSome ((log self.old).held place) (λ block. result ≡ block.bytes) }
         ensures same { log self.new ≡ log self.old };
 
-    /// Adds the bytes `from..to` of the 512 of the block that a held pointer leads to.
+    /// Adds the bytes `from..to` of the 512 of the block that a held pointer refers to.
     ///
-    /// NoMemory alone, where `into` has no room and more is refused; it may have some of the bytes then. Where it has room,
-    /// nothing is asked for.
+    /// NoMemory alone, where `into` has no room and more is refused; it may have some of the bytes
+    /// then. Where it has room, nothing is asked for.
     fn get_bytes(
         &mut self,
         place: Ptr,
@@ -45,7 +48,10 @@ pub trait Blocks {
     ) -> Result<(), Refusal>
         requires held { IsSome ((log self.old).held place) }
         requires range { (from ≤ to) × (to ≤ BLOCK_BYTES) }
-        ensures bytes { OnOk result (IfSome ((log self.old).held place) (λ block. into.new.items ≡ into.old.items ++ take (to - from) (drop from block.bytes))) }
+        ensures bytes { OnOk result
+            (IfSome ((log self.old).held place)
+            (λ block. into.new.items
+            ≡ into.old.items ++ take (to - from) (drop from block.bytes))) }
         ensures added { OnOk result (length into.new.items ≡ length into.old.items + (to - from)) }
         ensures refusal { IfErr result (λ e. e ≡ NoMemory) }
         ensures same { log self.new ≡ log self.old };
@@ -56,8 +62,8 @@ pub trait Blocks {
         requires room { (log self.old).named place + 1 < 2 ^ 32 }
         ensures { log self.new ≡ held_more (log self.old) place };
 
-    /// A data block has one name less, and is held no longer without any; any other block is held no longer. Where nothing is
-    /// held, nothing changes.
+    /// A data block has one name less, and is held no longer without any; any other block is held
+    /// no longer. Where nothing is held, nothing changes.
     fn drop_block(&mut self, place: Ptr)
         ensures { log self.new ≡ dropped (log self.old) place };
 

@@ -78,7 +78,7 @@ over_one_live : (p : Inode) (spans : List Span) → LiveOver p spans → OneLive
 over_one_live p [] h = tt
 over_one_live p (s ∷ spans) h = (or_left p.alive s.inode.alive h.0, over_one_live (led p s.inode) spans (live_same s.inode (led p s.inode) spans (led_alive p s.inode) h.1))
 
--- the first of them is live where more are behind it, or where it is the only one
+-- the first of them is live where more are after it, or where it is the only one
 first_live : (i : Inode) (spans : List Span) → LiveOver i spans → (i.alive || any_live spans) ≡ true → i.alive ≡ true
 first_live i [] h any = sym (or_false i.alive) ∙ any
 first_live i (s ∷ spans) h any = h.0
@@ -97,7 +97,7 @@ begin_one_live p (s ∷ spans) h any =
 not_stays : (sees : ℕ → ℕ → Bool) (m n : ℕ) → n ≡ m → stays sees m n ≡ false
 not_stays sees m n is = and_left (ltb m n) (sees m (n - 1)) (le-ltb m n (omega arith))
 
--- entries of one moment: behind the first of them no inode stays before the last
+-- entries of one moment: after the first of them no inode stays before the last
 rest_of_group : (sees : ℕ → ℕ → Bool) (clock m : ℕ) (i : Inode) (group rest : List EntryFields) → AllAt m group → kept sees clock i m (group ++ rest) ≡ kept sees clock (redone_all group i) m rest
 rest_of_group sees clock m i [] rest at = refl
 rest_of_group sees clock m i (e ∷ group) rest at =
@@ -115,7 +115,7 @@ abbrev until : ℕ → List Span → ℕ
 until clock [] = clock
 until clock (s ∷ spans) = s.from - 1
 
--- spans as they stand in the kept chain, each behind the one before it
+-- spans as they are in the kept chain, each after the one before it
 abbrev standing : ℕ → Inode → List Span → List Span
 standing clock p [] = []
 standing clock p (s ∷ spans) = span_of (led p s.inode) s.from (until clock spans) ∷ standing clock (led p s.inode) spans

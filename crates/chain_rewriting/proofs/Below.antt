@@ -5,7 +5,7 @@ use Rattle.std.proofs.lemmas.List.{get_or_default}
 use Rattle.s4_types.specs.Pointer.{Place}
 use Rattle.chain_rewriting.specs.Renaming.{RenamingFields, renamed_slot}
 
--- the first so many renamed
+-- the first this many renamed
 pub renamed_below : RenamingFields → ℕ → List (Option Place) → List (Option Place)
 renamed_below r zero pointers = pointers
 renamed_below r (suc n) [] = []

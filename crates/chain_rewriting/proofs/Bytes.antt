@@ -46,7 +46,7 @@ told_pair : (b c : List ℕ) (p : Pair) → AreSides (Some p) b c → pair_lengt
 unfolding pair_length
 told_pair b c p is = sym (ap (λ (x : List ℕ). (1 + length x) + (1 + length c)) is.0 ∙ ap (λ (x : List ℕ). (1 + length p.before) + (1 + length x)) is.1)
 
--- Behind an entry, the pair from an earlier attribute on has at most the entry's pair more: what a pair tells first and
+-- After an entry, the pair from an earlier attribute on has at most the entry's pair more: what a pair tells first and
 -- last, it tells of one side each, and each of the pairs between tells of both.
 pair_more : (a b c : List ℕ) (pair : Option Pair) → AreSides pair b c → pair_length (pair_between a c) ≤ pair_length (pair_between a b) + pair_length pair
 pair_more a b c None is = let same = ap (λ (x : List ℕ). pair_length (pair_between a x)) is in omega (arith, same)
@@ -74,7 +74,7 @@ untold (t ∷ triples) n p not_told =
 abbrev one_if : Bool → ℕ
 one_if b = cond b 1 0
 
--- of how many numbers from one on, among so many, a test is true
+-- of how many numbers from one on, among this many, a test is true
 abbrev count_from : (ℕ → Bool) → ℕ → ℕ → ℕ
 count_from test a zero = 0
 count_from test a (suc n) = one_if (test a) + count_from test (a + 1) n
@@ -120,7 +120,7 @@ count_tells (t ∷ triples) a n =
     let others = count_tells triples a n in
     omega (arith, both, first, others)
 
--- the pointers that differ from an index on, among so many
+-- the pointers that differ from an index on, among this many
 abbrev stretch : Inode → Inode → ℕ → ℕ → List Triple
 stretch i j a n = filter tells_apart (map (triple_between i j) (range_with_len a n))
 
@@ -217,7 +217,7 @@ pub record Facts : Type 0 where
   pub sizes : BetweenSizes
   pub add : BytesAdd
 
--- From one inode to another lead so many entries whose pairs have so many bytes and whose triples are so many: no less than
+-- From one inode to another lead this many entries whose pairs have this many bytes and whose triples are this many: no less than
 -- the pair and the pointers in which the two differ.
 record Carried (p i : Inode) (k bytes triples : ℕ) : Type 0 where
   pair : pair_length (pair_between p.attribute i.attribute) ≤ bytes

@@ -97,7 +97,7 @@ later_live : Redoes → (c latest : ℕ) (first : Inode) (entries : List EntryFi
 later_live redoes c latest first [] h = tt
 later_live redoes c latest first (e ∷ entries) h = onward_live (redone e first) entries (begun redoes c latest first e entries h).1
 
--- the inode behind all entries of the front
+-- the inode after all entries of the front
 behind_front : (i : Inode) (front back : List EntryFields) → inode_behind i (front ++ back) (length front) ≡ redone_all front i
 behind_front i front back = ap (λ (es : List EntryFields). redone_all es i) (take-append_seam front back)
 

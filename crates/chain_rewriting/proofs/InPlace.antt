@@ -5,7 +5,7 @@ use Rattle.std.proofs.Math.ListN.{set}
 use Rattle.codec.specs.Entry.{EntryFields}
 use Rattle.chain_rewriting.specs.Renaming.{RenamingFields, renamed_entry, renamed_entries}
 
--- the first so many renamed
+-- the first this many renamed
 pub renamed_before : RenamingFields → ℕ → List EntryFields → List EntryFields
 renamed_before r zero entries = entries
 renamed_before r (suc n) [] = []

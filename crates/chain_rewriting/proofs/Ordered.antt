@@ -64,7 +64,7 @@ begin_live i j (e ∷ entries) r live h = (sym (ap (λ s. s.alive) r.1.status_be
 
 -- ---- the entries over what is kept
 
--- an inode is live where more is kept behind it
+-- an inode is live where more is kept after it
 abbrev pub LiveOver : Inode → List Span → Type 0
 LiveOver p [] = Unit {0}
 LiveOver p (s ∷ spans) = (p.alive ≡ true) × LiveOver s.inode spans
@@ -146,7 +146,7 @@ kept_live sees clock i from (e ∷ entries) o = elim (cases_Bool (stays sees fro
   | inr gone ↦ subst LiveSpans (sym (kept_goes sees clock i from e entries gone)) (kept_live sees clock (redone e i) e.moment entries o.3)
 ]
 
--- what is known of the kept inodes: those behind the first lie so, and the first is changed in order, or dead and blank
+-- what is known of the kept inodes: those after the first lie so, and the first is changed in order, or dead and blank
 pub record Begins (c latest : ℕ) (s : Span) (spans : List Span) : Type 0 where
   pub live : LiveSpans spans
   pub changed : s.inode.alive ≡ true → IsFromTo c latest s.inode.changed
@@ -176,7 +176,7 @@ start_begins redoes c latest clock sees first (e ∷ entries) h =
       | inr gone ↦ subst (λ (spans : List Span). BeginSpans c latest spans) (sym (kept_goes sees clock first 0 e entries gone)) (onward_begins c latest sees clock (redone e first) e.moment entries o (λ n. h.order.changed (suc n)))
     ]
 
--- ---- the inodes behind the entries
+-- ---- the inodes after the entries
 
 both_alive : (e : EntryFields) → entry_rules e ≡ true → (e.before.alive || e.after.alive) ≡ true
 unfolding entry_rules

@@ -1,4 +1,4 @@
--- The inodes of a kept chain are seen: at each moment the chain stands as at some visible one.
+-- The inodes of a kept chain are seen: at each moment the chain is as at some visible one.
 use Rattle.std.proofs.Common.{◌≡◌, ℕ, ◌-◌, ◌<◌, ◌≤◌, Bool, true, leb, ltb, cond, inl, inr, List, [], ◌∷◌, ◌++◌, Option, None, refl, sym, ap, subst, ◌∙◌, arith}
 use Rattle.std.specs.Prelude.{⊤, IfSome}
 use Rattle.std.specs.List.{AllByRecursion}
@@ -15,7 +15,7 @@ use Rattle.chain_rewriting.proofs.Leading.{kept_stays, kept_goes}
 use Rattle.chain_rewriting.proofs.Moments.{AllOfOne}
 use Rattle.chain_rewriting.proofs.Grouped.{GroupsAscend, step_at}
 
--- Spans behind a moment: between the first moments of two neighbours there is a visible one.
+-- Spans after a moment: between the first moments of two neighbours there is a visible one.
 abbrev Parted : (ℕ → Bool) → ℕ → ℕ → List Span → Type 0
 Parted visible clock w [] = ⊤
 Parted visible clock w (s ∷ spans) = (w < s.from) × ((v : ℕ) × ((s.from ≤ v) × ((v ≤ clock) × ((visible v ≡ true) × Parted visible clock v spans))))

@@ -35,7 +35,7 @@ Shown i low entries k p = (t : ℕ) × ((low ≤ t) × (((inode_after i entries 
 abbrev Found : Inode → ℕ → List EntryFields → ℕ → Place → Type 0
 Found i low entries k p = ((i.alive ≡ false) × Points i k p) ⊎ Shown i low entries k p
 
--- ---- an entry behind which all is dead
+-- ---- an entry after which all is dead
 
 -- it begins at a live inode, and changes no pointer
 pub record Ends (e : EntryFields) : Type 0 where
@@ -71,7 +71,7 @@ group_next count e f entries h = elim (cases_Bool (e.moment == f.moment)) [
   | inr later ↦ (1, (and_parts (ltb e.moment f.moment) (grouped_behind 1 f entries) (sym (cond-false (e.moment == f.moment) (InGroup count e f entries) (ltb e.moment f.moment && grouped_behind 1 f entries) later) ∙ h)).1)
 ]
 
--- one behind which the inode is dead is of a later moment
+-- one after which the inode is dead is of a later moment
 group_ends : (count : ℕ) (e f : EntryFields) (entries : List EntryFields) → grouped_behind count e (f ∷ entries) ≡ true → f.after.alive ≡ false → e.moment < f.moment
 group_ends count e f entries h dead = elim (cases_Bool (e.moment == f.moment)) [
   | inl same ↦ (let parts = and_parts (ltb count CHANGE_ENTRIES && continues e f) (grouped_behind (count + 1) f entries) (sym (cond-true (e.moment == f.moment) (InGroup count e f entries) (ltb e.moment f.moment && grouped_behind 1 f entries) same) ∙ h) in
@@ -83,7 +83,7 @@ group_ends count e f entries h dead = elim (cases_Bool (e.moment == f.moment)) [
 
 -- ---- a place to which a dead inode points
 
--- what is found behind an entry is found from before it on: where that inode is dead, the one before the entry is not
+-- what is found after an entry is found from before it on: where that inode is dead, the one before the entry is not
 one_behind : Facts → (low : ℕ) (i : Inode) (e : EntryFields) (entries : List EntryFields) (k : ℕ) (p : Place) → low ≤ e.moment → (e.after.alive ≡ false → low < e.moment) → Linked i e (redone e i) → entry_rules e ≡ true → moments_ascend_from e.moment entries ≡ true → Found (redone e i) e.moment entries k p → Shown i low (e ∷ entries) k p
 one_behind f low i e entries k p le lt linked rules up found = elim found [
   | inl dead ↦ (let off : e.after.alive ≡ false = sym (ap (λ s. s.alive) linked.status_after) ∙ dead.0 in

@@ -72,11 +72,11 @@ ascend_within low t (e ∷ entries) lt up =
 still : Facts → (i : Inode) (entries : List EntryFields) (t : ℕ) → AllPast t entries → inode_after i entries t ≡ i
 still f i entries t past = f.later i [] entries t past
 
--- the entries behind an inode are past where the next one is
+-- the entries after an inode are past where the next one is
 pub chain_still : Facts → (i : Inode) (e : EntryFields) (entries : List EntryFields) (t : ℕ) → t < e.moment → moments_ascend_from e.moment entries ≡ true → inode_after i (e ∷ entries) t ≡ i
 chain_still f i e entries t lt up = still f i (e ∷ entries) t (past_of t (e ∷ entries) (past_is t e.moment lt, ascend_within e.moment t entries lt up))
 
--- so are the entries over all that is kept behind it
+-- so are the entries over all that is kept after it
 pub over_still : Facts → (sees : ℕ → ℕ → Bool) (clock t : ℕ) (p i : Inode) (from : ℕ) (entries : List EntryFields) → t < from → moments_ascend_from from entries ≡ true → inode_after p (entries_over p (kept sees clock i from entries)) t ≡ p
 over_still f sees clock t p i from entries lt up =
     let spans : List Span = kept sees clock i from entries in
@@ -104,9 +104,9 @@ stays_seen sees visible t from next fits seen le lt =
     let last : t ≤ next - 1 = omega (arith, lt) in
     ap (λ (b : Bool). b && sees from (next - 1)) (lt-ltb from next up) ∙ (fits from (next - 1)).1 (t, (le, (last, seen)))
 
--- ---- behind a kept inode
+-- ---- after a kept inode
 
--- what is kept behind it shows the same, from the first of these on
+-- what is kept after it shows the same, from the first of these on
 over_alike : Facts → (sees : ℕ → ℕ → Bool) (visible : ℕ → Bool) (clock t : ℕ) → FitsSight sees visible → visible t ≡ true → (p i : Inode) (from : ℕ) (entries : List EntryFields) → from ≤ t → moments_ascend_from from entries ≡ true → AllLead p (kept sees clock i from entries) → ShowsAlike (inode_after i entries t) (inode_after p (entries_over p (kept sees clock i from entries)) t)
 over_alike f sees visible clock t fits seen p i from [] le up leads =
     subst (λ (j : Inode). ShowsAlike i j) (sym (over_first f p (span_of i from clock) [] t le leads.0)) (led_alike p i)

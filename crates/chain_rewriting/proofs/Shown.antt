@@ -48,7 +48,7 @@ led_holds P dark p i hp hi = elim (cases_Bool i.alive) [
   | inr dead ↦ subst P (sym (led_dead p i dead)) (dark p hp)
 ]
 
--- behind a kept inode
+-- after a kept inode
 over_holds : Facts → (P : Inode → Type 0) → Darkens P → (sees : ℕ → ℕ → Bool) (clock t : ℕ) (p i : Inode) (from : ℕ) (entries : List EntryFields) → P p → Shows P i from entries → moments_ascend_from from entries ≡ true → AllLead p (kept sees clock i from entries) → P (inode_after p (entries_over p (kept sees clock i from entries)) t)
 over_holds f P dark sees clock t p i from [] hp h up leads = elim (cases_lt t from) [
   | inl lt ↦ subst P (sym (over_still f sees clock t p i from [] lt up)) hp

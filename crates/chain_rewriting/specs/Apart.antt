@@ -16,7 +16,7 @@ pub record ToldWithin (Is : Place → Type 0) (i : Inode) (entries : List EntryF
 abbrev pub Passes : (Place → Bool) → Place → Type 0
 Passes test p = test p ≡ true
 
--- All pointers of which an inode and entries tell, holes among them: those of the inode, and behind them both sides of each
+-- All pointers of which an inode and entries tell, holes among them: those of the inode, and after them both sides of each
 -- triple, the oldest entry first.
 abbrev pub slots_told : Inode → List EntryFields → List (Option Place)
 slots_told i entries = i.pointers ++ flat_map (λ e. flat_map (λ t. t.before ∷ t.after ∷ []) e.triples) entries
@@ -46,7 +46,7 @@ moves_out r p = not (is_in r p) || is_some (move_of r p.block)
 abbrev pub LeadsWithin : (Place → Type 0) → RenamingFields → Type 0
 LeadsWithin Is r = (n : ℕ) (p : Place) → move_of r n ≡ Some p → Is p
 
--- The bytes after a move, for each place of this kind: where its block moves, they stand at the new place; else they stand
+-- The bytes after a move, for each place of this kind: where its block moves, they are at the new place; else they stand
 -- where they stood.
 pub record HasCopies (Is : Place → Type 0) (r : RenamingFields) (contents others : Place → List ℕ) : Type 0 where
   pub copied : (p q : Place) → Is p → new_place r p ≡ Some q → others q ≡ contents p

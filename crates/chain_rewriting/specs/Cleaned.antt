@@ -31,7 +31,7 @@ abbrev pub any_live : List Span → Bool
 any_live [] = false
 any_live (s ∷ spans) = s.inode.alive || any_live spans
 
--- A kept inode behind another one: a dead one has all but the flag from the one before.
+-- A kept inode after another one: a dead one has all but the flag from the one before.
 abbrev pub led : Inode → Inode → Inode
 led before i = if i.alive then i else record before { alive = false }
 
@@ -39,7 +39,7 @@ led before i = if i.alive then i else record before { alive = false }
 abbrev pub step : Inode → Span → List EntryFields
 step before s = if before.alive || s.inode.alive then entries_between before (led before s.inode) s.from else []
 
--- the entries that lead from an inode over all that are kept behind it
+-- the entries that lead from an inode over all that are kept after it
 abbrev pub entries_over : Inode → List Span → List EntryFields
 entries_over before [] = []
 entries_over before (s ∷ spans) = step before s ++ entries_over (led before s.inode) spans

@@ -83,8 +83,8 @@ AKeptChainIsInOrder =
     (sees : ℕ → ℕ → Bool) (created latest clock : ℕ) (first : Inode) (entries : List EntryFields)
     → IsChain created latest first entries → IfSome (cleaned sees clock first entries) (λ chain. IsOrderlyChain created latest chain.first chain.entries)
 
--- A kept chain has inodes alone that are seen: at each moment it stands as at some visible moment up to the clock. So only
--- an inode that stands between two entries of one moment is current at no visible moment.
+-- A kept chain has inodes alone that are seen: at each moment it is as at some visible moment up to the clock. So only
+-- an inode that is between two entries of one moment is current at no visible moment.
 abbrev pub AKeptChainHasSeenInodesAlone : Type 0
 AKeptChainHasSeenInodesAlone =
     (visible : ℕ → Bool) (sees : ℕ → ℕ → Bool) (created latest clock : ℕ) (first : Inode) (entries : List EntryFields)
@@ -152,8 +152,8 @@ pub record TellsOfPlacesWithin (Is : Place → Type 0) (start : Inode) (chain : 
   pub last : PointsWithin Is (redone_all chain start)
 
 -- A kept chain tells of seen places alone: a live inode that it shows at some visible moment points there. Another chain may
--- tell of more, even where it stands at each moment as at some visible one: of three entries of one moment the first may set a
--- pointer, the second none, and the third that pointer again. Then the place that the first set stands in no inode.
+-- tell of more, even where it is at each moment as at some visible one: of three entries of one moment the first may set a
+-- pointer, the second none, and the third that pointer again. Then the place that the first set is in no inode.
 abbrev pub AKeptChainTellsOfSeenPlacesAlone : Type 0
 AKeptChainTellsOfSeenPlacesAlone =
     (visible : ℕ → Bool) (sees : ℕ → ℕ → Bool) (created latest clock : ℕ) (first : Inode) (entries : List EntryFields)

@@ -12,7 +12,7 @@ use Rattle.chain_rewriting.specs.Apart.{Passes, ToldWithin, slots_told, HasDisti
 
 -- ---- what a chain tells
 
--- Each place of which a chain tells passes a test where each of its pointers, told in order, is a hole or leads to one that
+-- Each place of which a chain tells passes a test where each of its pointers, told in order, is a hole or refers to one that
 -- does.
 abbrev pub WhatIsToldIsListed : Type 0
 WhatIsToldIsListed =

@@ -1,4 +1,5 @@
-//! One walk over a chain, oldest entry first: each inode that is seen is joined to the one kept before it.
+//! One walk over a chain, oldest entry first: each inode that is seen is joined to the one kept
+//! before it.
 ghost use Rattle.std.specs.Prelude.{◌≡◌, ℕ, ◌++◌, Bool, Some, IfOk, IfErr};
 ghost use Rattle.s4_types.specs.declared.refusals.Refusal.TheVariants.{NoMemory};
 ghost use Rattle.chain_rewriting.specs.Cleaned.{span_of, stays, led, cleaned};
@@ -21,7 +22,7 @@ pub trait Sees {
         ensures { result ≡ sees self.now first last };
 }
 
-/// A kept chain: its first inode, its entries, and the present inode behind them.
+/// A kept chain: its first inode, its entries, and the present inode after them.
 #[derive(Drop)]
 pub struct Cleaned {
     pub first: Inode,
@@ -59,7 +60,8 @@ fn led(before: &Inode, inode: &Inode) -> Inode
 /// Joins an inode to a chain, by entries of its moment.
 fn join(chain: &mut Cleaned, inode: &Inode, from: Moment) -> Result<(), Refusal>
     requires { MayLead chain.old.last (span_of inode.now from 0) }
-    ensures joined { IfOk result (λ _. chain.new ≡ joined (Some chain.old) (span_of inode.now from 0)) }
+    ensures joined { IfOk result
+        (λ _. chain.new ≡ joined (Some chain.old) (span_of inode.now from 0)) }
     ensures refusal { IfErr result (λ e. e ≡ NoMemory) }
 {
     let next = led(&chain.last, inode);
@@ -105,7 +107,8 @@ fn keep(
     Ok(())
 }
 
-/// The kept chain of an object: its inodes that are seen, and the entries between them. None where none of these is live.
+/// The kept chain of an object: its inodes that are seen, and the entries between them. None where
+/// none of these is live.
 ///
 /// NoMemory alone, where the memory for the entries is refused. Linear in the entries.
 #[tactic(auto, using(crate::proofs::Leading::walk_begins, crate::proofs::Leading::walk_keeps, crate::proofs::Leading::walk_goes, crate::proofs::Leading::walk_may, crate::proofs::Leading::walk_end_may, crate::proofs::Leading::walk_ends, crate::proofs::Leading::walk_none))]
@@ -117,7 +120,8 @@ pub fn clean<S: Sees>(
     seen: &S,
 ) -> Result<Option<Cleaned>, Refusal>
     requires { IsChain first.now.created clock first.now entries.now }
-    ensures exact { IfOk result (λ made. made ≡ cleaned (S.sees seen.now) clock first.now entries.now) }
+    ensures exact { IfOk result
+        (λ made. made ≡ cleaned (S.sees seen.now) clock first.now entries.now) }
     ensures refusal { IfErr result (λ e. e ≡ NoMemory) }
 {
     a_link_is_an_entry_redone_or_undone();

@@ -1,5 +1,21 @@
-//! Laws of kept chains, for the layers above: each function does nothing, and its contract is the law.
-ghost use Rattle.chain_rewriting.specs.CleaningLaws.{AKeptChainIsARun, AKeptChainHasOldMoments, AKeptChainShowsTheSame, NoKeptChainShowsNothing, AKeptChainIsSeenAlive, AKeptChainShowsOldInodes, AKeptChainHasSeenInodesAlone, TheMomentsOfAKeptChainAreOld, AKeptChainIsGrouped, AKeptChainIsInOrder, AKeptChainPointsToOldPlaces, AKeptChainTellsOfSeenPlacesAlone, AKeptChainShowsALiveInode, AnUnchangedChainIsTheKeptOne, AKeptChainIsAChain, CleaningAgainChangesNothing, AKeptChainTakesNoMoreBytes, ACreationIsAChain, AChainGoesOn, AChainIsOneLater};
+//! Laws of kept chains, for the layers above: each function does nothing, and its contract is the
+//! law.
+ghost use Rattle.chain_rewriting.specs.CleaningLaws.{AKeptChainIsARun, AKeptChainHasOldMoments};
+ghost use Rattle.chain_rewriting.specs.CleaningLaws.{AKeptChainShowsTheSame};
+ghost use Rattle.chain_rewriting.specs.CleaningLaws.{NoKeptChainShowsNothing};
+ghost use Rattle.chain_rewriting.specs.CleaningLaws.{AKeptChainIsSeenAlive};
+ghost use Rattle.chain_rewriting.specs.CleaningLaws.{AKeptChainShowsOldInodes};
+ghost use Rattle.chain_rewriting.specs.CleaningLaws.{AKeptChainHasSeenInodesAlone};
+ghost use Rattle.chain_rewriting.specs.CleaningLaws.{TheMomentsOfAKeptChainAreOld};
+ghost use Rattle.chain_rewriting.specs.CleaningLaws.{AKeptChainIsGrouped, AKeptChainIsInOrder};
+ghost use Rattle.chain_rewriting.specs.CleaningLaws.{AKeptChainPointsToOldPlaces};
+ghost use Rattle.chain_rewriting.specs.CleaningLaws.{AKeptChainTellsOfSeenPlacesAlone};
+ghost use Rattle.chain_rewriting.specs.CleaningLaws.{AKeptChainShowsALiveInode};
+ghost use Rattle.chain_rewriting.specs.CleaningLaws.{AnUnchangedChainIsTheKeptOne};
+ghost use Rattle.chain_rewriting.specs.CleaningLaws.{AKeptChainIsAChain};
+ghost use Rattle.chain_rewriting.specs.CleaningLaws.{CleaningAgainChangesNothing};
+ghost use Rattle.chain_rewriting.specs.CleaningLaws.{AKeptChainTakesNoMoreBytes, ACreationIsAChain};
+ghost use Rattle.chain_rewriting.specs.CleaningLaws.{AChainGoesOn, AChainIsOneLater};
 
 use codec::journal_laws::entry_bytes_add_up;
 use undo_redo::laws::{
@@ -24,7 +40,8 @@ pub fn a_kept_chain_has_old_moments()
     the_entries_between_two_inodes();
 }
 
-/// At each visible moment a kept chain shows the same as the old one; where there is none, the old one shows a dead inode.
+/// At each visible moment a kept chain shows the same as the old one; where there is none, the old
+/// one shows a dead inode.
 pub fn a_kept_chain_shows_the_same()
     ensures same { AKeptChainShowsTheSame }
     ensures none { NoKeptChainShowsNothing }
@@ -47,8 +64,8 @@ pub fn a_kept_chain_is_seen_alive()
     the_entries_between_two_inodes();
 }
 
-/// At each moment, visible or not, a kept chain shows an inode that the old one shows at some moment; or that one with its flag
-/// off.
+/// At each moment, visible or not, a kept chain shows an inode that the old one shows at some
+/// moment; or that one with its flag off.
 pub fn a_kept_chain_shows_old_inodes()
     ensures { AKeptChainShowsOldInodes }
 {
@@ -85,7 +102,7 @@ pub fn a_kept_chain_is_in_order()
     a_kept_chain_has_old_moments();
 }
 
-/// At each moment a kept chain stands as at some visible moment up to the clock.
+/// At each moment a kept chain is as at some visible moment up to the clock.
 pub fn a_kept_chain_has_seen_inodes_alone()
     ensures { AKeptChainHasSeenInodesAlone }
 {
@@ -124,8 +141,8 @@ pub fn a_kept_chain_takes_no_more_bytes()
     entry_bytes_add_up();
 }
 
-/// Each place to which a kept chain points, by an inode or by an entry, is one to which the inode of the old chain points at
-/// some moment.
+/// Each place to which a kept chain points, by an inode or by an entry, is one to which the inode
+/// of the old chain points at some moment.
 pub fn a_kept_chain_points_to_old_places()
     ensures { AKeptChainPointsToOldPlaces }
 {
@@ -136,8 +153,8 @@ pub fn a_kept_chain_points_to_old_places()
     the_entries_between_two_inodes();
 }
 
-/// Each place to which a kept chain points, by an inode or by an entry, is one to which a live inode points that it shows at
-/// some visible moment; and there is such an inode.
+/// Each place to which a kept chain points, by an inode or by an entry, is one to which a live
+/// inode points that it shows at some visible moment; and there is such an inode.
 pub fn a_kept_chain_tells_of_seen_places_alone()
     ensures places { AKeptChainTellsOfSeenPlacesAlone }
     ensures live { AKeptChainShowsALiveInode }
@@ -175,7 +192,8 @@ pub fn a_creation_is_a_chain()
     the_entries_between_two_inodes();
 }
 
-/// A chain whose last inode is live goes on by the entries that lead to a next inode at a later moment.
+/// A chain whose last inode is live goes on by the entries that lead to a next inode at a later
+/// moment.
 pub fn a_chain_goes_on()
     ensures { AChainGoesOn }
 {

@@ -4,7 +4,9 @@ ghost use Rattle.std.specs.List.{AllByRecursion};
 ghost use Rattle.s4_types.specs.declared.limits.TheConstants.{PAYLOAD_BLOCKS, ENTRY_TRIPLES};
 ghost use Rattle.s4_types.specs.declared.refusals.Refusal.TheVariants.{NoMemory};
 ghost use Rattle.chain_rewriting.specs.CleaningLaws.{TellsWithin};
-ghost use Rattle.chain_rewriting.specs.Renaming.{renaming_of, no_moves, with_move, renamed, renamed_slot, renamed_triple, renamed_entry, renamed_entries, renamed_inode};
+ghost use Rattle.chain_rewriting.specs.Renaming.{renaming_of, no_moves, with_move, renamed};
+ghost use Rattle.chain_rewriting.specs.Renaming.{renamed_slot, renamed_triple, renamed_entry};
+ghost use Rattle.chain_rewriting.specs.Renaming.{renamed_entries, renamed_inode};
 ghost use Rattle.chain_rewriting.specs.Apart.{HasDistinctPlaces, IsNotNew};
 
 use codec::{Entry, Inode, Triple, Triples};
@@ -15,12 +17,13 @@ use std::marker::Model;
 
 /// The new places of the blocks of one frame at one generation, for those of its blocks that move.
 ///
-/// Contracts see the frame, the generation and a place, or none, for each of the blocks from 1 to 15. It takes no memory.
+/// Contracts see the frame, the generation and a place, or none, for each of the blocks from 1 to
+/// 15. It takes no memory.
 #[derive(Clone, Copy)]
 pub struct Renaming {
     frame: u16,
     generation: u32,
-    // The new place of block 1 stands first.
+    // The new place of block 1 is first.
     moves: [Option<Ptr>; PAYLOAD_BLOCKS],
 }
 
@@ -61,14 +64,15 @@ impl Renaming {
         }
     }
 
-    /// Gives a block of the frame, from 1 to 15, a new place. An earlier one is forgotten. The new places stay distinct where
-    /// this one is no other's.
+    /// Gives a block of the frame, from 1 to 15, a new place. An earlier one is forgotten. The new
+    /// places stay distinct where this one is no other's.
     pub fn insert(&mut self, block: u8, to: Ptr)
         requires lowest { 1 ≤ block }
         requires highest { block ≤ PAYLOAD_BLOCKS }
         ensures exact { self.new ≡ with_move self.old block to }
         ensures count { length self.new.moves ≡ PAYLOAD_BLOCKS }
-        ensures distinct { HasDistinctPlaces self.old → IsNotNew self.old to → HasDistinctPlaces self.new }
+        ensures distinct { HasDistinctPlaces self.old → IsNotNew self.old to
+            → HasDistinctPlaces self.new }
     {
         self.moves[block as usize - 1] = Some(to);
     }
@@ -90,7 +94,8 @@ impl Renaming {
         self.moves[place.block() as usize - 1].unwrap_or(place)
     }
 
-    /// The pointer to the new place, where the block that the pointer leads to moves; else the pointer as it is.
+    /// The pointer to the new place, where the block that the pointer refers to moves; else the
+    /// pointer as it is.
     pub fn rename(&self, slot: Option<Ptr>) -> Option<Ptr>
         ensures exact { result ≡ renamed_slot self.now slot }
     {
@@ -151,8 +156,9 @@ impl Renaming {
         .unwrap()
     }
 
-    /// Renames both pointers of each triple of each entry, in place. The new places must be distinct, and none of them one of
-    /// which the entries tell. It takes no memory. Linear in the triples.
+    /// Renames both pointers of each triple of each entry, in place. The new places must be
+    /// distinct, and none of them one of which the entries tell. It takes no memory. Linear in the
+    /// triples.
     #[tactic(auto, using(crate::proofs::InPlace::none_before, crate::proofs::InPlace::all_before))]
     pub fn rename_in_place(&self, entries: &mut [Entry])
         requires distinct { HasDistinctPlaces self.now }
@@ -164,14 +170,17 @@ impl Renaming {
         }
     }
 
-    /// The entries with both pointers of each triple renamed. The new places must be distinct, and none of them one of
-    /// which the entries tell: so the two pointers of a triple, which differ, differ when they are renamed, too.
+    /// The entries with both pointers of each triple renamed. The new places must be distinct, and
+    /// none of them one of which the entries tell: so the two pointers of a triple, which differ,
+    /// differ when they are renamed, too.
     ///
-    /// NoMemory alone, where the memory for the entries is refused: it is asked for once. Linear in the triples.
+    /// NoMemory alone, where the memory for the entries is refused: it is asked for once. Linear in
+    /// the triples.
     pub fn rename_entries(&self, alloc: Global, entries: &[Entry]) -> Result<Vec<Entry>, Refusal>
         requires distinct { HasDistinctPlaces self.now }
         requires apart { AllByRecursion (TellsWithin (IsNotNew self.now)) entries.now }
-        ensures exact { MatchResult result (λ v. v.items ≡ renamed_entries self.now entries.now) (λ e. e ≡ NoMemory) }
+        ensures exact { MatchResult result (λ v. v.items ≡ renamed_entries self.now entries.now)
+            (λ e. e ≡ NoMemory) }
     {
         let mut renamed = Vec::with_capacity(alloc, entries.len())?;
         for entry in entries {

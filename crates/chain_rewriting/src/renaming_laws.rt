@@ -1,6 +1,36 @@
-//! Laws of renamed chains, for the layers above: each function does nothing, and its contract is the law.
-ghost use Rattle.chain_rewriting.specs.RenamingLaws.{RenamingCommutesWithRedo, RenamingCommutesWithUndo, RenamingCommutesWithRedoOfAll, RenamingCommutesWithUndoOfAll, ARenamedChainShowsRenamedInodes, ARenamedLinkIsALink, ARenamedRunIsARun, ABlankInodeStays, APointerIsRenamed, RenamedEntriesKeepTheRules, ARenamedChainIsAChain, RenamedEntriesKeepTheirMoments, RenamedEntriesHaveOldMoments, TheMomentsOfRenamedEntriesAreOld, RenamedEntriesTakeAsManyBytes, ARenamedChainTakesAsManyBytes, ARenamedInodeMeansTheSame, ARenamedChainShowsTheSame, RenamedEntriesStayInGroups, RenamedEntriesStayInOrder, RenamedEntriesUpToAMoment, ARenamedCheckpointKeepsTheRules};
-ghost use Rattle.chain_rewriting.specs.Places.{WhatIsToldIsListed, WhatIsToldPassesToo, AChainIsToldFromEitherEnd, AChainPointsToWhatItTells, RenamingIsOneToOne, ARenamedChainTellsInOrder, ARenamedChainTellsOfRenamedPlaces, EachPlaceIsPointedToRenamed, ARenamedChainIsOutOfTheFrame, NothingMovesYet, NoPlacesAreDistinct, NoPlacesAnswerAlike, OneMoreMoves, PlacesStayDistinct, NewPlacesAnswerAlike, ATestTellsApart, ApartFromEitherEnd};
+//! Laws of renamed chains, for the layers above: each function does nothing, and its contract is
+//! the law.
+ghost use Rattle.chain_rewriting.specs.RenamingLaws.{RenamingCommutesWithRedo};
+ghost use Rattle.chain_rewriting.specs.RenamingLaws.{RenamingCommutesWithUndo};
+ghost use Rattle.chain_rewriting.specs.RenamingLaws.{RenamingCommutesWithRedoOfAll};
+ghost use Rattle.chain_rewriting.specs.RenamingLaws.{RenamingCommutesWithUndoOfAll};
+ghost use Rattle.chain_rewriting.specs.RenamingLaws.{ARenamedChainShowsRenamedInodes};
+ghost use Rattle.chain_rewriting.specs.RenamingLaws.{ARenamedLinkIsALink, ARenamedRunIsARun};
+ghost use Rattle.chain_rewriting.specs.RenamingLaws.{ABlankInodeStays, APointerIsRenamed};
+ghost use Rattle.chain_rewriting.specs.RenamingLaws.{RenamedEntriesKeepTheRules};
+ghost use Rattle.chain_rewriting.specs.RenamingLaws.{ARenamedChainIsAChain};
+ghost use Rattle.chain_rewriting.specs.RenamingLaws.{RenamedEntriesKeepTheirMoments};
+ghost use Rattle.chain_rewriting.specs.RenamingLaws.{RenamedEntriesHaveOldMoments};
+ghost use Rattle.chain_rewriting.specs.RenamingLaws.{TheMomentsOfRenamedEntriesAreOld};
+ghost use Rattle.chain_rewriting.specs.RenamingLaws.{RenamedEntriesTakeAsManyBytes};
+ghost use Rattle.chain_rewriting.specs.RenamingLaws.{ARenamedChainTakesAsManyBytes};
+ghost use Rattle.chain_rewriting.specs.RenamingLaws.{ARenamedInodeMeansTheSame};
+ghost use Rattle.chain_rewriting.specs.RenamingLaws.{ARenamedChainShowsTheSame};
+ghost use Rattle.chain_rewriting.specs.RenamingLaws.{RenamedEntriesStayInGroups};
+ghost use Rattle.chain_rewriting.specs.RenamingLaws.{RenamedEntriesStayInOrder};
+ghost use Rattle.chain_rewriting.specs.RenamingLaws.{RenamedEntriesUpToAMoment};
+ghost use Rattle.chain_rewriting.specs.RenamingLaws.{ARenamedCheckpointKeepsTheRules};
+ghost use Rattle.chain_rewriting.specs.Places.{WhatIsToldIsListed, WhatIsToldPassesToo};
+ghost use Rattle.chain_rewriting.specs.Places.{AChainIsToldFromEitherEnd};
+ghost use Rattle.chain_rewriting.specs.Places.{AChainPointsToWhatItTells, RenamingIsOneToOne};
+ghost use Rattle.chain_rewriting.specs.Places.{ARenamedChainTellsInOrder};
+ghost use Rattle.chain_rewriting.specs.Places.{ARenamedChainTellsOfRenamedPlaces};
+ghost use Rattle.chain_rewriting.specs.Places.{EachPlaceIsPointedToRenamed};
+ghost use Rattle.chain_rewriting.specs.Places.{ARenamedChainIsOutOfTheFrame, NothingMovesYet};
+ghost use Rattle.chain_rewriting.specs.Places.{NoPlacesAreDistinct, NoPlacesAnswerAlike};
+ghost use Rattle.chain_rewriting.specs.Places.{OneMoreMoves, PlacesStayDistinct};
+ghost use Rattle.chain_rewriting.specs.Places.{NewPlacesAnswerAlike, ATestTellsApart};
+ghost use Rattle.chain_rewriting.specs.Places.{ApartFromEitherEnd};
 
 use inode::laws::{only_its_blocks_matter, ranges_join_and_part};
 
@@ -13,8 +43,9 @@ pub fn renaming_commutes_with_undo_and_redo()
     ensures undo_all { RenamingCommutesWithUndoOfAll }
 {}
 
-/// Renamed entries lead from the renamed first inode of a run to its renamed last one, and show at each moment the renamed
-/// inode, whose pointers are the renamed ones. A blank inode stays as it is.
+/// Renamed entries lead from the renamed first inode of a run to its renamed last one, and show at
+/// each moment the renamed inode, whose pointers are the renamed ones. A blank inode stays as it
+/// is.
 #[tactic(auto, using(crate::proofs::Renamed::run_renamed, crate::proofs::Renamed::inode_after_renamed, crate::proofs::Renamed::pointer_renamed, crate::proofs::Renamed::blank_renamed))]
 pub fn a_renamed_run_is_a_run()
     ensures link { ARenamedLinkIsALink }
@@ -24,8 +55,8 @@ pub fn a_renamed_run_is_a_run()
     ensures blank { ABlankInodeStays }
 {}
 
-/// Renaming is one to one on places that aren't new, where the new ones are distinct; so renamed entries keep the rules of
-/// entries.
+/// Renaming is one to one on places that aren't new, where the new ones are distinct; so renamed
+/// entries keep the rules of entries.
 #[tactic(auto, using(crate::proofs::Rules::one_to_one, crate::proofs::Rules::all_rules))]
 pub fn renaming_is_one_to_one()
     ensures places { RenamingIsOneToOne }
@@ -52,8 +83,8 @@ pub fn a_renamed_chain_takes_as_many_bytes()
     ensures all { ARenamedChainTakesAsManyBytes }
 {}
 
-/// Renamed entries are in groups and in order where the entries were, and those up to a moment are those up to it, renamed.
-/// None of this asks where the new places are.
+/// Renamed entries are in groups and in order where the entries were, and those up to a moment are
+/// those up to it, renamed. None of this asks where the new places are.
 #[tactic(auto, using(crate::proofs::RenamedOrdered::groups_renamed, crate::proofs::RenamedOrdered::order_renamed, crate::proofs::Renamed::entries_by_renamed))]
 pub fn renamed_entries_stay_in_order()
     ensures groups { RenamedEntriesStayInGroups }
@@ -61,7 +92,8 @@ pub fn renamed_entries_stay_in_order()
     ensures by { RenamedEntriesUpToAMoment }
 {}
 
-/// A checkpoint whose pointers are renamed keeps the rules of checkpoints exactly where it kept them.
+/// A checkpoint whose pointers are renamed keeps the rules of checkpoints exactly where it kept
+/// them.
 #[tactic(auto, using(crate::proofs::Kept::rules_renamed))]
 pub fn a_renamed_checkpoint_keeps_the_rules()
     ensures { ARenamedCheckpointKeepsTheRules }
@@ -83,8 +115,8 @@ pub fn a_renamed_chain_shows_the_same()
     what_a_chain_tells();
 }
 
-/// What a chain tells is told by the list of its pointers, and from either end. At each moment the chain points to places
-/// alone of which it tells.
+/// What a chain tells is told by the list of its pointers, and from either end. At each moment the
+/// chain points to places alone of which it tells.
 pub fn what_a_chain_tells()
     ensures listed { WhatIsToldIsListed }
     ensures too { WhatIsToldPassesToo }
@@ -92,7 +124,8 @@ pub fn what_a_chain_tells()
     ensures points { AChainPointsToWhatItTells }
 {}
 
-/// What a renamed chain tells of is what the old one told of, renamed: in the same order, and at each moment.
+/// What a renamed chain tells of is what the old one told of, renamed: in the same order, and at
+/// each moment.
 #[tactic(auto, using(crate::proofs::Told::pointed_renamed, crate::proofs::Listed::told_in_order))]
 pub fn a_renamed_chain_tells_of_renamed_places()
     ensures order { ARenamedChainTellsInOrder }
@@ -100,13 +133,14 @@ pub fn a_renamed_chain_tells_of_renamed_places()
     ensures pointed { EachPlaceIsPointedToRenamed }
 {}
 
-/// A renamed chain tells of no place in the frame, where each of its places there moves, and none moves to a place there.
+/// A renamed chain tells of no place in the frame, where each of its places there moves, and none
+/// moves to a place there.
 pub fn a_renamed_chain_is_out_of_the_frame()
     ensures { ARenamedChainIsOutOfTheFrame }
 {}
 
-/// A new renaming moves nothing, and each move that is put in adds itself alone. So the new places stay distinct, and a test
-/// answers of all what it answers of each.
+/// A new renaming moves nothing, and each move that is put in adds itself alone. So the new places
+/// stay distinct, and a test answers of all what it answers of each.
 #[tactic(auto, using(crate::proofs::RenamedGrowing::one_more))]
 pub fn moves_are_put_in_one_by_one()
     ensures none { NothingMovesYet }
@@ -117,8 +151,8 @@ pub fn moves_are_put_in_one_by_one()
     ensures alike { NewPlacesAnswerAlike }
 {}
 
-/// A renaming whose new places are distinct is apart from a chain where a test tells them from the places of the chain; and
-/// then from the chain told from its other end.
+/// A renaming whose new places are distinct is apart from a chain where a test tells them from the
+/// places of the chain; and then from the chain told from its other end.
 pub fn a_test_tells_a_renaming_apart()
     ensures test { ATestTellsApart }
     ensures ends { ApartFromEitherEnd }

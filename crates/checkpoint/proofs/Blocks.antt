@@ -1,4 +1,4 @@
--- The blocks of a checkpoint: one, where its pointer leads to.
+-- The blocks of a checkpoint: one, where its pointer refers to.
 use Rattle.std.proofs.Common.{◌≡◌, inl, inr, ℕ, ◌≤◌, ◌<◌, Bool, true, false, cond, ◌==◌, ◌&&◌, ◌||◌, List, ◌∷◌, length, count_by, Option, Some, None, is_some, IsSome, IfOk, IfErr, Result, Ok, Err, MatchResult, refl, sym, ap, subst, ◌∙◌, arith}
 use Rattle.std.proofs.lemmas.Bool.{cases_Bool, false≢true, and_from, and_parts, eq-eqb, eqb-true}
 use Rattle.std.proofs.lemmas.Option.{same_Some}

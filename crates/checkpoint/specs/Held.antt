@@ -1,4 +1,4 @@
--- The checkpoint that a pointer leads to, and the blocks that it is written in.
+-- The checkpoint that a pointer refers to, and the blocks that it is written in.
 use Rattle.std.specs.Prelude.{◌≡◌, ℕ, Bool, true, false, ◌==◌, ◌&&◌, List, [], ◌∷◌, Option, Some, None, IsSome}
 use Rattle.std.specs.List.{list_any}
 use Rattle.s4_types.specs.Pointer.{Place}
@@ -17,20 +17,20 @@ is_checkpoint_kind k = same_kind kind.Checkpoint k
 abbrev pub of_checkpoints : ℕ → (Place → Option Stored) → Place → Option (List ℕ)
 of_checkpoints o held = of_kind kind.Checkpoint o held
 
--- the checkpoint that a block spells, if there is a block
+-- the checkpoint that a block encodes, if there is a block
 abbrev pub spelled_checkpoint : Option (List ℕ) → Option CheckpointFields
 spelled_checkpoint None = None
 spelled_checkpoint (Some block) = all_of checkpoint_at block
 
--- the checkpoint that a pointer leads to, in the blocks of an object's checkpoints: none where they spell none there
+-- the checkpoint that a pointer refers to, in the blocks of an object's checkpoints: none where they encode none there
 unfoldable pub checkpoint_in : (Place → Option (List ℕ)) → Place → Option CheckpointFields
 checkpoint_in view p = spelled_checkpoint (view p)
 
--- the checkpoint that a pointer leads to, in what is held
+-- the checkpoint that a pointer refers to, in what is held
 abbrev pub checkpoint_held : (Place → Option Stored) → ℕ → Place → Option CheckpointFields
 checkpoint_held held o p = checkpoint_in (of_checkpoints o held) p
 
--- the places of the blocks of the checkpoint that a pointer leads to, in the order in which they are written
+-- the places of the blocks of the checkpoint that a pointer refers to, in the order in which they are written
 unfoldable pub places_in : (Place → Option (List ℕ)) → Place → List Place
 places_in view p = p ∷ []
 
@@ -39,7 +39,7 @@ abbrev pub places_named : (Place → Option (List ℕ)) → Option Place → Lis
 places_named view None = []
 places_named view (Some p) = places_in view p
 
--- the places of the checkpoint that a pointer leads to, in what is held
+-- the places of the checkpoint that a pointer refers to, in what is held
 abbrev pub checkpoint_places : (Place → Option Stored) → ℕ → Place → List Place
 checkpoint_places held o p = places_in (of_checkpoints o held) p
 

@@ -15,15 +15,16 @@ use std::num::NonZeroUsize;
 /// Inodes that a cache has at most. Chosen: some 50 KiB.
 pub const CACHED_INODES: usize = 64;
 
-/// What an inode is kept under: an object, and a stamp of its row, at which the row's checkpoint has the inode.
+/// What an inode is kept under: an object, and a stamp of its row, at which the row's checkpoint
+/// has the inode.
 #[derive(Clone, Copy, PartialEq, Eq, Hash)]
 pub struct CacheKey {
     pub object: ObjectId,
     pub stamp: u64,
 }
 
-/// Some of the inodes that were read last, so that their blocks needn't be read once more. Contracts see what is kept under which
-/// key, and how many inodes there may be.
+/// Some of the inodes that were read last, so that their blocks needn't be read once more.
+/// Contracts see what is kept under which key, and how many inodes there may be.
 #[derive(Drop)]
 pub struct InodeCache {
     cache: LruCache<CacheKey, Inode>,
@@ -44,13 +45,14 @@ impl Model for InodeCache {
 /// Keeps a value under a key, where there is memory for it; else nothing changes.
 // Of any type, since the prover can't follow how a refused inode is dropped.
 fn keep<V: Copy + Drop>(cache: &mut LruCache<CacheKey, V>, key: CacheKey, value: V)
-    ensures { (cache.new ≡ cache.old) ⊎ (cache.new ≡ lru_cache (put_entries same_key cache.old key value) cache.old.cap) }
+    ensures { (cache.new ≡ cache.old)
+        ⊎ (cache.new ≡ lru_cache (put_entries same_key cache.old key value) cache.old.cap) }
 {
     let _ = cache.put(key, value);
 }
 
 impl InodeCache {
-    /// An empty cache, of at most so many inodes: 1 to `CACHED_INODES`.
+    /// An empty cache, of at most this many inodes: 1 to `CACHED_INODES`.
     ///
     /// NoMemory alone, where the memory for it is refused.
     pub fn new(alloc: Global, capacity: usize) -> Result<Self, Refusal>
@@ -76,11 +78,12 @@ impl InodeCache {
         found
     }
 
-    /// Keeps an inode under a key, where there is memory for it; else nothing changes. Of as many inodes as there may be the one
-    /// that was used first goes for it.
+    /// Keeps an inode under a key, where there is memory for it; else nothing changes. Of as many
+    /// inodes as there may be the one that was used first goes for it.
     pub fn put(&mut self, key: CacheKey, inode: &Inode)
         ensures kept { (self.new ≡ self.old) ⊎ (self.new ≡ cache_with key inode.now self.old) }
-        ensures only { (e : _) → Contains self.new.pairs e → Contains self.old.pairs e ⊎ (e ≡ (key, inode.now)) }
+        ensures only { (e : _) → Contains self.new.pairs e
+            → Contains self.old.pairs e ⊎ (e ≡ (key, inode.now)) }
     {
         keep(&mut self.cache, key, *inode);
     }

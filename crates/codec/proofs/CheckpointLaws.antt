@@ -1,4 +1,4 @@
--- A checkpoint is read exactly where it is spelled.
+-- A checkpoint is read exactly where it is encoded.
 use Rattle.std.proofs.Common.{◌≡◌, ℕ, ◌^◌, ◌<◌, ◌≤◌, Bool, true, List, [], ◌∷◌, ◌++◌, length, Option, Some, refl, sym, ap, subst, ◌∙◌, append_assoc, arith}
 use Rattle.std.specs.Int.{w32, w64}
 use Rattle.std.specs.List.{flat_map}
@@ -45,7 +45,7 @@ exact =
 abbrev pub HasSpelling : CheckpointFields → Type 0
 HasSpelling c = (checkpoint_rules c ≡ true) × CheckpointNumbers c
 
--- the fields, with what stands behind them
+-- the fields, with what comes after them
 abbrev before : Bool → ℕ → ℕ → ℕ → ℕ → ℕ → ℕ → List ℕ → List (Option Place) → List ℕ → List ℕ
 before alive len size object moment created changed attribute pointers rest =
     2 ∷ bit alive ∷ len ∷ 0 ∷ (number w32 size ++ (number w64 object ++ (number w64 moment ++ (number w64 created ++ (number w64 changed ++ (padded attribute ++ (flat_map slot pointers ++ (zeros CHECKPOINT_ZEROS ++ rest))))))))

@@ -1,4 +1,4 @@
--- An entry is read exactly where it is spelled.
+-- An entry is read exactly where it is encoded.
 use Rattle.std.proofs.Common.{◌≡◌, ℕ, zero, suc, ◌/◌, ◌%◌, ◌^◌, ◌<◌, ◌≤◌, Bool, true, false, eqb, ltb, leb, List, [], ◌∷◌, ◌++◌, length, Option, Some, None, refl, sym, ap, subst, ◌∙◌, append_assoc, arith}
 use Rattle.std.specs.Prelude.{is_some}
 use Rattle.std.specs.Int.{w32, w64}
@@ -177,7 +177,7 @@ exact =
     then_exact (pair_field flags.pair) (λ pair. then_exact (triples_field count) (λ triples.
     made_exact (checked_entry (made_of moment flags size_before size_after changed_before changed_after pair triples)))))))))))
 
--- the fields, with what stands behind them
+-- the fields, with what comes after them
 abbrev before : ℕ → Flags → ℕ → ℕ → ℕ → ℕ → ℕ → Option Pair → List Triple → List ℕ → List ℕ
 before moment flags count size_before size_after changed_before changed_after pair triples rest =
     number w64 moment ++ (flags_byte flags ∷ count ∷ (number w32 size_before ++ (number w32 size_after ++ (number w64 changed_before ++ (number w64 changed_after ++ (pair_spelling pair ++ (flat_map triple_spelling triples ++ rest)))))))

@@ -1,4 +1,4 @@
--- Readers that read what is spelled and nothing else: single fields, and fields one behind the other.
+-- Readers that read what is encoded and nothing else: single fields, and fields one after the other.
 use Rattle.std.proofs.Common.{◌≡◌, ℕ, zero, suc, ◌+◌, ◌^◌, ◌<◌, ◌≤◌, Bool, true, false, cond, ltb, eqb, List, [], ◌∷◌, ◌++◌, length, get_or, take, drop, Option, Some, None, refl, sym, ap, subst, ◌∙◌, arith, inl, inr}
 use Rattle.std.specs.Int.{Width, w16, w32, w64, byte_len, from_be_bytes, to_be_bytes}
 use Rattle.std.proofs.lemmas.Bool.{cases_lt, ltb-false, le-ltb, eqb-true}
@@ -16,7 +16,7 @@ bytes_before n bytes h i =
       | inr le ↦ rw (get_or_past (take n bytes) i 0 (omega (arith, length-take n bytes))) (omega arith)
     ]
 
--- what stands behind other bytes
+-- what comes after other bytes
 pub bytes_behind : (front rest bytes : List ℕ) → bytes ≡ front ++ rest → IsBytes bytes → IsBytes rest
 bytes_behind front rest bytes e h i = subst (λ (n : ℕ). n < 256) (get_or-append-add front rest i 0) (subst (λ (b : List ℕ). get_or b (length front + i) 0 < 256) e (h (length front + i)))
 
@@ -25,7 +25,7 @@ pub step_some : {A B : Type 0} (o : Option A) (f : A → Option B) (y : B) → (
 step_some (Some x) f y e = (x, refl, e)
 step_some None f y e = absurd cc
 
--- behind a test that gives up
+-- after a test that gives up
 pub passed : {A : Type 0} (b : Bool) (x : Option A) (y : A) → cond b None x ≡ Some y → (b ≡ false) × (x ≡ Some y)
 passed true x y e = absurd cc
 passed false x y e = (refl, e)
@@ -39,7 +39,7 @@ some_is x y e = cc
 
 -- ---- one field
 
--- A field is read exactly where it is spelled, and what fits is spelled.
+-- A field is read exactly where it is encoded, and what fits is encoded.
 pub record IsField {A : Type 0} (read : List ℕ → Option (A × List ℕ)) (write : A → List ℕ) (Fits : A → Type 0) : Type 0 where
   pub whole : (bytes : List ℕ) (x : A × List ℕ) → IsBytes bytes → read bytes ≡ Some x → bytes ≡ write x.0 ++ x.1
   pub fits : (bytes : List ℕ) (x : A × List ℕ) → IsBytes bytes → read bytes ≡ Some x → Fits x.0
@@ -160,14 +160,14 @@ zeros_field n = record {
   again = λ u rest _. zeros_again n u rest;
 }
 
--- ---- fields one behind the other
+-- ---- fields one after the other
 
 -- reads exactly what says a value
 pub record Exact {R : Type 0} (read : List ℕ → Option R) (Says : List ℕ → R → Type 0) : Type 0 where
   pub found : (bytes : List ℕ) (r : R) → IsBytes bytes → read bytes ≡ Some r → Says bytes r
   pub again : (bytes : List ℕ) (r : R) → Says bytes r → read bytes ≡ Some r
 
--- a field, and what it says behind it
+-- a field, and what it says after it
 pub record Then {A R : Type 0} (write : A → List ℕ) (Fits : A → Type 0) (Says : A → List ℕ → R → Type 0) (bytes : List ℕ) (r : R) : Type 0 where
   pub value : A
   pub rest : List ℕ
@@ -175,7 +175,7 @@ pub record Then {A R : Type 0} (write : A → List ℕ) (Fits : A → Type 0) (S
   pub whole : bytes ≡ write value ++ rest
   pub after : Says value rest r
 
--- a value that is made, and the bytes behind it
+-- a value that is made, and the bytes after it
 pub record Made {A : Type 0} (made : Option A) (bytes : List ℕ) (r : A × List ℕ) : Type 0 where
   pub is : made ≡ Some r.0
   pub rest : bytes ≡ r.1

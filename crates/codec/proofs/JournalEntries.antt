@@ -95,7 +95,7 @@ short_length : (n : ℕ) → length (number w16 n) ≡ 2
 unfolding number
 short_length n = refl
 
--- the spelling has 512 bytes
+-- the encoding has 512 bytes
 pub spelling_length : (j : JournalFields) → journal_rules j ≡ true → length (journal_spelling j) ≡ 512
 unfolding journal_spelling
 spelling_length j e =

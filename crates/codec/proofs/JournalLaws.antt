@@ -1,4 +1,4 @@
--- A journal block is read exactly where it is spelled.
+-- A journal block is read exactly where it is encoded.
 use Rattle.std.proofs.Common.{◌≡◌, ℕ, ◌-◌, ◌^◌, ◌<◌, ◌≤◌, true, false, eqb, ltb, ◌&&◌, List, [], ◌∷◌, ◌++◌, length, Option, Some, refl, sym, ap, subst, ◌∙◌, append_assoc, arith}
 use Rattle.std.specs.Int.{w16, w64}
 use Rattle.std.specs.List.{flat_map}
@@ -76,7 +76,7 @@ exact =
     then_exact long_field (λ object. then_exact slot_field (λ previous. then_exact (entries_field count) (λ entries. then_exact (zeros_field (JOURNAL_ENTRY_BYTES - told)) (λ _.
     made_exact (told_journal told (made_of object previous entries))))))))))
 
--- the fields, with what stands behind them
+-- the fields, with what comes after them
 abbrev before : ℕ → ℕ → ℕ → Option Place → List EntryFields → List ℕ → List ℕ
 before count told object previous entries rest =
     1 ∷ count ∷ (number w16 told ++ (zeros 4 ++ (number w64 object ++ (slot previous ++ (flat_map entry_spelling entries ++ (zeros (JOURNAL_ENTRY_BYTES - told) ++ rest))))))

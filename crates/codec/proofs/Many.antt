@@ -39,7 +39,7 @@ module _ {A : Type 0} (read : List ℕ → Option (A × List ℕ)) where
       let one : with_front front (many_at read (count - i) bytes) ≡ Some (front, bytes) = rw k (ap (λ (xs : List A). Some (xs, bytes)) (append-nil front)) in
       sym so_far ∙ one
 
--- so many, each of which fits
+-- this many, each of which fits
 abbrev pub AreMany : {A : Type 0} → (A → Type 0) → ℕ → List A → Type 0
 AreMany Fits n xs = (length xs ≡ n) × AllByRecursion Fits xs
 

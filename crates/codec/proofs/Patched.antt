@@ -1,4 +1,4 @@
--- How the spelling of a journal block with one entry more comes from that of the others.
+-- How the encoding of a journal block with one entry more comes from that of the others.
 use Rattle.std.proofs.Common.{◌≡◌, ℕ, ◌+◌, ◌-◌, ◌^◌, ◌<◌, ◌≤◌, List, [], ◌∷◌, ◌++◌, length, get_or, take, drop, Option, Some, refl, sym, ap, subst, ◌∙◌, append_assoc, arith, length-append}
 use Rattle.std.specs.Prelude.{unwrap_or, None, IsSome}
 use Rattle.std.specs.Int.{w16, w64}
@@ -28,7 +28,7 @@ pub decoded_read : (block : List ℕ) (j : JournalFields) → all_of journal_at 
 unfolding decoded
 decoded_read block j e = ap (λ (o : Option JournalFields). unwrap_or o (record { object = 0; previous = None; entries = [] })) e
 
--- what a block spells is what it is seen as
+-- what a block encodes is what it is seen as
 pub decoded_is : (block : List ℕ) (j : JournalFields) → SpellsJournal block j → decoded block ≡ j
 decoded_is block j h = decoded_read block j ((all_exact journal_field).again block j h)
 
@@ -42,7 +42,7 @@ unfolding decoded
 some_decoded block (Some j) e there = rw e refl
 some_decoded block None e there = cc
 
--- bytes that can be read spell what is read
+-- bytes that can be read encode what is read
 pub spells_decoded : (block : List ℕ) → IsBytes block → IsSome (all_of journal_at block) → SpellsJournal block (decoded block)
 spells_decoded block h there = (all_exact journal_field).found block (decoded block) h (some_decoded block (all_of journal_at block) refl there)
 
@@ -114,7 +114,7 @@ count_low block j e h fit = room j.entries e fit
 numbers_push : (j : JournalFields) (e : EntryFields) → JournalNumbers j → IsEntry e → JournalNumbers (with_entry j e)
 numbers_push j e n h = record { object = n.object; previous = n.previous; entries = grind (arith, common_steps, n.entries, h) }
 
--- the block with the entry behind the others and the counts raised
+-- the block with the entry after the others and the counts raised
 pub patched : (block : List ℕ) (j : JournalFields) (e : EntryFields) (at size told count : ℕ) (mid spelled later counts : List ℕ) → SpellsJournal block j → IsEntry e → entries_length j.entries + entry_length e ≤ JOURNAL_ENTRY_BYTES
     → told ≡ entries_length j.entries → count ≡ length j.entries → at ≡ JOURNAL_HEAD_BYTES + told → spelled ≡ entry_spelling e → size ≡ length spelled
     → mid ≡ take at block ++ (spelled ++ drop (at + size) block)

@@ -4,7 +4,7 @@ use Rattle.std.proofs.lemmas.List.{take_more}
 use Rattle.std.proofs.lemmas.List.Folds.{concat-append}
 use Rattle.std.specs.List.{concat, AllByRecursion}
 
--- a block more behind a head
+-- a block more after a head
 pub joined_more : (head : List ℕ) (blocks : List (List ℕ)) (i : ℕ) → i < length blocks → (head ++ concat (take i blocks)) ++ get_or blocks i [] ≡ head ++ concat (take (i + 1) blocks)
 joined_more head blocks i lt =
     let block = get_or blocks i [] in

@@ -1,4 +1,4 @@
--- Where the entries of a journal block begin, as they are found one behind the other, and as they are given from the last.
+-- Where the entries of a journal block begin, as they are found one after the other, and as they are given from the last.
 use Rattle.std.proofs.Common.{◌≡◌, ℕ, ◌-◌, ◌+◌, ◌<◌, ◌≤◌, true, false, List, [], ◌∷◌, ◌++◌, length, get_or, drop, Option, Some, None, IsSome, is_some, refl, sym, ap, subst, ◌∙◌, append_assoc, arith, length-append}
 use Rattle.std.specs.List.{flat_map, AllByRecursion}
 use Rattle.std.specs.Option.{option_to_list}
@@ -22,7 +22,7 @@ some_journal : (block : List ℕ) (o : Option JournalFields) → IsBytes block �
 some_journal block None h is there = absurd (let e : false ≡ true = there in cc)
 some_journal block (Some j) h is there = (j, (all_exact journal_field).found block j h is)
 
--- the journal block that stands there
+-- the journal block that is there
 pub spelled_there : (block : List ℕ) → IsBytes block → IsSome (all_of journal_at block) → (j : JournalFields) × SpellsJournal block j
 spelled_there block h there = some_journal block (all_of journal_at block) h refl there
 
@@ -56,9 +56,9 @@ few_there block j h = omega (arith, count_there block j h, fourteen j.entries (r
 unfoldable pub behind : JournalFields → List ℕ
 behind j = flat_map entry_spelling j.entries ++ zeros (JOURNAL_ENTRY_BYTES - entries_length j.entries)
 
--- ---- the entries, one behind the other
+-- ---- the entries, one after the other
 
--- some entries of a journal block were found, and the others stand from a byte on
+-- some entries of a journal block were found, and the others are from a byte on
 pub record Scanned (block : List ℕ) (j : JournalFields) (starts : List ℕ) (at i : ℕ) : Type 0 where
   pub done : entries_begun_at block starts ++ drop i j.entries ≡ j.entries
   pub behind : drop at block ≡ flat_map entry_spelling (drop i j.entries) ++ zeros (JOURNAL_ENTRY_BYTES - entries_length j.entries)
@@ -87,7 +87,7 @@ length_front : (e : EntryFields) (es : List EntryFields) → entries_length (e �
 unfolding entries_length
 length_front e es = refl
 
--- the entry that stands where not all were found
+-- the entry that is where not all were found
 record Standing (block : List ℕ) (j : JournalFields) (at i : ℕ) (e : EntryFields) : Type 0 where
   rest : List ℕ
   is : drop i j.entries ≡ e ∷ drop (i + 1) j.entries

@@ -1,4 +1,4 @@
--- The head of a summary is read exactly where it is spelled, and a block is a summary's by its head and its digest.
+-- The head of a summary is read exactly where it is encoded, and a block is a summary's by its head and its digest.
 use Rattle.std.proofs.Common.{◌≡◌, ℕ, zero, suc, ◌-◌, ◌*◌, ◌+◌, ◌^◌, ◌<◌, ◌≤◌, Bool, true, false, cond, eqb, ltb, leb, ◌&&◌, List, [], ◌∷◌, ◌++◌, length, take, drop, Option, Some, refl, sym, ap, subst, ◌∙◌, append_assoc, length-append, take-append-drop, slice_index, arith}
 use Rattle.std.specs.Int.{w16, w32, w64, to_be_bytes}
 use Rattle.std.specs.List.{concat, flat_map, AllByRecursion, list_all}
@@ -102,7 +102,7 @@ exact =
     then_exact word_field (λ generation. then_exact (zeros_field 4) (λ _. then_exact (roles_field used) (λ roles.
     then_exact (zeros_field (464 - 9 * used)) (λ _. made_exact (checked_summary (made_of frame generation roles)))))))))))))
 
--- the fields, with what stands behind them
+-- the fields, with what comes after them
 abbrev before : ℕ → ℕ → ℕ → List BlockRole → List ℕ → List ℕ
 before frame used generation roles rest =
     0x53 ∷ 0x34 ∷ 0x73 ∷ 0x67 ∷ (number w16 frame ++ (used ∷ 0 ∷ (number w32 generation ++ (zeros 4 ++ (flat_map role_spelling roles ++ (zeros (464 - 9 * used) ++ rest))))))

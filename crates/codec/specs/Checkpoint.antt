@@ -1,4 +1,4 @@
--- An inode, and how a checkpoint of it is spelled in one block.
+-- An inode, and how a checkpoint of it is encoded in one block.
 use Rattle.std.specs.Prelude.{◌≡◌, ℕ, ◌-◌, ◌^◌, ◌<◌, ◌≤◌, Bool, true, List, [], ◌∷◌, ◌++◌, length, slice_index_or, replicate, Option, Some, None, IfSome, is_none, nat_lt, nat_le, ◌&&◌, ◌||◌}
 use Rattle.std.specs.Int.{w32, w64}
 use Rattle.std.specs.List.{flat_map, AllByRecursion}
@@ -12,7 +12,7 @@ use Rattle.codec.specs.declared.inodes.Inode.{Inode}
 abbrev pub pointer_at : Inode → ℕ → Option Place
 pointer_at i n = slice_index_or i.pointers n None
 
--- so many holes
+-- this many holes
 unfoldable pub holes : ℕ → List (Option Place)
 holes count = replicate count None
 
@@ -22,7 +22,7 @@ pub record CheckpointFields : Type 0 where
   pub moment : ℕ
   pub inode : Inode
 
--- each pointer behind the bytes of this size is a hole
+-- each pointer after the bytes of this size is a hole
 unfoldable pub holes_past : ℕ → List (Option Place) → Bool
 holes_past size [] = true
 holes_past size (p ∷ pointers) = (nat_lt 0 size || is_none p) && holes_past (size - 512) pointers
@@ -56,7 +56,7 @@ unfoldable pub checkpoint_spelling : CheckpointFields → List ℕ
 checkpoint_spelling c =
     2 ∷ bit c.inode.alive ∷ length c.inode.attribute ∷ 0 ∷ (number w32 c.inode.size ++ (number w64 c.object ++ (number w64 c.moment ++ (number w64 c.inode.created ++ (number w64 c.inode.changed ++ (padded c.inode.attribute ++ (flat_map slot c.inode.pointers ++ zeros CHECKPOINT_ZEROS)))))))
 
--- the block spells this checkpoint
+-- the block encodes this checkpoint
 abbrev pub SpellsCheckpoint : List ℕ → CheckpointFields → Type 0
 SpellsCheckpoint block c = ((checkpoint_rules c ≡ true) × CheckpointNumbers c) × (block ≡ checkpoint_spelling c)
 
@@ -64,7 +64,7 @@ SpellsCheckpoint block c = ((checkpoint_rules c ≡ true) × CheckpointNumbers c
 abbrev pub checked : CheckpointFields → Option CheckpointFields
 checked c = kept (checkpoint_rules c) c
 
--- reading what stands behind the moments of a checkpoint
+-- reading what comes after the moments of a checkpoint
 abbrev pub behind_moments : Bool → ℕ → ℕ → ℕ → ℕ → ℕ → ℕ → List ℕ → Option (CheckpointFields × List ℕ)
 behind_moments alive len size object moment created changed bytes = do
   attribute ← padded_at len bytes
@@ -73,7 +73,7 @@ behind_moments alive len size object moment created changed bytes = do
   made ← checked (record { object = object; moment = moment; inode = record { alive = alive; size = size; created = created; changed = changed; attribute = attribute.0; pointers = pointers.0 } })
   Some (made, end.1)
 
--- reading what stands behind the size of a checkpoint
+-- reading what comes after the size of a checkpoint
 abbrev pub behind_size : Bool → ℕ → ℕ → List ℕ → Option (CheckpointFields × List ℕ)
 behind_size alive len size bytes = do
   object ← number_at w64 bytes

@@ -1,4 +1,4 @@
--- A journal entry: what one change, or a part of it, made of an inode, both ways; and how it is spelled.
+-- A journal entry: what one change, or a part of it, made of an inode, both ways; and how it is encoded.
 use Rattle.std.specs.Prelude.{◌≡◌, ℕ, ◌+◌, ◌*◌, ◌/◌, ◌%◌, ◌^◌, ◌<◌, ◌≤◌, Bool, true, false, not, List, [], ◌∷◌, ◌++◌, length, Option, Some, None, IfSome, is_some, is_none, nat_lt, nat_le, ◌==◌, ◌&&◌, ◌||◌, if◌then◌else◌}
 use Rattle.std.specs.Int.{w32, w64}
 use Rattle.std.specs.List.{flat_map, AllByRecursion}
@@ -53,9 +53,9 @@ unfoldable pub entry_rules : EntryFields → Bool
 entry_rules e =
     nat_le 1 e.moment && ((e.before.alive || e.after.alive) && (nat_le e.before.size OBJECT_BYTES && (nat_le e.after.size OBJECT_BYTES && (was_nothing e.before && (changes_now e && (differs e.pair && ascend_from 0 e.triples))))))
 
--- ---- spelling
+-- ---- encoding
 
--- an attribute behind a byte that tells its length
+-- an attribute after a byte that tells its length
 unfoldable pub text : List ℕ → List ℕ
 text bytes = length bytes ∷ bytes
 
@@ -102,7 +102,7 @@ pub record EntryNumbers (e : EntryFields) : Type 0 where
   pub count : length e.triples ≤ ENTRY_TRIPLES
   pub triples : AllByRecursion IsTriple e.triples
 
--- the entry has a spelling
+-- the entry has an encoding
 abbrev pub IsEntry : EntryFields → Type 0
 IsEntry e = (entry_rules e ≡ true) × EntryNumbers e
 
@@ -144,7 +144,7 @@ triples_at count bytes = if nat_lt ENTRY_TRIPLES count then None else many_at tr
 abbrev pub checked_entry : EntryFields → Option EntryFields
 checked_entry e = kept (entry_rules e) e
 
--- what stands behind the two statuses of an entry
+-- what comes after the two statuses of an entry
 abbrev pub behind_statuses : ℕ → Status → Status → Bool → ℕ → List ℕ → Option (EntryFields × List ℕ)
 behind_statuses moment before after there count bytes = do
   pair ← pair_at there bytes
@@ -152,7 +152,7 @@ behind_statuses moment before after there count bytes = do
   made ← checked_entry (record { moment = moment; before = before; after = after; pair = pair.0; triples = triples.0 })
   Some (made, triples.1)
 
--- what stands behind an entry's count of triples
+-- what comes after an entry's count of triples
 abbrev pub behind_count : ℕ → Flags → ℕ → List ℕ → Option (EntryFields × List ℕ)
 behind_count moment flags count bytes = do
   size_before ← number_at w32 bytes
@@ -169,7 +169,7 @@ entry_at bytes = do
   count ← byte_at flags.1
   behind_count moment.0 flags.0 count.0 count.1
 
--- the bytes of two attributes behind their lengths, or none
+-- the bytes of two attributes after their lengths, or none
 unfoldable pub pair_length : Option Pair → ℕ
 pair_length None = 0
 pair_length (Some p) = (1 + length p.before) + (1 + length p.after)

@@ -1,4 +1,4 @@
--- The fields that records are made of: how each is spelled, and how it is read from the front of bytes.
+-- The fields that records are made of: how each is encoded, and how it is read from the front of bytes.
 use Rattle.std.specs.Prelude.{◌≡◌, ℕ, zero, suc, ◌+◌, ◌-◌, ◌^◌, Bool, true, false, cond, List, [], ◌∷◌, ◌++◌, length, take, drop, replicate, Option, Some, None, IfSome, nat_lt, nat_le, ◌==◌, ◌&&◌, if◌then◌else◌}
 use Rattle.std.specs.Int.{Width, w16, w32, byte_len, from_be_bytes, to_be_bytes}
 use Rattle.s4_types.specs.Pointer.{Place, IsPlace}
@@ -17,7 +17,7 @@ Reads view None read = read ≡ None
 abbrev pub kept : {A : Type 0} → Bool → A → Option A
 kept test x = if test then Some x else None
 
--- ---- spelling
+-- ---- encoding
 
 -- a number, its highest byte first
 unfoldable pub number : Width → ℕ → List ℕ
@@ -43,11 +43,11 @@ byte_at (b ∷ rest) = Some (b, rest)
 unfoldable pub number_at : Width → List ℕ → Option (ℕ × List ℕ)
 number_at w bytes = if nat_lt (length bytes) (byte_len w) then None else Some (from_be_bytes w (take (byte_len w) bytes), drop (byte_len w) bytes)
 
--- so many bytes, and the bytes after them
+-- this many bytes, and the bytes after them
 unfoldable pub bytes_at : ℕ → List ℕ → Option (List ℕ × List ℕ)
 bytes_at n bytes = if nat_lt (length bytes) n then None else Some (take n bytes, drop n bytes)
 
--- what stands behind so many zeros
+-- what comes after this many zeros
 unfoldable pub zeros_at : ℕ → List ℕ → Option (Unit {0} × List ℕ)
 zeros_at zero bytes = Some (tt, bytes)
 zeros_at (suc n) [] = None
@@ -57,13 +57,13 @@ zeros_at (suc n) (b ∷ bytes) = if b == 0 then zeros_at n bytes else None
 abbrev pub is_place : Place → Bool
 is_place p = nat_le 1 p.block && (nat_le p.block 15 && (nat_le 1 p.generation && nat_lt (p.generation + 1) (2 ^ 32)))
 
--- the pointer or the hole that four numbers spell
+-- the pointer or the hole that four numbers encode
 unfoldable pub slot_of : ℕ → ℕ → ℕ → ℕ → Option (Option Place)
 slot_of frame block gap generation =
     let place : Place = record { frame = frame; block = block; generation = generation } in
     if gap == 0 then (if frame == 0 && (block == 0 && generation == 0) then Some None else kept (is_place place) (Some place)) else None
 
--- what stands behind the block of a slot
+-- what comes after the block of a slot
 abbrev pub behind_block : ℕ → ℕ → List ℕ → Option (Option Place × List ℕ)
 behind_block frame block bytes = do
   gap ← byte_at bytes
@@ -94,7 +94,7 @@ flag_at (zero ∷ rest) = Some (false, rest)
 flag_at (suc zero ∷ rest) = Some (true, rest)
 flag_at (suc (suc b) ∷ rest) = None
 
--- so many of one kind, one behind the other
+-- this many of one kind, one after the other
 unfoldable pub many_at : {A : Type 0} → (List ℕ → Option (A × List ℕ)) → ℕ → List ℕ → Option (List A × List ℕ)
 many_at read zero bytes = Some ([], bytes)
 many_at read (suc n) bytes = do
@@ -102,7 +102,7 @@ many_at read (suc n) bytes = do
   others ← many_at read n first.1
   Some (first.0 ∷ others.0, others.1)
 
--- an attribute in ATTRIBUTE_BYTES, with zeros behind it
+-- an attribute in ATTRIBUTE_BYTES, with zeros after it
 unfoldable pub padded : List ℕ → List ℕ
 padded attribute = attribute ++ zeros (64 - length attribute)
 
@@ -123,6 +123,6 @@ ended made (_ ∷ _) = None
 abbrev pub all_of : {A : Type 0} → (List ℕ → Option (A × List ℕ)) → List ℕ → Option A
 all_of read bytes = read bytes >>= λ x. ended (Some x.0) x.1
 
--- the bytes spell this pointer, or this hole
+-- the bytes encode this pointer, or this hole
 abbrev pub SpellsSlot : List ℕ → Option Place → Type 0
 SpellsSlot bytes p = IfSome p IsPlace × (bytes ≡ slot p)

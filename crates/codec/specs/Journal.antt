@@ -1,4 +1,4 @@
--- A journal block: entries of one object, the oldest first, and the way to the object's earlier ones; and how it is spelled.
+-- A journal block: entries of one object, the oldest first, and the way to the object's earlier ones; and how it is encoded.
 use Rattle.std.specs.Prelude.{◌≡◌, ℕ, ◌-◌, ◌^◌, ◌<◌, Bool, true, List, ◌∷◌, ◌++◌, length, Option, Some, None, nat_lt, nat_le, ◌==◌, ◌&&◌, if◌then◌else◌}
 use Rattle.std.specs.Int.{w16, w64}
 use Rattle.std.specs.List.{flat_map, AllByRecursion}
@@ -18,13 +18,13 @@ pub record JournalFields : Type 0 where
 unfoldable pub journal_rules : JournalFields → Bool
 journal_rules j = nat_le 1 j.object && (nat_le 1 (length j.entries) && nat_le (entries_length j.entries) JOURNAL_ENTRY_BYTES)
 
--- the numbers of a journal block are in their ranges, and each entry has a spelling
+-- the numbers of a journal block are in their ranges, and each entry has an encoding
 pub record JournalNumbers (j : JournalFields) : Type 0 where
   pub object : j.object < 2 ^ 64
   pub previous : IsSlot j.previous
   pub entries : AllByRecursion IsEntry j.entries
 
--- the journal block has a spelling
+-- the journal block has an encoding
 abbrev pub IsJournal : JournalFields → Type 0
 IsJournal j = (journal_rules j ≡ true) × JournalNumbers j
 
@@ -33,11 +33,11 @@ unfoldable pub journal_spelling : JournalFields → List ℕ
 journal_spelling j =
     1 ∷ length j.entries ∷ (number w16 (entries_length j.entries) ++ (zeros 4 ++ (number w64 j.object ++ (slot j.previous ++ (flat_map entry_spelling j.entries ++ zeros (JOURNAL_ENTRY_BYTES - entries_length j.entries))))))
 
--- the block spells this journal block
+-- the block encodes this journal block
 abbrev pub SpellsJournal : List ℕ → JournalFields → Type 0
 SpellsJournal block j = IsJournal j × (block ≡ journal_spelling j)
 
--- so many entries, one behind the other: no more than a journal block can have
+-- this many entries, one after the other: no more than a journal block can have
 unfoldable pub entries_at : ℕ → List ℕ → Option (List EntryFields × List ℕ)
 entries_at count bytes = if nat_lt JOURNAL_ENTRIES count then None else many_at entry_at count bytes
 
@@ -45,7 +45,7 @@ entries_at count bytes = if nat_lt JOURNAL_ENTRIES count then None else many_at 
 unfoldable pub told_journal : ℕ → JournalFields → Option JournalFields
 told_journal told j = kept (told == entries_length j.entries && journal_rules j) j
 
--- reading what stands behind the object of a journal block
+-- reading what comes after the object of a journal block
 abbrev pub behind_object : ℕ → ℕ → ℕ → List ℕ → Option (JournalFields × List ℕ)
 behind_object count told object bytes = do
   previous ← slot_at bytes

@@ -4,10 +4,10 @@ use Rattle.codec.specs.Fields.{all_of}
 use Rattle.codec.specs.Entry.{EntryFields}
 use Rattle.codec.specs.Journal.{JournalFields, journal_at}
 
--- the journal block that bytes spell; of bytes that spell none, nothing is said
+-- the journal block that bytes encode; of bytes that encode none, nothing is said
 unfoldable pub decoded : List ℕ → JournalFields
 decoded bytes = unwrap_or (all_of journal_at bytes) (record { object = 0; previous = None; entries = [] })
 
--- the block with an entry behind its others
+-- the block with an entry after its others
 abbrev pub with_entry : JournalFields → EntryFields → JournalFields
 with_entry j e = record { object = j.object; previous = j.previous; entries = j.entries ++ e ∷ [] }

@@ -1,4 +1,4 @@
--- The summary of a frame: which of its payload blocks are used and for what, and how it is spelled in one block with a
+-- The summary of a frame: which of its payload blocks are used and for what, and how it is encoded in one block with a
 -- digest of the whole frame.
 use Rattle.std.specs.Prelude.{◌≡◌, ℕ, ◌+◌, ◌-◌, ◌*◌, ◌^◌, ◌<◌, ◌≤◌, ◌==◌, Bool, List, [], ◌∷◌, ◌++◌, length, drop, Option, Some, None, nat_lt, nat_le, ◌&&◌, if◌then◌else◌, true}
 use Rattle.std.specs.Int.{w16, w32, w64}
@@ -41,11 +41,11 @@ pub record SummaryNumbers (s : SummaryFields) : Type 0 where
   pub frame : s.frame < 2 ^ 16
   pub roles : AllByRecursion IsBlockRole s.roles
 
--- the summary has a spelling
+-- the summary has an encoding
 abbrev pub IsSummary : SummaryFields → Type 0
 IsSummary s = (summary_rules s ≡ true) × SummaryNumbers s
 
--- ---- spelling
+-- ---- encoding
 
 -- the number of a kind; 0 is the kind of an unused block
 abbrev pub kind_number : BlockKind → ℕ
@@ -75,11 +75,11 @@ summary_spelling s payload = summary_head s ++ frame_digest (summary_head s) pay
 abbrev pub IsBlank : List ℕ → Type 0
 IsBlank block = block ≡ zeros 512
 
--- the payload blocks behind the first ones, of which so many are used, are zeros
+-- the payload blocks after the first ones, of which this many are used, are zeros
 abbrev pub UnusedAreBlank : ℕ → List (List ℕ) → Type 0
 UnusedAreBlank used payload = AllByRecursion IsBlank (drop used payload)
 
--- the block spells this summary in front of these payload blocks
+-- the block encodes this summary in front of these payload blocks
 abbrev pub SpellsSummary : List (List ℕ) → List ℕ → SummaryFields → Type 0
 SpellsSummary payload block s = IsSummary s × (UnusedAreBlank (length s.roles) payload × (block ≡ summary_spelling s payload))
 
@@ -97,7 +97,7 @@ role_at bytes = do
   object ← number_at w64 kind.1
   Some (record { kind = kind.0; object = object.0 }, object.1)
 
--- what so many used blocks are, of at most 15
+-- what this many used blocks are, of at most 15
 unfoldable pub roles_at : ℕ → List ℕ → Option (List BlockRole × List ℕ)
 roles_at used bytes = if nat_lt 15 used then None else many_at role_at used bytes
 
@@ -105,7 +105,7 @@ roles_at used bytes = if nat_lt 15 used then None else many_at role_at used byte
 abbrev pub checked_summary : SummaryFields → Option SummaryFields
 checked_summary s = kept (summary_rules s) s
 
--- reading what stands behind the numbers in the head of a summary
+-- reading what comes after the numbers in the head of a summary
 abbrev pub behind_numbers : ℕ → ℕ → ℕ → List ℕ → Option (SummaryFields × List ℕ)
 behind_numbers frame used generation bytes = do
   roles ← roles_at used bytes
@@ -113,7 +113,7 @@ behind_numbers frame used generation bytes = do
   made ← checked_summary (record { frame = frame; generation = generation; roles = roles.0 })
   Some (made, end.1)
 
--- reading what stands behind the marks in the head of a summary
+-- reading what comes after the marks in the head of a summary
 abbrev pub behind_marks : List ℕ → Option (SummaryFields × List ℕ)
 behind_marks bytes = do
   frame ← number_at w16 bytes

@@ -8,7 +8,7 @@ use std::marker::Model;
 #[derive(Clone, Copy, PartialEq, Eq)]
 pub struct Attribute {
     len: u8,
-    // Zero behind the attribute.
+    // Zero after the attribute.
     bytes: [u8; ATTRIBUTE_BYTES],
 }
 
@@ -35,7 +35,7 @@ fn blank() -> [u8; ATTRIBUTE_BYTES]
     [0; ATTRIBUTE_BYTES]
 }
 
-/// The bytes, and zeros behind them.
+/// The bytes, and zeros after them.
 #[tactic(auto, using(crate::proofs::Padded::filled))]
 fn padded_bytes(bytes: &[u8]) -> [u8; ATTRIBUTE_BYTES]
     requires { length bytes.now ≤ 64 }
@@ -52,7 +52,8 @@ impl Attribute {
     pub fn new(bytes: &[u8]) -> Option<Self>
         ensures short { IsSome result ↔ (length bytes.now ≤ 64) }
         ensures value { IfSome result (λ attribute. attribute ≡ bytes.now) }
-        ensures exact { Reads (λ attribute. attribute) result (kept (nat_le (length bytes.now) 64) bytes.now) }
+        ensures exact { Reads (λ attribute. attribute) result
+            (kept (nat_le (length bytes.now) 64) bytes.now) }
     {
         if bytes.len() > ATTRIBUTE_BYTES {
             return None;

@@ -1,6 +1,9 @@
-ghost use Rattle.std.specs.Prelude.{◌≡◌, ℕ, ◌≤◌, ◌+◌, ◌++◌, Bool, true, nat_lt, is_none, ◌||◌, List, length, Option, Some, IfSome, IsSome, ◌↔◌};
+ghost use Rattle.std.specs.Prelude.{◌≡◌, ℕ, ◌≤◌, ◌+◌, ◌++◌, Bool, true, nat_lt, is_none, ◌||◌};
+ghost use Rattle.std.specs.Prelude.{List, length, Option, Some, IfSome, IsSome, ◌↔◌};
 ghost use Rattle.codec.specs.Fields.{Reads, all_of, padded_at};
-ghost use Rattle.codec.specs.Checkpoint.{CheckpointFields, checked, holes_past, checkpoint_rules, behind_moments, behind_size, checkpoint_at, SpellsCheckpoint};
+ghost use Rattle.codec.specs.Checkpoint.{CheckpointFields, checked, holes_past, checkpoint_rules};
+ghost use Rattle.codec.specs.Checkpoint.{behind_moments, behind_size, checkpoint_at};
+ghost use Rattle.codec.specs.Checkpoint.{SpellsCheckpoint};
 
 use crate::attributes::Attribute;
 use crate::fields::{
@@ -16,15 +19,15 @@ use s4_types::limits::{
 use s4_types::{Moment, ObjectId, Ptr};
 use std::marker::Model;
 
-/// Bytes of a checkpoint block behind its pointers, which are zeros.
+/// Bytes of a checkpoint block after its pointers, which are zeros.
 pub(crate) const CHECKPOINT_ZEROS: usize = BLOCK_BYTES
     - CHECKPOINT_HEAD_BYTES
     - CHECKPOINT_POINTERS * POINTER_BYTES;
 
 /// An object's inode after all changes up to a moment, as a block of the log keeps it.
 ///
-/// The object's number, both moments of its making and of the checkpoint are at least 1, the size is at most
-/// `OBJECT_BYTES`, and pointers past the size are holes.
+/// The object's number, both moments of its making and of the checkpoint are at least 1, the size
+/// is at most `OBJECT_BYTES`, and pointers past the size are holes.
 #[derive(Clone, Copy, PartialEq, Eq)]
 pub struct Checkpoint {
     object: ObjectId,
@@ -45,14 +48,14 @@ impl Model for Checkpoint {
     ghost inverse = { λ c. record { object = c.object; moment = c.moment; inode = c.inode } };
 }
 
-/// Whether a pointer may stand where so many bytes are left.
+/// Whether a pointer may be where this many bytes are left.
 fn may_stand(left: u32, pointer: Option<Ptr>) -> bool
     ensures { result ≡ (nat_lt 0 left || is_none pointer) }
 {
     left > 0 || pointer.is_none()
 }
 
-/// Whether each pointer behind the bytes of this size is a hole.
+/// Whether each pointer after the bytes of this size is a hole.
 fn has_holes_past(size: u32, pointers: &[Option<Ptr>]) -> bool
     ensures { result ≡ holes_past size pointers.now }
 {
@@ -139,9 +142,11 @@ struct Numbers {
     changed: u64,
 }
 
-/// What stands behind the moments of a checkpoint.
+/// What comes after the moments of a checkpoint.
 fn read_behind_moments(numbers: Numbers, bytes: &[u8]) -> Option<(Checkpoint, &[u8])>
-    ensures { Reads (λ x. (x.0, x.1.now)) result (behind_moments numbers.alive numbers.length numbers.size numbers.object numbers.moment numbers.created numbers.changed bytes.now) }
+    ensures { Reads (λ x. (x.0, x.1.now)) result
+        (behind_moments numbers.alive numbers.length numbers.size numbers.object numbers.moment
+        numbers.created numbers.changed bytes.now) }
 {
     let Some((attribute, rest)) = read_padded(numbers.length, bytes) else {
         return None;
@@ -166,7 +171,7 @@ fn read_behind_moments(numbers: Numbers, bytes: &[u8]) -> Option<(Checkpoint, &[
     Some((checkpoint, rest))
 }
 
-/// What stands behind the size of a checkpoint.
+/// What comes after the size of a checkpoint.
 fn read_behind_size(alive: bool, length: u8, size: u32, bytes: &[u8]) -> Option<(Checkpoint, &[u8])>
     ensures { Reads (λ x. (x.0, x.1.now)) result (behind_size alive length size bytes.now) }
 {
@@ -210,16 +215,17 @@ fn checkpoint_in(bytes: &[u8]) -> Option<Checkpoint>
     }
 }
 
-/// The checkpoint whose spelling the block is. None where it is the spelling of no checkpoint.
+/// The checkpoint whose encoding the block is. None where it is the encoding of no checkpoint.
 pub fn decode_checkpoint(block: &[u8; BLOCK_BYTES]) -> Option<Checkpoint>
     ensures exact { Reads (λ checkpoint. checkpoint) result (all_of checkpoint_at block.now) }
     ensures found { IfSome result (λ checkpoint. SpellsCheckpoint block.now checkpoint) }
-    ensures only { (checkpoint : CheckpointFields) → SpellsCheckpoint block.now checkpoint → result ≡ Some checkpoint }
+    ensures only { (checkpoint : CheckpointFields)
+        → SpellsCheckpoint block.now checkpoint → result ≡ Some checkpoint }
 {
     checkpoint_in(block)
 }
 
-/// The one spelling of a checkpoint.
+/// The one encoding of a checkpoint.
 #[tactic(auto, unfolding(crate::specs::Checkpoint::checkpoint_spelling))]
 pub fn encode_checkpoint(checkpoint: &Checkpoint) -> [u8; BLOCK_BYTES]
     ensures { SpellsCheckpoint result checkpoint.now }

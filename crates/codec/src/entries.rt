@@ -1,8 +1,14 @@
-ghost use Rattle.std.specs.Prelude.{◌≡◌, ℕ, ◌+◌, ◌*◌, ◌≤◌, ◌<◌, ◌++◌, IsTrue, Bool, true, false, List, [], length, Option, Some, None, IfSome, IfNone, IsSome, ◌&&◌, ◌||◌, not, nat_lt, nat_le};
+ghost use Rattle.std.specs.Prelude.{◌≡◌, ℕ, ◌+◌, ◌*◌, ◌≤◌, ◌<◌, ◌++◌, IsTrue, Bool, true, false};
+ghost use Rattle.std.specs.Prelude.{List, [], length, Option, Some, None, IfSome, IfNone, IsSome};
+ghost use Rattle.std.specs.Prelude.{◌&&◌, ◌||◌, not, nat_lt, nat_le};
 ghost use Rattle.std.specs.List.{flat_map, AllByRecursion};
-ghost use Rattle.s4_types.specs.declared.limits.TheConstants.{OBJECT_BLOCKS, ENTRY_TRIPLES, ATTRIBUTE_PAIR_BYTES, SHORTEST_ENTRY_BYTES, LONGEST_ENTRY_BYTES};
+ghost use Rattle.s4_types.specs.declared.limits.TheConstants.{OBJECT_BLOCKS, ENTRY_TRIPLES};
+ghost use Rattle.s4_types.specs.declared.limits.TheConstants.{ATTRIBUTE_PAIR_BYTES};
+ghost use Rattle.s4_types.specs.declared.limits.TheConstants.{SHORTEST_ENTRY_BYTES};
+ghost use Rattle.s4_types.specs.declared.limits.TheConstants.{LONGEST_ENTRY_BYTES};
 ghost use Rattle.codec.specs.Fields.{Reads, slot, bit};
-ghost use Rattle.codec.specs.Entry.{EntryFields, same_slot, ascend_from, was_nothing, changes_now, differs, entry_rules, checked_entry, pair_length, entry_length};
+ghost use Rattle.codec.specs.Entry.{EntryFields, same_slot, ascend_from, was_nothing, changes_now};
+ghost use Rattle.codec.specs.Entry.{differs, entry_rules, checked_entry, pair_length, entry_length};
 
 use crate::attributes::Attribute;
 use arrayvec::ArrayVec;
@@ -12,7 +18,7 @@ use s4_types::limits::{
 use s4_types::{Moment, Ptr};
 use std::marker::Model;
 
-/// What an entry tells of an inode in front of a moment, or behind it.
+/// What an entry tells of an inode in front of a moment, or after it.
 #[derive(Clone, Copy, PartialEq, Eq)]
 pub struct Status {
     pub alive: bool,
@@ -24,7 +30,7 @@ pub struct Status {
 /// The index of a pointer among those of an inode.
 pub type PointerIndex = u8;
 
-/// A pointer that changed: its index, what stood there and what stands there.
+/// A pointer that changed: its index, what was there and what is there.
 #[derive(Clone, Copy, Default, PartialEq, Eq)]
 pub struct Triple {
     pub index: PointerIndex,
@@ -52,9 +58,10 @@ pub(crate) struct Flags {
 
 /// What a change at a moment made of an inode, both ways.
 ///
-/// The rules of a single entry hold: the moment is at least 1, one of the two is alive, what was dead had no
-/// size and no moment of change, what is alive was changed at the moment, of what is dead the flag alone
-/// changed, the attributes of a pair differ, and so do the two pointers of a triple, whose indices ascend.
+/// The rules of a single entry hold: the moment is at least 1, one of the two is alive, what was
+/// dead had no size and no moment of change, what is alive was changed at the moment, of what is
+/// dead the flag alone changed, the attributes of a pair differ, and so do the two pointers of a
+/// triple, whose indices ascend.
 #[derive(Clone, Drop, PartialEq, Eq)]
 pub struct Entry {
     moment: Moment,
@@ -122,9 +129,11 @@ fn is_same_slot(one: Option<Ptr>, other: Option<Ptr>) -> bool
     }
 }
 
-/// Whether a triple may stand where indices begin at `low`.
+/// Whether a triple may be where indices begin at `low`.
 fn may_stand(low: PointerIndex, triple: Triple) -> bool
-    ensures exact { result ≡ (nat_le low triple.index && (nat_lt triple.index OBJECT_BLOCKS && not (same_slot triple.before triple.after))) }
+    ensures exact { result
+        ≡ (nat_le low triple.index
+        && (nat_lt triple.index OBJECT_BLOCKS && not (same_slot triple.before triple.after))) }
     ensures room { IsTrue result → triple.index < OBJECT_BLOCKS }
 {
     low <= triple.index
@@ -264,7 +273,7 @@ impl Entry {
         self.triples.as_slice()
     }
 
-    /// How many bytes the entry's spelling has: `SHORTEST_ENTRY_BYTES` to `LONGEST_ENTRY_BYTES`.
+    /// How many bytes the entry's encoding has: `SHORTEST_ENTRY_BYTES` to `LONGEST_ENTRY_BYTES`.
     #[tactic(auto, unfolding(crate::specs::Entry::entry_length))]
     pub fn byte_count(&self) -> usize
         ensures exact { result ≡ entry_length self.now }

@@ -1,4 +1,5 @@
-ghost use Rattle.std.specs.Prelude.{◌≡◌, ℕ, ◌≤◌, ◌++◌, ◌==◌, List, [], ◌∷◌, length, drop, Some, None, IsSome, IfNone};
+ghost use Rattle.std.specs.Prelude.{◌≡◌, ℕ, ◌≤◌, ◌++◌, ◌==◌, List, [], ◌∷◌, length, drop, Some};
+ghost use Rattle.std.specs.Prelude.{None, IsSome, IfNone};
 ghost use Rattle.std.specs.List.{AllByRecursion};
 ghost use Rattle.std.specs.Option.{option_to_list};
 ghost use Rattle.codec.specs.Fields.{all_of};
@@ -19,11 +20,12 @@ use std::marker::Model;
 // Where entries begin in a block, in the order of their bytes.
 type Starts = ArrayVec<u16, JOURNAL_ENTRIES>;
 
-/// How many bytes the entry has that the bytes begin with: its flags, its count of pointers and the lengths of its
-/// attributes tell it.
+/// How many bytes the entry has that the bytes begin with: its flags, its count of pointers and the
+/// lengths of its attributes tell it.
 fn front_bytes(bytes: &[u8]) -> usize
     requires { IsSome (entry_at bytes.now) }
-    ensures { (entry : EntryFields) (rest : List ℕ) → BeginsWithEntry bytes.now entry rest → result ≡ entry_length entry }
+    ensures { (entry : EntryFields) (rest : List ℕ)
+        → BeginsWithEntry bytes.now entry rest → result ≡ entry_length entry }
 {
     let fixed = SHORTEST_ENTRY_BYTES + TRIPLE_BYTES * bytes[9] as usize;
     if bytes[8] < 4 {
@@ -34,7 +36,7 @@ fn front_bytes(bytes: &[u8]) -> usize
     fixed + (1 + before) + (1 + after)
 }
 
-/// What stands in a block from a byte on.
+/// What is in a block from a byte on.
 fn bytes_from(block: &[u8], at: usize) -> &[u8]
     requires { at ≤ length block.now }
     ensures { result.now ≡ drop at block.now }
@@ -46,7 +48,9 @@ fn bytes_from(block: &[u8], at: usize) -> &[u8]
 /// Where the entries of a journal block begin.
 fn starts_of(block: &[u8]) -> Starts
     requires { IsSome (all_of journal_at block.now) }
-    ensures entries { (j : JournalFields) → all_of journal_at block.now ≡ Some j → entries_begun_at block.now result.items ≡ j.entries }
+    ensures entries { (j : JournalFields)
+        → all_of journal_at block.now ≡ Some j
+        → entries_begun_at block.now result.items ≡ j.entries }
     ensures there { AllByRecursion (BeginsAt block.now) result.items }
     ensures some { 1 ≤ length result.items }
 {
@@ -85,8 +89,8 @@ fn entry_from(block: &[u8], start: u16) -> Entry
     entry
 }
 
-/// A journal block whose entries are given from the last to the first. Contracts see the block without those that
-/// were given.
+/// A journal block whose entries are given from the last to the first. Contracts see the block
+/// without those that were given.
 ///
 /// It keeps the block's bytes, and decodes an entry when it is asked for.
 #[derive(Drop)]
@@ -122,7 +126,7 @@ impl EntryReader {
         }
     }
 
-    /// A reader of all entries of a block that spells a journal block: 1 to `JOURNAL_ENTRIES`.
+    /// A reader of all entries of a block that encodes a journal block: 1 to `JOURNAL_ENTRIES`.
     pub fn new(block: [u8; BLOCK_BYTES]) -> Self
         requires { IsSome (all_of journal_at block) }
         ensures reads { all_of journal_at block ≡ Some result }

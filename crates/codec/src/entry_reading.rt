@@ -1,6 +1,7 @@
 ghost use Rattle.std.specs.Prelude.{◌≡◌, ℕ, List, length, Option};
 ghost use Rattle.codec.specs.Fields.{Reads};
-ghost use Rattle.codec.specs.Entry.{EntryFields, flags_at, text_at, pair_at, triple_at, triples_at, behind_statuses, behind_count, entry_at};
+ghost use Rattle.codec.specs.Entry.{EntryFields, flags_at, text_at, pair_at, triple_at, triples_at};
+ghost use Rattle.codec.specs.Entry.{behind_statuses, behind_count, entry_at};
 
 use crate::attributes::Attribute;
 use crate::entries::{Entry, Flags, Pair, Status, Triple, Triples};
@@ -92,7 +93,7 @@ fn read_triples(count: u8, bytes: &[u8]) -> Option<(Triples, &[u8])>
     Some((triples, rest))
 }
 
-// What stands behind the two statuses of an entry.
+// What comes after the two statuses of an entry.
 fn read_behind_statuses(
     moment: Moment,
     before: Status,
@@ -101,7 +102,8 @@ fn read_behind_statuses(
     count: u8,
     bytes: &[u8],
 ) -> Option<(Entry, &[u8])>
-    ensures { Reads (λ x. (x.0, x.1.now)) result (behind_statuses moment before after has_pair count bytes.now) }
+    ensures { Reads (λ x. (x.0, x.1.now)) result
+        (behind_statuses moment before after has_pair count bytes.now) }
 {
     let Some((pair, rest)) = read_pair(has_pair, bytes) else {
         return None;
@@ -113,7 +115,7 @@ fn read_behind_statuses(
     Some((entry, rest))
 }
 
-// What stands behind an entry's count of triples.
+// What comes after an entry's count of triples.
 fn read_behind_count(
     moment: Moment,
     flags: Flags,

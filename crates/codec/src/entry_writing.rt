@@ -1,8 +1,11 @@
-ghost use Rattle.std.specs.Prelude.{◌≡◌, ℕ, ◌+◌, ◌*◌, ◌≤◌, ◌++◌, ◌∷◌, List, length, Option, Some, IfSome};
+ghost use Rattle.std.specs.Prelude.{◌≡◌, ℕ, ◌+◌, ◌*◌, ◌≤◌, ◌++◌, ◌∷◌, List, length, Option, Some};
+ghost use Rattle.std.specs.Prelude.{IfSome};
 ghost use Rattle.std.specs.List.{flat_map, AllByRecursion};
 ghost use Rattle.s4_types.specs.declared.limits.TheConstants.{TRIPLE_BYTES};
 ghost use Rattle.codec.specs.Fields.{Reads};
-ghost use Rattle.codec.specs.Entry.{EntryFields, IsEntry, IsTriple, IsPair, entry_at, flags_byte, text, pair_spelling, triple_spelling, entry_spelling, entry_length, pair_length, BeginsWithEntry};
+ghost use Rattle.codec.specs.Entry.{EntryFields, IsEntry, IsTriple, IsPair, entry_at, flags_byte};
+ghost use Rattle.codec.specs.Entry.{text, pair_spelling, triple_spelling, entry_spelling};
+ghost use Rattle.codec.specs.Entry.{entry_length, pair_length, BeginsWithEntry};
 
 use crate::attributes::Attribute;
 use crate::entries::{Entry, Pair, Triple};
@@ -65,7 +68,7 @@ fn put_triples(out: &mut Writing, triples: &[Triple])
     }
 }
 
-/// Appends the one spelling of an entry to a block that has room for it.
+/// Appends the one encoding of an entry to a block that has room for it.
 #[tactic(auto, unfolding(crate::specs::Entry::entry_spelling, crate::specs::Entry::entry_length))]
 pub fn encode_entry(entry: &Entry, out: &mut Writing)
     requires { length out.old.items + entry_length entry.now ≤ 512 }
@@ -88,11 +91,13 @@ pub fn encode_entry(entry: &Entry, out: &mut Writing)
     put_triples(out, triples);
 }
 
-/// The entry whose spelling the bytes begin with, and the bytes behind it. None where they begin with the
-/// spelling of no entry.
+/// The entry whose encoding the bytes begin with, and the bytes after it. None where they begin
+/// with the encoding of no entry.
 pub fn decode_entry(bytes: &[u8]) -> Option<(Entry, &[u8])>
     ensures found { IfSome result (λ x. BeginsWithEntry bytes.now x.0 x.1.now) }
-    ensures only { (entry : EntryFields) (rest : List ℕ) → BeginsWithEntry bytes.now entry rest → Reads {Y = EntryFields × List ℕ} (λ x. (x.0, x.1.now)) result (Some (entry, rest)) }
+    ensures only { (entry : EntryFields) (rest : List ℕ)
+        → BeginsWithEntry bytes.now entry rest
+        → Reads {Y = EntryFields × List ℕ} (λ x. (x.0, x.1.now)) result (Some (entry, rest)) }
 {
     read_entry(bytes)
 }

@@ -1,6 +1,7 @@
 ghost use Rattle.std.specs.Prelude.{◌≡◌, ℕ, ◌-◌, ◌+◌, ◌≤◌, ◌++◌, [], ◌∷◌, List, length};
 ghost use Rattle.std.specs.Int.{w16, w32, w64};
-ghost use Rattle.codec.specs.Fields.{Reads, number_at, byte_at, bytes_at, zeros_at, mark_at, flag_at, behind_block, slot_at, slot_of, number, zeros, slot};
+ghost use Rattle.codec.specs.Fields.{Reads, number_at, byte_at, bytes_at, zeros_at, mark_at};
+ghost use Rattle.codec.specs.Fields.{flag_at, behind_block, slot_at, slot_of, number, zeros, slot};
 
 use byteorder::{BigEndian, ByteOrder};
 use s4_types::Ptr;
@@ -58,7 +59,7 @@ pub(crate) fn read_bytes(count: usize, bytes: &[u8]) -> Option<(&[u8], &[u8])>
     Some(bytes.split_at(count))
 }
 
-/// What stands behind `count` zeros.
+/// What comes after `count` zeros.
 #[tactic(auto, using(crate::proofs::Zeros::zeros_step, crate::proofs::Zeros::zeros_stop, crate::proofs::Zeros::zeros_end))]
 pub(crate) fn read_zeros(count: usize, bytes: &[u8]) -> Option<&[u8]>
     ensures { Reads (λ x. (tt, x.now)) result (zeros_at count bytes.now) }
@@ -74,7 +75,7 @@ pub(crate) fn read_zeros(count: usize, bytes: &[u8]) -> Option<&[u8]>
     Some(rest)
 }
 
-/// The pointer or the hole that four numbers spell.
+/// The pointer or the hole that four numbers encode.
 #[tactic(auto, unfolding(crate::specs::Fields::slot_of))]
 fn slot_named(frame: u16, block: u8, gap: u8, generation: u32) -> Option<Option<Ptr>>
     ensures { Reads (λ x. x) result (slot_of frame block gap generation) }
@@ -91,7 +92,7 @@ fn slot_named(frame: u16, block: u8, gap: u8, generation: u32) -> Option<Option<
     Some(Ptr::new(frame, block, generation))
 }
 
-/// What stands behind the block of a pointer or a hole.
+/// What comes after the block of a pointer or a hole.
 fn read_behind_block(frame: u16, block: u8, bytes: &[u8]) -> Option<(Option<Ptr>, &[u8])>
     ensures { Reads (λ x. (x.0, x.1.now)) result (behind_block frame block bytes.now) }
 {
@@ -111,7 +112,7 @@ pub(crate) fn read_slot(bytes: &[u8]) -> Option<(Option<Ptr>, &[u8])>
     read_behind_block(frame, block, rest)
 }
 
-/// Whether the next byte is `mark`, and what stands behind it.
+/// Whether the next byte is `mark`, and what comes after it.
 #[tactic(auto, unfolding(crate::specs::Fields::mark_at))]
 pub(crate) fn read_mark(mark: u8, bytes: &[u8]) -> Option<&[u8]>
     ensures { Reads (λ x. (tt, x.now)) result (mark_at mark bytes.now) }

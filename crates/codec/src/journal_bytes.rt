@@ -1,4 +1,5 @@
-ghost use Rattle.std.specs.Prelude.{◌≡◌, ◌+◌, ◌≤◌, ◌++◌, [], ◌∷◌, length, take, drop, Option, Some, IsSome, nat_le};
+ghost use Rattle.std.specs.Prelude.{◌≡◌, ◌+◌, ◌≤◌, ◌++◌, [], ◌∷◌, length, take, drop, Option, Some};
+ghost use Rattle.std.specs.Prelude.{IsSome, nat_le};
 ghost use Rattle.s4_types.specs.declared.limits.TheConstants.{JOURNAL_ENTRY_BYTES};
 ghost use Rattle.codec.specs.Fields.{Reads, all_of, kept};
 ghost use Rattle.codec.specs.Entry.{entry_length, entries_length};
@@ -19,8 +20,8 @@ use std::slice;
 
 /// A journal block as its 512 bytes, to which entries are added with no decoding of the others.
 ///
-/// Contracts see the journal block that the bytes spell: the object's number is at least 1, and there are 1 to
-/// `JOURNAL_ENTRIES`, of at most `JOURNAL_ENTRY_BYTES` together.
+/// Contracts see the journal block that the bytes encode: the object's number is at least 1, and
+/// there are 1 to `JOURNAL_ENTRIES`, of at most `JOURNAL_ENTRY_BYTES` together.
 #[derive(Drop)]
 pub struct JournalBytes {
     block: [u8; BLOCK_BYTES],
@@ -44,13 +45,14 @@ fn told_in(block: &[u8; BLOCK_BYTES]) -> usize
     BigEndian::read_u16(&block[2..]) as usize
 }
 
-/// A law: bytes that can be read are the spelling of what is read.
+/// A law: bytes that can be read are the encoding of what is read.
 fn can_be_read(block: &[u8])
     requires { IsSome (all_of journal_at block.now) }
     ensures { SpellsJournal block.now (decoded block.now) }
 {}
 
-/// Shows that an entry has room in an empty block: its bytes are counted, and the count is used for nothing else.
+/// Shows that an entry has room in an empty block: its bytes are counted, and the count is used for
+/// nothing else.
 fn show_room(entry: &Entry)
     ensures { entry_length entry.now ≤ JOURNAL_ENTRY_BYTES }
 {
@@ -65,15 +67,17 @@ fn count_in(block: &[u8; BLOCK_BYTES]) -> u8
 
 fn put_at(block: &mut [u8; BLOCK_BYTES], at: usize, bytes: &[u8])
     requires { at + length bytes.now ≤ 512 }
-    ensures { block.new ≡ take at block.old ++ (bytes.now ++ drop (at + length bytes.now) block.old) }
+    ensures { block.new
+        ≡ take at block.old ++ (bytes.now ++ drop (at + length bytes.now) block.old) }
 {
     block[at..at + bytes.len()].copy_from_slice(bytes);
 }
 
-/// Spells the entry behind the others, and counts it and its bytes.
+/// Spells the entry after the others, and counts it and its bytes.
 fn patch(block: &mut [u8; BLOCK_BYTES], entry: &Entry)
     requires spells { SpellsJournal block.old (decoded block.old) }
-    requires room { entries_length (decoded block.old).entries + entry_length entry.now ≤ JOURNAL_ENTRY_BYTES }
+    requires room { entries_length (decoded block.old).entries + entry_length entry.now
+        ≤ JOURNAL_ENTRY_BYTES }
     ensures { SpellsJournal block.new (with_entry (decoded block.old) entry.now) }
 {
     let mut spelled = Writing::new();
@@ -100,7 +104,7 @@ impl JournalBytes {
         })
     }
 
-    /// The journal block that these bytes spell. No entry is decoded.
+    /// The journal block that these bytes encode. No entry is decoded.
     pub fn of(block: [u8; BLOCK_BYTES]) -> Self
         requires { IsSome (all_of journal_at block) }
         ensures { all_of journal_at block ≡ Some result }
@@ -109,14 +113,17 @@ impl JournalBytes {
         JournalBytes { block }
     }
 
-    /// Whether one entry more has room behind the others.
+    /// Whether one entry more has room after the others.
     pub fn fits(&self, entry: &Entry) -> bool
-        ensures { result ≡ nat_le (entries_length self.now.entries + entry_length entry.now) JOURNAL_ENTRY_BYTES }
+        ensures { result
+            ≡ nat_le (entries_length self.now.entries + entry_length entry.now)
+            JOURNAL_ENTRY_BYTES }
     {
         self.entry_bytes() + entry.byte_count() <= JOURNAL_ENTRY_BYTES
     }
 
-    /// Appends an entry that fits: its bytes are written behind the others', and the counts are raised.
+    /// Appends an entry that fits: its bytes are written after the others', and the counts are
+    /// raised.
     pub fn add(&mut self, entry: &Entry)
         requires { entries_length self.old.entries + entry_length entry.now ≤ JOURNAL_ENTRY_BYTES }
         ensures object { self.new.object ≡ self.old.object }
@@ -148,7 +155,7 @@ impl JournalBytes {
         told_in(&self.block)
     }
 
-    /// The block's spelling, as it is kept.
+    /// The block's encoding, as it is kept.
     pub fn as_bytes(&self) -> &[u8; BLOCK_BYTES]
         ensures spells { SpellsJournal result.now self.now }
         ensures reads { all_of journal_at result.now ≡ Some self.now }

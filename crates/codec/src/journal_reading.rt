@@ -1,6 +1,7 @@
 ghost use Rattle.std.specs.Prelude.{◌≡◌, ℕ, List, length, Option, Some, IfSome};
 ghost use Rattle.codec.specs.Fields.{Reads, all_of};
-ghost use Rattle.codec.specs.Journal.{JournalFields, entries_at, told_journal, behind_object, journal_at, SpellsJournal};
+ghost use Rattle.codec.specs.Journal.{JournalFields, entries_at, told_journal, behind_object};
+ghost use Rattle.codec.specs.Journal.{journal_at, SpellsJournal};
 
 use crate::entry_reading::read_entry;
 use crate::fields::{read_byte, read_long, read_mark, read_short, read_slot, read_zeros};
@@ -27,7 +28,7 @@ fn read_entries(count: u8, bytes: &[u8]) -> Option<(Entries, &[u8])>
     Some((entries, rest))
 }
 
-/// The journal block of entries that were told to have so many bytes together.
+/// The journal block of entries that were told to have this many bytes together.
 #[tactic(auto, unfolding(crate::specs::Journal::told_journal))]
 fn block_told(
     told: u16,
@@ -43,7 +44,7 @@ fn block_told(
     JournalBlock::new(object, previous, entries)
 }
 
-/// What stands behind the object of a journal block.
+/// What comes after the object of a journal block.
 fn read_behind_object(
     count: u8,
     told: u16,
@@ -87,10 +88,11 @@ fn journal_in(bytes: &[u8]) -> Option<JournalBlock>
     }
 }
 
-/// The journal block whose spelling the block is. None where it is the spelling of none.
+/// The journal block whose encoding the block is. None where it is the encoding of none.
 pub fn decode_journal(block: &[u8; BLOCK_BYTES]) -> Option<JournalBlock>
     ensures found { IfSome result (λ journal. SpellsJournal block.now journal) }
-    ensures only { (journal : JournalFields) → SpellsJournal block.now journal → result ≡ Some journal }
+    ensures only { (journal : JournalFields)
+        → SpellsJournal block.now journal → result ≡ Some journal }
     ensures exact { Reads (λ j. j) result (all_of journal_at block.now) }
 {
     journal_in(block)

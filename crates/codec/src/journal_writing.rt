@@ -1,4 +1,5 @@
-ghost use Rattle.std.specs.Prelude.{◌≡◌, ℕ, ◌+◌, ◌^◌, ◌<◌, ◌≤◌, ◌++◌, ◌∷◌, List, length, Option, Some, IfSome};
+ghost use Rattle.std.specs.Prelude.{◌≡◌, ℕ, ◌+◌, ◌^◌, ◌<◌, ◌≤◌, ◌++◌, ◌∷◌, List, length, Option};
+ghost use Rattle.std.specs.Prelude.{Some, IfSome};
 ghost use Rattle.std.specs.Int.{w16};
 ghost use Rattle.std.specs.List.{flat_map, AllByRecursion};
 ghost use Rattle.s4_types.specs.declared.limits.TheConstants.{JOURNAL_ENTRY_BYTES};
@@ -26,7 +27,7 @@ fn put_entries(out: &mut Writing, entries: &[Entry])
     }
 }
 
-/// The one spelling of a journal block of these entries, the oldest first.
+/// The one encoding of a journal block of these entries, the oldest first.
 #[tactic(auto, unfolding(crate::specs::Journal::journal_spelling), using(crate::proofs::Lengths::fourteen))]
 pub fn encode_entries(
     object: ObjectId,
@@ -51,7 +52,7 @@ pub fn encode_entries(
     finished(out)
 }
 
-/// The one spelling of a journal block.
+/// The one encoding of a journal block.
 #[tactic(auto, using(crate::proofs::JournalEntries::rules_object, crate::proofs::JournalEntries::rules_some, crate::proofs::JournalEntries::rules_fit))]
 pub fn encode_journal(block: &JournalBlock) -> [u8; BLOCK_BYTES]
     ensures spells { SpellsJournal result block.now }

@@ -13,7 +13,8 @@ use std::marker::Model;
 /// Entries of a journal block, the oldest first.
 pub type Entries = ArrayVec<Entry, JOURNAL_ENTRIES>;
 
-/// Entries of one object, the oldest first, and where its earlier ones stand, as a block of the log keeps them.
+/// Entries of one object, the oldest first, and where its earlier ones stand, as a block of the log
+/// keeps them.
 ///
 /// The object's number is at least 1, and there are 1 to `JOURNAL_ENTRIES`, of at most
 /// `JOURNAL_ENTRY_BYTES` together.
@@ -50,8 +51,8 @@ pub(crate) fn byte_sum(entries: &[Entry]) -> usize
 }
 
 impl JournalBlock {
-    /// The journal block of these entries. None where the object's number is 0, where there is no entry, or where the
-    /// entries have more than `JOURNAL_ENTRY_BYTES` together.
+    /// The journal block of these entries. None where the object's number is 0, where there is no
+    /// entry, or where the entries have more than `JOURNAL_ENTRY_BYTES` together.
     #[tactic(auto, unfolding(crate::specs::Journal::journal_rules))]
     pub fn new(object: ObjectId, previous: Option<Ptr>, entries: Entries) -> Option<Self>
         ensures { let made : JournalFields = record { object = object; previous = previous; entries = entries.items } in Reads (λ j. j) result (kept (journal_rules made) made) }

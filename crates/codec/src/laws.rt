@@ -1,35 +1,46 @@
-//! Laws of the spellings, for the layers above: each function does nothing, and its contract is the law.
+//! Laws of the spellings, for the layers above: each function does nothing, and its contract is the
+//! law.
 
 ghost use Rattle.std.specs.Prelude.{◌≡◌, ◌↔◌, ℕ, ◌≤◌, ◌++◌, true, List, length, Option, Some};
-ghost use Rattle.s4_types.specs.declared.limits.TheConstants.{JOURNAL_ENTRY_BYTES, JOURNAL_ENTRIES, SHORTEST_ENTRY_BYTES, LONGEST_ENTRY_BYTES};
+ghost use Rattle.s4_types.specs.declared.limits.TheConstants.{JOURNAL_ENTRY_BYTES, JOURNAL_ENTRIES};
+ghost use Rattle.s4_types.specs.declared.limits.TheConstants.{SHORTEST_ENTRY_BYTES};
+ghost use Rattle.s4_types.specs.declared.limits.TheConstants.{LONGEST_ENTRY_BYTES};
 ghost use Rattle.s4_types.specs.Pointer.{Place};
 ghost use Rattle.codec.specs.Fields.{SpellsSlot, all_of};
 ghost use Rattle.codec.specs.Checkpoint.{CheckpointFields, SpellsCheckpoint, checkpoint_at};
-ghost use Rattle.codec.specs.Entry.{EntryFields, IsEntry, BeginsWithEntry, entry_spelling, entry_length, entries_length};
-ghost use Rattle.codec.specs.Summary.{SummaryFields, KeepsSummaryRules, SpellsSummary, summary_rules, summary_spelling};
+ghost use Rattle.codec.specs.Entry.{EntryFields, IsEntry, BeginsWithEntry, entry_spelling};
+ghost use Rattle.codec.specs.Entry.{entry_length, entries_length};
+ghost use Rattle.codec.specs.Summary.{SummaryFields, KeepsSummaryRules, SpellsSummary};
+ghost use Rattle.codec.specs.Summary.{summary_rules, summary_spelling};
 
-/// No two pointers share a spelling, nor a pointer and a hole.
+/// No two pointers share an encoding, nor a pointer and a hole.
 pub fn one_pointer_a_spelling()
-    ensures { (bytes : List ℕ) (p q : Option Place) → SpellsSlot bytes p → SpellsSlot bytes q → p ≡ q }
+    ensures { (bytes : List ℕ) (p q : Option Place) → SpellsSlot bytes p → SpellsSlot bytes q
+        → p ≡ q }
 {}
 
-/// No two checkpoints share a spelling.
+/// No two checkpoints share an encoding.
 pub fn one_checkpoint_a_spelling()
-    ensures { (block : List ℕ) (c d : CheckpointFields) → SpellsCheckpoint block c → SpellsCheckpoint block d → c ≡ d }
+    ensures { (block : List ℕ) (c d : CheckpointFields) → SpellsCheckpoint block c
+        → SpellsCheckpoint block d → c ≡ d }
 {}
 
-/// What a checkpoint's spelling is read as, is the checkpoint.
+/// What a checkpoint's encoding is read as, is the checkpoint.
 pub fn a_checkpoint_is_read()
-    ensures { (block : List ℕ) (c : CheckpointFields) → SpellsCheckpoint block c → all_of checkpoint_at block ≡ Some c }
+    ensures { (block : List ℕ) (c : CheckpointFields) → SpellsCheckpoint block c
+        → all_of checkpoint_at block ≡ Some c }
 {}
 
-/// No two entries share a spelling, and none is the beginning of another's.
+/// No two entries share an encoding, and none is the beginning of another's.
 pub fn one_entry_a_spelling()
-    ensures entry { (bytes rest behind : List ℕ) (e f : EntryFields) → BeginsWithEntry bytes e rest → BeginsWithEntry bytes f behind → e ≡ f }
-    ensures rest { (bytes rest behind : List ℕ) (e f : EntryFields) → BeginsWithEntry bytes e rest → BeginsWithEntry bytes f behind → rest ≡ behind }
+    ensures entry { (bytes rest behind : List ℕ) (e f : EntryFields) → BeginsWithEntry bytes e rest
+        → BeginsWithEntry bytes f behind → e ≡ f }
+    ensures rest { (bytes rest behind : List ℕ) (e f : EntryFields) → BeginsWithEntry bytes e rest
+        → BeginsWithEntry bytes f behind → rest ≡ behind }
 {}
 
-/// The length of an entry is that of its spelling, at least `SHORTEST_ENTRY_BYTES` and at most `LONGEST_ENTRY_BYTES`.
+/// The length of an entry is that of its encoding, at least `SHORTEST_ENTRY_BYTES` and at most
+/// `LONGEST_ENTRY_BYTES`.
 pub fn entry_is_so_long()
     ensures exact { (e : EntryFields) → length (entry_spelling e) ≡ entry_length e }
     ensures least { (e : EntryFields) → SHORTEST_ENTRY_BYTES ≤ entry_length e }
@@ -38,20 +49,24 @@ pub fn entry_is_so_long()
 
 /// At most `JOURNAL_ENTRIES` entries fit the bytes that a journal block has for them.
 pub fn fourteen_entries_fit()
-    ensures { (entries : List EntryFields) → entries_length entries ≤ JOURNAL_ENTRY_BYTES → length entries ≤ JOURNAL_ENTRIES }
+    ensures { (entries : List EntryFields)
+        → entries_length entries ≤ JOURNAL_ENTRY_BYTES → length entries ≤ JOURNAL_ENTRIES }
 {}
 
-/// The rules of a summary are these: its generation is 1 to 2^32 - 2, one to 15 blocks are used, and each has an object.
+/// The rules of a summary are these: its generation is 1 to 2^32 - 2, one to 15 blocks are used,
+/// and each has an object.
 pub fn rules_of_a_summary()
     ensures { (s : SummaryFields) → (summary_rules s ≡ true) ↔ KeepsSummaryRules s }
 {}
 
-/// No two summaries share a spelling in front of the same payload blocks.
+/// No two summaries share an encoding in front of the same payload blocks.
 pub fn one_summary_a_spelling()
-    ensures { (payload : List (List ℕ)) (block : List ℕ) (s t : SummaryFields) → SpellsSummary payload block s → SpellsSummary payload block t → s ≡ t }
+    ensures { (payload : List (List ℕ)) (block : List ℕ) (s t : SummaryFields)
+        → SpellsSummary payload block s → SpellsSummary payload block t → s ≡ t }
 {}
 
-/// The spelling of a summary has 512 bytes.
+/// The encoding of a summary has 512 bytes.
 pub fn summary_is_a_block()
-    ensures { (s : SummaryFields) (payload : List (List ℕ)) → length s.roles ≤ 15 → length (summary_spelling s payload) ≡ 512 }
+    ensures { (s : SummaryFields) (payload : List (List ℕ)) → length s.roles ≤ 15
+        → length (summary_spelling s payload) ≡ 512 }
 {}

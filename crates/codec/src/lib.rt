@@ -1,11 +1,12 @@
-//! The records of the log as values, and their bytes: pointers, inodes, checkpoints, journal entries and blocks, and
-//! the summaries of frames.
+//! The records of the log as values, and their bytes: pointers, inodes, checkpoints, journal
+//! entries and blocks, and the summaries of frames.
 //!
-//! The layers above may rely on this: each record has one spelling, a function of its fields in `specs/`.
-//! An encoder gives that spelling, and a decoder answers the record whose spelling stands in its input, and
-//! None only where no record's spelling does. A type of a record can't hold what its record can't spell, and
-//! no call here takes memory. Whether a pointer's frame is one that a drive has, and what the entries of a chain say
-//! together, as those of one moment, is told elsewhere.
+//! The layers above may rely on this: each record has one encoding, a function of its fields in
+//! `specs/`. An encoder gives that encoding, and a decoder answers the record whose encoding is in
+//! its input, and None only where no record's encoding does. A type of a record can't hold what its
+//! record can't encode, and no call here takes memory. Whether a pointer's frame is one that a
+//! drive has, and what the entries of a chain say together, as those of one moment, is told
+//! elsewhere.
 #![tactic(auto)]
 
 mod attributes;

@@ -1,4 +1,5 @@
-ghost use Rattle.std.specs.Prelude.{◌≡◌, ℕ, ◌+◌, ◌*◌, ◌≤◌, ◌++◌, [], ◌∷◌, List, length, Option, IfSome};
+ghost use Rattle.std.specs.Prelude.{◌≡◌, ℕ, ◌+◌, ◌*◌, ◌≤◌, ◌++◌, [], ◌∷◌, List, length, Option};
+ghost use Rattle.std.specs.Prelude.{IfSome};
 ghost use Rattle.s4_types.specs.Pointer.{Place, IsPlace};
 ghost use Rattle.std.specs.List.{flat_map, AllByRecursion};
 ghost use Rattle.s4_types.specs.declared.limits.TheConstants.{OBJECT_BLOCKS, POINTER_BYTES};
@@ -32,7 +33,7 @@ fn place_bytes(ptr: Ptr) -> [u8; POINTER_BYTES]
     ]
 }
 
-/// The spelling of a pointer, or of a hole where there is none.
+/// The encoding of a pointer, or of a hole where there is none.
 #[tactic(auto, unfolding(crate::specs::Fields::slot, crate::specs::Fields::zeros))]
 pub fn encode_ptr(ptr: Option<Ptr>) -> [u8; POINTER_BYTES]
     ensures { SpellsSlot result ptr }
@@ -55,7 +56,8 @@ fn slot_in(bytes: &[u8]) -> Option<Option<Ptr>>
     }
 }
 
-/// The pointer, or the hole, whose spelling the bytes are. None where they are the spelling of neither.
+/// The pointer, or the hole, whose encoding the bytes are. None where they are the encoding of
+/// neither.
 pub fn decode_ptr(bytes: &[u8; POINTER_BYTES]) -> Option<Option<Ptr>>
     ensures found { IfSome result (λ ptr. SpellsSlot bytes.now ptr) }
     ensures only { (ptr : Option Place) → SpellsSlot bytes.now ptr → result ≡ Some ptr }
@@ -74,7 +76,8 @@ pub(crate) fn put_slot(out: &mut Writing, ptr: Option<Ptr>)
 
 /// As many pointers as an inode has.
 pub(crate) fn read_slots(bytes: &[u8]) -> Option<(Slots, &[u8])>
-    ensures read { Reads (λ x. (x.0.items, x.1.now)) result (many_at slot_at OBJECT_BLOCKS bytes.now) }
+    ensures read { Reads (λ x. (x.0.items, x.1.now)) result
+        (many_at slot_at OBJECT_BLOCKS bytes.now) }
     ensures all { IfSome result (λ x. length x.0.items ≡ OBJECT_BLOCKS) }
 {
     let mut slots: Slots = ArrayVec::new();

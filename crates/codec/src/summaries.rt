@@ -26,7 +26,7 @@ pub struct BlockRole {
     pub object: ObjectId,
 }
 
-/// A journal block of no object: what stands in the unused room of `BlockRoles`.
+/// A journal block of no object: what is in the unused room of `BlockRoles`.
 impl Default for BlockRole {
     ghost is_default = { λ p. (p.kind ≡ Journal) × (p.object ≡ 0) };
 
@@ -43,7 +43,8 @@ pub type BlockRoles = ArrayVec<BlockRole, PAYLOAD_BLOCKS>;
 
 /// The summary of a frame at one of its generations: what its used payload blocks are.
 ///
-/// The generation is 1 to 2^32 - 2, one to 15 blocks are used, and the number of each block's object is at least 1.
+/// The generation is 1 to 2^32 - 2, one to 15 blocks are used, and the number of each block's
+/// object is at least 1.
 #[derive(Drop)]
 pub struct Summary {
     frame: u16,
@@ -106,7 +107,8 @@ impl Summary {
         self.generation
     }
 
-    /// What the used payload blocks are, of which there are one to 15, by ascending block from block 1 on.
+    /// What the used payload blocks are, of which there are one to 15, by ascending block from
+    /// block 1 on.
     #[tactic(auto, unfolding(crate::specs::Summary::summary_rules))]
     pub fn roles(&self) -> &[BlockRole]
         ensures roles { result.now ≡ self.now.roles }

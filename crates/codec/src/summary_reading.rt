@@ -1,7 +1,10 @@
-ghost use Rattle.std.specs.Prelude.{◌≡◌, ◌≢◌, ℕ, ◌≤◌, List, length, Option, Some, IfSome, MatchBool};
+ghost use Rattle.std.specs.Prelude.{◌≡◌, ◌≢◌, ℕ, ◌≤◌, List, length, Option, Some, IfSome};
+ghost use Rattle.std.specs.Prelude.{MatchBool};
 ghost use Rattle.std.specs.List.{AllByRecursion};
 ghost use Rattle.codec.specs.Fields.{Reads, all_of, zeros};
-ghost use Rattle.codec.specs.Summary.{SummaryFields, IsBlank, UnusedAreBlank, SpellsSummary, frame_digest, kind_at, role_at, roles_at, behind_numbers, behind_marks, head_at};
+ghost use Rattle.codec.specs.Summary.{SummaryFields, IsBlank, UnusedAreBlank, SpellsSummary};
+ghost use Rattle.codec.specs.Summary.{frame_digest, kind_at, role_at, roles_at, behind_numbers};
+ghost use Rattle.codec.specs.Summary.{behind_marks, head_at};
 
 use crate::fields::{read_byte, read_long, read_mark, read_short, read_word, read_zeros};
 use crate::frame_digests::digest_of;
@@ -55,7 +58,7 @@ fn read_roles(used: u8, bytes: &[u8]) -> Option<(BlockRoles, &[u8])>
     Some((roles, rest))
 }
 
-/// What stands behind the numbers in the head of a summary.
+/// What comes after the numbers in the head of a summary.
 fn read_behind_numbers(
     frame: u16,
     used: u8,
@@ -75,7 +78,7 @@ fn read_behind_numbers(
     Some((summary, rest))
 }
 
-/// What stands behind the marks in the head of a summary.
+/// What comes after the marks in the head of a summary.
 fn read_behind_marks(bytes: &[u8]) -> Option<(Summary, &[u8])>
     ensures { Reads (λ x. (x.0, x.1.now)) result (behind_marks bytes.now) }
 {
@@ -117,7 +120,8 @@ fn is_blank(block: &Block) -> bool
 }
 
 fn are_blank(blocks: &[Block]) -> bool
-    ensures { MatchBool result (AllByRecursion IsBlank blocks.now) (AllByRecursion IsBlank blocks.now → ⊥) }
+    ensures { MatchBool result (AllByRecursion IsBlank blocks.now)
+        (AllByRecursion IsBlank blocks.now → ⊥) }
 {
     for block in blocks {
         if !is_blank(block) {
@@ -127,26 +131,29 @@ fn are_blank(blocks: &[Block]) -> bool
     true
 }
 
-/// Whether the payload blocks behind the first `used` ones are zeros.
+/// Whether the payload blocks after the first `used` ones are zeros.
 fn are_unused_blank(used: usize, payload: &[Block; PAYLOAD_BLOCKS]) -> bool
     requires { used ≤ 15 }
-    ensures { MatchBool result (UnusedAreBlank used payload.now) (UnusedAreBlank used payload.now → ⊥) }
+    ensures { MatchBool result (UnusedAreBlank used payload.now)
+        (UnusedAreBlank used payload.now → ⊥) }
 {
     let (_, unused) = payload.split_at(used);
     are_blank(unused)
 }
 
 fn is_digest(digest: &[u8], head: &[u8], payload: &[Block; PAYLOAD_BLOCKS]) -> bool
-    ensures { MatchBool result (frame_digest head.now payload.now ≡ digest.now) (frame_digest head.now payload.now ≢ digest.now) }
+    ensures { MatchBool result (frame_digest head.now payload.now ≡ digest.now)
+        (frame_digest head.now payload.now ≢ digest.now) }
 {
     digest_of(head, payload).as_slice() == digest
 }
 
-/// The summary whose spelling the block is in front of its frame's payload blocks. None where it is the spelling of no
-/// summary, or an unused payload block isn't zeros.
+/// The summary whose encoding the block is in front of its frame's payload blocks. None where it is
+/// the encoding of no summary, or an unused payload block isn't zeros.
 pub fn decode_summary(block: &Block, payload: &[Block; PAYLOAD_BLOCKS]) -> Option<Summary>
     ensures found { IfSome result (λ summary. SpellsSummary payload.now block.now summary) }
-    ensures only { (summary : SummaryFields) → SpellsSummary payload.now block.now summary → result ≡ Some summary }
+    ensures only { (summary : SummaryFields)
+        → SpellsSummary payload.now block.now summary → result ≡ Some summary }
 {
     let (head, digest) = block.split_at(HEAD_BYTES);
     let Some(summary) = summary_in(head) else {

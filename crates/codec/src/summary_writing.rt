@@ -1,6 +1,7 @@
 ghost use Rattle.std.specs.Prelude.{◌≡◌, ℕ, ◌+◌, ◌*◌, ◌≤◌, ◌++◌, List, length};
 ghost use Rattle.std.specs.List.{flat_map, AllByRecursion};
-ghost use Rattle.codec.specs.Summary.{IsSummary, IsBlockRole, UnusedAreBlank, SpellsSummary, kind_number, role_spelling, summary_head, summary_spelling};
+ghost use Rattle.codec.specs.Summary.{IsSummary, IsBlockRole, UnusedAreBlank, SpellsSummary};
+ghost use Rattle.codec.specs.Summary.{kind_number, role_spelling, summary_head, summary_spelling};
 
 use crate::frame_digests::digest_of;
 use crate::summaries::{BlockRole, ROLE_BYTES, ROLES_AND_ZEROS, Summary};
@@ -60,11 +61,13 @@ fn head_of(summary: &Summary) -> Writing
     out
 }
 
-/// The one spelling of a summary in front of its frame's payload blocks. It is decoded where the unused ones are zeros.
+/// The one encoding of a summary in front of its frame's payload blocks. It is decoded where the
+/// unused ones are zeros.
 #[tactic(auto, unfolding(crate::specs::Summary::summary_spelling))]
 pub fn encode_summary(summary: &Summary, payload: &[Block; PAYLOAD_BLOCKS]) -> Block
     ensures exact { result ≡ summary_spelling summary.now payload.now }
-    ensures decodes { UnusedAreBlank (length summary.now.roles) payload.now → SpellsSummary payload.now result summary.now }
+    ensures decodes { UnusedAreBlank (length summary.now.roles) payload.now
+        → SpellsSummary payload.now result summary.now }
 {
     let mut out = head_of(summary);
     let digest = digest_of(out.as_slice(), payload);

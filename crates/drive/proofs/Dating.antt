@@ -64,7 +64,7 @@ joined : (b c : Bool) (x y v : Version) → c ≡ b → (b ≡ true → x ≡ y)
 joined true c x y v same agree = cond-true c x v same ∙ agree refl
 joined false c x y v same agree = cond-false c x v same
 
--- a choice behind a choice, where the later one tells the same
+-- a choice after a choice, where the later one tells the same
 chosen : (b c : Bool) (later here there v : Version) → (b ≡ true → later ≡ there) → (c ≡ false → later ≡ here) → (b ≡ false → c ≡ false) → cond c later (cond b here v) ≡ cond b there v
 chosen true true later here there v reached none past = reached refl
 chosen true false later here there v reached none past = sym (none refl) ∙ reached refl
@@ -75,7 +75,7 @@ same_first : (c : Bool) (x v : Version) → (c ≡ false → v ≡ x) → cond c
 same_first true x v same = refl
 same_first false x v same = same refl
 
--- the version told behind an inode: where no entry is up to the moment the one given, else that of the inode there
+-- the version told after an inode: where no entry is up to the moment the one given, else that of the inode there
 told : (contents : Place → List ℕ) (t low : ℕ) (i : Inode) (entries : List EntryFields) (v : Version) → moments_ascend_from low entries ≡ true
     → fold (dated_by t) v (versions_behind contents i entries) ≡ cond (begins_by t entries) (meaning contents (inode_after i entries t)) v
 unfolding versions_behind
@@ -102,7 +102,7 @@ told contents t low i (e ∷ entries) v ascends =
 ascending : GroupsAscend → (held : Place → Option Stored) (o : ℕ) (row : Row) → IsRow held o row → moments_ascend_from 0 (entries_of held o row) ≡ true
 ascending law held o row stands = law (entries_of held o row) stands.groups
 
--- At each moment the versions of a row tell the one that the inode which is current there stands for.
+-- At each moment the versions of a row tell the one that the inode which is current there represents.
 pub row_told : GroupsAscend → (held : Place → Option Stored) (o t : ℕ) (row : Row) → IsRow held o row → current_of (versions_of_row held o row) t ≡ meaning (contents_of held) (inode_of held o row t)
 unfolding versions_of_row inode_of
 row_told law held o t row stands =
@@ -128,7 +128,7 @@ goes_past m low (e ∷ entries) lt ascends =
     let from : low ≤ e.moment = leb-true low e.moment (and_parts (nat_le low e.moment) (moments_ascend_from e.moment entries) ascends).0 in
     omega arith
 
--- so are the moments of the versions behind them
+-- so are the moments of the versions after them
 past : (contents : Place → List ℕ) (m low : ℕ) (i : Inode) (entries : List EntryFields) → BeginsPast m entries → moments_ascend_from low entries ≡ true
     → AllByRecursion (λ later. m < later.0) (versions_behind contents i entries)
 unfolding versions_behind

@@ -33,7 +33,7 @@ use Rattle.drive.proofs.Kept.{there_is_given, latest_is_present}
 
 -- ---- the present inode
 
--- the version of an object now is the one that its present inode stands for
+-- the version of an object now is the one that its present inode represents
 pub present_is : ThePresentStays → (s : State) (store : StoreFields) (w : Timeline) (next o : ℕ) → IsKeptDrive s store w next → present s o ≡ version_in store o store.latest
 present_is stays s store w next o kept = sym (latest_is_present stays s store w next o kept)
 

@@ -22,7 +22,7 @@ use Rattle.drive.specs.Keeping.{IsKeptDrive}
 use Rattle.drive.specs.Opened.{versions_of_row, object_by, versions_below, opened_history, NoneFrom, IsListed, ABaseTellsTheStoresVersions, ABaseListsEachObjectOnce, AnOpenedDriveBeginsAsItsParts}
 use Rattle.drive.proofs.Dating.{GroupsAscend, row_told, row_dated}
 
--- the objects of so many numbers from one on that have a row, each with its versions
+-- the objects of this many numbers from one on that have a row, each with its versions
 abbrev pub objects_from : (Place → Option Stored) → (ℕ → Option Row) → ℕ → ℕ → List (ℕ × List (ℕ × Version))
 objects_from held rows first count = filter_map (λ o. object_by held o (rows o)) (range_with_len first count)
 
@@ -60,7 +60,7 @@ found held rows o first (suc count) from to = elim (cases_eq first o) [
       ∙ found held rows o (first + 1) count (let past : first < o = omega arith in omega arith) (omega arith)
 ]
 
--- what stands behind the last of them is in none
+-- what comes after the last of them is in none
 none_past : (held : Place → Option Stored) (rows : ℕ → Option Row) (o first count : ℕ) → first + count ≤ o → versions_of (objects_from held rows first count) o ≡ []
 none_past held rows o first zero past = refl
 none_past held rows o first (suc count) past =
@@ -113,7 +113,7 @@ based s next o none = elim (cases_lt o next) [
   | inr late ↦ none_past s.log.held (row_of s.rows) o 0 next (omega arith) ∙ sym (ap (versions_by s.log.held o) (none o late))
 ]
 
--- by a row they tell at each moment what the row's inode stands for
+-- by a row they tell at each moment what the row's inode represents
 by_row : GroupsAscend → (s : StoreFields) (o t : ℕ) (row : Option Row) → row_of s.rows o ≡ row → IsStore s → current_of (versions_by s.log.held o row) t ≡ version_by s.log.held (inode_by s.log.held o t row)
 by_row law s o t None is store = refl
 by_row law s o t (Some row) is store = row_told law s.log.held o t row (store.objects o row is).stands

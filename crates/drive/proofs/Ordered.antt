@@ -1,4 +1,4 @@
--- Where the rows of a store stand by ascending objects, a base lists their versions in the same order.
+-- Where the rows of a store are by ascending objects, a base lists their versions in the same order.
 use Rattle.std.proofs.Common.{◌≡◌, ℕ, ◌<◌, ◌≤◌, ◌+◌, cond, inl, inr, List, [], ◌∷◌, Option, None, Some, map, refl, sym, ap, subst, ◌∙◌, arith}
 use Rattle.std.proofs.lemmas.Bool.{cases_eq, cases_order}
 use Rattle.std.proofs.lemmas.Option.{none-some}
@@ -78,7 +78,7 @@ lower : (low least : ℕ) (rows : List (ℕ × Row)) → least ≤ low → RowsA
 lower low least [] le ascend = tt
 lower low least (e ∷ rows) le ascend = let from : low ≤ e.0 = ascend.0 in (omega arith, ascend.1)
 
--- Where the rows of a store stand by ascending objects, a base lists their versions in the same order.
+-- Where the rows of a store are by ascending objects, a base lists their versions in the same order.
 pub base_in_order : ABaseListsRowsInOrder
 unfolding versions_below
 base_in_order s w low next none ascend = in_order s.log.held s.rows 0 next (lower low 0 s.rows (omega arith) ascend) (λ o past. none o (omega arith))

@@ -168,7 +168,7 @@ refused_by : (first : Option Refusal) (store : StoreFields) (d : DriveFields) (s
 refused_by first store d s request now e (inl h) = inl h
 refused_by first store d s request now e (inr is) = inr (inl is)
 
--- ---- want of memory
+-- ---- lack of memory
 
 IsNoLack : Refusal → Type 0
 IsNoLack r = number_of r ≢ 10
@@ -184,7 +184,7 @@ no_check_lacks : (s : State) (role : Role) (request : Request) → first_refusal
 unfolding IsNoLack
 no_check_lacks s role request is = found_passes (applies s role request) IsNoLack checks refusal.NoMemory checks_lack_nothing is refl
 
--- neither a check nor what a change lacks is want of memory
+-- neither a check nor what a change lacks is lack of memory
 none_lacks : (s : State) (role : Role) (request : Request) (want : Option Refusal) → (want ≡ Some refusal.NoMemory → ⊥) → (first_refusal s role request ≡ Some refusal.NoMemory) ⊎ ((first_refusal s role request ≡ None) × (want ≡ Some refusal.NoMemory)) → ⊥
 none_lacks s role request want never (inl is) = no_check_lacks s role request is
 none_lacks s role request want never (inr is) = never is.1
@@ -211,7 +211,7 @@ lacked_by first want d request never (inl h) = first_lacks first want request h.
 lacked_by first want d request never (inr (inl is)) = absurd (never is)
 lacked_by first want d request never (inr (inr busy)) = absurd (busy_lacks busy.0)
 
--- where want of memory is answered, the checks let it stand
+-- where lack of memory is answered, the checks let it stand
 pub lacked : (store : StoreFields) (s : State) (role : Role) (d : DriveFields) (request : Request) (now : ℕ) (given : Reply) → RefusesBy (refusal_of store s role request now) d request given → given ≡ Refused refusal.NoMemory → MayLackMemory (first_refusal s role request) request
 lacked store s role d request now given refused is =
     lacked_by (first_refusal s role request) (want_of store s request now) d request

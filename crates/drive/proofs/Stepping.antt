@@ -28,7 +28,7 @@ use Rattle.drive.specs.Answering.{TakesChange}
 
 -- ---- what is refused
 
--- a full chain and want of room are left open
+-- a full chain and lack of room are left open
 open_of_tests : (a b : Bool) (e : Refusal) → cond a (Some ChainFull) (cond b (Some NoSpace) None) ≡ Some e → IsLeftOpen e
 open_of_tests true b e is = subst IsLeftOpen (same_Some ChainFull e is) tt
 open_of_tests false true e is = subst IsLeftOpen (same_Some NoSpace e is) tt

@@ -74,7 +74,7 @@ after_stored stays by l later seat store after w last next now m c kept ready ha
     (λ o t. versions o t ∙ ap (λ (x : ℕ). version_taken store c x o t) at)
     (latest ∙ at) rows (given_by stays s store w next c kept ready has) stands sound)
 
--- ---- want of memory
+-- ---- lack of memory
 
 abbrev pub IsCreation : Change → Type 0
 IsCreation (change.Create object attribute) = Unit {0}

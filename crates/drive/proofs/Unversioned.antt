@@ -52,7 +52,7 @@ window_at_end clock at is e = ap (λ (b : Bool). cond b (Some ClockEnd) None) (e
 abbrev pub span_tests : Bool → Option Refusal → Option Refusal
 span_tests many rest = cond many (Some TooManySpans) rest
 
--- a span that makes too many runs is refused so, and want of memory for the plan may come in its place
+-- a span that makes too many runs is refused so, and lack of memory for the plan may come in its place
 pub unplanned : (w : Timeline) (s : State) (span : Span) (e : Refusal) → StandsFor w s → (e ≡ NoMemory) ⊎ ((e ≡ TooManySpans) × (is_one_span_too_many s span ≡ true)) → (e ≡ NoMemory) ⊎ (span_refusal s span ≡ Some e)
 unplanned w s span e stands (inl is) = inl is
 unplanned w s span e stands (inr h) = inr (ap (λ (b : Bool). span_tests b (end_refusal s.clock)) h.1 ∙ ap (λ (r : Refusal). Some r) (sym h.0))

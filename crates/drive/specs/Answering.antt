@@ -60,7 +60,7 @@ Leaves store s request now reply after = MatchBool (is_acceptance reply)
     ((change : Change) → change_of s request ≡ Some change → StoresChange store change (stamp s now) after)
     (after ≡ store)
 
--- A change was accepted for a session, where the checks refuse so: neither they nor want of blocks refused it, the history
+-- A change was accepted for a session, where the checks refuse so: neither they nor lack of blocks refused it, the history
 -- has it, its blocks and its row are stored, and the session was told.
 pub record TakesChange (first : Option Refusal) (d later : DriveFields) (before after : SessionFields) (request : Request) (now : ℕ) (given : Reply) : Type 0 where
   pub change : Change
@@ -109,7 +109,7 @@ MeansVersion d object t i = version_of (state_in d) object t ≡ Live (bytes_of 
 abbrev pub IsAnswered : Option Refusal → State → Request → Reply → Type 0
 IsAnswered first s request reply = (first ≡ None) × (reply_to_read s request ≡ Some reply)
 
--- the reply that a plan of a read stands for: the bytes that it names, or its refusal
+-- the reply that a plan of a read represents: the bytes that it names, or its refusal
 abbrev pub reply_planned : Result PlanFields Refusal → Reply
 reply_planned (Ok plan) = Data (bytes_planned plan)
 reply_planned (Err refusal) = Refused refusal

@@ -35,14 +35,14 @@ abbrev pub begins_at : ℕ → List EntryFields → Bool
 begins_at m [] = false
 begins_at m (e ∷ entries) = e.moment == m
 
--- The versions behind an inode, by the entries that follow it: each from its entry's moment, but none that stands between two
+-- The versions after an inode, by the entries that follow it: each from its entry's moment, but none that is between two
 -- entries of one moment.
 unfoldable pub versions_behind : (Place → List ℕ) → Inode → List EntryFields → List (ℕ × Version)
 versions_behind contents i [] = []
 versions_behind contents i (e ∷ entries) =
     if begins_at e.moment entries then versions_behind contents (redone e i) entries else (e.moment, meaning contents (redone e i)) ∷ versions_behind contents (redone e i) entries
 
--- the versions of an object by its row: the first inode's from moment 0, and those behind it
+-- the versions of an object by its row: the first inode's from moment 0, and those after it
 unfoldable pub versions_of_row : (Place → Option Stored) → ℕ → Row → List (ℕ × Version)
 versions_of_row held o row = (0, meaning (contents_of held) (first_of held o row)) ∷ versions_behind (contents_of held) (first_of held o row) (entries_of held o row)
 
@@ -92,7 +92,7 @@ pub record IsBegun (s : StoreFields) (w : Timeline) (number : ℕ) (begun : Stat
 
 -- ---- what these come to: each holds of all stores, and is a clause of a function with an empty body
 
--- At each moment the versions of a row tell the one that the inode which is current there stands for.
+-- At each moment the versions of a row tell the one that the inode which is current there represents.
 abbrev pub ARowTellsItsVersions : Type 0
 ARowTellsItsVersions = (held : Place → Option Stored) (o t : ℕ) (row : Row) → IsRow held o row → current_of (versions_of_row held o row) t ≡ meaning (contents_of held) (inode_of held o row t)
 
@@ -104,7 +104,7 @@ ARowsVersionsAscend = (held : Place → Option Stored) (o latest : ℕ) (row : R
 abbrev pub ABaseTellsTheStoresVersions : Type 0
 ABaseTellsTheStoresVersions = (s : StoreFields) (w : Timeline) (next o t : ℕ) → IsStore s → NoneFrom next s → current_of (versions_of (base_of s w next).versions o) t ≡ version_in s o t
 
--- Where a store's rows stand by ascending objects, a base lists their versions in their order.
+-- Where a store's rows are by ascending objects, a base lists their versions in their order.
 abbrev pub ABaseListsRowsInOrder : Type 0
 ABaseListsRowsInOrder = (s : StoreFields) (w : Timeline) (low next : ℕ) → NoneFrom next s → RowsAscend low s.rows → (base_of s w next).versions ≡ versions_listed s
 

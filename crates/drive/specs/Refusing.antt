@@ -46,7 +46,7 @@ IsFoundLater (Some TooManySpans) = Unit {0}
 IsFoundLater (Some ClockEnd) = Unit {0}
 IsFoundLater (Some _) = ⊥
 
--- Where want of memory may be answered, by what refuses a request otherwise, if anything does. A request that makes an object
+-- Where lack of memory may be answered, by what refuses a request otherwise, if anything does. A request that makes an object
 -- or reads takes memory only where nothing else refuses it; one that hides moments takes it before its runs are counted and the
 -- clock is looked at. No change of the window or of an object that is there takes any.
 abbrev pub MayLackMemory : Option Refusal → Request → Type 0
@@ -68,7 +68,7 @@ abbrev pub WantsPin : DriveFields → Request → Type 0
 WantsPin d (Read object offset len at) = NeedsPin d object offset len at
 WantsPin d _ = ⊥
 
--- The reply is a refusal where there is one, and that one; or want of memory, where that may be answered; or want of a pin
+-- The reply is a refusal where there is one, and that one; or lack of memory, where that may be answered; or lack of a pin
 -- where nothing else refuses, of a request that needs one over the drive as it is then.
 abbrev pub RefusesBy : Option Refusal → DriveFields → Request → Reply → Type 0
 RefusesBy why d request (Refused refusal) = ((refusal ≡ NoMemory) × MayLackMemory why request) ⊎ ((why ≡ Some refusal) ⊎ ((refusal ≡ Busy) × (why ≡ None) × WantsPin d request))
@@ -79,19 +79,19 @@ RefusesBy why d request _ = why ≡ None
 abbrev pub RefusesExactly : DriveFields → Role → Request → ℕ → Reply → DriveFields → Type 0
 RefusesExactly d role request now reply later = RefusesBy (refusal_of (store_of d) (judged (history_of d) request now) role request now) later request reply
 
--- Where the reply to a request at a moment is want of memory, the checks over the drive, as it was before, leave it room.
+-- Where the reply to a request at a moment is lack of memory, the checks over the drive, as it was before, leave it room.
 abbrev pub LacksMemoryInPlace : DriveFields → Role → Request → ℕ → Reply → Type 0
 LacksMemoryInPlace d role request now reply = reply ≡ Refused NoMemory → MayLackMemory (first_refusal (judged (history_of d) request now) role request) request
 
--- a refusal of a read by the checks, or for want of memory
+-- a refusal of a read by the checks, or for lack of memory
 abbrev pub IsJudgedOut : Option Refusal → Request → Refusal → Type 0
 IsJudgedOut first request refusal = ((refusal ≡ NoMemory) × MayLackMemory first request) ⊎ (first ≡ Some refusal)
 
--- a read wasn't planned: by the checks, for want of memory, or for want of a pin where they let it pass
+-- a read wasn't planned: by the checks, for lack of memory, or for lack of a pin where they let it pass
 abbrev pub IsUnplanned : Option Refusal → DriveFields → Request → Refusal → Type 0
 IsUnplanned first d request refusal = IsJudgedOut first request refusal ⊎ ((refusal ≡ Busy) × (first ≡ None) × WantsPin d request)
 
--- a refusal by the checks, where they refuse so, or by what the change that is asked for lacks; or for want of memory
+-- a refusal by the checks, where they refuse so, or by what the change that is asked for lacks; or for lack of memory
 abbrev pub IsRefusal : Option Refusal → StoreFields → State → Request → ℕ → Refusal → Type 0
 IsRefusal first store s request now refusal =
     ((refusal ≡ NoMemory) × MayLackMemory (or_then first (want_of store s request now)) request) ⊎ (or_then first (want_of store s request now) ≡ Some refusal)

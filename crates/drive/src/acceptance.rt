@@ -28,8 +28,8 @@ fn accept_named<J: Naming, C: Taking>(
     history.accept::<C>(session);
 }
 
-/// A change is accepted for a session, at a moment: the history has it from now on, and the session has seen all accepted
-/// changes, this one as its own.
+/// A change is accepted for a session, at a moment: the history has it from now on, and the session
+/// has seen all accepted changes, this one as its own.
 pub(crate) fn accept<J: Naming>(
     history: &mut HistorySeat<J>,
     session: &mut SessionSeat<J>,

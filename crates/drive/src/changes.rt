@@ -1,5 +1,6 @@
 //! Changes of objects: judged by the present inode, then stored and accepted.
-ghost use Rattle.std.specs.Prelude.{◌≡◌, ◌+◌, ◌<◌, max, None, Some, option_copied, IfOk, IfErr, OnOk};
+ghost use Rattle.std.specs.Prelude.{◌≡◌, ◌+◌, ◌<◌, max, None, Some, option_copied, IfOk, IfErr};
+ghost use Rattle.std.specs.Prelude.{OnOk};
 ghost use Rattle.s4_model.specs.Numbers.{next_by};
 ghost use Rattle.s4_model.specs.State.{took};
 ghost use Rattle.s4_model.specs.Refusals.{last_number};
@@ -22,7 +23,8 @@ use s4_types::{Change, Moment, ObjectId, Refusal, Reply, Request};
 use segment_word::Naming;
 use version_store::laws::the_present_stays;
 
-/// The moment of a change that is asked for at a moment: the greater of that and the clock plus one.
+/// The moment of a change that is asked for at a moment: the greater of that and the clock plus
+/// one.
 pub(crate) fn moment_after(clock: Moment, now: Moment) -> Moment
     requires { clock < last_number }
     ensures { result ≡ max now (clock + 1) }
@@ -69,17 +71,22 @@ struct Judged {
 }
 
 impl<J: Naming> Drive<J> {
-    /// Judges a request for a version of an object, by the object's present inode. No memory is taken.
+    /// Judges a request for a version of an object, by the object's present inode. No memory is
+    /// taken.
     fn judge_object(&self, request: Request, now: Moment) -> Result<Judged, Refusal>
         requires versions { IsOfVersions request }
         requires within { IsWithin request }
         ensures free { OnOk result (later_refusal (state_in self.now) request ≡ None) }
-        ensures asked { IfOk result (λ judged. change_of (state_in self.now) request ≡ Some judged.change) }
+        ensures asked { IfOk result
+            (λ judged. change_of (state_in self.now) request ≡ Some judged.change) }
         ensures clock { OnOk result ((state_in self.now).clock < last_number) }
         ensures takes { IfOk result (λ judged. Takes (store_of self.now) judged.change) }
         ensures next { IfOk result (λ judged. HasNext (state_in self.now).next judged.change) }
         ensures moment { IfOk result (λ judged. judged.moment ≡ stamp (state_in self.now) now) }
-        ensures sound { IfOk result (λ judged. IsSound (took (state_in self.now) (accepted_record (state_in self.now) judged.change now))) }
+        ensures sound { IfOk result
+            (λ judged. IsSound
+            (took (state_in self.now)
+            (accepted_record (state_in self.now) judged.change now))) }
         ensures refused { IfErr result (λ e. later_refusal (state_in self.now) request ≡ Some e) }
     {
         the_present_stays();
@@ -104,7 +111,8 @@ impl<J: Naming> Drive<J> {
     ) -> Result<Reply, Refusal>
         requires versions { IsOfVersions request }
         requires within { IsWithin request }
-        ensures { ComesTo (later_refusal (state_in self.old) request) self.old self.new session.old session.new request now result }
+        ensures { ComesTo (later_refusal (state_in self.old) request) self.old self.new session.old
+            session.new request now result }
     {
         the_present_stays();
         the_state_goes_on_record_by_record();

@@ -15,10 +15,11 @@ use std::marker::Model;
 use version_store::{NamedTable, Store};
 use window::Window;
 
-/// A drive: its one history, and the objects that stand for it.
+/// A drive: its one history, and the objects that represent it.
 ///
-/// Contracts see the history with the seat that each change was accepted for, and the objects over their blocks. `J` names
-/// the drive and what its history begins with; a session of another drive has another type.
+/// Contracts see the history with the seat that each change was accepted for, and the objects over
+/// their blocks. `J` names the drive and what its history begins with; a session of another drive
+/// has another type.
 #[derive(Drop)]
 pub struct Drive<J: Naming> {
     pub(crate) alloc: Global,
@@ -45,8 +46,8 @@ impl<J: Naming> Model for Drive<J> {
 }
 
 impl<J: Naming> Drive<J> {
-    /// A session of a role. It has seen all accepted changes, and none is its own yet. `SEATS` can be had at a time, and one
-    /// that was dropped again.
+    /// A session of a role. It has seen all accepted changes, and none is its own yet. `SEATS` can
+    /// be had at a time, and one that was dropped again.
     ///
     /// Busy where all seats are in use, or where the count of those that share the memory is full.
     pub fn session(&mut self, role: Role) -> Result<Session<J>, Refusal>
@@ -72,8 +73,8 @@ impl<J: Naming> Drive<J> {
         self.history.meet(&mut session.seat);
     }
 
-    /// Ends a session, and gives its seat back. No number is its own and also that of the session that
-    /// stays, which is as before.
+    /// Ends a session, and gives its seat back. No number is its own and also that of the session
+    /// that stays, which is as before.
     pub fn end_beside(&self, stays: &mut Session<J>, ends: Session<J>)
         ensures none { ShareNone stays.old.told ends.told }
         ensures same { stays.new ≡ stays.old }

@@ -1,5 +1,6 @@
 //! Changes that make no version: of the window, and of what is hidden.
-ghost use Rattle.std.specs.Prelude.{◌≡◌, ◌⊎◌, ◌<◌, ◌≤◌, ◌==◌, ◌||◌, nat_le, true, None, Some, MatchResult, IfOk, OnOk};
+ghost use Rattle.std.specs.Prelude.{◌≡◌, ◌⊎◌, ◌<◌, ◌≤◌, ◌==◌, ◌||◌, nat_le, true, None, Some};
+ghost use Rattle.std.specs.Prelude.{MatchResult, IfOk, OnOk};
 ghost use Rattle.s4_types.specs.declared.requests.Request.TheVariants.{SetWindow, Flush, FlushO};
 ghost use Rattle.s4_types.specs.declared.refusals.Refusal.TheVariants.{NoMemory, NoObject};
 ghost use Rattle.s4_model.specs.State.{State};
@@ -19,8 +20,8 @@ use s4_types::{Change, Moment, ObjectId, Refusal, Reply, Span};
 use segment_word::Naming;
 use window::{FlushPlan, Window};
 
-/// The plan of a span, in order and past, where it makes no runs too many and a later moment can be given. Takes all memory
-/// that hiding it needs.
+/// The plan of a span, in order and past, where it makes no runs too many and a later moment can be
+/// given. Takes all memory that hiding it needs.
 #[tactic(auto, using(crate::proofs::Unversioned::unplanned, crate::proofs::Unversioned::planned, crate::proofs::Unversioned::unplanned_at_end))]
 fn plan_span(window: &Window, span: Span) -> Result<FlushPlan, Refusal>
     requires ordered { span.first ≤ span.last }
@@ -38,7 +39,8 @@ fn plan_span(window: &Window, span: Span) -> Result<FlushPlan, Refusal>
 
 /// NoObject where a number is none of an object that was made.
 fn check_given(object: ObjectId, next: ObjectId) -> Result<(), Refusal>
-    ensures { MatchResult result (λ _. (1 ≤ object) × (object < next)) (λ e. (e ≡ NoObject) × ((object == 0 || nat_le next object) ≡ true)) }
+    ensures { MatchResult result (λ _. (1 ≤ object) × (object < next))
+        (λ e. (e ≡ NoObject) × ((object == 0 || nat_le next object) ≡ true)) }
 {
     if object.number() == 0 || object >= next {
         return Err(Refusal::NoObject);
@@ -54,7 +56,8 @@ impl<J: Naming> Drive<J> {
         window: u64,
         now: Moment,
     ) -> Result<Reply, Refusal>
-        ensures { ComesTo (later_refusal (state_in self.old) (SetWindow window)) self.old self.new session.old session.new (SetWindow window) now result }
+        ensures { ComesTo (later_refusal (state_in self.old) (SetWindow window)) self.old self.new
+            session.old session.new (SetWindow window) now result }
     {
         every_history_is_sound();
         the_state_goes_on_record_by_record();
@@ -77,7 +80,8 @@ impl<J: Naming> Drive<J> {
         last: Moment,
         now: Moment,
     ) -> Result<Reply, Refusal>
-        ensures { ComesTo (later_refusal (state_in self.old) (Flush first last)) self.old self.new session.old session.new (Flush first last) now result }
+        ensures { ComesTo (later_refusal (state_in self.old) (Flush first last)) self.old self.new
+            session.old session.new (Flush first last) now result }
     {
         every_history_is_sound();
         the_state_goes_on_record_by_record();
@@ -107,7 +111,8 @@ impl<J: Naming> Drive<J> {
         last: Moment,
         now: Moment,
     ) -> Result<Reply, Refusal>
-        ensures { ComesTo (later_refusal (state_in self.old) (FlushO object first last)) self.old self.new session.old session.new (FlushO object first last) now result }
+        ensures { ComesTo (later_refusal (state_in self.old) (FlushO object first last)) self.old
+            self.new session.old session.new (FlushO object first last) now result }
     {
         every_history_is_sound();
         the_state_goes_on_record_by_record();

@@ -1,12 +1,15 @@
 //! What the clock, the next object's number and the object's present size decide.
-ghost use Rattle.std.specs.Prelude.{◌≡◌, ◌⊎◌, ◌+◌, ◌<◌, ◌≤◌, None, Some, IsSome, Err, MatchResult, IfOk, OnOk, unwrap_or, length};
+ghost use Rattle.std.specs.Prelude.{◌≡◌, ◌⊎◌, ◌+◌, ◌<◌, ◌≤◌, None, Some, IsSome, Err, MatchResult};
+ghost use Rattle.std.specs.Prelude.{IfOk, OnOk, unwrap_or, length};
 ghost use Rattle.s4_types.specs.declared.limits.TheConstants.{OBJECT_BYTES};
-ghost use Rattle.s4_types.specs.declared.refusals.Refusal.TheVariants.{ClockEnd, NoObject, TooLarge};
+ghost use Rattle.s4_types.specs.declared.refusals.Refusal.TheVariants.{ClockEnd, NoObject};
+ghost use Rattle.s4_types.specs.declared.refusals.Refusal.TheVariants.{TooLarge};
 ghost use Rattle.s4_model.specs.State.{State};
 ghost use Rattle.s4_model.specs.Refusals.{last_number};
 ghost use Rattle.s4_model.specs.Step.{change_of};
 ghost use Rattle.s4_model.specs.Limits.{Fits};
-ghost use Rattle.drive.specs.Later.{later_refusal, IsWithin, IsOfVersions, IsAllowed, HasSize, object_asked};
+ghost use Rattle.drive.specs.Later.{later_refusal, IsWithin, IsOfVersions, IsAllowed, HasSize};
+ghost use Rattle.drive.specs.Later.{object_asked};
 ghost use Rattle.s4_model.specs.Effect.{object_of as object_of_change};
 
 use crate::checks::ends_past_limit;
@@ -32,7 +35,8 @@ pub(crate) fn object_of(next: ObjectId, request: &Request) -> ObjectId
 
 /// ClockEnd where no later moment can be given.
 pub(crate) fn check_clock(clock: Moment) -> Result<(), Refusal>
-    ensures { MatchResult result (λ _. clock < last_number) (λ e. (e ≡ ClockEnd) × (clock ≡ last_number)) }
+    ensures { MatchResult result (λ _. clock < last_number)
+        (λ e. (e ≡ ClockEnd) × (clock ≡ last_number)) }
 {
     if clock.number() == u64::MAX {
         return Err(Refusal::ClockEnd);
@@ -42,7 +46,8 @@ pub(crate) fn check_clock(clock: Moment) -> Result<(), Refusal>
 
 /// ClockEnd where no further object can be numbered.
 fn check_next(next: ObjectId) -> Result<(), Refusal>
-    ensures { MatchResult result (λ _. next < last_number) (λ e. (e ≡ ClockEnd) × (next ≡ last_number)) }
+    ensures { MatchResult result (λ _. next < last_number)
+        (λ e. (e ≡ ClockEnd) × (next ≡ last_number)) }
 {
     if next.number() == u64::MAX {
         return Err(Refusal::ClockEnd);
@@ -52,7 +57,8 @@ fn check_next(next: ObjectId) -> Result<(), Refusal>
 
 /// The present size of an object that has to be there.
 fn check_there(size: Option<u64>) -> Result<u64, Refusal>
-    ensures { MatchResult result (λ bytes. size ≡ Some bytes) (λ e. (e ≡ NoObject) × (size ≡ None)) }
+    ensures { MatchResult result (λ bytes. size ≡ Some bytes)
+        (λ e. (e ≡ NoObject) × (size ≡ None)) }
 {
     size.ok_or(Refusal::NoObject)
 }
@@ -61,7 +67,8 @@ fn check_there(size: Option<u64>) -> Result<u64, Refusal>
 fn judge_there(clock: Moment, size: Option<u64>, change: Change) -> Result<Change, Refusal>
     ensures { MatchResult result
         (λ judged. (judged ≡ change) × (IsSome size × (clock < last_number)))
-        (λ e. ((e ≡ NoObject) × (size ≡ None)) ⊎ ((e ≡ ClockEnd) × (IsSome size × (clock ≡ last_number)))) }
+        (λ e. ((e ≡ NoObject) × (size ≡ None))
+        ⊎ ((e ≡ ClockEnd) × (IsSome size × (clock ≡ last_number)))) }
 {
     check_there(size)?;
     check_clock(clock)?;
@@ -71,7 +78,8 @@ fn judge_there(clock: Moment, size: Option<u64>, change: Change) -> Result<Chang
 /// A creation of the next object, where a later moment and a further number can be given.
 fn judge_create(clock: Moment, next: ObjectId, attribute: Bytes) -> Result<Change, Refusal>
     ensures { MatchResult result
-        (λ judged. (judged ≡ Change.Create next attribute) × ((clock < last_number) × (next < last_number)))
+        (λ judged. (judged ≡ Change.Create next attribute)
+        × ((clock < last_number) × (next < last_number)))
         (λ e. (e ≡ ClockEnd) × ((clock ≡ last_number) ⊎ (next ≡ last_number))) }
 {
     check_clock(clock)?;
@@ -91,8 +99,10 @@ fn judge_append(
 ) -> Result<Change, Refusal>
     ensures large { OBJECT_BYTES < unwrap_or size 0 + length bytes → result ≡ Err TooLarge }
     ensures fits { unwrap_or size 0 + length bytes ≤ OBJECT_BYTES → MatchResult result
-        (λ judged. (judged ≡ Change.Write object (unwrap_or size 0) bytes) × (IsSome size × (clock < last_number)))
-        (λ e. ((e ≡ NoObject) × (size ≡ None)) ⊎ ((e ≡ ClockEnd) × (IsSome size × (clock ≡ last_number)))) }
+        (λ judged. (judged ≡ Change.Write object (unwrap_or size 0) bytes)
+        × (IsSome size × (clock < last_number)))
+        (λ e. ((e ≡ NoObject) × (size ≡ None))
+        ⊎ ((e ≡ ClockEnd) × (IsSome size × (clock ≡ last_number)))) }
 {
     let offset = size.unwrap_or(0);
     if ends_past_limit(offset, bytes.len()) {
@@ -109,12 +119,13 @@ fn judge_append(
     )
 }
 
-/// Judges a request for a version of an object, once `check` let it pass: by the clock, the next object's number and the
-/// present size of the request's object, none where it is absent (a Create's isn't looked at).
+/// Judges a request for a version of an object, once `check` let it pass: by the clock, the next
+/// object's number and the present size of the request's object, none where it is absent (a
+/// Create's isn't looked at).
 ///
-/// The change that it asks for, or the first refusal that is left: TooLarge of an Append that ends past `OBJECT_BYTES`, where
-/// an absent object counts as empty; NoObject of an absent object; ClockEnd where no later moment can be given, or of a Create
-/// no further number.
+/// The change that it asks for, or the first refusal that is left: TooLarge of an Append that ends
+/// past `OBJECT_BYTES`, where an absent object counts as empty; NoObject of an absent object;
+/// ClockEnd where no later moment can be given, or of a Create no further number.
 pub(crate) fn judge(
     clock: Moment,
     next: ObjectId,

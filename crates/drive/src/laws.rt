@@ -1,13 +1,18 @@
-//! Laws of opened drives, for the layers above: each function does nothing, and its contract is the law.
-ghost use Rattle.drive.specs.Opened.{ARowTellsItsVersions, ARowsVersionsAscend, ABaseTellsTheStoresVersions, ABaseListsEachObjectOnce, ABaseListsRowsInOrder, AnOpenedDriveBeginsAsItsParts};
+//! Laws of opened drives, for the layers above: each function does nothing, and its contract is the
+//! law.
+ghost use Rattle.drive.specs.Opened.{ARowTellsItsVersions, ARowsVersionsAscend};
+ghost use Rattle.drive.specs.Opened.{ABaseTellsTheStoresVersions, ABaseListsEachObjectOnce};
+ghost use Rattle.drive.specs.Opened.{ABaseListsRowsInOrder, AnOpenedDriveBeginsAsItsParts};
 
 use undo_redo::laws::groups_join_and_part;
 use version_store::laws::the_present_stays;
 
-/// What an opened drive begins with is what its objects stand for: at each moment the versions that the base has of an object
-/// tell the one that its row and its blocks do. The base lists each object once, and the moments from which its versions are
-/// current ascend strictly. Where the rows stand by ascending objects, it lists them in that order. So the state of a drive that
-/// has just been opened has the versions of its objects, and the clock, window, floor and hidden moments of its window.
+/// What an opened drive begins with is what its objects represent: at each moment the versions that
+/// the base has of an object tell the one that its row and its blocks do. The base lists each
+/// object once, and the moments from which its versions are current ascend strictly. Where the rows
+/// are by ascending objects, it lists them in that order. So the state of a drive that has just
+/// been opened has the versions of its objects, and the clock, window, floor and hidden moments of
+/// its window.
 #[tactic(auto, using(crate::proofs::Dating::row_told, crate::proofs::Dating::row_dated))]
 pub fn a_base_is_what_its_objects_stand_for()
     ensures row { ARowTellsItsVersions }

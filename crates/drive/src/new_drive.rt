@@ -21,7 +21,8 @@ use std::marker::Model;
 use version_store::Store;
 use window::Window;
 
-/// A new drive that has no name yet. Contracts see the table of its accept word, its objects and its window.
+/// A new drive that has no name yet. Contracts see the table of its accept word, its objects and
+/// its window.
 #[derive(Drop)]
 pub struct NewDrive {
     alloc: Global,
@@ -45,8 +46,9 @@ impl Model for NewDrive {
 }
 
 impl NewDrive {
-    /// A new drive of `FEWEST_FRAMES` to `MOST_FRAMES` frames, whose history reaches `window` moments back. Nothing is stored
-    /// in it, and no object has a row. It keeps the inodes of at most `CACHED_INODES` checkpoints in memory.
+    /// A new drive of `FEWEST_FRAMES` to `MOST_FRAMES` frames, whose history reaches `window`
+    /// moments back. Nothing is stored in it, and no object has a row. It keeps the inodes of at
+    /// most `CACHED_INODES` checkpoints in memory.
     ///
     /// NoMemory where memory was refused, Busy where a count of those that share it was full.
     pub fn new(alloc: Global, frames: usize, window: u64) -> Result<Self, Refusal>
@@ -61,8 +63,8 @@ impl NewDrive {
         Self::with_cache(alloc, frames, window, CACHED_INODES)
     }
 
-    /// [`NewDrive::new`], but the drive keeps the inodes of at most `inodes` checkpoints in memory, 1 to `CACHED_INODES`. That
-    /// changes no answer, only which blocks are read for it.
+    /// [`NewDrive::new`], but the drive keeps the inodes of at most `inodes` checkpoints in memory,
+    /// 1 to `CACHED_INODES`. That changes no answer, only which blocks are read for it.
     ///
     /// It is refused as that is.
     #[tactic(auto, using(crate::proofs::Beginning::kept_new))]

@@ -20,8 +20,8 @@ use version_store::Store;
 use version_store::laws::the_present_stays;
 use window::Window;
 
-/// A drive that was opened and has no name yet. Contracts see the table of its accept word, its objects, its window and the
-/// next object's number.
+/// A drive that was opened and has no name yet. Contracts see the table of its accept word, its
+/// objects, its window and the next object's number.
 #[derive(Drop)]
 pub struct OpenedDrive {
     alloc: Global,
@@ -46,8 +46,8 @@ impl Model for OpenedDrive {
 }
 
 impl OpenedDrive {
-    /// A drive of these objects, under this window; `next` is the number that the next object gets. Its history begins with
-    /// what they stand for.
+    /// A drive of these objects, under this window; `next` is the number that the next object gets.
+    /// Its history begins with what they represent.
     ///
     /// NoMemory where memory was refused, Busy where a count of those that share it was full.
     pub fn from_parts(

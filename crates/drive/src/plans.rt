@@ -31,21 +31,31 @@ impl<J: Naming> Drive<J> {
     ) -> Result<ReadPlan, Refusal>
         ensures ledger { self.new.ledger ≡ self.old.ledger }
         ensures store { store_of self.new ≡ store_of self.old }
-        ensures free { OnOk result ((role : Role) → first_refusal (state_in self.old) role (Read object offset length at) ≡ None) }
-        ensures bytes { IfOk result (λ plan. reply_to_read (state_in self.old) (Read object offset length at) ≡ Some (Data (bytes_planned plan))) }
+        ensures free { OnOk result
+            ((role : Role)
+            → first_refusal (state_in self.old) role (Read object offset length at) ≡ None) }
+        ensures bytes { IfOk result
+            (λ plan. reply_to_read (state_in self.old) (Read object offset length at)
+            ≡ Some (Data (bytes_planned plan))) }
         ensures fits { IfOk result (λ plan. ReplyFits (Data (bytes_planned plan))) }
         ensures plan { IfOk result (IsPlanOf self.new object offset length at) }
-        ensures refused { IfErr result (λ e. (role : Role) → IsUnplanned (first_refusal (state_in self.old) role (Read object offset length at)) self.new (Read object offset length at) e) }
+        ensures refused { IfErr result
+            (λ e. (role : Role)
+            → IsUnplanned
+            (first_refusal (state_in self.old) role (Read object offset length at)) self.new
+            (Read object offset length at) e) }
     {
         check_read(offset, length)?;
         self.planned(object, offset, length, at)
     }
 
-    /// A plan of a Read of `length` bytes of an object from an offset on, at a moment, and at the present clock where none is
-    /// given: [`ReadPlan::fetch`] gives the bytes, whatever was changed meanwhile. Clock and floor move as by that Read.
+    /// A plan of a Read of `length` bytes of an object from an offset on, at a moment, and at the
+    /// present clock where none is given: [`ReadPlan::fetch`] gives the bytes, whatever was changed
+    /// meanwhile. Clock and floor move as by that Read.
     ///
-    /// It is refused as the Read is: TooLarge, Future, Expired, Flushed, NoObject, the first of these that applies; else
-    /// NoMemory where memory is refused, and Busy where a block of a sealed frame is needed and no pin is to be had.
+    /// It is refused as the Read is: TooLarge, Future, Expired, Flushed, NoObject, the first of
+    /// these that applies; else NoMemory where memory is refused, and Busy where a block of a
+    /// sealed frame is needed and no pin is to be had.
     pub fn resolve(
         &mut self,
         session: &mut Session<J>,
@@ -55,11 +65,15 @@ impl<J: Naming> Drive<J> {
         at: Option<Moment>,
         now: Moment,
     ) -> Result<ReadPlan, Refusal>
-        // The history goes on by the step of that Read, answered with the bytes that the plan names.
-        ensures step { Step (history_of self.old) session.old.role (Read object offset length at) now (reply_planned result) (history_of self.new) }
-        ensures refused { RefusesExactly self.old session.old.role (Read object offset length at) now (reply_planned result) self.new }
-        // Want of memory comes only where no check refuses the Read.
-        ensures memory { LacksMemoryInPlace self.old session.old.role (Read object offset length at) now (reply_planned result) }
+        // The history goes on by the step of that Read, answered with the bytes that the plan
+        // names.
+        ensures step { Step (history_of self.old) session.old.role (Read object offset length at)
+            now (reply_planned result) (history_of self.new) }
+        ensures refused { RefusesExactly self.old session.old.role (Read object offset length at)
+            now (reply_planned result) self.new }
+        // Lack of memory comes only where no check refuses the Read.
+        ensures memory { LacksMemoryInPlace self.old session.old.role (Read object offset length at)
+            now (reply_planned result) }
         ensures plan { IfOk result (IsPlanOf self.new object offset length at) }
         // Its pin is of the table of frames that `J` names.
         ensures named { IfOk result (λ plan. IsPinOf J.frames plan.pin) }

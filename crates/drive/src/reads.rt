@@ -12,7 +12,8 @@ ghost use Rattle.version_store.specs.Versions.{inode_in};
 ghost use Rattle.drive.specs.Fields.{state_in, store_of};
 ghost use Rattle.time_read.specs.Plans.{bytes_planned};
 ghost use Rattle.drive.specs.Refusing.{IsJudgedOut, IsUnplanned};
-ghost use Rattle.drive.specs.Answering.{IsRead, IsPlanOf, IsAnswered, MeansVersion, telling_refusal};
+ghost use Rattle.drive.specs.Answering.{IsRead, IsPlanOf, IsAnswered, MeansVersion};
+ghost use Rattle.drive.specs.Answering.{telling_refusal};
 
 use crate::checks::check;
 use crate::drive::Drive;
@@ -26,7 +27,9 @@ use version_store::laws::{an_object_has_an_inode_at_all_moments_or_at_none, the_
 
 /// The attributes that a live inode tells of its object.
 fn attributes_of(alloc: Global, inode: &Inode) -> Result<Reply, Refusal>
-    ensures ok { IfOk result (λ reply. reply ≡ Reply.Attr inode.now.size inode.now.created inode.now.changed inode.now.attribute) }
+    ensures ok { IfOk result
+        (λ reply. reply
+        ≡ Reply.Attr inode.now.size inode.now.created inode.now.changed inode.now.attribute) }
     ensures fits { IfOk result ReplyFits }
     ensures err { IfErr result (λ e. e ≡ NoMemory) }
 {
@@ -50,8 +53,11 @@ impl<J: Naming> Drive<J> {
     /// The present inode of an object that has a row, where a moment of it can be read.
     fn known(&self, object: ObjectId, at: Moment) -> Result<&Inode, Refusal>
         ensures visible { OnOk result (IsVisible (state_in self.now) object at) }
-        ensures present { IfOk result (λ inode. inode_in (store_of self.now) object (store_of self.now).latest ≡ Some inode.now) }
-        ensures refused { IfErr result (λ e. telling_refusal (state_in self.now) object at ≡ Some e) }
+        ensures present { IfOk result
+            (λ inode. inode_in (store_of self.now) object (store_of self.now).latest
+            ≡ Some inode.now) }
+        ensures refused { IfErr result
+            (λ e. telling_refusal (state_in self.now) object at ≡ Some e) }
     {
         an_object_has_an_inode_at_all_moments_or_at_none();
         self.window.visible(object, at)?;
@@ -61,18 +67,20 @@ impl<J: Naming> Drive<J> {
         Ok(inode)
     }
 
-    /// Makes of an object's present inode the one at a moment that can be read, in its place, where the object is there then. For
-    /// a moment before the drive's last change, of whatever object, this object's later changes are undone, as [`Drive::inode_at`]
-    /// says.
+    /// Makes of an object's present inode the one at a moment that can be read, in its place, where
+    /// the object is there then. For a moment before the drive's last change, of whatever object,
+    /// this object's later changes are undone, as [`Drive::inode_at`] says.
     fn lead_back(&mut self, object: ObjectId, at: Moment, inode: &mut Inode) -> Result<(), Refusal>
         requires visible { IsVisible (state_in self.old) object at }
-        requires present { inode_in (store_of self.old) object (store_of self.old).latest ≡ Some inode.old }
+        requires present { inode_in (store_of self.old) object (store_of self.old).latest
+            ≡ Some inode.old }
         ensures ledger { self.new.ledger ≡ self.old.ledger }
         ensures store { store_of self.new ≡ store_of self.old }
         ensures free { OnOk result (telling_refusal (state_in self.old) object at ≡ None) }
         ensures inode { OnOk result (inode_in (store_of self.old) object at ≡ Some inode.new) }
         ensures version { OnOk result (MeansVersion self.old object at inode.new) }
-        ensures refused { IfErr result (λ e. telling_refusal (state_in self.old) object at ≡ Some e) }
+        ensures refused { IfErr result
+            (λ e. telling_refusal (state_in self.old) object at ≡ Some e) }
     {
         self.store.lead_back(object, at, inode);
         if !inode.alive {
@@ -81,14 +89,19 @@ impl<J: Naming> Drive<J> {
         Ok(())
     }
 
-    /// The present inode of an object, where a moment from the drive's last change on can be read and the object is there.
+    /// The present inode of an object, where a moment from the drive's last change on can be read
+    /// and the object is there.
     fn live_present(&self, object: ObjectId, moment: Moment) -> Result<&Inode, Refusal>
         requires present { (store_of self.now).latest ≤ moment }
         ensures free { OnOk result (telling_refusal (state_in self.now) object moment ≡ None) }
-        ensures present { IfOk result (λ inode. inode_in (store_of self.now) object (store_of self.now).latest ≡ Some inode.now) }
-        ensures inode { IfOk result (λ inode. inode_in (store_of self.now) object moment ≡ Some inode.now) }
+        ensures present { IfOk result
+            (λ inode. inode_in (store_of self.now) object (store_of self.now).latest
+            ≡ Some inode.now) }
+        ensures inode { IfOk result
+            (λ inode. inode_in (store_of self.now) object moment ≡ Some inode.now) }
         ensures version { IfOk result (λ inode. MeansVersion self.now object moment inode.now) }
-        ensures refused { IfErr result (λ e. telling_refusal (state_in self.now) object moment ≡ Some e) }
+        ensures refused { IfErr result
+            (λ e. telling_refusal (state_in self.now) object moment ≡ Some e) }
     {
         the_present_stays();
         self.window.visible(object, moment)?;
@@ -111,10 +124,15 @@ impl<J: Naming> Drive<J> {
     ) -> Result<ReadPlan, Refusal>
         ensures ledger { self.new.ledger ≡ self.old.ledger }
         ensures store { store_of self.new ≡ store_of self.old }
-        ensures free { OnOk result (later_refusal (state_in self.old) (Read object offset length at) ≡ None) }
-        ensures bytes { IfOk result (λ plan. reply_to_read (state_in self.old) (Read object offset length at) ≡ Some (Reply.Data (bytes_planned plan))) }
+        ensures free { OnOk result
+            (later_refusal (state_in self.old) (Read object offset length at) ≡ None) }
+        ensures bytes { IfOk result
+            (λ plan. reply_to_read (state_in self.old) (Read object offset length at)
+            ≡ Some (Reply.Data (bytes_planned plan))) }
         ensures plan { IfOk result (IsPlanOf self.new object offset length at) }
-        ensures refused { IfErr result (IsUnplanned (later_refusal (state_in self.old) (Read object offset length at)) self.new (Read object offset length at)) }
+        ensures refused { IfErr result
+            (IsUnplanned (later_refusal (state_in self.old) (Read object offset length at)) self.new
+            (Read object offset length at)) }
     {
         let moment = self.moment_asked(at);
         if self.store.latest() <= moment {
@@ -127,8 +145,8 @@ impl<J: Naming> Drive<J> {
             .plan(object, moment, &inode, offset, u64::from(length))
     }
 
-    /// The bytes of an object from an offset on, at a moment. They are read at once, so no pin is needed: neither a seat of
-    /// pins is taken nor a frame's word changed.
+    /// The bytes of an object from an offset on, at a moment. They are read at once, so no pin is
+    /// needed: neither a seat of pins is taken nor a frame's word changed.
     fn bytes_at(
         &mut self,
         object: ObjectId,
@@ -140,8 +158,12 @@ impl<J: Naming> Drive<J> {
         ensures ledger { self.new.ledger ≡ self.old.ledger }
         ensures store { store_of self.new ≡ store_of self.old }
         ensures fits { IfOk result (λ bytes. ReplyFits (Reply.Data bytes.items)) }
-        ensures ok { IfOk result (λ bytes. IsAnswered (later_refusal (state_in self.old) (Read object offset length at)) (state_in self.old) (Read object offset length at) (Reply.Data bytes.items)) }
-        ensures refused { IfErr result (IsJudgedOut (later_refusal (state_in self.old) (Read object offset length at)) (Read object offset length at)) }
+        ensures ok { IfOk result
+            (λ bytes. IsAnswered (later_refusal (state_in self.old) (Read object offset length at))
+            (state_in self.old) (Read object offset length at) (Reply.Data bytes.items)) }
+        ensures refused { IfErr result
+            (IsJudgedOut (later_refusal (state_in self.old) (Read object offset length at))
+            (Read object offset length at)) }
     {
         let moment = self.moment_asked(at);
         if self.store.latest() <= moment {
@@ -166,8 +188,12 @@ impl<J: Naming> Drive<J> {
         ensures ledger { self.new.ledger ≡ self.old.ledger }
         ensures store { store_of self.new ≡ store_of self.old }
         ensures fits { IfOk result ReplyFits }
-        ensures ok { IfOk result (IsAnswered (later_refusal (state_in self.old) (Read object offset length at)) (state_in self.old) (Read object offset length at)) }
-        ensures refused { IfErr result (IsJudgedOut (later_refusal (state_in self.old) (Read object offset length at)) (Read object offset length at)) }
+        ensures ok { IfOk result
+            (IsAnswered (later_refusal (state_in self.old) (Read object offset length at))
+            (state_in self.old) (Read object offset length at)) }
+        ensures refused { IfErr result
+            (IsJudgedOut (later_refusal (state_in self.old) (Read object offset length at))
+            (Read object offset length at)) }
     {
         let bytes = self.bytes_at(object, offset, length, at)?;
         Ok(Reply::Data(Bytes::from_vec(bytes)))
@@ -178,8 +204,12 @@ impl<J: Naming> Drive<J> {
         ensures ledger { self.new.ledger ≡ self.old.ledger }
         ensures store { store_of self.new ≡ store_of self.old }
         ensures fits { IfOk result ReplyFits }
-        ensures ok { IfOk result (IsAnswered (later_refusal (state_in self.old) (GetAttr object at)) (state_in self.old) (GetAttr object at)) }
-        ensures refused { IfErr result (IsJudgedOut (later_refusal (state_in self.old) (GetAttr object at)) (GetAttr object at)) }
+        ensures ok { IfOk result
+            (IsAnswered (later_refusal (state_in self.old) (GetAttr object at)) (state_in self.old)
+            (GetAttr object at)) }
+        ensures refused { IfErr result
+            (IsJudgedOut (later_refusal (state_in self.old) (GetAttr object at))
+            (GetAttr object at)) }
     {
         bytes_are_the_blocks_joined();
         let moment = self.moment_asked(at);
@@ -197,8 +227,12 @@ impl<J: Naming> Drive<J> {
         ensures ledger { self.new.ledger ≡ self.old.ledger }
         ensures store { store_of self.new ≡ store_of self.old }
         ensures fits { IfOk result ReplyFits }
-        ensures ok { IfOk result (IsAnswered (first_refusal (state_in self.old) role request.now) (state_in self.old) request.now) }
-        ensures refused { IfErr result (IsUnplanned (first_refusal (state_in self.old) role request.now) self.new request.now) }
+        ensures ok { IfOk result
+            (IsAnswered (first_refusal (state_in self.old) role request.now) (state_in self.old)
+            request.now) }
+        ensures refused { IfErr result
+            (IsUnplanned (first_refusal (state_in self.old) role request.now) self.new
+            request.now) }
     {
         check(role, request)?;
         match request {

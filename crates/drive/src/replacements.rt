@@ -1,6 +1,7 @@
-//! The removal of an object's row and the replacement of its journal, which leave the history and every version that can be
-//! read, whatever they answer.
-ghost use Rattle.std.specs.Prelude.{◌≡◌, ◌⊎◌, ℕ, ◌<◌, ◌≤◌, ◌==◌, if◌then◌else◌, None, Some, IsSome, IfSome, IfErr, OnOk, OnErr, MatchResult, length};
+//! The removal of an object's row and the replacement of its journal, which leave the history and
+//! every version that can be read, whatever they answer.
+ghost use Rattle.std.specs.Prelude.{◌≡◌, ◌⊎◌, ℕ, ◌<◌, ◌≤◌, ◌==◌, if◌then◌else◌, None, Some, IsSome};
+ghost use Rattle.std.specs.Prelude.{IfSome, IfErr, OnOk, OnErr, MatchResult, length};
 ghost use Rattle.s4_types.specs.declared.refusals.Refusal.TheVariants.{NoMemory, NoRoom};
 ghost use Rattle.s4_types.specs.declared.versions.Version.TheVariants.{Absent};
 ghost use Rattle.inode.specs.Contents.{contents_of, meaning};
@@ -17,18 +18,28 @@ use s4_types::{ObjectId, Refusal};
 use segment_word::Naming;
 
 impl<J: Naming> Drive<J> {
-    /// An object's row goes, if it has one, and with it its journal, its checkpoint and its data: no block of the object is held
-    /// any more. The object is absent at each moment that can be read, and at the clock: so every version that can be read is
-    /// as it was. All other objects are as they were at every moment, and no place is taken. Its entries are those of
+    /// An object's row goes, if it has one, and with it its journal, its checkpoint and its data:
+    /// no block of the object is held any more. The object is absent at each moment that can be
+    /// read, and at the clock: so every version that can be read is as it was. All other objects
+    /// are as they were at every moment, and no place is taken. Its entries are those of
     /// [`Drive::entries`]: they tell which data goes, so that the journal isn't read again.
     ///
-    /// NoMemory alone, where the memory for the list of its data blocks is refused; then nothing has changed.
+    /// NoMemory alone, where the memory for the list of its data blocks is refused; then nothing
+    /// has changed.
     pub fn remove(&mut self, object: ObjectId, entries: &[Entry]) -> Result<(), Refusal>
         requires entries { entries.now ≡ entries_of_object (store_of self.old) object }
-        requires gone { (t : ℕ) → IsNeeded (state_in self.old) object t → version_in (store_of self.old) object t ≡ Absent }
+        requires gone { (t : ℕ)
+            → IsNeeded (state_in self.old) object t
+            → version_in (store_of self.old) object t ≡ Absent }
         ensures removed { OnOk result (IsRemoved (store_of self.old) object (store_of self.new)) }
-        ensures inodes { OnOk result ((q t : ℕ) → inode_in (store_of self.new) q t ≡ (if object == q then None else inode_in (store_of self.old) q t)) }
-        ensures versions { OnOk result ((q t : ℕ) → version_in (store_of self.new) q t ≡ (if object == q then Absent else version_in (store_of self.old) q t)) }
+        ensures inodes { OnOk result
+            ((q t : ℕ)
+            → inode_in (store_of self.new) q t
+            ≡ (if object == q then None else inode_in (store_of self.old) q t)) }
+        ensures versions { OnOk result
+            ((q t : ℕ)
+            → version_in (store_of self.new) q t
+            ≡ (if object == q then Absent else version_in (store_of self.old) q t)) }
         ensures refusal { IfErr result (λ e. e ≡ NoMemory) }
         ensures unchanged { OnErr result (store_of self.new ≡ store_of self.old) }
         ensures ledger { self.new.ledger ≡ self.old.ledger }
@@ -37,15 +48,17 @@ impl<J: Naming> Drive<J> {
         self.store.remove(object, entries)
     }
 
-    /// An object's journal, which has the entries `before`, becomes these entries, the oldest first, and its present inode this
-    /// one, which is written as its checkpoint with the moment of the last entry that stood. Its older checkpoints go. Its data
-    /// blocks that nothing of the new row points to are dropped. At each moment that can be read, and at the clock, the entries
-    /// lead to the version that the object has: so every version that can be read is as it was. All other objects are as they
-    /// were at every moment, and the moment of the last change stays.
+    /// An object's journal, which has the entries `before`, becomes these entries, the oldest
+    /// first, and its present inode this one, which is written as its checkpoint with the moment of
+    /// the last entry that stood. Its older checkpoints go. Its data blocks that nothing of the new
+    /// row points to are dropped. At each moment that can be read, and at the clock, the entries
+    /// lead to the version that the object has: so every version that can be read is as it was. All
+    /// other objects are as they were at every moment, and the moment of the last change stays.
     ///
-    /// NoRoom exactly where fewer places are ahead than the checkpoint and the entries take; else NoMemory alone, where the
-    /// memory for the lists of data blocks is refused. Then nothing has changed. It takes time in proportion to the old
-    /// entries and the new ones, and doesn't read the old ones again: `before` is what [`Drive::entries`] gives.
+    /// NoRoom exactly where fewer places are ahead than the checkpoint and the entries take; else
+    /// NoMemory alone, where the memory for the lists of data blocks is refused. Then nothing has
+    /// changed. It takes time in proportion to the old entries and the new ones, and doesn't read
+    /// the old ones again: `before` is what [`Drive::entries`] gives.
     pub fn replace(
         &mut self,
         object: ObjectId,
@@ -55,10 +68,22 @@ impl<J: Naming> Drive<J> {
     ) -> Result<(), Refusal>
         requires some { IsSome (row_of self.old.store.rows object) }
         requires before { before.now ≡ entries_of_object (store_of self.old) object }
-        requires can { IfSome (row_of self.old.store.rows object) (λ row. CanReplace (store_of self.old) object row present.now entries.now) }
-        requires stays { (t : ℕ) → IsNeeded (state_in self.old) object t → meaning (contents_of (store_of self.old).log.held) (inode_led present.now entries.now t) ≡ version_in (store_of self.old) object t }
-        ensures replaced { OnOk result (IfSome (row_of self.old.store.rows object) (λ row. IsReplaced (store_of self.old) object row present.now entries.now (store_of self.new))) }
-        ensures inodes { OnOk result ((q t : ℕ) → inode_in (store_of self.new) q t ≡ (if object == q then Some (inode_led present.now entries.now t) else inode_in (store_of self.old) q t)) }
+        requires can { IfSome (row_of self.old.store.rows object)
+            (λ row. CanReplace (store_of self.old) object row present.now entries.now) }
+        requires stays { (t : ℕ)
+            → IsNeeded (state_in self.old) object t
+            → meaning (contents_of (store_of self.old).log.held)
+            (inode_led present.now entries.now t)
+            ≡ version_in (store_of self.old) object t }
+        ensures replaced { OnOk result
+            (IfSome (row_of self.old.store.rows object)
+            (λ row. IsReplaced (store_of self.old) object row present.now entries.now
+            (store_of self.new))) }
+        ensures inodes { OnOk result
+            ((q t : ℕ)
+            → inode_in (store_of self.new) q t
+            ≡ (if object == q then Some (inode_led present.now entries.now t)
+            else inode_in (store_of self.old) q t)) }
         ensures versions { OnOk result ((q t : ℕ) → version_in (store_of self.new) q t
             ≡ (if object == q then meaning (contents_of (store_of self.old).log.held) (inode_led present.now entries.now t) else version_in (store_of self.old) q t)) }
         ensures answer { MatchResult result (λ _. rewritten_blocks present.now entries.now ≤ length (store_of self.old).log.ahead)

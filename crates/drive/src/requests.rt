@@ -26,7 +26,8 @@ fn is_read(request: &Request) -> bool
 
 /// The reply to what was told.
 fn reply_of(told: Result<Reply, Refusal>) -> Reply
-    ensures { MatchResult told (λ reply. result ≡ reply) (λ refusal. result ≡ Reply.Refused refusal) }
+    ensures { MatchResult told (λ reply. result ≡ reply)
+        (λ refusal. result ≡ Reply.Refused refusal) }
 {
     match told {
         Ok(reply) => reply,
@@ -35,33 +36,40 @@ fn reply_of(told: Result<Reply, Refusal>) -> Reply
 }
 
 impl<J: Naming> Drive<J> {
-    /// What a request of a session is answered at a moment `now` of the server's clock, and all that it changes.
+    /// What a request of a session is answered at a moment `now` of the server's clock, and all
+    /// that it changes.
     ///
-    /// A change is stamped with the greater of `now` and the clock plus one. What is refused, a Read and a GetAttr move the
-    /// clock to `now` if that is later, and the floor with it, and leave objects, window and spans. Afterwards the session has
-    /// seen all accepted changes.
+    /// A change is stamped with the greater of `now` and the clock plus one. What is refused, a
+    /// Read and a GetAttr move the clock to `now` if that is later, and the floor with it, and
+    /// leave objects, window and spans. Afterwards the session has seen all accepted changes.
     ///
-    /// A refusal is the first of the model's checks that applies. Where none does, a change of an object is refused with
-    /// ChainFull where the entries of the object's chain would have more than `CHAIN_ENTRY_BYTES`, else with NoSpace where there is
-    /// less room than blocks are appended. NoMemory comes only where a growth was refused. A Create, a Read and a GetAttr are
-    /// answered so only where nothing else refuses them, a Flush and a FlushO also in place of TooManySpans and ClockEnd, and no
-    /// other request is. The contract lets a Read that no check refuses be Busy, as one that is resolved, where it needs a block of
-    /// a sealed frame; this drive reads at once and takes no pin for it, so that it never is.
+    /// A refusal is the first of the model's checks that applies. Where none does, a change of an
+    /// object is refused with ChainFull where the entries of the object's chain would have more
+    /// than `CHAIN_ENTRY_BYTES`, else with NoSpace where there is less room than blocks are
+    /// appended. NoMemory comes only where a growth was refused. A Create, a Read and a GetAttr are
+    /// answered so only where nothing else refuses them, a Flush and a FlushO also in place of
+    /// TooManySpans and ClockEnd, and no other request is. The contract lets a Read that no check
+    /// refuses be Busy, as one that is resolved, where it needs a block of a sealed frame; this
+    /// drive reads at once and takes no pin for it, so that it never is.
     pub fn request(&mut self, session: &mut Session<J>, request: Request, now: Moment) -> Reply
         // The history goes on by a step of the model.
-        ensures step { Step (history_of self.old) session.old.role request now result (history_of self.new) }
-        // The reply is a refusal exactly where there is one, but for want of memory, which stands in place of no check of an
-        // object.
+        ensures step { Step (history_of self.old) session.old.role request now result
+            (history_of self.new) }
+        // The reply is a refusal exactly where there is one, but for lack of memory, which is in
+        // place of no check of an object.
         ensures refused { RefusesExactly self.old session.old.role request now result self.new }
         ensures memory { LacksMemoryInPlace self.old session.old.role request now result }
-        // An accepted change appends exactly its blocks, and changes its object's row alone, whose stamp it raises by one; it is
-        // the last change then. Nothing else changes blocks, rows or the last change's moment.
-        ensures stored { Leaves (store_of self.old) (state_in self.old) request now result (store_of self.new) }
+        // An accepted change appends exactly its blocks, and changes its object's row alone, whose
+        // stamp it raises by one; it is the last change then. Nothing else changes blocks, rows or
+        // the last change's moment.
+        ensures stored { Leaves (store_of self.old) (state_in self.old) request now result
+            (store_of self.new) }
         ensures fits { ReplyFits result }
 
         // The session has seen all accepted changes, and an accepted one is its own.
         ensures session { session.new ≡ record session.old { told = told_after result self.new.ledger session.old.told } }
-        ensures owners { self.new.ledger.owners ≡ owners_after result session.old.told.seat self.old.ledger.owners }
+        ensures owners { self.new.ledger.owners
+            ≡ owners_after result session.old.told.seat self.old.ledger.owners }
         ensures before { FitsLedger self.old.ledger session.old.told }
         ensures after { FitsLedger self.new.ledger session.new.told }
     {
@@ -102,7 +110,8 @@ impl<J: Naming> Drive<J> {
         now: Moment,
     ) -> Result<Reply, Refusal>
         requires { IsChange request }
-        ensures { ComesTo (first_refusal (state_in self.old) session.old.role request) self.old self.new session.old session.new request now result }
+        ensures { ComesTo (first_refusal (state_in self.old) session.old.role request) self.old
+            self.new session.old session.new request now result }
     {
         let role = session.role;
         check(role, &request)?;

@@ -4,8 +4,8 @@ use segment_word::Naming;
 use segment_word::accepts::SessionSeat;
 use std::marker::Model;
 
-/// A session of a drive: what it was told of the drive's history, and what it may do. Contracts see both. Dropping it gives
-/// its seat back.
+/// A session of a drive: what it was told of the drive's history, and what it may do. Contracts see
+/// both. Dropping it gives its seat back.
 #[derive(Drop)]
 pub struct Session<J: Naming> {
     pub(crate) seat: SessionSeat<J>,

@@ -48,7 +48,7 @@ held_role d p role e =
     let found = block_from (held_at d.store.table p) role e in
     record { block = found.0; held = found.1; object = found.2 }
 
--- where its move isn't made, the object stays for want of room, of memory or of a pin
+-- where its move isn't made, the object stays for lack of room, of memory or of a pin
 pub stays : (d later : DriveFields) (p : Place) (o : ℕ) (e : Refusal) → IsStore (store_of d) → IsOf d p o → store_of later ≡ store_of d → IsUnmade d p.frame o e → Stays d p e later
 stays d later p o e store is same why = record {
   block = is.block;

@@ -21,7 +21,7 @@ pub record KeepsAll (d later : DriveFields) : Type 0 where
 
 -- ---- the blocks of a frame
 
--- What is done about the block at a place, by so many moves: nothing where none is held there; else its object leaves the frame, with
+-- What is done about the block at a place, by this many moves: nothing where none is held there; else its object leaves the frame, with
 -- all that it holds in it.
 abbrev pub Leaves : DriveFields → Place → Option Stored → ℕ → DriveFields → Type 0
 Leaves d p None moves later = (moves ≡ 0) × (later ≡ d)
@@ -35,7 +35,7 @@ LeavesPlace d p moves later = Leaves d p (held_at d.store.table p) moves later
 abbrev pub block_of : ℕ → ℕ → ℕ → Place
 block_of f generation b = record { frame = f; block = b; generation = generation }
 
--- The first n payload blocks of frame f at a generation, one after the other, by so many moves in all.
+-- The first n payload blocks of frame f at a generation, one after the other, by this many moves in all.
 abbrev pub LeavesBelow : DriveFields → ℕ → ℕ → ℕ → ℕ → DriveFields → Type 0
 LeavesBelow d f generation zero moves later = (moves ≡ 0) × (later ≡ d)
 LeavesBelow d f generation (suc n) moves later =

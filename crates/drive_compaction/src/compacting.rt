@@ -67,11 +67,11 @@ fn compact_by<J: Naming>(
 /// nothing. In a turn all objects are cleaned, and each frame that holds nothing then is free;
 /// where that stops for too little room, the frames that hold nothing are freed all the same. Then
 /// one frame after another is emptied by moves and freed, those with the fewest held blocks first:
-/// each that is sealed, and whose moves write fewer blocks than the frames have that they empty, and
-/// no more than the free frames have. They empty the frame itself, and each that holds nothing but
-/// journals and checkpoints of its objects. So each leaves more places ahead than there were. It
-/// ends also where a move finds too little room, or after [`MOST_TURNS`](crate::MOST_TURNS) turns;
-/// none of these is a failure.
+/// each that is sealed, and whose moves write fewer blocks than the frames have that they empty,
+/// and no more than the free frames have. They empty the frame itself, and each that holds nothing
+/// but journals and checkpoints of its objects. So each leaves more places ahead than there were.
+/// It ends also where a move finds too little room, or after [`MOST_TURNS`](crate::MOST_TURNS)
+/// turns; none of these is a failure.
 ///
 /// The session is that of whoever moves, and stays as it is. NoRoom exactly where the drive has
 /// less room in the end than it had, which comes where the cleaner wrote more than could be freed:

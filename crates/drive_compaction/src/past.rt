@@ -9,7 +9,7 @@ use s4_types::{Moment, ObjectId, Ptr};
 use segment_table::OverFrames;
 use segment_word::Naming;
 
-/// How many of these pointers lead to a data block.
+/// How many of these pointers refer to a data block.
 fn data_blocks(pointers: &[Option<Ptr>]) -> usize
     ensures data { result ≡ count_by is_some pointers.now }
     ensures few { result ≤ length pointers.now }

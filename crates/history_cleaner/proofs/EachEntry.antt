@@ -7,7 +7,7 @@ use Rattle.s4_types.specs.declared.limits.TheConstants.{ENTRY_TRIPLES}
 use Rattle.codec.specs.Entry.{EntryFields, entry_rules}
 use Rattle.history_cleaner.specs.Laws.{KeepRules, HaveFewTriples}
 
--- the first so many entries keep the rules, and have no more triples than an entry holds
+-- the first this many entries keep the rules, and have no more triples than an entry holds
 pub record AreRead (entries : List EntryFields) (n : ℕ) : Type 0 where
   pub rules : All (λ e. entry_rules e ≡ true) (take n entries)
   pub few : All (λ e. length e.triples ≤ ENTRY_TRIPLES) (take n entries)

@@ -332,7 +332,7 @@ stopped_at_reader d mid later e all ledger needed frames kept found = inr (recor
   reader = found.1;
 })
 
--- ---- with the frames noted before, and counted behind
+-- ---- with the frames noted before, and counted after
 
 pub all_same : (d begun done later : DriveFields) → begun ≡ d → later ≡ done → ((o : ℕ) → IsCleaned (store_of begun) (store_of done) (state_in begun) o) → (o : ℕ) → IsCleaned (store_of d) (store_of later) (state_in d) o
 all_same d begun done later first last all o =

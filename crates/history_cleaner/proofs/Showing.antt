@@ -1,4 +1,4 @@
--- What is left of an object's chain stands for the same versions.
+-- What is left of an object's chain represents the same versions.
 use Rattle.std.proofs.Common.{◌≡◌, ℕ, ◌≤◌, Bool, true, false, leb, cond, inl, inr, List, Option, Some, None, sym, ap, ◌∙◌, arith}
 use Rattle.s4_types.specs.Pointer.{Place}
 use Rattle.s4_types.specs.declared.versions.Version.TheVariants.{Absent, Live}

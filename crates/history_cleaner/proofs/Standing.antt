@@ -1,4 +1,4 @@
--- What is left of an object's chain can stand in the place of its journal.
+-- What is left of an object's chain can be in the place of its journal.
 use Rattle.std.proofs.Common.{◌≡◌, ℕ, zero, suc, ◌<◌, ◌≤◌, ◌||◌, Bool, true, false, leb, cond, inl, inr, List, [], ◌∷◌, get_or, length, Option, Some, None, refl, sym, ap, subst, ◌∙◌, arith}
 use Rattle.std.specs.Prelude.{IfSome}
 use Rattle.std.specs.List.{AllByRecursion, Contains}

@@ -34,7 +34,7 @@ tried_frame (Err e) f d new tries = record {
   idle = λ not. ap (λ (x : DriveFields). x.store.table.seat) (tries.idle not);
 }
 
--- and behind it all below it
+-- and after it all below it
 frame_more : (first n : ℕ) (d new last : Drive) → first ≡ n + 1 → TriesFrame n d new → TriedBelow n new last → TriedBelow first d last
 frame_more first n d new last next one rest =
     let above : suc n ≡ first = omega (arith, next) in

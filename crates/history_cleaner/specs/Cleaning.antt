@@ -45,7 +45,7 @@ pub record IsUntouched (s later : StoreFields) (o : ℕ) : Type 0 where
 abbrev pub OthersStay : StoreFields → ℕ → StoreFields → Type 0
 OthersStay s o later = (q : ℕ) → (o == q) ≡ false → IsUntouched s later q
 
--- At each moment an object stands as at some moment that can be read: so each inode of its chain that doesn't stand between
+-- At each moment an object is as at some moment that can be read: so each inode of its chain that isn't between
 -- two entries of one moment is current at such a one.
 abbrev pub IsSeenThroughout : StoreFields → State → ℕ → Row → Type 0
 IsSeenThroughout s state o row = (t : ℕ) → (u : ℕ) × (IsVisible state o u × (entries_by u (entries_of s.log.held o row) ≡ entries_by t (entries_of s.log.held o row)))

@@ -47,7 +47,7 @@ abbrev pub AStoredChainIsAChain : Type 0
 AStoredChainIsAChain = (s : StoreFields) (o t : ℕ) (row : Row) → HasChain s o row t
     → ((first_stored s o row t).created ≡ row.created) × IsChain row.created t (first_stored s o row t) (entries_of s.log.held o row)
 
--- What is left of it can stand in the place of a journal with entries.
+-- What is left of it can be in the place of a journal with entries.
 abbrev pub WhatIsLeftCanStand : Type 0
 WhatIsLeftCanStand = (sees : ℕ → ℕ → Bool) (s : StoreFields) (o clock : ℕ) (row : Row) (chain : KeptChain) → HasChain s o row clock
     → 0 < length (entries_of s.log.held o row) → left_of sees s o row clock ≡ Some chain
@@ -67,7 +67,7 @@ pub record IsSight (sees : ℕ → ℕ → Bool) (visible : ℕ → Bool) (clock
 abbrev pub IsOf : (ℕ → Bool) → ℕ → ℕ → Type 0
 IsOf visible clock t = (visible t ≡ true) ⊎ (clock ≤ t)
 
--- At each moment that can be seen, and from the clock on, what is left stands for the same version.
+-- At each moment that can be seen, and from the clock on, what is left represents the same version.
 abbrev pub WhatIsLeftShowsTheSame : Type 0
 WhatIsLeftShowsTheSame = (sees : ℕ → ℕ → Bool) (visible : ℕ → Bool) (s : StoreFields) (o clock t : ℕ) (row : Row) (chain : KeptChain)
     → HasChain s o row clock → IsSight sees visible clock → left_of sees s o row clock ≡ Some chain → IsOf visible clock t
@@ -85,7 +85,7 @@ WhatIsLeftIsSeen = (sees : ℕ → ℕ → Bool) (visible : ℕ → Bool) (s : S
     → HasChain s o row clock → IsSight sees visible clock → left_of sees s o row clock ≡ Some chain
     → (u : ℕ) × ((visible u ≡ true) × (version_in s o u ≡ Absent → ⊥))
 
--- And at each moment what is left stands as at some moment that can be seen.
+-- And at each moment what is left is as at some moment that can be seen.
 abbrev pub WhatIsLeftIsSeenThroughout : Type 0
 WhatIsLeftIsSeenThroughout = (sees : ℕ → ℕ → Bool) (visible : ℕ → Bool) (s : StoreFields) (o clock t : ℕ) (row : Row) (chain : KeptChain)
     → HasChain s o row clock → IsSight sees visible clock → left_of sees s o row clock ≡ Some chain

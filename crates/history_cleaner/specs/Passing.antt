@@ -15,7 +15,7 @@ use Rattle.history_cleaner.specs.Cleaning.{IsClean, IsUnseen, IsUntouched, HasNo
 use Rattle.history_cleaner.specs.Emptying.{StopsAtReader}
 use Rattle.history_cleaner.specs.Reaching.{HoldsWhatIsReached}
 
--- a row that stands has another stamp than before
+-- a row that is has another stamp than before
 abbrev pub is_other : Option Row → Option Row → Bool
 is_other None later = false
 is_other (Some row) None = false
@@ -34,7 +34,7 @@ has_other_row rows later o = is_other (row_of rows o) (row_of later o)
 abbrev pub has_lost_row : List (ℕ × Row) → List (ℕ × Row) → ℕ → Bool
 has_lost_row rows later o = is_gone (row_of rows o) (row_of later o)
 
--- Of so many objects a test holds: from some number on of none, and below that of so many.
+-- Of this many objects a test holds: from some number on of none, and below that of this many.
 pub record IsCount (test : ℕ → Bool) (n : ℕ) : Type 0 where
   pub bound : ℕ
   pub past : (o : ℕ) → bound ≤ o → test o ≡ false

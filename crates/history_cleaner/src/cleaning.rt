@@ -33,9 +33,11 @@ fn what_is_left<J: Naming>(
     present: &Inode,
     entries: &[Entry],
 ) -> Result<Option<Cleaned>, Refusal>
-    requires present { inode_in (store_of drive.now) object (state_in drive.now).clock ≡ Some present.now }
+    requires present { inode_in (store_of drive.now) object (state_in drive.now).clock
+        ≡ Some present.now }
     requires entries { entries.now ≡ entries_of_object (store_of drive.now) object }
-    ensures left { IfOk result (λ left. IsLeft (store_of drive.now) (state_in drive.now) object entries.now left) }
+    ensures left { IfOk result
+        (λ left. IsLeft (store_of drive.now) (state_in drive.now) object entries.now left) }
     ensures refusal { IfErr result (λ e. e ≡ NoMemory) }
 {
     a_stored_chain_is_a_chain();
@@ -56,12 +58,17 @@ fn put<J: Naming>(
 ) -> Result<(), Refusal>
     requires entries { entries.now ≡ entries_of_object (store_of drive.old) object }
     requires left { IsLeft (store_of drive.old) (state_in drive.old) object entries.now left }
-    ensures cleaned { OnOk result (Cleans (store_of drive.old) (state_in drive.old) object (store_of drive.new)) }
+    ensures cleaned { OnOk result
+        (Cleans (store_of drive.old) (state_in drive.old) object (store_of drive.new)) }
     ensures clean { OnOk result (IsClean (store_of drive.new) (state_in drive.old) object) }
-    ensures held { OnOk result (HoldsWhatIsReached (store_of drive.new) (state_in drive.old) object) }
-    ensures gone { OnOk result (IsUnseen (store_of drive.old) (state_in drive.old) object → row_of drive.new.store.rows object ≡ None) }
+    ensures held { OnOk result
+        (HoldsWhatIsReached (store_of drive.new) (state_in drive.old) object) }
+    ensures gone { OnOk result
+        (IsUnseen (store_of drive.old) (state_in drive.old) object
+        → row_of drive.new.store.rows object ≡ None) }
     ensures answer { MatchResult result (λ _. HasNoRoom (store_of drive.old) (state_in drive.old) object → ⊥)
-        (λ e. (e ≡ NoMemory) ⊎ ((e ≡ NoRoom) × HasNoRoom (store_of drive.old) (state_in drive.old) object)) }
+        (λ e. (e ≡ NoMemory)
+        ⊎ ((e ≡ NoRoom) × HasNoRoom (store_of drive.old) (state_in drive.old) object)) }
     ensures others { OthersStay (store_of drive.old) object (store_of drive.new) }
     ensures unchanged { OnErr result (store_of drive.new ≡ store_of drive.old) }
     ensures ledger { drive.new.ledger ≡ drive.old.ledger }
@@ -85,26 +92,33 @@ fn put<J: Naming>(
     drive.replace(object, entries, &chain.last, kept)
 }
 
-/// Cleans an object: of its chain those inodes stay that are current at some moment that can be read, with the entries between
-/// them and the present inode as its checkpoint. Where none of them is live, the row goes. Then exactly those of its data blocks are
-/// held to which a live inode points that is current at such a moment. Every version that can be read stays
-/// as it is, and so do the history and all other objects, whatever is answered. Without effect for an object that has no row, or
-/// whose chain would hold the entries that it holds.
+/// Cleans an object: of its chain those inodes stay that are current at some moment that can be
+/// read, with the entries between them and the present inode as its checkpoint. Where none of them
+/// is live, the row goes. Then exactly those of its data blocks are held to which a live inode
+/// points that is current at such a moment. Every version that can be read stays as it is, and so
+/// do the history and all other objects, whatever is answered. Without effect for an object that
+/// has no row, or whose chain would hold the entries that it holds.
 ///
-/// NoRoom only where fewer places are ahead than must be written, and then Ok never comes; else NoMemory alone, where the memory
-/// for the entries, or for the lists of data blocks, is refused. That may be before the room is judged, and so also
-/// where there is none. After a refusal nothing has changed.
+/// NoRoom only where fewer places are ahead than must be written, and then Ok never comes; else
+/// NoMemory alone, where the memory for the entries, or for the lists of data blocks, is refused.
+/// That may be before the room is judged, and so also where there is none. After a refusal nothing
+/// has changed.
 pub fn clean_object<J: Naming>(
     alloc: Global,
     drive: &mut Drive<J>,
     object: ObjectId,
 ) -> Result<(), Refusal>
-    ensures cleaned { OnOk result (Cleans (store_of drive.old) (state_in drive.old) object (store_of drive.new)) }
+    ensures cleaned { OnOk result
+        (Cleans (store_of drive.old) (state_in drive.old) object (store_of drive.new)) }
     ensures clean { OnOk result (IsClean (store_of drive.new) (state_in drive.old) object) }
-    ensures held { OnOk result (HoldsWhatIsReached (store_of drive.new) (state_in drive.old) object) }
-    ensures gone { OnOk result (IsUnseen (store_of drive.old) (state_in drive.old) object → row_of drive.new.store.rows object ≡ None) }
+    ensures held { OnOk result
+        (HoldsWhatIsReached (store_of drive.new) (state_in drive.old) object) }
+    ensures gone { OnOk result
+        (IsUnseen (store_of drive.old) (state_in drive.old) object
+        → row_of drive.new.store.rows object ≡ None) }
     ensures answer { MatchResult result (λ _. HasNoRoom (store_of drive.old) (state_in drive.old) object → ⊥)
-        (λ e. (e ≡ NoMemory) ⊎ ((e ≡ NoRoom) × HasNoRoom (store_of drive.old) (state_in drive.old) object)) }
+        (λ e. (e ≡ NoMemory)
+        ⊎ ((e ≡ NoRoom) × HasNoRoom (store_of drive.old) (state_in drive.old) object)) }
     ensures others { OthersStay (store_of drive.old) object (store_of drive.new) }
     ensures unchanged { OnErr result (store_of drive.new ≡ store_of drive.old) }
     ensures ledger { drive.new.ledger ≡ drive.old.ledger }

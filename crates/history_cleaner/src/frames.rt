@@ -6,7 +6,8 @@ ghost use Rattle.s4_types.specs.declared.refusals.Refusal.TheVariants.{InUse};
 ghost use Rattle.segment_word.specs.Layout.{frame_at};
 ghost use Rattle.drive.specs.Fields.{store_of};
 ghost use Rattle.version_store.specs.Upkeep.{KeepsObjects};
-ghost use Rattle.history_cleaner.specs.Emptying.{AllVacated, frames_risen, HasFoundReader, MarkedBelow, EndsAtReader, StopsAtReader};
+ghost use Rattle.history_cleaner.specs.Emptying.{AllVacated, frames_risen, HasFoundReader};
+ghost use Rattle.history_cleaner.specs.Emptying.{MarkedBelow, EndsAtReader, StopsAtReader};
 ghost use Rattle.history_cleaner.specs.private.Emptying.{ReleasedBelow, generations_in, is_later};
 
 use arrayvec::ArrayVec;
@@ -19,7 +20,7 @@ use segment_word::Naming;
 /// The generations of frames, the first one's first.
 pub(crate) type Generations = ArrayVec<u32, MOST_FRAMES>;
 
-/// Marks each of so many frames that is sealed and holds nothing.
+/// Marks each of this many frames that is sealed and holds nothing.
 pub(crate) fn mark_all<J: Naming>(drive: &mut Drive<J>, count: u16)
     ensures marked { MarkedBelow count drive.old.store.table drive.new.store.table }
     ensures same { store_of drive.new ≡ store_of drive.old }
@@ -30,18 +31,23 @@ pub(crate) fn mark_all<J: Naming>(drive: &mut Drive<J>, count: u16)
     }
 }
 
-/// Releases each of so many frames that is being emptied, the highest first. At the first that has a reader it stops.
+/// Releases each of this many frames that is being emptied, the highest first. At the first that
+/// has a reader it stops.
 fn release_all<J: Naming>(drive: &mut Drive<J>, count: u16) -> Result<(), Refusal>
-    ensures released { OnOk result (ReleasedBelow count drive.old.store.table drive.new.store.table) }
-    ensures refusal { IfErr result (λ e. (e ≡ InUse) × HasFoundReader drive.old.store.table.seat drive.new.store.table.seat) }
-    ensures ended { OnErr result (EndsAtReader count drive.old.store.table.seat drive.new.store.table.seat) }
-    ensures frames { length drive.new.store.table.seat.frames ≡ length drive.old.store.table.seat.frames }
+    ensures released { OnOk result
+        (ReleasedBelow count drive.old.store.table drive.new.store.table) }
+    ensures refusal { IfErr result
+        (λ e. (e ≡ InUse) × HasFoundReader drive.old.store.table.seat drive.new.store.table.seat) }
+    ensures ended { OnErr result
+        (EndsAtReader count drive.old.store.table.seat drive.new.store.table.seat) }
+    ensures frames { length drive.new.store.table.seat.frames
+        ≡ length drive.old.store.table.seat.frames }
     ensures objects { KeepsObjects (store_of drive.old) (store_of drive.new) }
     ensures ledger { drive.new.ledger ≡ drive.old.ledger }
 {
     for index in 0..count {
-        // Frames are taken from the lowest on, so that the free ones are kept with the lowest last: one that is lower than all of
-        // them goes to the end, and none has to make room for it.
+        // Frames are taken from the lowest on, so that the free ones are kept with the lowest last:
+        // one that is lower than all of them goes to the end, and none has to make room for it.
         let frame = count - 1 - index;
         if drive.is_draining(frame) {
             drive.release(frame)?;
@@ -50,12 +56,14 @@ fn release_all<J: Naming>(drive: &mut Drive<J>, count: u16) -> Result<(), Refusa
     Ok(())
 }
 
-/// Marks each frame that is sealed and holds nothing, and then releases each that is being emptied, the highest first. At the first
-/// that has a reader it stops.
+/// Marks each frame that is sealed and holds nothing, and then releases each that is being emptied,
+/// the highest first. At the first that has a reader it stops.
 pub(crate) fn vacate<J: Naming>(drive: &mut Drive<J>) -> Result<(), Refusal>
     ensures vacated { OnOk result (AllVacated drive.new.store.table) }
-    ensures refusal { IfErr result (λ e. (e ≡ InUse) × StopsAtReader drive.old.store.table drive.new.store.table) }
-    ensures frames { length drive.new.store.table.seat.frames ≡ length drive.old.store.table.seat.frames }
+    ensures refusal { IfErr result
+        (λ e. (e ≡ InUse) × StopsAtReader drive.old.store.table drive.new.store.table) }
+    ensures frames { length drive.new.store.table.seat.frames
+        ≡ length drive.old.store.table.seat.frames }
     ensures objects { KeepsObjects (store_of drive.old) (store_of drive.new) }
     ensures ledger { drive.new.ledger ≡ drive.old.ledger }
 {
@@ -87,7 +95,8 @@ pub(crate) fn note_generations<J: Naming>(drive: &mut Drive<J>) -> Generations
 
 /// Whether a frame has a greater generation than one that was noted.
 fn is_later<J: Naming>(drive: &mut Drive<J>, frame: u16, noted: u32) -> bool
-    ensures later { result ≡ nat_lt noted (frame_at drive.old.store.table.seat.frames frame).generation }
+    ensures later { result
+        ≡ nat_lt noted (frame_at drive.old.store.table.seat.frames frame).generation }
     ensures same { drive.new ≡ drive.old }
 {
     noted < generation_of(drive, frame)
@@ -96,7 +105,9 @@ fn is_later<J: Naming>(drive: &mut Drive<J>, frame: u16, noted: u32) -> bool
 /// How many frames have a greater generation than was noted.
 pub(crate) fn count_risen<J: Naming>(drive: &mut Drive<J>, noted: &[u32]) -> u32
     requires few { length noted.now ≤ MOST_FRAMES }
-    ensures risen { result ≡ count_by (is_later noted.now drive.old.store.table.seat.frames) (range_with_len 0 (length noted.now)) }
+    ensures risen { result
+        ≡ count_by (is_later noted.now drive.old.store.table.seat.frames)
+        (range_with_len 0 (length noted.now)) }
     ensures same { drive.new ≡ drive.old }
 {
     let mut risen = 0;
@@ -108,18 +119,23 @@ pub(crate) fn count_risen<J: Naming>(drive: &mut Drive<J>, noted: &[u32]) -> u32
     risen
 }
 
-/// Empties the frames of a drive: first each that is sealed and holds nothing is marked, then each that is being emptied is
-/// released, also one that was being emptied before, by descending number. Ok tells how many frames are in their next life;
-/// then each frame that holds nothing is free, a retired one among them, or it is the open one. All objects stay as they are,
-/// whatever is answered. Takes no memory.
+/// Empties the frames of a drive: first each that is sealed and holds nothing is marked, then each
+/// that is being emptied is released, also one that was being emptied before, by descending number.
+/// Ok tells how many frames are in their next life; then each frame that holds nothing is free, a
+/// retired one among them, or it is the open one. All objects stay as they are, whatever is
+/// answered. Takes no memory.
 ///
-/// InUse where a frame that is being emptied has a reader, as its one release found that was tried. It stops there: those with greater
-/// numbers were released, and none with a lower number was tried.
+/// InUse where a frame that is being emptied has a reader, as its one release found that was tried.
+/// It stops there: those with greater numbers were released, and none with a lower number was
+/// tried.
 pub fn empty_frames<J: Naming>(drive: &mut Drive<J>) -> Result<u32, Refusal>
     ensures vacated { OnOk result (AllVacated drive.new.store.table) }
-    ensures released { IfOk result (λ n. n ≡ frames_risen drive.old.store.table.seat drive.new.store.table.seat) }
-    ensures refusal { IfErr result (λ e. (e ≡ InUse) × StopsAtReader drive.old.store.table drive.new.store.table) }
-    ensures frames { length drive.new.store.table.seat.frames ≡ length drive.old.store.table.seat.frames }
+    ensures released { IfOk result
+        (λ n. n ≡ frames_risen drive.old.store.table.seat drive.new.store.table.seat) }
+    ensures refusal { IfErr result
+        (λ e. (e ≡ InUse) × StopsAtReader drive.old.store.table drive.new.store.table) }
+    ensures frames { length drive.new.store.table.seat.frames
+        ≡ length drive.old.store.table.seat.frames }
     ensures objects { KeepsObjects (store_of drive.old) (store_of drive.new) }
     ensures ledger { drive.new.ledger ≡ drive.old.ledger }
 {

@@ -1,7 +1,12 @@
-//! Laws of the chains of stored objects, and of what is left of them once nobody can see a part: each function does nothing, and
-//! its contract is the law.
-ghost use Rattle.history_cleaner.specs.Laws.{AStoredChainIsAChain, WhatIsLeftCanStand, AnEmptyJournalStaysEmpty, WhatIsLeftShowsTheSame, NothingIsLeftOfTheAbsent, WhatIsLeftIsSeen, WhatIsLeftIsSeenThroughout};
-ghost use Rattle.history_cleaner.specs.Reaching.{HeldIsWhatIsReached, WhatIsLeftTellsOfSeenPlaces, WhatIsLeftPointsToSeenPlaces, WhatIsLeftBeginsTheSame};
+//! Laws of the chains of stored objects, and of what is left of them once nobody can see a part:
+//! each function does nothing, and its contract is the law.
+ghost use Rattle.history_cleaner.specs.Laws.{AStoredChainIsAChain, WhatIsLeftCanStand};
+ghost use Rattle.history_cleaner.specs.Laws.{AnEmptyJournalStaysEmpty, WhatIsLeftShowsTheSame};
+ghost use Rattle.history_cleaner.specs.Laws.{NothingIsLeftOfTheAbsent, WhatIsLeftIsSeen};
+ghost use Rattle.history_cleaner.specs.Laws.{WhatIsLeftIsSeenThroughout};
+ghost use Rattle.history_cleaner.specs.Reaching.{HeldIsWhatIsReached, WhatIsLeftTellsOfSeenPlaces};
+ghost use Rattle.history_cleaner.specs.Reaching.{WhatIsLeftPointsToSeenPlaces};
+ghost use Rattle.history_cleaner.specs.Reaching.{WhatIsLeftBeginsTheSame};
 
 use chain_rewriting::cleaning_laws::{
     a_chain_is_one_later, a_kept_chain_has_old_moments, a_kept_chain_has_seen_inodes_alone,
@@ -26,7 +31,7 @@ pub fn a_stored_chain_is_a_chain()
     a_chain_is_one_later();
 }
 
-/// What is left of an object's chain can stand in the place of its journal.
+/// What is left of an object's chain can be in the place of its journal.
 pub fn what_is_left_can_stand()
     ensures stands { WhatIsLeftCanStand }
     ensures empty { AnEmptyJournalStaysEmpty }
@@ -47,9 +52,9 @@ pub fn what_is_left_can_stand()
     a_kept_chain_takes_no_more_bytes();
 }
 
-/// What is left of an object's chain stands for the same version at each moment that can be seen, and from the clock on; where
-/// nothing is left the object is absent then, and else it is there at some moment that can be seen, and at each
-/// moment stands as at such a one.
+/// What is left of an object's chain represents the same version at each moment that can be seen,
+/// and from the clock on; where nothing is left the object is absent then, and else it is there at
+/// some moment that can be seen, and at each moment is as at such a one.
 pub fn what_is_left_shows_the_same()
     ensures same { WhatIsLeftShowsTheSame }
     ensures none { NothingIsLeftOfTheAbsent }
@@ -66,8 +71,9 @@ pub fn what_is_left_shows_the_same()
     a_kept_chain_has_seen_inodes_alone();
 }
 
-/// What is left of an object's chain tells of places alone to which a live inode points that it shows at some moment that can
-/// be seen; and where it has the entries that stand, it is the chain that stands.
+/// What is left of an object's chain tells of places alone to which a live inode points that it
+/// shows at some moment that can be seen; and where it has the entries that stand, it is the chain
+/// that stands.
 pub fn what_is_left_tells_of_seen_places()
     ensures tells { WhatIsLeftTellsOfSeenPlaces }
     ensures points { WhatIsLeftPointsToSeenPlaces }
@@ -81,8 +87,8 @@ pub fn what_is_left_tells_of_seen_places()
     an_unchanged_chain_is_the_kept_one();
 }
 
-/// Of an object without a row, or with a chain that tells of seen places alone, exactly those data blocks are held to which a
-/// live inode points that is current at some moment that can be read.
+/// Of an object without a row, or with a chain that tells of seen places alone, exactly those data
+/// blocks are held to which a live inode points that is current at some moment that can be read.
 pub fn held_is_what_is_reached()
     ensures { HeldIsWhatIsReached }
 {

@@ -1,5 +1,6 @@
 //! A pass over all objects, and then over all frames.
-ghost use Rattle.std.specs.Prelude.{◌≡◌, ◌⊎◌, ℕ, ◌+◌, ◌^◌, ◌<◌, if◌then◌else◌, IfSome, IsSome, IfOk, IfErr, OnOk, OnErr};
+ghost use Rattle.std.specs.Prelude.{◌≡◌, ◌⊎◌, ℕ, ◌+◌, ◌^◌, ◌<◌, if◌then◌else◌, IfSome, IsSome};
+ghost use Rattle.std.specs.Prelude.{IfOk, IfErr, OnOk, OnErr};
 ghost use Rattle.s4_types.specs.declared.refusals.Refusal.TheVariants.{NoMemory, NoRoom};
 ghost use Rattle.s4_model.specs.Promise.{IsCleanedUp};
 ghost use Rattle.block_log.specs.declared.kinds.BlockKind.TheVariants.{Data};
@@ -10,7 +11,8 @@ ghost use Rattle.drive.specs.Fields.{history_of, state_in, store_of};
 ghost use Rattle.drive.specs.Keeping.{KeepsVersions};
 ghost use Rattle.history_cleaner.specs.Cleaning.{OthersStay, HasNoRoom};
 ghost use Rattle.history_cleaner.specs.Emptying.{AllVacated, frames_risen};
-ghost use Rattle.history_cleaner.specs.Passing.{is_other, is_gone, has_other_row, has_lost_row, IsCount, IsCleaned, StoppedAt, StoppedAtReader};
+ghost use Rattle.history_cleaner.specs.Passing.{is_other, is_gone, has_other_row, has_lost_row};
+ghost use Rattle.history_cleaner.specs.Passing.{IsCount, IsCleaned, StoppedAt, StoppedAtReader};
 ghost use Rattle.history_cleaner.specs.Reaching.{PointsTo};
 ghost use Rattle.history_cleaner.specs.private.Counting.{NamesPlaces};
 
@@ -46,7 +48,7 @@ struct Cleanings {
     removed: u32,
 }
 
-/// Whether a row that stands has another stamp than before.
+/// Whether a row that is has another stamp than before.
 pub(crate) fn is_other(row: &Option<Row>, later: &Option<Row>) -> bool
     ensures { result ≡ is_other row.now later.now }
 {
@@ -73,12 +75,15 @@ fn clean_counted<J: Naming>(
     requires rewritten { cleanings.old.rewritten + 1 < 2 ^ 32 }
     requires removed { cleanings.old.removed + 1 < 2 ^ 32 }
     ensures places { IfSome (row_of drive.old.store.rows object) NamesPlaces }
-    ensures cleaned { OnOk result (IsCleaned (store_of drive.old) (store_of drive.new) (state_in drive.old) object) }
+    ensures cleaned { OnOk result
+        (IsCleaned (store_of drive.old) (store_of drive.new) (state_in drive.old) object) }
     ensures rewritten { OnOk result (cleanings.new.rewritten
         ≡ (if is_other (row_of drive.old.store.rows object) (row_of drive.new.store.rows object) then cleanings.old.rewritten + 1 else cleanings.old.rewritten)) }
     ensures removed { OnOk result (cleanings.new.removed
         ≡ (if is_gone (row_of drive.old.store.rows object) (row_of drive.new.store.rows object) then cleanings.old.removed + 1 else cleanings.old.removed)) }
-    ensures refusal { IfErr result (λ e. (e ≡ NoMemory) ⊎ ((e ≡ NoRoom) × HasNoRoom (store_of drive.old) (state_in drive.old) object)) }
+    ensures refusal { IfErr result
+        (λ e. (e ≡ NoMemory)
+        ⊎ ((e ≡ NoRoom) × HasNoRoom (store_of drive.old) (state_in drive.old) object)) }
     ensures others { OthersStay (store_of drive.old) object (store_of drive.new) }
     ensures unchanged { OnErr result (store_of drive.new ≡ store_of drive.old) }
     ensures ledger { drive.new.ledger ≡ drive.old.ledger }
@@ -97,12 +102,17 @@ fn clean_counted<J: Naming>(
     Ok(())
 }
 
-/// Cleans all objects, in ascending order, and counts what became of their rows. At the first refusal it stops.
+/// Cleans all objects, in ascending order, and counts what became of their rows. At the first
+/// refusal it stops.
 fn clean_all<J: Naming>(alloc: Global, drive: &mut Drive<J>) -> Result<Cleanings, Refusal>
-    ensures cleaned { OnOk result ((o : ℕ) → IsCleaned (store_of drive.old) (store_of drive.new) (state_in drive.old) o) }
-    ensures rewritten { IfOk result (λ c. IsCount (has_other_row drive.old.store.rows drive.new.store.rows) c.rewritten) }
-    ensures removed { IfOk result (λ c. IsCount (has_lost_row drive.old.store.rows drive.new.store.rows) c.removed) }
-    ensures refusal { IfErr result (StoppedAt (store_of drive.old) (store_of drive.new) (state_in drive.old)) }
+    ensures cleaned { OnOk result
+        ((o : ℕ) → IsCleaned (store_of drive.old) (store_of drive.new) (state_in drive.old) o) }
+    ensures rewritten { IfOk result
+        (λ c. IsCount (has_other_row drive.old.store.rows drive.new.store.rows) c.rewritten) }
+    ensures removed { IfOk result
+        (λ c. IsCount (has_lost_row drive.old.store.rows drive.new.store.rows) c.removed) }
+    ensures refusal { IfErr result
+        (StoppedAt (store_of drive.old) (store_of drive.new) (state_in drive.old)) }
     ensures ledger { drive.new.ledger ≡ drive.old.ledger }
     ensures needed { KeepsVersions (state_in drive.old) (store_of drive.old) (store_of drive.new) }
 {
@@ -125,11 +135,16 @@ fn clean_all<J: Naming>(alloc: Global, drive: &mut Drive<J>) -> Result<Cleanings
 
 /// Cleans all objects, and then empties the frames.
 fn clean_and_empty<J: Naming>(alloc: Global, drive: &mut Drive<J>) -> Result<Cleanings, Refusal>
-    ensures cleaned { OnOk result ((o : ℕ) → IsCleaned (store_of drive.old) (store_of drive.new) (state_in drive.old) o) }
+    ensures cleaned { OnOk result
+        ((o : ℕ) → IsCleaned (store_of drive.old) (store_of drive.new) (state_in drive.old) o) }
     ensures vacated { OnOk result (AllVacated drive.new.store.table) }
-    ensures rewritten { IfOk result (λ c. IsCount (has_other_row drive.old.store.rows drive.new.store.rows) c.rewritten) }
-    ensures removed { IfOk result (λ c. IsCount (has_lost_row drive.old.store.rows drive.new.store.rows) c.removed) }
-    ensures refusal { IfErr result (λ e. StoppedAt (store_of drive.old) (store_of drive.new) (state_in drive.old) e ⊎ StoppedAtReader drive.old drive.new e) }
+    ensures rewritten { IfOk result
+        (λ c. IsCount (has_other_row drive.old.store.rows drive.new.store.rows) c.rewritten) }
+    ensures removed { IfOk result
+        (λ c. IsCount (has_lost_row drive.old.store.rows drive.new.store.rows) c.removed) }
+    ensures refusal { IfErr result
+        (λ e. StoppedAt (store_of drive.old) (store_of drive.new) (state_in drive.old) e
+        ⊎ StoppedAtReader drive.old drive.new e) }
     ensures ledger { drive.new.ledger ≡ drive.old.ledger }
     ensures needed { KeepsVersions (state_in drive.old) (store_of drive.old) (store_of drive.new) }
 {
@@ -140,32 +155,46 @@ fn clean_and_empty<J: Naming>(alloc: Global, drive: &mut Drive<J>) -> Result<Cle
     Ok(cleanings)
 }
 
-/// Cleans all objects by ascending number; then each frame that is sealed and holds nothing is marked, and each that is being
-/// emptied is released, also one that was being emptied before. Ok tells how many objects have a row with another stamp than
-/// before the pass, how many have none any more, and how many frames have a greater generation than before it.
+/// Cleans all objects by ascending number; then each frame that is sealed and holds nothing is
+/// marked, and each that is being emptied is released, also one that was being emptied before. Ok
+/// tells how many objects have a row with another stamp than before the pass, how many have none
+/// any more, and how many frames have a greater generation than before it.
 ///
-/// Then of every object, one without a row too, exactly those data blocks are held to which a live inode points that is current
-/// at some moment that can be read; each inode of its chain that doesn't stand between two entries of one moment is
-/// current at such a one; and it has no row where it is absent at all of them. Each frame that holds nothing is
-/// free, a retired one among them, or it is the open one.
+/// Then of every object, one without a row too, exactly those data blocks are held to which a live
+/// inode points that is current at some moment that can be read; each inode of its chain that isn't
+/// between two entries of one moment is current at such a one; and it has no row where it is absent
+/// at all of them. Each frame that holds nothing is free, a retired one among them, or it is the
+/// open one.
 ///
-/// At its first refusal it stops, and what was cleaned stays cleaned. NoMemory and NoRoom as [`clean_object`] answers them for the
-/// object at which it stopped; InUse where a frame that is being emptied has a reader, as a release found that was tried after all
-/// objects were cleaned: frames with greater numbers were released then. The history and every version that can be read stay as they
-/// are, whatever is answered.
+/// At its first refusal it stops, and what was cleaned stays cleaned. NoMemory and NoRoom as
+/// [`clean_object`] answers them for the object at which it stopped; InUse where a frame that is
+/// being emptied has a reader, as a release found that was tried after all objects were cleaned:
+/// frames with greater numbers were released then. The history and every version that can be read
+/// stay as they are, whatever is answered.
 ///
-/// It holds no list of all objects, and takes no memory but that of the single cleanings. It takes their time and a few steps for
-/// each frame. What was released is counted by the generations from before the pass: no contract of a cleaning tells of these.
+/// It holds no list of all objects, and takes no memory but that of the single cleanings. It takes
+/// their time and a few steps for each frame. What was released is counted by the generations from
+/// before the pass: no contract of a cleaning tells of these.
 pub fn full_pass<J: Naming>(alloc: Global, drive: &mut Drive<J>) -> Result<PassReport, Refusal>
-    ensures cleaned { OnOk result ((o : ℕ) → IsCleaned (store_of drive.old) (store_of drive.new) (state_in drive.old) o) }
-    // In the words of the model: the history and what can be read stay, and exactly the data blocks are held that this reaches.
+    ensures cleaned { OnOk result
+        ((o : ℕ) → IsCleaned (store_of drive.old) (store_of drive.new) (state_in drive.old) o) }
+    // In the words of the model: the history and what can be read stay, and exactly the data blocks
+    // are held that this reaches.
     ensures promise { OnOk result (IsCleanedUp (history_of drive.old) (history_of drive.new) (version_in (store_of drive.new))
         (λ o p. IsSome (of_kind Data o (store_of drive.new).log.held p)) (PointsTo (store_of drive.new))) }
     ensures vacated { OnOk result (AllVacated drive.new.store.table) }
-    ensures rewritten { IfOk result (λ report. IsCount (has_other_row drive.old.store.rows drive.new.store.rows) report.rewritten) }
-    ensures removed { IfOk result (λ report. IsCount (has_lost_row drive.old.store.rows drive.new.store.rows) report.removed) }
-    ensures released { IfOk result (λ report. report.released ≡ frames_risen drive.old.store.table.seat drive.new.store.table.seat) }
-    ensures refusal { IfErr result (λ e. StoppedAt (store_of drive.old) (store_of drive.new) (state_in drive.old) e ⊎ StoppedAtReader drive.old drive.new e) }
+    ensures rewritten { IfOk result
+        (λ report. IsCount (has_other_row drive.old.store.rows drive.new.store.rows)
+        report.rewritten) }
+    ensures removed { IfOk result
+        (λ report. IsCount (has_lost_row drive.old.store.rows drive.new.store.rows)
+        report.removed) }
+    ensures released { IfOk result
+        (λ report. report.released
+        ≡ frames_risen drive.old.store.table.seat drive.new.store.table.seat) }
+    ensures refusal { IfErr result
+        (λ e. StoppedAt (store_of drive.old) (store_of drive.new) (state_in drive.old) e
+        ⊎ StoppedAtReader drive.old drive.new e) }
     ensures ledger { drive.new.ledger ≡ drive.old.ledger }
     ensures needed { KeepsVersions (state_in drive.old) (store_of drive.old) (store_of drive.new) }
 {

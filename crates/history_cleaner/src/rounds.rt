@@ -22,36 +22,38 @@ use std::alloc::Global;
 pub enum Turn {
     /// The next object was cleaned.
     Cleaned(ObjectId),
-    /// The next object could not be cleaned, for this reason, and is as it was: it is passed over until the next round.
+    /// The next object could not be cleaned, for this reason, and is as it was: it is passed over
+    /// until the next round.
     PassedOver(ObjectId, Refusal),
     /// No object was left. The next turn begins another round.
     Ended,
 }
 
-/// A round over all objects by ascending number, and behind it another.
+/// A round over all objects by ascending number, and after it another.
 #[derive(Clone, Copy)]
 pub struct Rounds {
     /// The last object of this round that had its turn; 0 before the first one.
     pub passed: ObjectId,
 }
 
-/// Tries the release of each of so many frames, the highest first: those that are being emptied and have no reader are free
-/// afterwards.
+/// Tries the release of each of this many frames, the highest first: those that are being emptied
+/// and have no reader are free afterwards.
 fn try_releases<J: Naming>(drive: &mut Drive<J>, count: u16)
     ensures tried { TriedBelow count drive.old.store.table.seat drive.new.store.table.seat }
     ensures objects { KeepsObjects (store_of drive.old) (store_of drive.new) }
     ensures ledger { drive.new.ledger ≡ drive.old.ledger }
 {
     for index in 0..count {
-        // the free frames are kept with the lowest last, so that one that is lower than all of them goes to the end
+        // the free frames are kept with the lowest last, so that one that is lower than all of them
+        // goes to the end
         let frame = count - 1 - index;
         let _ = drive.release(frame);
     }
 }
 
-/// Marks each frame that is sealed and holds nothing, and then tries to release each that is being emptied, the highest first. One
-/// that has a reader is left for a later time, and those below it are tried all the same. All objects stay as they are. Takes no
-/// memory.
+/// Marks each frame that is sealed and holds nothing, and then tries to release each that is being
+/// emptied, the highest first. One that has a reader is left for a later time, and those below it
+/// are tried all the same. All objects stay as they are. Takes no memory.
 pub fn sweep<J: Naming>(drive: &mut Drive<J>)
     ensures swept { IsSwept drive.old.store.table drive.new.store.table }
     ensures objects { KeepsObjects (store_of drive.old) (store_of drive.new) }
@@ -69,8 +71,9 @@ fn has_changed(row: &Option<Row>, later: &Option<Row>) -> bool
     is_other(row, later) || is_gone(row, later)
 }
 
-/// Where an object was changed and less room is left than a move takes, frames are emptied at once and not only behind a round: the
-/// next object may need them, and whoever waits for room. Else the walk over all frames isn't worth its cost.
+/// Where an object was changed and less room is left than a move takes, frames are emptied at once
+/// and not only after a round: the next object may need them, and whoever waits for room. Else the
+/// walk over all frames isn't worth its cost.
 fn tidy<J: Naming>(drive: &mut Drive<J>, is_changed: bool)
     ensures tidied { IsTidied is_changed drive.old drive.new }
     ensures objects { KeepsObjects (store_of drive.old) (store_of drive.new) }
@@ -81,9 +84,10 @@ fn tidy<J: Naming>(drive: &mut Drive<J>, is_changed: bool)
     }
 }
 
-/// An object has its turn, whichever it is: it is cleaned. Where that has changed something and less room is left than a move takes,
-/// each frame that is sealed and holds nothing is marked, and the release of each that is being emptied is tried. The history and
-/// every version that can be read stay.
+/// An object has its turn, whichever it is: it is cleaned. Where that has changed something and
+/// less room is left than a move takes, each frame that is sealed and holds nothing is marked, and
+/// the release of each that is being emptied is tried. The history and every version that can be
+/// read stay.
 ///
 /// Refused as [`clean_object`] is. Nothing has changed then.
 pub fn visit<J: Naming>(
@@ -112,13 +116,14 @@ impl Rounds {
         }
     }
 
-    /// The next object with a row has its turn ([`visit`]). Where none is left the round has ended: the sealed frames that hold
-    /// nothing are marked, and the release of each that is being emptied is tried. The history and every version that can be
-    /// read stay.
+    /// The next object with a row has its turn ([`visit`]). Where none is left the round has ended:
+    /// the sealed frames that hold nothing are marked, and the release of each that is being
+    /// emptied is tried. The history and every version that can be read stay.
     pub fn turn<J: Naming>(&mut self, alloc: Global, drive: &mut Drive<J>) -> Turn
         ensures turn { Turns drive.old self.old.passed result self.new.passed drive.new }
         ensures ledger { drive.new.ledger ≡ drive.old.ledger }
-        ensures needed { KeepsVersions (state_in drive.old) (store_of drive.old) (store_of drive.new) }
+        ensures needed { KeepsVersions (state_in drive.old) (store_of drive.old)
+            (store_of drive.new) }
     {
         let Some(object) = drive.next_row(self.passed) else {
             self.passed = ObjectId::new(0);

@@ -67,7 +67,7 @@ inside_above low (r ∷ ranges) apart i (inr later) = omega (arith, apart.0, apa
 begins_no_later : (low : ℕ) (r s : ByteRange) (xs ys : List ByteRange) → AreApart low (s ∷ ys) → r.first ≤ r.last → AreWithin (r ∷ xs) (s ∷ ys) → s.first ≤ r.first
 begins_no_later low r s xs ys apart ordered within = inside_above s.first (s ∷ ys) (omega arith, apart.1, apart.2) r.first (within r.first (inl (omega arith, ordered)))
 
--- the position behind the first range is in none
+-- the position after the first range is in none
 behind_is_outside : (low : ℕ) (r : ByteRange) (xs : List ByteRange) → AreApart low (r ∷ xs) → IsInRanges (r ∷ xs) (r.last + 1) → ⊥
 behind_is_outside low r xs apart (inl here) = absurd (omega (arith, here.1))
 behind_is_outside low r xs apart (inr later) = absurd (omega (arith, inside_above (r.last + 2) xs apart.2 (r.last + 1) later))

@@ -106,7 +106,7 @@ pub record WrittenTo (s : State) (c : Comparison) (last : ℕ) (differs : Bool) 
 pub none_written : (s : State) (c : Comparison) (output : Option (List ℕ)) → WrittenTo s c 0 false output output
 none_written s c output = record { rows = []; front = front_begun (AreDifferencesFrom s c); text = []; lines = refl; wrote = Appends-nil output; answer = refl }
 
--- the lines of a difference more are behind the others
+-- the lines of a difference more are after the others
 lines_more : (c : Comparison) (rows : List ObjectDifference) (d : ObjectDifference) (text more : List ℕ) → AreAllLinesOf c rows text → AreLinesOf c d more → AreAllLinesOf c (rows ++ d ∷ []) (text ++ more)
 lines_more c [] d text more before one = (more, [], ap (λ (t : List ℕ). t ++ more) before ∙ sym (append-nil more), one, refl)
 lines_more c (row ∷ rows) d text more before one = (before.0, before.1 ++ more, ap (λ (t : List ℕ). t ++ more) before.2 ∙ append_assoc before.0 before.1 more, before.3, lines_more c rows d before.1 more before.4 one)
@@ -126,7 +126,7 @@ passed_up_to s c last o between here q above up =
       | inr from ↦ let same : o ≡ q = omega (arith, up, from) in subst (IsPassed s c) same here
     ]
 
--- behind an object that is passed go on the differences that went on from the one in front of it
+-- after an object that is passed go on the differences that went on from the one in front of it
 pass_on : (s : State) (c : Comparison) (last o : ℕ) (rest : List ObjectDifference) → last < o → ((q : ℕ) → last < q → q ≤ o → IsPassed s c q) → AreDifferencesFrom s c o rest → AreDifferencesFrom s c last rest
 pass_on s c last o [] above passed more = λ q behind.
     elim (cases_lt o q) [
@@ -182,7 +182,7 @@ written_on s store c last o so_far true x y z decodes before next wrote =
       answer = or_right so_far true refl ∙ sym (has_more before.rows d);
     }
 
--- all have, where no object is behind the last
+-- all have, where no object is after the last
 pub all_written : (s : State) (store : StoreFields) (c : Comparison) (last : ℕ) (differs : Bool) (a b : Option (List ℕ)) → DecodesWhereVisible store s → WrittenTo s c last differs a b → ((o : ℕ) → last < o → row_of store.rows o ≡ None)
     → WritesAsked s c None differs a b
 all_written s store c last differs a b decodes before none = record {

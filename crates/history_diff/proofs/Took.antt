@@ -4,7 +4,7 @@ use Rattle.std.specs.List.{flat_map}
 use Rattle.std.proofs.lemmas.List.{take_more, map_push, map_more}
 use Rattle.history_view.proofs.Fronts.{flat_more}
 
--- the next element of a list gives what is behind what the elements so far give
+-- the next element of a list gives what comes after what the elements so far give
 pub flat_took : {X Y : Type 0} (f : X → List Y) (xs : List X) (i : ℕ) (x : X) → i < length xs → x ≡ get_or xs i x → flat_map f (take i xs) ++ f x ≡ flat_map f (take (i + 1) xs)
 flat_took f xs i x lt is = ap (λ y. flat_map f (take i xs) ++ f y) is ∙ sym (flat_more f (take i xs) (get_or xs i x)) ∙ ap (flat_map f) (sym (take_more xs i x lt))
 

@@ -97,7 +97,7 @@ abbrev pub has_any : {X : Type 0} → List X → Bool
 has_any [] = false
 has_any (x ∷ xs) = true
 
--- The output has the lines of the differences behind it that are asked for, and this says whether there are any.
+-- The output has the lines of the differences after it that are asked for, and this says whether there are any.
 pub record WritesAsked (s : State) (c : Comparison) (object : Option ℕ) (differs : Bool) (output output' : Option (List ℕ)) : Type 0 where
   pub differences : List ObjectDifference
   pub asked : AreAsked s c object differences
@@ -125,7 +125,7 @@ pub record AreVisible (s : State) (o t u : ℕ) : Type 0 where
   pub before : IsVisible s o t
   pub after : IsVisible s o u
 
--- Both moments can be read, and the output has the lines of the differences behind it that are asked for; this says whether there are any.
+-- Both moments can be read, and the output has the lines of the differences after it that are asked for; this says whether there are any.
 pub record TellsDifferences (s : State) (asked : DiffAsked) (differs : Bool) (output output' : Option (List ℕ)) : Type 0 where
   pub visible : AreVisible s (object_asked asked.object) asked.before (moment_asked s asked.after)
   pub wrote : WritesAsked s (comparison_of s asked) asked.object differs output output'

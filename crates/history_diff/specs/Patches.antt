@@ -24,11 +24,11 @@ piece_at bytes index = take 32 (drop (32 * index) bytes)
 abbrev pub piece_line : Side → ℕ → List ℕ → List ℕ
 piece_line side position piece = sign_text side ++ (codes " " ++ (decimal position ++ (codes " " ++ (encode_lower piece ++ codes "\n"))))
 
--- the line with this index, of bytes that stand from a position on
+-- the line with this index, of bytes that are from a position on
 abbrev pub line_at : Side → ℕ → List ℕ → ℕ → List ℕ
 line_at side first bytes index = piece_line side (first + 32 * index) (piece_at bytes index)
 
--- the lines of bytes that stand from a position on
+-- the lines of bytes that are from a position on
 abbrev pub side_lines : Side → ℕ → List ℕ → List ℕ
 side_lines side first bytes = flat_map (line_at side first bytes) (range_with_len 0 (div_ceil (length bytes) 32))
 

@@ -13,7 +13,7 @@ use Rattle.history_diff.specs.declared.texts.Shown as shown
 abbrev pub version_line : List ℕ → ℕ → ℕ → MomentStyle → List ℕ
 version_line sign o moment style = sign ++ (codes " object-" ++ (decimal o ++ (codes " @ " ++ (moment_text moment style ++ codes "\n"))))
 
--- hunks behind the lines that name the two versions; nothing where there are none
+-- hunks after the lines that name the two versions; nothing where there are none
 abbrev pub with_versions : ℕ → Comparison → List ℕ → List ℕ
 with_versions o c hunks = if length hunks == 0 then [] else version_line (codes "---") o c.before c.style ++ (version_line (codes "+++") o c.after c.style ++ hunks)
 

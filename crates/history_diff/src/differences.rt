@@ -1,7 +1,9 @@
 //! What differs between two versions of an object.
 ghost use Rattle.std.specs.Prelude.{◌≡◌, ◌≢◌, ◌&&◌, MatchBool, IfOk, IfSome, IfNone};
 ghost use Rattle.s4_model.specs.Refusals.{is_absent};
-ghost use Rattle.history_diff.specs.Differences.{content_of, attribute_of, AreAlike, IsDifferenceOf, TellsAttributes, kind_between, told_of};
+ghost use Rattle.history_diff.specs.Differences.{content_of, attribute_of, AreAlike};
+ghost use Rattle.history_diff.specs.Differences.{IsDifferenceOf, TellsAttributes, kind_between};
+ghost use Rattle.history_diff.specs.Differences.{told_of};
 
 use crate::ranges::{ByteRange, ranges_of};
 use crate::versions::{attribute_of, content_of, is_absent};
@@ -26,7 +28,8 @@ pub struct AttributePair {
     pub after: Bytes,
 }
 
-/// What differs between two versions of an object. An absent one counts as empty, with an empty attribute.
+/// What differs between two versions of an object. An absent one counts as empty, with an empty
+/// attribute.
 #[derive(Drop)]
 pub struct Difference {
     pub kind: DifferenceKind,
@@ -35,7 +38,7 @@ pub struct Difference {
     pub size_after: usize,
     /// The attributes, where they differ.
     pub attributes: Option<AttributePair>,
-    /// Where the bytes differ. Behind the end of the shorter version the longer one does.
+    /// Where the bytes differ. After the end of the shorter version the longer one does.
     pub ranges: Vec<ByteRange>,
 }
 
@@ -46,7 +49,8 @@ fn are_same(one: &[u8], other: &[u8]) -> bool
 }
 
 fn have_same_presence(before: &Version, after: &Version) -> bool
-    ensures { MatchBool result (is_absent before.now ≡ is_absent after.now) (is_absent before.now ≢ is_absent after.now) }
+    ensures { MatchBool result (is_absent before.now ≡ is_absent after.now)
+        (is_absent before.now ≢ is_absent after.now) }
 {
     if is_absent(before) {
         return is_absent(after);
@@ -55,7 +59,8 @@ fn have_same_presence(before: &Version, after: &Version) -> bool
 }
 
 fn have_same_content(before: &Version, after: &Version) -> bool
-    ensures { MatchBool result (content_of before.now ≡ content_of after.now) (content_of before.now ≢ content_of after.now) }
+    ensures { MatchBool result (content_of before.now ≡ content_of after.now)
+        (content_of before.now ≢ content_of after.now) }
 {
     let old = content_of(before);
     let new = content_of(after);
@@ -63,7 +68,8 @@ fn have_same_content(before: &Version, after: &Version) -> bool
 }
 
 fn have_same_attribute(before: &Version, after: &Version) -> bool
-    ensures { MatchBool result (attribute_of before.now ≡ attribute_of after.now) (attribute_of before.now ≢ attribute_of after.now) }
+    ensures { MatchBool result (attribute_of before.now ≡ attribute_of after.now)
+        (attribute_of before.now ≢ attribute_of after.now) }
 {
     let old = attribute_of(before);
     let new = attribute_of(after);
@@ -134,15 +140,18 @@ fn difference_between(
     })
 }
 
-/// What differs between two versions of an object. Nothing exactly where they are alike: both absent, or both live with the same bytes and
-/// the same attribute. Their moments aren't compared, so an object that was changed to what it was has no difference.
+/// What differs between two versions of an object. Nothing exactly where they are alike: both
+/// absent, or both live with the same bytes and the same attribute. Their moments aren't compared,
+/// so an object that was changed to what it was has no difference.
 pub fn difference_of(
     alloc: Global,
     before: &Version,
     after: &Version,
 ) -> Result<Option<Difference>, AllocError>
     ensures none { IfOk result (λ found. IfNone found (AreAlike before.now after.now)) }
-    ensures some { IfOk result (λ found. IfSome found (λ difference. IsDifferenceOf before.now after.now (told_of difference))) }
+    ensures some { IfOk result
+        (λ found. IfSome found
+        (λ difference. IsDifferenceOf before.now after.now (told_of difference))) }
 {
     if are_alike(before, after) {
         return Ok(None);

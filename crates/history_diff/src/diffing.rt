@@ -1,9 +1,13 @@
 //! What differs between two moments of a drive, object by object.
-ghost use Rattle.std.specs.Prelude.{◌≡◌, ℕ, ◌+◌, ◌^◌, ◌<◌, ◌||◌, None, IfOk, IfErr, IfNone, IfSome, OnOk};
+ghost use Rattle.std.specs.Prelude.{◌≡◌, ℕ, ◌+◌, ◌^◌, ◌<◌, ◌||◌, None, IfOk, IfErr, IfNone, IfSome};
+ghost use Rattle.std.specs.Prelude.{OnOk};
 ghost use Rattle.std.specs.Io.KnownBytes.{Appends};
 ghost use Rattle.drive.specs.Fields.{state_in, store_of};
-ghost use Rattle.history_diff.specs.Diffing.{TellsDifferences, IsFaultOf, IsUnreadable, AreVisible, WritesAsked, comparison_of, object_asked, json_of, text_of, detail_lines};
-ghost use Rattle.history_diff.specs.private.Writing.{row_of, WritesBetween, WritesObject, WritesLines};
+ghost use Rattle.history_diff.specs.Diffing.{TellsDifferences, IsFaultOf, IsUnreadable, AreVisible};
+ghost use Rattle.history_diff.specs.Diffing.{WritesAsked, comparison_of, object_asked, json_of};
+ghost use Rattle.history_diff.specs.Diffing.{text_of, detail_lines};
+ghost use Rattle.history_diff.specs.private.Writing.{row_of, WritesBetween, WritesObject};
+ghost use Rattle.history_diff.specs.private.Writing.{WritesLines};
 ghost use Rattle.history_diff.specs.Texts.{detail_of, text_shown};
 ghost use Rattle.history_diff.specs.Differences.{told_of};
 ghost use Rattle.history_diff.specs.Lines.{difference_line};
@@ -29,7 +33,7 @@ use std::alloc::Global;
 pub struct DiffAsked {
     /// The one object, or all where none is.
     pub object: Option<ObjectId>,
-    /// The earlier moment, or the later one: they may stand in any order.
+    /// The earlier moment, or the later one: they may be in any order.
     pub before: Moment,
     /// The moment that is compared with it, or the clock's where none is.
     pub after: Option<Moment>,
@@ -51,11 +55,13 @@ pub struct Comparison {
     pub style: MomentStyle,
 }
 
-/// Writes what differs between two moments: for each object that differs the lines of its difference, by ascending number, or of the one
-/// object that is asked for. Says whether any differs.
+/// Writes what differs between two moments: for each object that differs the lines of its
+/// difference, by ascending number, or of the one object that is asked for. Says whether any
+/// differs.
 ///
-/// An object of which alone a moment is hidden is passed where all are asked for. Unreadable where a moment of the one that is asked for, or
-/// of all, can't be read, before anything is written. Stopped where memory, a seat or the writer fails; then a beginning was written.
+/// An object of which alone a moment is hidden is passed where all are asked for. Unreadable where
+/// a moment of the one that is asked for, or of all, can't be read, before anything is written.
+/// Stopped where memory, a seat or the writer fails; then a beginning was written.
 pub fn write_differences<J: Naming, W: Sink>(
     alloc: Global,
     drive: &mut Drive<J>,
@@ -63,8 +69,11 @@ pub fn write_differences<J: Naming, W: Sink>(
     writer: &mut W,
 ) -> Result<bool, DiffFault>
     requires writer { W.failures writer.old + 1 < 2 ^ 64 }
-    ensures told { IfOk result (λ differs. TellsDifferences (state_in drive.old) asked.now differs (W.passed writer.old) (W.passed writer.new)) }
-    ensures refused { IfErr result (IsFaultOf (state_in drive.old) asked.now (W.passed writer.old) (W.passed writer.new)) }
+    ensures told { IfOk result
+        (λ differs. TellsDifferences (state_in drive.old) asked.now differs (W.passed writer.old)
+        (W.passed writer.new)) }
+    ensures refused { IfErr result
+        (IsFaultOf (state_in drive.old) asked.now (W.passed writer.old) (W.passed writer.new)) }
     ensures state { state_in drive.new ≡ state_in drive.old }
     ensures store { store_of drive.new ≡ store_of drive.old }
 {
@@ -109,8 +118,12 @@ fn first_unreadable<J: Naming>(
     object: Option<ObjectId>,
     comparison: &Comparison,
 ) -> Option<Moment>
-    ensures none { IfNone result (AreVisible (state_in drive.now) (object_asked object) comparison.now.before comparison.now.after) }
-    ensures some { IfSome result (IsUnreadable (state_in drive.now) (object_asked object) comparison.now.before comparison.now.after) }
+    ensures none { IfNone result
+        (AreVisible (state_in drive.now) (object_asked object) comparison.now.before
+        comparison.now.after) }
+    ensures some { IfSome result
+        (IsUnreadable (state_in drive.now) (object_asked object) comparison.now.before
+        comparison.now.after) }
 {
     let judged = object_asked(object);
     if !is_visible(drive, judged, comparison.before) {
@@ -131,7 +144,9 @@ fn write_in_session<J: Naming, W: Sink>(
     writer: &mut W,
 ) -> Result<bool, Stop>
     requires writer { W.failures writer.old + 1 < 2 ^ 64 }
-    ensures rows { IfOk result (λ differs. WritesAsked (state_in drive.old) comparison.now object differs (W.passed writer.old) (W.passed writer.new)) }
+    ensures rows { IfOk result
+        (λ differs. WritesAsked (state_in drive.old) comparison.now object differs
+        (W.passed writer.old) (W.passed writer.new)) }
     ensures state { state_in drive.new ≡ state_in drive.old }
     ensures store { store_of drive.new ≡ store_of drive.old }
 {
@@ -152,7 +167,9 @@ fn write_asked<J: Naming, W: Sink>(
     writer: &mut W,
 ) -> Result<bool, Stop>
     requires writer { W.failures writer.old + 1 < 2 ^ 64 }
-    ensures rows { IfOk result (λ differs. WritesAsked (state_in drive.old) comparison.now object differs (W.passed writer.old) (W.passed writer.new)) }
+    ensures rows { IfOk result
+        (λ differs. WritesAsked (state_in drive.old) comparison.now object differs
+        (W.passed writer.old) (W.passed writer.new)) }
     ensures state { state_in drive.new ≡ state_in drive.old }
     ensures store { store_of drive.new ≡ store_of drive.old }
 {
@@ -177,7 +194,9 @@ fn write_all<J: Naming, W: Sink>(
     writer: &mut W,
 ) -> Result<bool, Stop>
     requires writer { W.failures writer.old + 1 < 2 ^ 64 }
-    ensures rows { IfOk result (λ differs. WritesAsked (state_in drive.old) comparison.now None differs (W.passed writer.old) (W.passed writer.new)) }
+    ensures rows { IfOk result
+        (λ differs. WritesAsked (state_in drive.old) comparison.now None differs
+        (W.passed writer.old) (W.passed writer.new)) }
     ensures state { state_in drive.new ≡ state_in drive.old }
     ensures store { store_of drive.new ≡ store_of drive.old }
 {
@@ -202,7 +221,9 @@ fn write_object<J: Naming, W: Sink>(
     writer: &mut W,
 ) -> Result<bool, Stop>
     requires writer { W.failures writer.old + 1 < 2 ^ 64 }
-    ensures object { IfOk result (λ differs. WritesObject (state_in drive.old) comparison.now object differs (W.passed writer.old) (W.passed writer.new)) }
+    ensures object { IfOk result
+        (λ differs. WritesObject (state_in drive.old) comparison.now object differs
+        (W.passed writer.old) (W.passed writer.new)) }
     ensures failures { OnOk result (W.failures writer.new ≡ W.failures writer.old) }
     ensures state { state_in drive.new ≡ state_in drive.old }
     ensures store { store_of drive.new ≡ store_of drive.old }
@@ -221,7 +242,8 @@ fn write_object<J: Naming, W: Sink>(
     write_between(alloc, object, &before, &after, comparison, writer)
 }
 
-// Writes the difference of two versions of an object, if they aren't alike. Says whether they differ.
+// Writes the difference of two versions of an object, if they aren't alike. Says whether they
+// differ.
 fn write_between<W: Sink>(
     alloc: Global,
     object: ObjectId,
@@ -231,7 +253,9 @@ fn write_between<W: Sink>(
     writer: &mut W,
 ) -> Result<bool, Stop>
     requires writer { W.failures writer.old + 1 < 2 ^ 64 }
-    ensures object { IfOk result (λ differs. WritesBetween comparison.now object before.now after.now differs (W.passed writer.old) (W.passed writer.new)) }
+    ensures object { IfOk result
+        (λ differs. WritesBetween comparison.now object before.now after.now differs
+        (W.passed writer.old) (W.passed writer.new)) }
     ensures failures { OnOk result (W.failures writer.new ≡ W.failures writer.old) }
 {
     let difference = match difference_of(alloc, before, after) {
@@ -264,7 +288,9 @@ fn write_lines<W: Sink>(
     writer: &mut W,
 ) -> Result<(), Stop>
     requires writer { W.failures writer.old + 1 < 2 ^ 64 }
-    ensures lines { OnOk result (WritesLines comparison.now (row_of object before.now after.now difference.now) (W.passed writer.old) (W.passed writer.new)) }
+    ensures lines { OnOk result
+        (WritesLines comparison.now (row_of object before.now after.now difference.now)
+        (W.passed writer.old) (W.passed writer.new)) }
     ensures failures { OnOk result (W.failures writer.new ≡ W.failures writer.old) }
 {
     let (old, new) = (content_of(before), content_of(after));
@@ -289,7 +315,10 @@ fn write_json<W: Sink>(
     writer: &mut W,
 ) -> Result<(), Stop>
     requires writer { W.failures writer.old + 1 < 2 ^ 64 }
-    ensures line { OnOk result (Appends (W.passed writer.old) (W.passed writer.new) (json_of (detail_of shown.now) (row_of object before.now after.now difference.now) (text_shown shown.now))) }
+    ensures line { OnOk result
+        (Appends (W.passed writer.old) (W.passed writer.new)
+        (json_of (detail_of shown.now) (row_of object before.now after.now difference.now)
+        (text_shown shown.now))) }
     ensures failures { OnOk result (W.failures writer.new ≡ W.failures writer.old) }
 {
     let (old, new) = (content_of(before), content_of(after));
@@ -311,7 +340,10 @@ fn write_text<W: Sink>(
     writer: &mut W,
 ) -> Result<(), Stop>
     requires writer { W.failures writer.old + 1 < 2 ^ 64 }
-    ensures lines { OnOk result (Appends (W.passed writer.old) (W.passed writer.new) (text_of (detail_of shown.now) (row_of object before.now after.now difference.now) (text_shown shown.now))) }
+    ensures lines { OnOk result
+        (Appends (W.passed writer.old) (W.passed writer.new)
+        (text_of (detail_of shown.now) (row_of object before.now after.now difference.now)
+        (text_shown shown.now))) }
     ensures failures { OnOk result (W.failures writer.new ≡ W.failures writer.old) }
 {
     match write_line(alloc, object, difference, writer) {
@@ -330,7 +362,11 @@ fn write_detail<W: Sink>(
     writer: &mut W,
 ) -> Result<(), Stop>
     requires writer { W.failures writer.old + 1 < 2 ^ 64 }
-    ensures lines { OnOk result ((o : ℕ) → Appends (W.passed writer.old) (W.passed writer.new) (detail_lines (detail_of shown.now) (row_of o before.now after.now difference.now) (text_shown shown.now))) }
+    ensures lines { OnOk result
+        ((o : ℕ)
+        → Appends (W.passed writer.old) (W.passed writer.new)
+        (detail_lines (detail_of shown.now) (row_of o before.now after.now difference.now)
+        (text_shown shown.now))) }
     ensures failures { OnOk result (W.failures writer.new ≡ W.failures writer.old) }
 {
     match shown {
@@ -352,7 +388,9 @@ fn write_line<W: Sink>(
     writer: &mut W,
 ) -> Result<(), Stop>
     requires writer { W.failures writer.old + 1 < 2 ^ 64 }
-    ensures line { OnOk result (Appends (W.passed writer.old) (W.passed writer.new) (difference_line object (told_of difference.now))) }
+    ensures line { OnOk result
+        (Appends (W.passed writer.old) (W.passed writer.new)
+        (difference_line object (told_of difference.now))) }
     ensures failures { OnOk result (W.failures writer.new ≡ W.failures writer.old) }
 {
     let line = match difference_line(alloc, object, difference) {

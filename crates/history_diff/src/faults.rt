@@ -6,7 +6,7 @@ use s4_types::{Moment, Refusal};
 pub enum Stop {
     /// Memory was refused.
     NoMemory,
-    /// The drive refused a session or a read: for want of a seat, or of memory.
+    /// The drive refused a session or a read: for lack of a seat, or of memory.
     Refused(Refusal),
     /// The writer failed.
     WriteFailed,

@@ -6,7 +6,9 @@ ghost use Rattle.serde_json.specs.View.{view};
 ghost use Rattle.serde_json.specs.Written.{has_float};
 ghost use Rattle.history_text.specs.Json.{json_line};
 ghost use Rattle.history_diff.specs.Differences.{told_of};
-ghost use Rattle.history_diff.specs.Json.{kind_word, place_data, patch_data, range_data, ranges_data, side_data, text_data, text_members, has_bytes, difference_data};
+ghost use Rattle.history_diff.specs.Json.{kind_word, place_data, patch_data, range_data};
+ghost use Rattle.history_diff.specs.Json.{ranges_data, side_data, text_data, text_members};
+ghost use Rattle.history_diff.specs.Json.{has_bytes, difference_data};
 ghost use Rattle.history_diff.specs.Texts.{detail_of, text_shown};
 
 use crate::differences::{AttributePair, Difference, DifferenceKind};
@@ -75,7 +77,8 @@ fn ranges_value(
     after: &[u8],
     patch: bool,
 ) -> Result<Value, AllocError>
-    ensures { IfOk result (λ value. view value ≡ ranges_data patch before.now after.now ranges.now) }
+    ensures { IfOk result
+        (λ value. view value ≡ ranges_data patch before.now after.now ranges.now) }
 {
     let mut values = Vec::new(alloc);
     for range in ranges {
@@ -126,7 +129,9 @@ fn difference_value(
     difference: &Difference,
     ranges: Value,
 ) -> Result<Value, AllocError>
-    ensures { IfOk result (λ value. view value ≡ difference_data object (view ranges) no_members (told_of difference.now)) }
+    ensures { IfOk result
+        (λ value. view value
+        ≡ difference_data object (view ranges) no_members (told_of difference.now)) }
 {
     let (object, kind) = (object.number(), kind_word(difference.kind));
     let (before, after) = (difference.size_before, difference.size_after);
@@ -151,7 +156,10 @@ fn difference_with_text(
     ranges: Value,
     text: Value,
 ) -> Result<Value, AllocError>
-    ensures { IfOk result (λ value. view value ≡ difference_data object (view ranges) (member (codes "text") (view text) no_members) (told_of difference.now)) }
+    ensures { IfOk result
+        (λ value. view value
+        ≡ difference_data object (view ranges) (member (codes "text") (view text) no_members)
+        (told_of difference.now)) }
 {
     let (object, kind) = (object.number(), kind_word(difference.kind));
     let (before, after) = (difference.size_before, difference.size_after);
@@ -177,7 +185,11 @@ fn shown_value(
     ranges: Value,
     shown: &Shown,
 ) -> Result<Value, AllocError>
-    ensures { IfOk result (λ value. view value ≡ difference_data object (view ranges) (text_members (detail_of shown.now) (text_shown shown.now)) (told_of difference.now)) }
+    ensures { IfOk result
+        (λ value. view value
+        ≡ difference_data object (view ranges)
+        (text_members (detail_of shown.now) (text_shown shown.now))
+        (told_of difference.now)) }
 {
     match shown {
         Shown::Ranges => difference_value(alloc, object, difference, ranges),
@@ -219,7 +231,14 @@ pub fn difference_json(
     difference: &Difference,
     shown: &Shown,
 ) -> Result<String, AllocError>
-    ensures { IfOk result (λ line. string_bytes line ≡ json_line (difference_data object (ranges_data (has_bytes (detail_of shown.now)) before.now after.now difference.now.ranges.items) (text_members (detail_of shown.now) (text_shown shown.now)) (told_of difference.now))) }
+    ensures { IfOk result
+        (λ line. string_bytes line
+        ≡ json_line
+        (difference_data object
+        (ranges_data (has_bytes (detail_of shown.now)) before.now after.now
+        difference.now.ranges.items)
+        (text_members (detail_of shown.now) (text_shown shown.now))
+        (told_of difference.now))) }
 {
     let patch = has_bytes(shown);
     let ranges = ranges_value(alloc, difference.ranges.as_slice(), before, after, patch)?;

@@ -3,7 +3,8 @@ ghost use Rattle.std.specs.Prelude.{◌≡◌, ◌++◌, IfOk, OnOk, string_byte
 ghost use Rattle.std.specs.List.{flat_map};
 ghost use Rattle.history_text.specs.Lines.{column};
 ghost use Rattle.history_diff.specs.Differences.{told_of};
-ghost use Rattle.history_diff.specs.Lines.{kind_text, range_text, ranges_text, attributes_text, sizes_text, detail_text, difference_line};
+ghost use Rattle.history_diff.specs.Lines.{kind_text, range_text, ranges_text, attributes_text};
+ghost use Rattle.history_diff.specs.Lines.{sizes_text, detail_text, difference_line};
 
 use crate::differences::{AttributePair, Difference, DifferenceKind};
 use crate::ranges::ByteRange;
@@ -44,7 +45,8 @@ fn range_text(alloc: Global, range: &ByteRange) -> Result<String, AllocError>
 
 // Adds the ranges to a text.
 fn push_ranges(alloc: Global, text: &mut String, ranges: &[ByteRange]) -> Result<(), AllocError>
-    ensures { OnOk result (string_bytes text.new ≡ string_bytes text.old ++ flat_map range_text ranges.now) }
+    ensures { OnOk result
+        (string_bytes text.new ≡ string_bytes text.old ++ flat_map range_text ranges.now) }
 {
     for range in ranges {
         let one = range_text(alloc, range)?;
@@ -91,14 +93,15 @@ fn detail_text(alloc: Global, difference: &Difference) -> Result<String, AllocEr
     format!(in alloc; "{ranges}{attributes}")
 }
 
-/// The line of what differs of an object: its number, what was done, the sizes before and after, the ranges of bytes that differ, and the
-/// attributes before and after where they do.
+/// The line of what differs of an object: its number, what was done, the sizes before and after,
+/// the ranges of bytes that differ, and the attributes before and after where they do.
 pub fn difference_line(
     alloc: Global,
     object: ObjectId,
     difference: &Difference,
 ) -> Result<String, AllocError>
-    ensures { IfOk result (λ line. string_bytes line ≡ difference_line object (told_of difference.now)) }
+    ensures { IfOk result
+        (λ line. string_bytes line ≡ difference_line object (told_of difference.now)) }
 {
     let object = object_text(alloc, object.number())?;
     let kind = kind_text(difference.kind);

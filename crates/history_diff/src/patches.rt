@@ -2,7 +2,8 @@
 ghost use Rattle.std.specs.Prelude.{◌≡◌, ◌+◌, ◌*◌, ◌^◌, ◌<◌, ◌≤◌, length, IfOk, OnOk, string_bytes};
 ghost use Rattle.std.specs.List.{flat_map};
 ghost use Rattle.std.specs.Io.KnownBytes.{Appends};
-ghost use Rattle.history_diff.specs.Patches.{sign_text, bytes_in, piece_at, piece_line, side_lines, range_lines, patch_lines};
+ghost use Rattle.history_diff.specs.Patches.{sign_text, bytes_in, piece_at, piece_line, side_lines};
+ghost use Rattle.history_diff.specs.Patches.{range_lines, patch_lines};
 
 use crate::faults::Stop;
 use crate::output::write_out;
@@ -29,7 +30,7 @@ fn sign_text(side: Side) -> &'static str
     }
 }
 
-// Where a range ends in a list of so many bytes.
+// Where a range ends in a list of this many bytes.
 fn end_in(range: ByteRange, count: usize) -> usize
     ensures short { range.last < count → result ≡ range.last + 1 }
     ensures whole { count ≤ range.last → result ≡ count }
@@ -82,7 +83,8 @@ fn write_piece<W: Sink>(
     writer: &mut W,
 ) -> Result<(), Stop>
     requires writer { W.failures writer.old + 1 < 2 ^ 64 }
-    ensures line { OnOk result (Appends (W.passed writer.old) (W.passed writer.new) (piece_line side position piece.now)) }
+    ensures line { OnOk result
+        (Appends (W.passed writer.old) (W.passed writer.new) (piece_line side position piece.now)) }
     ensures failures { OnOk result (W.failures writer.new ≡ W.failures writer.old) }
 {
     let line = match piece_line(alloc, side, position, piece) {
@@ -92,7 +94,7 @@ fn write_piece<W: Sink>(
     write_out(writer, line.as_bytes())
 }
 
-// Writes the lines of bytes that stand from a position on.
+// Writes the lines of bytes that are from a position on.
 fn write_pieces<W: Sink>(
     alloc: Global,
     side: Side,
@@ -102,7 +104,8 @@ fn write_pieces<W: Sink>(
 ) -> Result<(), Stop>
     requires room { first + length bytes.now < 2 ^ 64 }
     requires writer { W.failures writer.old + 1 < 2 ^ 64 }
-    ensures lines { OnOk result (Appends (W.passed writer.old) (W.passed writer.new) (side_lines side first bytes.now)) }
+    ensures lines { OnOk result
+        (Appends (W.passed writer.old) (W.passed writer.new) (side_lines side first bytes.now)) }
     ensures failures { OnOk result (W.failures writer.new ≡ W.failures writer.old) }
 {
     for index in 0..bytes.len().div_ceil(PATCH_LINE_BYTES) {
@@ -122,7 +125,9 @@ fn write_side<W: Sink>(
     writer: &mut W,
 ) -> Result<(), Stop>
     requires writer { W.failures writer.old + 1 < 2 ^ 64 }
-    ensures lines { OnOk result (Appends (W.passed writer.old) (W.passed writer.new) (side_lines side range.first (bytes_in range bytes.now))) }
+    ensures lines { OnOk result
+        (Appends (W.passed writer.old) (W.passed writer.new)
+        (side_lines side range.first (bytes_in range bytes.now))) }
     ensures failures { OnOk result (W.failures writer.new ≡ W.failures writer.old) }
 {
     let own = bytes_in(range, bytes);
@@ -138,7 +143,9 @@ fn write_range<W: Sink>(
     writer: &mut W,
 ) -> Result<(), Stop>
     requires writer { W.failures writer.old + 1 < 2 ^ 64 }
-    ensures lines { OnOk result (Appends (W.passed writer.old) (W.passed writer.new) (range_lines before.now after.now range)) }
+    ensures lines { OnOk result
+        (Appends (W.passed writer.old) (W.passed writer.new)
+        (range_lines before.now after.now range)) }
     ensures failures { OnOk result (W.failures writer.new ≡ W.failures writer.old) }
 {
     match write_side(alloc, Side::Before, range, before, writer) {
@@ -147,8 +154,9 @@ fn write_range<W: Sink>(
     }
 }
 
-/// Writes the bytes of each range, as two lists of bytes have them: in lines of `PATCH_LINE_BYTES` at most, each with the position of its
-/// first byte, those before behind a `-` and those after behind a `+`.
+/// Writes the bytes of each range, as two lists of bytes have them: in lines of `PATCH_LINE_BYTES`
+/// at most, each with the position of its first byte, those before after a `-` and those after
+/// after a `+`.
 pub fn write_patch<W: Sink>(
     alloc: Global,
     before: &[u8],
@@ -157,7 +165,9 @@ pub fn write_patch<W: Sink>(
     writer: &mut W,
 ) -> Result<(), Stop>
     requires writer { W.failures writer.old + 1 < 2 ^ 64 }
-    ensures lines { OnOk result (Appends (W.passed writer.old) (W.passed writer.new) (patch_lines before.now after.now ranges.now)) }
+    ensures lines { OnOk result
+        (Appends (W.passed writer.old) (W.passed writer.new)
+        (patch_lines before.now after.now ranges.now)) }
     ensures failures { OnOk result (W.failures writer.new ≡ W.failures writer.old) }
 {
     for range in ranges {

@@ -1,11 +1,13 @@
 //! Where two lists of bytes differ.
-ghost use Rattle.std.specs.Prelude.{◌≡◌, ◌≢◌, ℕ, ◌+◌, ◌<◌, ◌≤◌, max, length, slice_get, MatchBool, IfOk, IfSome, IfNone};
+ghost use Rattle.std.specs.Prelude.{◌≡◌, ◌≢◌, ℕ, ◌+◌, ◌<◌, ◌≤◌, max, length, slice_get, MatchBool};
+ghost use Rattle.std.specs.Prelude.{IfOk, IfSome, IfNone};
 ghost use Rattle.history_diff.specs.Ranges.{DiffersAt, IsAlikeAt, AreRangesOf};
-ghost use Rattle.history_diff.specs.private.Finding.{same_byte, IsFirstDiffering, IsRunEnd, IsNextRange};
+ghost use Rattle.history_diff.specs.private.Finding.{same_byte, IsFirstDiffering, IsRunEnd};
+ghost use Rattle.history_diff.specs.private.Finding.{IsNextRange};
 
 use std::alloc::{AllocError, Global};
 
-/// Positions that differ, one behind the other: the first and the last of them.
+/// Positions that differ, one after the other: the first and the last of them.
 #[derive(Clone, Copy, PartialEq, Eq)]
 pub struct ByteRange {
     pub first: usize,
@@ -29,7 +31,8 @@ fn is_same_byte(one: Option<u8>, other: Option<u8>) -> bool
 }
 
 fn is_alike_at(before: &[u8], after: &[u8], position: usize) -> bool
-    ensures { MatchBool result (IsAlikeAt before.now after.now position) (DiffersAt before.now after.now position) }
+    ensures { MatchBool result (IsAlikeAt before.now after.now position)
+        (DiffersAt before.now after.now position) }
 {
     let old = byte_at(before, position);
     let new = byte_at(after, position);
@@ -49,7 +52,7 @@ fn first_differing(before: &[u8], after: &[u8], from: usize) -> Option<usize>
     None
 }
 
-// The last of the positions that differ one behind the other from one on.
+// The last of the positions that differ one after the other from one on.
 fn last_differing(before: &[u8], after: &[u8], first: usize) -> usize
     requires within { first < max (length before.now) (length after.now) }
     requires differs { DiffersAt before.now after.now first }
@@ -74,8 +77,9 @@ fn next_range(before: &[u8], after: &[u8], from: usize) -> Option<ByteRange>
     Some(ByteRange { first, last })
 }
 
-/// The ranges of positions at which two lists of bytes differ: they ascend, no two touch, and a position is in one of them exactly where
-/// the two differ. Where one list is longer, it differs behind the other's end. Linear in the longer one.
+/// The ranges of positions at which two lists of bytes differ: they ascend, no two touch, and a
+/// position is in one of them exactly where the two differ. Where one list is longer, it differs
+/// after the other's end. Linear in the longer one.
 pub fn ranges_of(alloc: Global, before: &[u8], after: &[u8]) -> Result<Vec<ByteRange>, AllocError>
     ensures { IfOk result (λ ranges. AreRangesOf before.now after.now ranges.items) }
 {

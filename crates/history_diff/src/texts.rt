@@ -1,6 +1,7 @@
 //! The lines that differ, where both versions are text.
 ghost use Rattle.std.specs.Prelude.{◌≡◌, IfOk, option_map, string_bytes};
-ghost use Rattle.history_diff.specs.Texts.{AreHunksOf, version_line, with_versions, IsTextOf, IsAskedText, detail_of, text_shown};
+ghost use Rattle.history_diff.specs.Texts.{AreHunksOf, version_line, with_versions, IsTextOf};
+ghost use Rattle.history_diff.specs.Texts.{IsAskedText, detail_of, text_shown};
 
 use crate::diffing::Comparison;
 use line_diff::unified;
@@ -43,14 +44,15 @@ fn version_line(
     format!(in alloc; "{sign} object-{object} @ {moment}\n")
 }
 
-// The hunks behind the lines that name the two versions; nothing where there are none.
+// The hunks after the lines that name the two versions; nothing where there are none.
 fn with_versions(
     alloc: Global,
     object: ObjectId,
     comparison: &Comparison,
     hunks: String,
 ) -> Result<String, AllocError>
-    ensures { IfOk result (λ text. string_bytes text ≡ with_versions object comparison.now (string_bytes hunks)) }
+    ensures { IfOk result
+        (λ text. string_bytes text ≡ with_versions object comparison.now (string_bytes hunks)) }
 {
     if hunks.is_empty() {
         return Ok(hunks);
@@ -71,7 +73,8 @@ fn unified_text(
     old: &[u8],
     new: &[u8],
 ) -> Result<Option<String>, AllocError>
-    ensures { IfOk result (λ text. IsTextOf object comparison.now old.now new.now (option_map string_bytes text)) }
+    ensures { IfOk result
+        (λ text. IsTextOf object comparison.now old.now new.now (option_map string_bytes text)) }
 {
     let Some(hunks) = hunks_between(alloc, old, new)? else {
         return Ok(None);
@@ -104,7 +107,9 @@ pub(crate) fn shown_of(
     new: &[u8],
 ) -> Result<Shown, AllocError>
     ensures detail { IfOk result (λ shown. detail_of shown ≡ comparison.now.detail) }
-    ensures text { IfOk result (λ shown. IsAskedText comparison.now.detail object comparison.now old.now new.now (text_shown shown)) }
+    ensures text { IfOk result
+        (λ shown. IsAskedText comparison.now.detail object comparison.now old.now new.now
+        (text_shown shown)) }
 {
     match comparison.detail {
         Detail::Ranges => Ok(Shown::Ranges),

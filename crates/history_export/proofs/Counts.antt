@@ -36,7 +36,7 @@ counted_together s c a b =
     ap₂ checked_by (capped_more c.versions (length a) (length b) ∙ ap (λ n. capped (c.versions + n)) (sym (length-append a b)))
     (capped_more c.bytes (bytes_at s a) (bytes_at s b) ∙ ap (λ n. capped (c.bytes + n)) (sym (sum_by-append (size_at s) a b)))
 
--- the bytes of two parts are one behind the other
+-- the bytes of two parts are one after the other
 contents_together : (s : State) (a b : List (ℕ × ℕ)) → contents_at s (a ++ b) ≡ contents_at s a ++ contents_at s b
 contents_together s a b = flat_map-append (content_in s) a b
 
@@ -89,7 +89,7 @@ module _ (s : State) (o first : ℕ) (entries : List EntryFields) (i last next :
     read = subst (HasRead s ((o, first) ∷ pairs_at o before.done) c) (sym same) before.read;
   }
 
-  -- the next entry's version was read, where it can be read behind the last
+  -- the next entry's version was read, where it can be read after the last
   pub read_on : i < length entries → e ≡ get_or entries i e → ReadTo s o first entries i last c d → next ≡ cond (begins s o last e) m last → MatchBool (begins s o last e) (HasRead s ((o, m) ∷ []) d d') (d' ≡ d)
       → ReadTo s o first entries (i + 1) next c d'
   read_on lt here before moved read =
@@ -98,7 +98,7 @@ module _ (s : State) (o first : ℕ) (entries : List EntryFields) (i last next :
         | inr fails ↦ passed lt here before fails (moved ∙ cond-false (begins s o last e) m last fails) (subst (λ (b : Bool). MatchBool b (HasRead s ((o, m) ∷ []) d d') (d' ≡ d)) fails read)
       ]
 
--- behind the last entry all versions were read
+-- after the last entry all versions were read
 pub all_read : (s : State) (store : StoreFields) (o first : ℕ) (entries : List EntryFields) (i last : ℕ) (c d : Reading) → first ≡ seen_from s o s.floor → entries ≡ entries_of_object store o → length entries ≤ i → ReadTo s o first entries i last c d
     → HasRead s (pairs_of s store o) c d
 all_read s store o first entries i last c d begun are over before =
@@ -136,7 +136,7 @@ checked_on s store last o d d' a b b' before next read told =
       objects_told = Appends-trans a b b' before.objects (o ∷ []) before.objects_told told;
     }
 
--- all were, where no object is behind the last
+-- all were, where no object is after the last
 pub all_checked : (s : State) (store : StoreFields) (last : ℕ) (d : Reading) (report : CheckReport) (a b : Option (List ℕ)) → CheckedTo s store last d a b → ((o : ℕ) → last < o → row_of store.rows o ≡ None)
     → report.checked ≡ d.checked → ((message : List ℕ) → Holds256 d.hasher message → report.digest ≡ sha256 message) → ChecksAll s store report a b
 all_checked s store last d report a b before none counts digest = record {

@@ -22,7 +22,7 @@ pub files_become : (change : List NamedFile → List NamedFile) (known later : O
 files_become change None later files are becomes = subst (λ x. AreFiles x (change files)) (sym becomes) tt
 files_become change (Some known) later files are becomes = subst (λ x. AreFiles x (change files)) (sym becomes) (ap change are)
 
--- one change behind another is one
+-- one change after another is one
 pub changes_join : (f g : List NamedFile → List NamedFile) (a b c : Option (List NamedFile)) → b ≡ option_map f a → c ≡ option_map g b → c ≡ option_map (λ files. g (f files)) a
 changes_join f g None b c first second = second ∙ ap (option_map g) first
 changes_join f g (Some files) b c first second = second ∙ ap (option_map g) first
@@ -60,7 +60,7 @@ exported_on s store t last row files later before next becomes = record {
   has = subst (AreFiles later) (one_exported s t before.rows row) (files_become (with_object row (content_at s t row)) files later (exported s t before.rows) before.has becomes);
 }
 
--- all are, where nothing is listed behind the last
+-- all are, where nothing is listed after the last
 pub all_exported : (s : State) (store : StoreFields) (t last : ℕ) (files : Option (List NamedFile)) → ExportedTo s store t last files → ((o : ℕ) → last < o → IsPassed s store false t o) → HasExported s store t files
 all_exported s store t last files before none = record {
   rows = before.rows;

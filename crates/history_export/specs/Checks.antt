@@ -30,7 +30,7 @@ abbrev pub HaveRowsFrom : StoreFields → ℕ → List ℕ → Type 0
 HaveRowsFrom store after [] = (o : ℕ) → after < o → row_of store.rows o ≡ None
 HaveRowsFrom store after (o ∷ objects) = IsNextAbove store.rows after o × HaveRowsFrom store o objects
 
--- The versions of these objects at these moments were read: they are counted, and their bytes were hashed behind what had been.
+-- The versions of these objects at these moments were read: they are counted, and their bytes were hashed after what had been.
 pub record HasRead (s : State) (pairs : List (ℕ × ℕ)) (before after : Reading) : Type 0 where
   pub counts : after.checked ≡ with_read s before.checked pairs
   pub hashed : (message : List ℕ) → Holds256 before.hasher message → Holds256 after.hasher (message ++ contents_at s pairs)

@@ -53,7 +53,7 @@ pub record Exports (s : State) (store : StoreFields) (t : ℕ) (files files' : O
   pub empty : AreFiles files []
   pub has : HasExported s store t files'
 
--- a version that can be read isn't read for want of memory or of a seat alone
+-- a version that can be read isn't read for lack of memory or of a seat alone
 abbrev pub IsOfWant : Refusal → Type 0
 IsOfWant refusal = (refusal ≡ NoMemory) ⊎ (refusal ≡ Busy)
 
@@ -65,7 +65,7 @@ IsOfWriting (CannotWrite file) = ⊤
 IsOfWriting (Refused refusal) = IsOfWant refusal
 
 -- The error explains why nothing, or not all, was written: the folder had files, or can't be read; or a file can't be written; or there was
--- want of memory or of a seat.
+-- lack of memory or of a seat.
 abbrev pub Explains : Option (List NamedFile) → ExportError → Type 0
 Explains files NotEmpty = HasFiles files
 Explains files CannotRead = ⊤

@@ -15,7 +15,7 @@ abbrev pub content_of : Version → List ℕ
 content_of Absent = []
 content_of (Live content attribute created changed) = content
 
--- the first moment that passes a test, of a moment and so many behind it; the last of them where none does
+-- the first moment that passes a test, of a moment and this many after it; the last of them where none does
 abbrev pub first_from : (ℕ → Bool) → ℕ → ℕ → ℕ
 first_from passes t zero = t
 first_from passes t (suc n) = if passes t then t else first_from passes (t + 1) n
@@ -24,18 +24,18 @@ first_from passes t (suc n) = if passes t then t else first_from passes (t + 1) 
 abbrev pub seen_from : State → ℕ → ℕ → ℕ
 seen_from s o t = first_from (is_visible s o) t (s.clock - t)
 
--- whether the version that an entry begins, or one that begins later, can be read first behind a moment
+-- whether the version that an entry begins, or one that begins later, can be read first after a moment
 abbrev pub begins : State → ℕ → ℕ → EntryFields → Bool
 begins s o last e = nat_lt last (seen_from s o e.moment)
 
--- The moments behind one at which the versions that these entries begin can be read first. Each is behind all before it: what several
--- entries of one moment began stands there once, and what no moment shows before the next change doesn't stand there.
+-- The moments after one at which the versions that these entries begin can be read first. Each is after all before it: what several
+-- entries of one moment began is there once, and what no moment shows before the next change isn't there.
 abbrev pub begun_behind : State → ℕ → ℕ → List EntryFields → List ℕ
 begun_behind s o last [] = []
 begun_behind s o last (e ∷ entries) =
     if begins s o last e then seen_from s o e.moment ∷ begun_behind s o (seen_from s o e.moment) entries else begun_behind s o last entries
 
--- The moments at which the versions of an object can be read first, ascending: its earliest moment that can be read, and those behind it that
+-- The moments at which the versions of an object can be read first, ascending: its earliest moment that can be read, and those after it that
 -- its entries begin.
 abbrev pub beginnings_of : State → StoreFields → ℕ → List ℕ
 beginnings_of s store o = seen_from s o s.floor ∷ begun_behind s o (seen_from s o s.floor) (entries_of_object store o)

@@ -1,5 +1,6 @@
 //! When the versions of an object begin, as far as they can be read.
-ghost use Rattle.std.specs.Prelude.{◌≡◌, ◌++◌, ◌≤◌, nat_lt, if◌then◌else◌, [], ◌∷◌, IfOk, IfErr, OnOk};
+ghost use Rattle.std.specs.Prelude.{◌≡◌, ◌++◌, ◌≤◌, nat_lt, if◌then◌else◌, [], ◌∷◌, IfOk, IfErr};
+ghost use Rattle.std.specs.Prelude.{OnOk};
 ghost use Rattle.s4_types.specs.declared.refusals.Refusal.TheVariants.{NoMemory};
 ghost use Rattle.s4_model.specs.Visible.{IsVisible};
 ghost use Rattle.version_store.specs.Versions.{entries_of_object};
@@ -23,7 +24,9 @@ pub fn beginnings<J: Naming>(
     drive: &mut Drive<J>,
     object: ObjectId,
 ) -> Result<Vec<Moment>, Refusal>
-    ensures moments { IfOk result (λ moments. moments.items ≡ beginnings_of (state_in drive.old) (store_of drive.old) object) }
+    ensures moments { IfOk result
+        (λ moments. moments.items
+        ≡ beginnings_of (state_in drive.old) (store_of drive.old) object) }
     ensures refused { IfErr result (λ e. e ≡ NoMemory) }
     ensures ledger { drive.new.ledger ≡ drive.old.ledger }
     ensures store { store_of drive.new ≡ store_of drive.old }
@@ -43,7 +46,9 @@ fn beginnings_by<J: Naming>(
     entries: &[Entry],
 ) -> Result<Vec<Moment>, AllocError>
     requires entries { entries.now ≡ entries_of_object (store_of drive.now) object }
-    ensures moments { IfOk result (λ moments. moments.items ≡ beginnings_of (state_in drive.now) (store_of drive.now) object) }
+    ensures moments { IfOk result
+        (λ moments. moments.items
+        ≡ beginnings_of (state_in drive.now) (store_of drive.now) object) }
 {
     drive.rules();
     let first = first_seen(drive, object, drive.floor());
@@ -60,7 +65,9 @@ fn beginnings_by<J: Naming>(
 // Adds a moment that is later than the last one. Says which is the last then.
 fn push_later(moments: &mut Vec<Moment>, last: Moment, moment: Moment) -> Result<Moment, AllocError>
     ensures last { IfOk result (λ next. next ≡ (if nat_lt last moment then moment else last)) }
-    ensures moments { OnOk result (moments.new.items ≡ moments.old.items ++ (if nat_lt last moment then moment ∷ [] else [])) }
+    ensures moments { OnOk result
+        (moments.new.items
+        ≡ moments.old.items ++ (if nat_lt last moment then moment ∷ [] else [])) }
 {
     if last.number() < moment.number() {
         moments.push(moment)?;

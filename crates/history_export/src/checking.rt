@@ -1,5 +1,6 @@
 //! `check`: every version that can be read is read once.
-ghost use Rattle.std.specs.Prelude.{◌≡◌, ◌⊎◌, ℕ, ◌≤◌, List, [], ◌∷◌, if◌then◌else◌, Option, None, IfOk, IfErr, OnOk, MatchBool};
+ghost use Rattle.std.specs.Prelude.{◌≡◌, ◌⊎◌, ℕ, ◌≤◌, List, [], ◌∷◌, if◌then◌else◌, Option, None};
+ghost use Rattle.std.specs.Prelude.{IfOk, IfErr, OnOk, MatchBool};
 ghost use Rattle.std.specs.Io.KnownBytes.{Appends};
 ghost use Rattle.s4_types.specs.declared.refusals.Refusal.TheVariants.{NoMemory, Busy};
 ghost use Rattle.s4_model.specs.Visible.{IsVisible};
@@ -19,7 +20,7 @@ use std::alloc::Global;
 /// How much was read. Each count stops at 2^64 - 1, far above what a drive can have.
 #[derive(Clone, Copy, Debug, PartialEq, Eq)]
 pub struct Checked {
-    /// How many versions, those before an object was made and behind its deletion among them.
+    /// How many versions, those before an object was made and after its deletion among them.
     pub versions: u64,
     /// How many bytes they have together.
     pub bytes: u64,
@@ -45,7 +46,7 @@ pub trait Progress {
     // The objects that it was told of, where they are known.
     ghost told: { Self → Option (List ℕ) };
 
-    /// All versions of an object were read. With those of the objects before it they are so many.
+    /// All versions of an object were read. With those of the objects before it they are this many.
     fn tell(&mut self, object: ObjectId, so_far: Checked)
         ensures told { Appends (told self.old) (told self.new) (object ∷ []) };
 }
@@ -60,9 +61,10 @@ impl Progress for Silent {
     fn tell(&mut self, _object: ObjectId, _so_far: Checked) {}
 }
 
-/// Reads each version that can be read of each object of a drive, once, by ascending object and moment: at the first of the moments from
-/// its beginning to the next one's that can be read. Counts these versions and their bytes, and gives the SHA-256 of the latter in that
-/// order, which an object that isn't there at a moment adds nothing to.
+/// Reads each version that can be read of each object of a drive, once, by ascending object and
+/// moment: at the first of the moments from its beginning to the next one's that can be read.
+/// Counts these versions and their bytes, and gives the SHA-256 of the latter in that order, which
+/// an object that isn't there at a moment adds nothing to.
 ///
 /// NoMemory where a growth is refused, Busy where a block that is needed has no seat left.
 pub fn check_all<J: Naming, P: Progress>(
@@ -71,7 +73,9 @@ pub fn check_all<J: Naming, P: Progress>(
     session: &mut Session<J>,
     progress: &mut P,
 ) -> Result<CheckReport, Refusal>
-    ensures checked { IfOk result (λ report. ChecksAll (state_in drive.old) (store_of drive.old) report (P.told progress.old) (P.told progress.new)) }
+    ensures checked { IfOk result
+        (λ report. ChecksAll (state_in drive.old) (store_of drive.old) report (P.told progress.old)
+        (P.told progress.new)) }
     ensures refused { IfErr result (λ e. (e ≡ NoMemory) ⊎ (e ≡ Busy)) }
     ensures state { state_in drive.new ≡ state_in drive.old }
     ensures store { store_of drive.new ≡ store_of drive.old }
@@ -101,7 +105,9 @@ fn check_object<J: Naming>(
     object: ObjectId,
     reading: &mut Reading,
 ) -> Result<(), Refusal>
-    ensures read { OnOk result (HasRead (state_in drive.old) (pairs_of (state_in drive.old) (store_of drive.old) object) reading.old reading.new) }
+    ensures read { OnOk result
+        (HasRead (state_in drive.old) (pairs_of (state_in drive.old) (store_of drive.old) object)
+        reading.old reading.new) }
     ensures refused { IfErr result (λ e. (e ≡ NoMemory) ⊎ (e ≡ Busy)) }
     ensures state { state_in drive.new ≡ state_in drive.old }
     ensures store { store_of drive.new ≡ store_of drive.old }
@@ -120,7 +126,9 @@ fn check_entries<J: Naming>(
     reading: &mut Reading,
 ) -> Result<(), Refusal>
     requires entries { entries.now ≡ entries_of_object (store_of drive.old) object }
-    ensures read { OnOk result (HasRead (state_in drive.old) (pairs_of (state_in drive.old) (store_of drive.old) object) reading.old reading.new) }
+    ensures read { OnOk result
+        (HasRead (state_in drive.old) (pairs_of (state_in drive.old) (store_of drive.old) object)
+        reading.old reading.new) }
     ensures refused { IfErr result (λ e. (e ≡ NoMemory) ⊎ (e ≡ Busy)) }
     ensures state { state_in drive.new ≡ state_in drive.old }
     ensures store { store_of drive.new ≡ store_of drive.old }
@@ -142,8 +150,12 @@ fn read_earliest<J: Naming>(
     object: ObjectId,
     reading: &mut Reading,
 ) -> Result<Moment, Refusal>
-    ensures first { IfOk result (λ first. first ≡ seen_from (state_in drive.old) object (state_in drive.old).floor) }
-    ensures read { OnOk result (HasRead (state_in drive.old) ((object, seen_from (state_in drive.old) object (state_in drive.old).floor) ∷ []) reading.old reading.new) }
+    ensures first { IfOk result
+        (λ first. first ≡ seen_from (state_in drive.old) object (state_in drive.old).floor) }
+    ensures read { OnOk result
+        (HasRead (state_in drive.old)
+        ((object, seen_from (state_in drive.old) object (state_in drive.old).floor) ∷ [])
+        reading.old reading.new) }
     ensures refused { IfErr result (λ e. (e ≡ NoMemory) ⊎ (e ≡ Busy)) }
     ensures state { state_in drive.new ≡ state_in drive.old }
     ensures store { store_of drive.new ≡ store_of drive.old }
@@ -154,7 +166,8 @@ fn read_earliest<J: Naming>(
     Ok(earliest)
 }
 
-// Reads the version that an entry begins, where it can be read behind the last that was. Says at which moment one was read last then.
+// Reads the version that an entry begins, where it can be read after the last that was. Says at
+// which moment one was read last then.
 fn check_entry<J: Naming>(
     alloc: Global,
     drive: &mut Drive<J>,
@@ -165,8 +178,15 @@ fn check_entry<J: Naming>(
     reading: &mut Reading,
 ) -> Result<Moment, Refusal>
     requires reached { entry.now.moment ≤ (state_in drive.old).clock }
-    ensures next { IfOk result (λ next. next ≡ (if begins (state_in drive.old) object last entry.now then seen_from (state_in drive.old) object entry.now.moment else last)) }
-    ensures read { OnOk result (MatchBool (begins (state_in drive.old) object last entry.now) (HasRead (state_in drive.old) ((object, seen_from (state_in drive.old) object entry.now.moment) ∷ []) reading.old reading.new) (reading.new ≡ reading.old)) }
+    ensures next { IfOk result
+        (λ next. next
+        ≡ (if begins (state_in drive.old) object last entry.now
+        then seen_from (state_in drive.old) object entry.now.moment else last)) }
+    ensures read { OnOk result
+        (MatchBool (begins (state_in drive.old) object last entry.now)
+        (HasRead (state_in drive.old)
+        ((object, seen_from (state_in drive.old) object entry.now.moment) ∷ []) reading.old
+        reading.new) (reading.new ≡ reading.old)) }
     ensures refused { IfErr result (λ e. (e ≡ NoMemory) ⊎ (e ≡ Busy)) }
     ensures state { state_in drive.new ≡ state_in drive.old }
     ensures store { store_of drive.new ≡ store_of drive.old }
@@ -189,7 +209,8 @@ fn read_version<J: Naming>(
     reading: &mut Reading,
 ) -> Result<(), Refusal>
     requires visible { IsVisible (state_in drive.old) object at }
-    ensures read { OnOk result (HasRead (state_in drive.old) ((object, at) ∷ []) reading.old reading.new) }
+    ensures read { OnOk result
+        (HasRead (state_in drive.old) ((object, at) ∷ []) reading.old reading.new) }
     ensures refused { IfErr result (λ e. (e ≡ NoMemory) ⊎ (e ≡ Busy)) }
     ensures state { state_in drive.new ≡ state_in drive.old }
     ensures store { store_of drive.new ≡ store_of drive.old }

@@ -7,7 +7,8 @@ ghost use Rattle.drive.specs.Fields.{state_in, store_of};
 ghost use Rattle.history_export.specs.Folders.{AreFiles, with_bytes, with_file};
 ghost use Rattle.history_export.specs.Manifest.{manifest_name};
 ghost use Rattle.history_export.specs.Versions.{content_of};
-ghost use Rattle.history_export.specs.Exports.{Exports, HasExported, Explains, IsOfWriting, exported, with_line, with_named, with_object};
+ghost use Rattle.history_export.specs.Exports.{Exports, HasExported, Explains, IsOfWriting};
+ghost use Rattle.history_export.specs.Exports.{exported, with_line, with_named, with_object};
 
 use crate::faults::{ExportError, ExportedFile, reading, writing};
 use crate::folders::Folder;
@@ -19,9 +20,9 @@ use s4_types::{Moment, ObjectId};
 use segment_word::Naming;
 use std::alloc::Global;
 
-/// Writes each object that is live at a moment into an empty folder, as a file of its bytes, and what each file is into a manifest, one
-/// line of JSON for each, by ascending number. An object of which that moment is hidden is left out; so all are where the moment can't be
-/// read of any.
+/// Writes each object that is live at a moment into an empty folder, as a file of its bytes, and
+/// what each file is into a manifest, one line of JSON for each, by ascending number. An object of
+/// which that moment is hidden is left out; so all are where the moment can't be read of any.
 ///
 /// NotEmpty where anything is in the folder. In memory there is one object at a time.
 pub fn export<J: Naming, F: Folder>(
@@ -31,7 +32,9 @@ pub fn export<J: Naming, F: Folder>(
     folder: &mut F,
     at: Moment,
 ) -> Result<(), ExportError>
-    ensures exports { OnOk result (Exports (state_in drive.old) (store_of drive.old) at (F.files folder.old) (F.files folder.new)) }
+    ensures exports { OnOk result
+        (Exports (state_in drive.old) (store_of drive.old) at (F.files folder.old)
+        (F.files folder.new)) }
     ensures path { F.path folder.new ≡ F.path folder.old }
     ensures refused { IfErr result (Explains (F.files folder.old)) }
     ensures state { state_in drive.new ≡ state_in drive.old }
@@ -44,7 +47,8 @@ pub fn export<J: Naming, F: Folder>(
 /// Makes an empty manifest in a folder that has nothing. NotEmpty where anything is in it.
 pub fn begin_folder<F: Folder>(folder: &mut F) -> Result<(), ExportError>
     ensures empty { OnOk result (AreFiles (F.files folder.old) []) }
-    ensures begun { OnOk result (F.files folder.new ≡ option_map (with_file manifest_name []) (F.files folder.old)) }
+    ensures begun { OnOk result
+        (F.files folder.new ≡ option_map (with_file manifest_name []) (F.files folder.old)) }
     ensures path { F.path folder.new ≡ F.path folder.old }
     ensures refused { IfErr result (Explains (F.files folder.old)) }
 {
@@ -71,7 +75,8 @@ fn make_file<F: Folder>(
     name: &str,
     bytes: &[u8],
 ) -> Result<(), ExportError>
-    ensures made { OnOk result (F.files folder.new ≡ option_map (with_file name.now bytes.now) (F.files folder.old)) }
+    ensures made { OnOk result
+        (F.files folder.new ≡ option_map (with_file name.now bytes.now) (F.files folder.old)) }
     ensures path { F.path folder.new ≡ F.path folder.old }
     ensures refused { IfErr result IsOfWriting }
 {
@@ -83,7 +88,8 @@ fn make_file<F: Folder>(
 
 /// Adds a line to the manifest.
 pub fn add_line<F: Folder>(folder: &mut F, line: &[u8]) -> Result<(), ExportError>
-    ensures grown { OnOk result (F.files folder.new ≡ option_map (with_bytes manifest_name line.now) (F.files folder.old)) }
+    ensures grown { OnOk result
+        (F.files folder.new ≡ option_map (with_bytes manifest_name line.now) (F.files folder.old)) }
     ensures path { F.path folder.new ≡ F.path folder.old }
     ensures refused { IfErr result IsOfWriting }
 {
@@ -102,7 +108,8 @@ fn export_objects<J: Naming, F: Folder>(
     at: Moment,
 ) -> Result<(), ExportError>
     requires begun { AreFiles (F.files folder.old) (exported (state_in drive.old) at []) }
-    ensures exported { OnOk result (HasExported (state_in drive.old) (store_of drive.old) at (F.files folder.new)) }
+    ensures exported { OnOk result
+        (HasExported (state_in drive.old) (store_of drive.old) at (F.files folder.new)) }
     ensures path { F.path folder.new ≡ F.path folder.old }
     ensures refused { IfErr result IsOfWriting }
     ensures state { state_in drive.new ≡ state_in drive.old }
@@ -126,7 +133,12 @@ fn export_object<J: Naming, F: Folder>(
     at: Moment,
 ) -> Result<(), ExportError>
     requires visible { IsVisible (state_in drive.old) row.now.object at }
-    ensures files { OnOk result (F.files folder.new ≡ option_map (with_object row.now (content_of (version_of (state_in drive.old) row.now.object at))) (F.files folder.old)) }
+    ensures files { OnOk result
+        (F.files folder.new
+        ≡ option_map
+        (with_object row.now
+        (content_of (version_of (state_in drive.old) row.now.object at)))
+        (F.files folder.old)) }
     ensures path { F.path folder.new ≡ F.path folder.old }
     ensures refused { IfErr result IsOfWriting }
     ensures state { state_in drive.new ≡ state_in drive.old }
@@ -143,7 +155,8 @@ fn write_object<F: Folder>(
     row: &Listed,
     content: &[u8],
 ) -> Result<(), ExportError>
-    ensures files { OnOk result (F.files folder.new ≡ option_map (with_object row.now content.now) (F.files folder.old)) }
+    ensures files { OnOk result
+        (F.files folder.new ≡ option_map (with_object row.now content.now) (F.files folder.old)) }
     ensures path { F.path folder.new ≡ F.path folder.old }
     ensures refused { IfErr result IsOfWriting }
 {
@@ -159,7 +172,9 @@ pub fn add_object<F: Folder>(
     content: &[u8],
     line: &[u8],
 ) -> Result<(), ExportError>
-    ensures files { OnOk result (F.files folder.new ≡ option_map (with_line object content.now line.now) (F.files folder.old)) }
+    ensures files { OnOk result
+        (F.files folder.new
+        ≡ option_map (with_line object content.now line.now) (F.files folder.old)) }
     ensures path { F.path folder.new ≡ F.path folder.old }
     ensures refused { IfErr result IsOfWriting }
 {
@@ -167,7 +182,8 @@ pub fn add_object<F: Folder>(
     add_named(folder, object, name.as_str(), content, line)
 }
 
-/// Writes an object of these bytes under a name, and adds its line to the manifest. An error is told of the object.
+/// Writes an object of these bytes under a name, and adds its line to the manifest. An error is
+/// told of the object.
 pub fn add_named<F: Folder>(
     folder: &mut F,
     object: ObjectId,
@@ -175,7 +191,9 @@ pub fn add_named<F: Folder>(
     content: &[u8],
     line: &[u8],
 ) -> Result<(), ExportError>
-    ensures files { OnOk result (F.files folder.new ≡ option_map (with_named name.now content.now line.now) (F.files folder.old)) }
+    ensures files { OnOk result
+        (F.files folder.new
+        ≡ option_map (with_named name.now content.now line.now) (F.files folder.old)) }
     ensures path { F.path folder.new ≡ F.path folder.old }
     ensures refused { IfErr result IsOfWriting }
 {

@@ -42,7 +42,7 @@ pub enum ExportError {
     /// This file can't be made, or not written to its end.
     #[error("cannot write {0}")]
     CannotWrite(ExportedFile),
-    /// A growth was refused; or a version can't be read, for want of memory or of a seat.
+    /// A growth was refused; or a version can't be read, for lack of memory or of a seat.
     #[error("{0}")]
     Refused(Refusal),
 }
@@ -77,7 +77,8 @@ pub(crate) fn reading(kind: io::ErrorKind) -> ExportError
 /// The error of a file that can't be written: NoMemory where a growth was refused.
 pub(crate) fn writing(kind: io::ErrorKind, file: ExportedFile) -> ExportError
     ensures memory { kind ≡ OutOfMemory → result ≡ ExportError.Refused NoMemory }
-    ensures only { (result ≡ ExportError.Refused NoMemory) ⊎ (result ≡ ExportError.CannotWrite file) }
+    ensures only { (result ≡ ExportError.Refused NoMemory)
+        ⊎ (result ≡ ExportError.CannotWrite file) }
 {
     match kind {
         io::ErrorKind::OutOfMemory => ExportError::Refused(Refusal::NoMemory),

@@ -1,7 +1,9 @@
 //! The folders that exports are written to.
-ghost use Rattle.std.specs.Prelude.{◌≡◌, ℕ, List, [], Option, None, IfOk, OnOk, MatchBool, string_bytes};
+ghost use Rattle.std.specs.Prelude.{◌≡◌, ℕ, List, [], Option, None, IfOk, OnOk, MatchBool};
+ghost use Rattle.std.specs.Prelude.{string_bytes};
 ghost use Rattle.std.specs.Option.{option_map};
-ghost use Rattle.history_export.specs.Folders.{NamedFile, AreFiles, HasFiles, with_file, with_bytes};
+ghost use Rattle.history_export.specs.Folders.{NamedFile, AreFiles, HasFiles, with_file};
+ghost use Rattle.history_export.specs.Folders.{with_bytes};
 
 use std::alloc::Global;
 use std::fs::{self, File, OpenOptions};
@@ -20,15 +22,17 @@ pub trait Folder {
     fn is_empty(&self) -> io::Result<bool>
         ensures empty { IfOk result (λ is_empty. MatchBool is_empty (AreFiles (files self.now) []) (HasFiles (files self.now))) };
 
-    /// Makes a file of these bytes, and the folder within this one that its name has in front of a `/`. An error where anything in the
-    /// folder has the name.
+    /// Makes a file of these bytes, and the folder within this one that its name has in front of a
+    /// `/`. An error where anything in the folder has the name.
     fn make_file(&mut self, name: &str, bytes: &[u8]) -> io::Result<()>
-        ensures made { OnOk result (files self.new ≡ option_map (with_file name.now bytes.now) (files self.old)) }
+        ensures made { OnOk result
+            (files self.new ≡ option_map (with_file name.now bytes.now) (files self.old)) }
         ensures path { path self.new ≡ path self.old };
 
     /// Adds bytes at the end of a file.
     fn append(&mut self, name: &str, bytes: &[u8]) -> io::Result<()>
-        ensures grown { OnOk result (files self.new ≡ option_map (with_bytes name.now bytes.now) (files self.old)) }
+        ensures grown { OnOk result
+            (files self.new ≡ option_map (with_bytes name.now bytes.now) (files self.old)) }
         ensures path { path self.new ≡ path self.old };
 }
 

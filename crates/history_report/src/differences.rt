@@ -1,12 +1,15 @@
 //! What differs since a moment, object by object.
-ghost use Rattle.std.specs.Prelude.{◌≡◌, ◌++◌, ◌+◌, ◌^◌, ◌<◌, ◌≤◌, ◌||◌, length, IfOk, MatchBool, OnOk, string_bytes};
+ghost use Rattle.std.specs.Prelude.{◌≡◌, ◌++◌, ◌+◌, ◌^◌, ◌<◌, ◌≤◌, ◌||◌, length, IfOk, MatchBool};
+ghost use Rattle.std.specs.Prelude.{OnOk, string_bytes};
 ghost use Rattle.std.specs.Io.KnownBytes.{Appends};
 ghost use Rattle.drive.specs.Fields.{state_in, store_of};
 ghost use Rattle.history_diff.specs.Differences.{content_of};
-ghost use Rattle.history_report.specs.Differences.{difference_by, difference_end, first_lines, has_more_lines, lines_end};
+ghost use Rattle.history_report.specs.Differences.{difference_by, difference_end, first_lines};
+ghost use Rattle.history_report.specs.Differences.{has_more_lines, lines_end};
 ghost use Rattle.history_report.specs.Page.{page_text};
 ghost use Rattle.history_report.specs.private.Sections.{WritesDifferences};
-ghost use Rattle.history_report.specs.private.Writing.{AreLines, AreVisible, WritesBetween, WritesDetail, WritesObject, WritesShown};
+ghost use Rattle.history_report.specs.private.Writing.{AreLines, AreVisible, WritesBetween};
+ghost use Rattle.history_report.specs.private.Writing.{WritesDetail, WritesObject, WritesShown};
 
 use crate::escaping::{data_text, number_text};
 use crate::output::write_out;
@@ -89,7 +92,9 @@ fn write_detail<W: Sink>(
     writer: &mut W,
 ) -> Result<(), Stop>
     requires writer { W.failures writer.old + 1 < 2 ^ 64 }
-    ensures detail { OnOk result (WritesDetail before.now after.now difference.now (W.passed writer.old) (W.passed writer.new)) }
+    ensures detail { OnOk result
+        (WritesDetail before.now after.now difference.now (W.passed writer.old)
+        (W.passed writer.new)) }
 {
     let (old, new) = (content_of(before), content_of(after));
     match hunks_between(alloc, old, new) {
@@ -107,7 +112,8 @@ fn difference_lines(
     after: &Version,
     difference: &Difference,
 ) -> Result<MemorySink, Stop>
-    ensures { IfOk result (λ sink. AreLines object before.now after.now difference.now sink.bytes.items) }
+    ensures { IfOk result
+        (λ sink. AreLines object before.now after.now difference.now sink.bytes.items) }
 {
     let mut sink = MemorySink::new(alloc);
     let line = match difference_line(alloc, object, difference) {
@@ -131,7 +137,9 @@ fn write_difference<W: Sink>(
     writer: &mut W,
 ) -> Result<(), Stop>
     requires writer { W.failures writer.old + 1 < 2 ^ 64 }
-    ensures lines { OnOk result (WritesShown object before.now after.now difference.now (W.passed writer.old) (W.passed writer.new)) }
+    ensures lines { OnOk result
+        (WritesShown object before.now after.now difference.now (W.passed writer.old)
+        (W.passed writer.new)) }
     ensures failures { OnOk result (W.failures writer.new ≡ W.failures writer.old) }
 {
     let lines = match difference_lines(alloc, object, before, after, difference) {
@@ -156,7 +164,9 @@ fn write_between<W: Sink>(
     writer: &mut W,
 ) -> Result<bool, Stop>
     requires writer { W.failures writer.old + 1 < 2 ^ 64 }
-    ensures object { IfOk result (λ differs. WritesBetween object before.now after.now differs (W.passed writer.old) (W.passed writer.new)) }
+    ensures object { IfOk result
+        (λ differs. WritesBetween object before.now after.now differs (W.passed writer.old)
+        (W.passed writer.new)) }
     ensures failures { OnOk result (W.failures writer.new ≡ W.failures writer.old) }
 {
     let difference = match difference_of(alloc, before, after) {
@@ -171,7 +181,8 @@ fn write_between<W: Sink>(
 }
 
 fn are_visible<J: Naming>(drive: &Drive<J>, object: ObjectId, from: Moment, until: Moment) -> bool
-    ensures { MatchBool result (AreVisible (state_in drive.now) object from until) (AreVisible (state_in drive.now) object from until → ⊥) }
+    ensures { MatchBool result (AreVisible (state_in drive.now) object from until)
+        (AreVisible (state_in drive.now) object from until → ⊥) }
 {
     is_visible(drive, object, from) && is_visible(drive, object, until)
 }
@@ -188,7 +199,9 @@ fn write_object<J: Naming, W: Sink>(
     writer: &mut W,
 ) -> Result<bool, Stop>
     requires writer { W.failures writer.old + 1 < 2 ^ 64 }
-    ensures object { IfOk result (λ differs. WritesObject (state_in drive.old) from until object differs (W.passed writer.old) (W.passed writer.new)) }
+    ensures object { IfOk result
+        (λ differs. WritesObject (state_in drive.old) from until object differs
+        (W.passed writer.old) (W.passed writer.new)) }
     ensures failures { OnOk result (W.failures writer.new ≡ W.failures writer.old) }
     ensures state { state_in drive.new ≡ state_in drive.old }
     ensures store { store_of drive.new ≡ store_of drive.old }
@@ -223,7 +236,9 @@ fn write_all<J: Naming, W: Sink>(
     writer: &mut W,
 ) -> Result<bool, Stop>
     requires writer { W.failures writer.old + 1 < 2 ^ 64 }
-    ensures rows { IfOk result (λ differs. WritesDifferences (state_in drive.old) from until differs (W.passed writer.old) (W.passed writer.new)) }
+    ensures rows { IfOk result
+        (λ differs. WritesDifferences (state_in drive.old) from until differs (W.passed writer.old)
+        (W.passed writer.new)) }
     ensures failures { OnOk result (W.failures writer.new ≡ W.failures writer.old) }
     ensures state { state_in drive.new ≡ state_in drive.old }
     ensures store { store_of drive.new ≡ store_of drive.old }
@@ -249,7 +264,9 @@ pub(crate) fn write_differences<J: Naming, W: Sink>(
     writer: &mut W,
 ) -> Result<bool, Stop>
     requires writer { W.failures writer.old + 1 < 2 ^ 64 }
-    ensures rows { IfOk result (λ differs. WritesDifferences (state_in drive.old) from until differs (W.passed writer.old) (W.passed writer.new)) }
+    ensures rows { IfOk result
+        (λ differs. WritesDifferences (state_in drive.old) from until differs (W.passed writer.old)
+        (W.passed writer.new)) }
     ensures failures { OnOk result (W.failures writer.new ≡ W.failures writer.old) }
     ensures state { state_in drive.new ≡ state_in drive.old }
     ensures store { store_of drive.new ≡ store_of drive.old }

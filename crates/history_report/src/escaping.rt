@@ -2,7 +2,8 @@
 ghost use Rattle.std.specs.Prelude.{◌≡◌, ◌++◌, IfOk, OnOk, decimal, string_bytes};
 ghost use Rattle.hex.specs.Hex.{encode_lower};
 ghost use Rattle.moment_words.specs.Texts as texts;
-ghost use Rattle.history_report.specs.Page.{Escaped, escaped, escaped_char, is_between, is_shown, is_unseen, part_text};
+ghost use Rattle.history_report.specs.Page.{Escaped, escaped, escaped_char, is_between, is_shown};
+ghost use Rattle.history_report.specs.Page.{is_unseen, part_text};
 
 use moment_words::{MomentStyle, moment_text};
 use s4_types::Moment;
@@ -92,7 +93,8 @@ pub(crate) fn moment_cell(
     moment: Moment,
     style: MomentStyle,
 ) -> Result<String, AllocError>
-    ensures { IfOk result (λ text. string_bytes text ≡ part_text (Escaped (texts.moment_text moment style))) }
+    ensures { IfOk result
+        (λ text. string_bytes text ≡ part_text (Escaped (texts.moment_text moment style))) }
 {
     let text = moment_text(alloc, moment.number(), style)?;
     data_text(alloc, text.as_bytes())

@@ -2,7 +2,8 @@
 ghost use Rattle.std.specs.Prelude.{◌≡◌, ◌++◌, ◌+◌, ◌-◌, IfOk, OnOk, string_bytes};
 ghost use Rattle.std.specs.List.{flat_map};
 ghost use Rattle.history_report.specs.Page.{page_text};
-ghost use Rattle.history_report.specs.Timeline.{change_marks, done_text, mark_head, mark_of, mark_shape, place_of, run_mark};
+ghost use Rattle.history_report.specs.Timeline.{change_marks, done_text, mark_head, mark_of};
+ghost use Rattle.history_report.specs.Timeline.{mark_shape, place_of, run_mark};
 
 use crate::escaping::{moment_cell, number_text};
 use crate::scale::{Scale, place_of};
@@ -53,7 +54,8 @@ fn mark_text(
     object: ObjectId,
     change: &ObjectChange,
 ) -> Result<String, AllocError>
-    ensures { IfOk result (λ text. string_bytes text ≡ page_text (mark_of scale.now object change.now)) }
+    ensures { IfOk result
+        (λ text. string_bytes text ≡ page_text (mark_of scale.now object change.now)) }
 {
     let (head, shape) = (mark_head(change.kind), mark_shape(change.kind));
     let done = done_text(change.kind);
@@ -75,13 +77,16 @@ fn push_own(
     change: &ObjectChange,
     text: &mut String,
 ) -> Result<(), AllocError>
-    ensures { OnOk result (string_bytes text.new ≡ string_bytes text.old ++ page_text (mark_of scale.now object change.now)) }
+    ensures { OnOk result
+        (string_bytes text.new
+        ≡ string_bytes text.old ++ page_text (mark_of scale.now object change.now)) }
 {
     let mark = mark_text(alloc, scale, object, change)?;
     text.push_str(mark.as_str())
 }
 
-// Adds the mark of a change of an object. One that goes on with the change before it has none of its own.
+// Adds the mark of a change of an object. One that goes on with the change before it has none of
+// its own.
 fn push_mark(
     alloc: Global,
     scale: &Scale,
@@ -89,7 +94,9 @@ fn push_mark(
     change: &ObjectChange,
     text: &mut String,
 ) -> Result<(), AllocError>
-    ensures { OnOk result (string_bytes text.new ≡ string_bytes text.old ++ page_text (change_marks scale.now object change.now)) }
+    ensures { OnOk result
+        (string_bytes text.new
+        ≡ string_bytes text.old ++ page_text (change_marks scale.now object change.now)) }
 {
     if let Kind::Continued = change.kind {
         return Ok(());
@@ -105,7 +112,10 @@ pub(crate) fn push_marks(
     changes: &[ObjectChange],
     text: &mut String,
 ) -> Result<(), AllocError>
-    ensures { OnOk result (string_bytes text.new ≡ string_bytes text.old ++ page_text (flat_map (change_marks scale.now object) changes.now)) }
+    ensures { OnOk result
+        (string_bytes text.new
+        ≡ string_bytes text.old
+        ++ page_text (flat_map (change_marks scale.now object) changes.now)) }
 {
     for change in changes {
         push_mark(alloc, scale, object, change, text)?;
@@ -120,7 +130,8 @@ fn run_text(
     object: ObjectId,
     run: &Span,
 ) -> Result<String, AllocError>
-    ensures { IfOk result (λ text. string_bytes text ≡ page_text (run_mark scale.now object run.now)) }
+    ensures { IfOk result
+        (λ text. string_bytes text ≡ page_text (run_mark scale.now object run.now)) }
 {
     let (place, end) = (place_of(scale, run.first), place_of(scale, run.last));
     let left = number_text(alloc, place)?;
@@ -142,7 +153,9 @@ fn push_run(
     run: &Span,
     text: &mut String,
 ) -> Result<(), AllocError>
-    ensures { OnOk result (string_bytes text.new ≡ string_bytes text.old ++ page_text (run_mark scale.now object run.now)) }
+    ensures { OnOk result
+        (string_bytes text.new
+        ≡ string_bytes text.old ++ page_text (run_mark scale.now object run.now)) }
 {
     let mark = run_text(alloc, scale, object, run)?;
     text.push_str(mark.as_str())
@@ -156,7 +169,9 @@ pub(crate) fn push_runs(
     runs: &[Span],
     text: &mut String,
 ) -> Result<(), AllocError>
-    ensures { OnOk result (string_bytes text.new ≡ string_bytes text.old ++ page_text (flat_map (run_mark scale.now object) runs.now)) }
+    ensures { OnOk result
+        (string_bytes text.new
+        ≡ string_bytes text.old ++ page_text (flat_map (run_mark scale.now object) runs.now)) }
 {
     for run in runs {
         push_run(alloc, scale, object, run, text)?;

@@ -1,12 +1,15 @@
 //! The page about a drive.
-ghost use Rattle.std.specs.Prelude.{◌≡◌, ◌≢◌, ◌+◌, ◌^◌, ◌<◌, ◌∷◌, Some, IfOk, IfErr, OnOk, string_bytes};
+ghost use Rattle.std.specs.Prelude.{◌≡◌, ◌≢◌, ◌+◌, ◌^◌, ◌<◌, ◌∷◌, Some, IfOk, IfErr, OnOk};
+ghost use Rattle.std.specs.Prelude.{string_bytes};
 ghost use Rattle.std.specs.Io.KnownBytes.{Appends};
 ghost use Rattle.s4_model.specs.Visible.{IsVisible};
 ghost use Rattle.window.specs.Runs.{Ascend};
 ghost use Rattle.drive.specs.Fields.{state_in, store_of};
 ghost use Rattle.history_report.specs.Page.{Constant, page_text};
-ghost use Rattle.history_report.specs.Report.{IsFaultOf, IsSince, Reports, axis_of, end_of, head_of, none_text, numbers_of};
-ghost use Rattle.history_report.specs.private.Sections.{WritesPage, WritesSince, WritesTable, WritesTimeline};
+ghost use Rattle.history_report.specs.Report.{IsFaultOf, IsSince, Reports, axis_of, end_of};
+ghost use Rattle.history_report.specs.Report.{head_of, none_text, numbers_of};
+ghost use Rattle.history_report.specs.private.Sections.{WritesPage, WritesSince, WritesTable};
+ghost use Rattle.history_report.specs.private.Sections.{WritesTimeline};
 
 use crate::differences::write_differences;
 use crate::escaping::moment_cell;
@@ -43,8 +46,11 @@ pub fn write_report<J: Naming, W: Sink>(
     writer: &mut W,
 ) -> Result<(), ReportFault>
     requires writer { W.failures writer.old + 1 < 2 ^ 64 }
-    ensures page { OnOk result (Reports (state_in drive.old) (store_of drive.old) since (W.passed writer.old) (W.passed writer.new)) }
-    ensures refused { IfErr result (IsFaultOf (state_in drive.old) since (W.passed writer.old) (W.passed writer.new)) }
+    ensures page { OnOk result
+        (Reports (state_in drive.old) (store_of drive.old) since (W.passed writer.old)
+        (W.passed writer.new)) }
+    ensures refused { IfErr result
+        (IsFaultOf (state_in drive.old) since (W.passed writer.old) (W.passed writer.new)) }
     ensures state { state_in drive.new ≡ state_in drive.old }
     ensures store { store_of drive.new ≡ store_of drive.old }
 {
@@ -61,7 +67,8 @@ pub fn write_report<J: Naming, W: Sink>(
 // The moment since which differences are shown. The one that is asked for where it can't be read.
 fn since_asked<J: Naming>(drive: &Drive<J>, since: Option<Moment>) -> Result<Moment, Moment>
     ensures since { IfOk result (IsSince (state_in drive.now) since) }
-    ensures refused { IfErr result (λ moment. (since ≡ Some moment) × (IsVisible (state_in drive.now) 0 moment → ⊥)) }
+    ensures refused { IfErr result
+        (λ moment. (since ≡ Some moment) × (IsVisible (state_in drive.now) 0 moment → ⊥)) }
 {
     let Some(moment) = since else {
         return Ok(earliest(drive, ObjectId::new(0)));
@@ -80,7 +87,9 @@ fn write_page<J: Naming, W: Sink>(
     writer: &mut W,
 ) -> Result<(), Stop>
     requires writer { W.failures writer.old + 1 < 2 ^ 64 }
-    ensures page { OnOk result (WritesPage (state_in drive.old) (store_of drive.old) from (W.passed writer.old) (W.passed writer.new)) }
+    ensures page { OnOk result
+        (WritesPage (state_in drive.old) (store_of drive.old) from (W.passed writer.old)
+        (W.passed writer.new)) }
     ensures state { state_in drive.new ≡ state_in drive.old }
     ensures store { store_of drive.new ≡ store_of drive.old }
 {
@@ -99,7 +108,8 @@ fn numbers_text<J: Naming>(
     drive: &Drive<J>,
     from: Moment,
 ) -> Result<String, AllocError>
-    ensures { IfOk result (λ text. string_bytes text ≡ page_text (numbers_of (state_in drive.now) from)) }
+    ensures { IfOk result
+        (λ text. string_bytes text ≡ page_text (numbers_of (state_in drive.now) from)) }
 {
     let style = style_of(drive.clock().number(), false);
     let clock = moment_cell(alloc, drive.clock(), style)?;
@@ -128,7 +138,9 @@ fn write_axis<J: Naming, W: Sink>(
     writer: &mut W,
 ) -> Result<(), Stop>
     requires writer { W.failures writer.old + 1 < 2 ^ 64 }
-    ensures axis { OnOk result (Appends (W.passed writer.old) (W.passed writer.new) (page_text (Constant TIMELINE_HEAD.now ∷ axis_of (state_in drive.now)))) }
+    ensures axis { OnOk result
+        (Appends (W.passed writer.old) (W.passed writer.new)
+        (page_text (Constant TIMELINE_HEAD.now ∷ axis_of (state_in drive.now)))) }
     ensures failures { OnOk result (W.failures writer.new ≡ W.failures writer.old) }
 {
     let axis = match axis_text(alloc, drive) {
@@ -147,7 +159,9 @@ fn write_head<J: Naming, W: Sink>(
     writer: &mut W,
 ) -> Result<(), Stop>
     requires writer { W.failures writer.old + 1 < 2 ^ 64 }
-    ensures head { OnOk result (Appends (W.passed writer.old) (W.passed writer.new) (page_text (head_of (state_in drive.now) from))) }
+    ensures head { OnOk result
+        (Appends (W.passed writer.old) (W.passed writer.new)
+        (page_text (head_of (state_in drive.now) from))) }
     ensures failures { OnOk result (W.failures writer.new ≡ W.failures writer.old) }
 {
     let numbers = match numbers_text(alloc, drive, from) {
@@ -169,7 +183,9 @@ fn write_timeline<J: Naming, W: Sink>(
 ) -> Result<(), Stop>
     requires ordered { Ascend runs.now }
     requires writer { W.failures writer.old + 1 < 2 ^ 64 }
-    ensures timeline { OnOk result (WritesTimeline (state_in drive.old) (store_of drive.old) runs.now from (W.passed writer.old) (W.passed writer.new)) }
+    ensures timeline { OnOk result
+        (WritesTimeline (state_in drive.old) (store_of drive.old) runs.now from
+        (W.passed writer.old) (W.passed writer.new)) }
     ensures failures { OnOk result (W.failures writer.new ≡ W.failures writer.old) }
     ensures ledger { drive.new.ledger ≡ drive.old.ledger }
     ensures store { store_of drive.new ≡ store_of drive.old }
@@ -186,7 +202,9 @@ fn write_table<J: Naming, W: Sink>(
     writer: &mut W,
 ) -> Result<(), Stop>
     requires writer { W.failures writer.old + 1 < 2 ^ 64 }
-    ensures table { OnOk result (WritesTable (state_in drive.old) (store_of drive.old) (W.passed writer.old) (W.passed writer.new)) }
+    ensures table { OnOk result
+        (WritesTable (state_in drive.old) (store_of drive.old) (W.passed writer.old)
+        (W.passed writer.new)) }
     ensures failures { OnOk result (W.failures writer.new ≡ W.failures writer.old) }
     ensures ledger { drive.new.ledger ≡ drive.old.ledger }
     ensures store { store_of drive.new ≡ store_of drive.old }
@@ -205,7 +223,8 @@ fn write_since<J: Naming, W: Sink>(
     writer: &mut W,
 ) -> Result<(), Stop>
     requires writer { W.failures writer.old + 1 < 2 ^ 64 }
-    ensures since { OnOk result (WritesSince (state_in drive.old) from (W.passed writer.old) (W.passed writer.new)) }
+    ensures since { OnOk result
+        (WritesSince (state_in drive.old) from (W.passed writer.old) (W.passed writer.new)) }
     ensures state { state_in drive.new ≡ state_in drive.old }
     ensures store { store_of drive.new ≡ store_of drive.old }
 {
@@ -224,7 +243,8 @@ fn none_text(differs: bool) -> &'static str
 // Writes the end of a page, which says it where nothing differs.
 fn write_end<W: Sink>(differs: bool, writer: &mut W) -> Result<(), Stop>
     requires writer { W.failures writer.old + 1 < 2 ^ 64 }
-    ensures { OnOk result (Appends (W.passed writer.old) (W.passed writer.new) (page_text (end_of differs))) }
+    ensures { OnOk result
+        (Appends (W.passed writer.old) (W.passed writer.new) (page_text (end_of differs))) }
 {
     write_out(writer, none_text(differs).as_bytes())?;
     write_out(writer, PAGE_END.as_bytes())

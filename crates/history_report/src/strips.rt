@@ -1,5 +1,6 @@
 //! The strips of a timeline: one for each object.
-ghost use Rattle.std.specs.Prelude.{◌≡◌, ◌++◌, ◌+◌, ◌^◌, ◌<◌, nat_le, filter, IfOk, OnOk, string_bytes};
+ghost use Rattle.std.specs.Prelude.{◌≡◌, ◌++◌, ◌+◌, ◌^◌, ◌<◌, nat_le, filter, IfOk, OnOk};
+ghost use Rattle.std.specs.Prelude.{string_bytes};
 ghost use Rattle.std.specs.Io.KnownBytes.{Appends};
 ghost use Rattle.window.specs.Runs.{Ascend, span_is_of};
 ghost use Rattle.drive.specs.Fields.{state_in, store_of};
@@ -63,7 +64,8 @@ fn strip_by(
     changes: &[ObjectChange],
 ) -> Result<String, AllocError>
     requires { Ascend runs.now }
-    ensures { IfOk result (λ text. string_bytes text ≡ page_text (strip_by scale.now runs.now object changes.now)) }
+    ensures { IfOk result
+        (λ text. string_bytes text ≡ page_text (strip_by scale.now runs.now object changes.now)) }
 {
     let mut text = strip_head(alloc, object)?;
     push_runs(
@@ -88,7 +90,10 @@ fn strip_text<J: Naming>(
     runs: &[Span],
 ) -> Result<String, Refusal>
     requires { Ascend runs.now }
-    ensures strip { IfOk result (λ text. string_bytes text ≡ page_text (strip_of scale.now (state_in drive.old) (store_of drive.old) runs.now object)) }
+    ensures strip { IfOk result
+        (λ text. string_bytes text
+        ≡ page_text
+        (strip_of scale.now (state_in drive.old) (store_of drive.old) runs.now object)) }
     ensures ledger { drive.new.ledger ≡ drive.old.ledger }
     ensures store { store_of drive.new ≡ store_of drive.old }
 {
@@ -111,7 +116,10 @@ fn write_strip<J: Naming, W: Sink>(
 ) -> Result<(), Stop>
     requires ordered { Ascend runs.now }
     requires writer { W.failures writer.old + 1 < 2 ^ 64 }
-    ensures strip { OnOk result (Appends (W.passed writer.old) (W.passed writer.new) (page_text (strip_of scale.now (state_in drive.old) (store_of drive.old) runs.now object))) }
+    ensures strip { OnOk result
+        (Appends (W.passed writer.old) (W.passed writer.new)
+        (page_text
+        (strip_of scale.now (state_in drive.old) (store_of drive.old) runs.now object))) }
     ensures failures { OnOk result (W.failures writer.new ≡ W.failures writer.old) }
     ensures ledger { drive.new.ledger ≡ drive.old.ledger }
     ensures store { store_of drive.new ≡ store_of drive.old }
@@ -133,7 +141,9 @@ pub(crate) fn write_strips<J: Naming, W: Sink>(
 ) -> Result<(), Stop>
     requires ordered { Ascend runs.now }
     requires writer { W.failures writer.old + 1 < 2 ^ 64 }
-    ensures strips { OnOk result (WritesStrips scale.now (state_in drive.old) (store_of drive.old) runs.now (W.passed writer.old) (W.passed writer.new)) }
+    ensures strips { OnOk result
+        (WritesStrips scale.now (state_in drive.old) (store_of drive.old) runs.now
+        (W.passed writer.old) (W.passed writer.new)) }
     ensures failures { OnOk result (W.failures writer.new ≡ W.failures writer.old) }
     ensures ledger { drive.new.ledger ≡ drive.old.ledger }
     ensures store { store_of drive.new ≡ store_of drive.old }

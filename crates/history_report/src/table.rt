@@ -51,7 +51,8 @@ fn write_row<W: Sink>(
     writer: &mut W,
 ) -> Result<(), Stop>
     requires writer { W.failures writer.old + 1 < 2 ^ 64 }
-    ensures row { OnOk result (Appends (W.passed writer.old) (W.passed writer.new) (page_text (row_of style row.now))) }
+    ensures row { OnOk result
+        (Appends (W.passed writer.old) (W.passed writer.new) (page_text (row_of style row.now))) }
     ensures failures { OnOk result (W.failures writer.new ≡ W.failures writer.old) }
 {
     let text = match row_text(alloc, row, style) {
@@ -71,7 +72,9 @@ pub(crate) fn write_rows<J: Naming, W: Sink>(
     writer: &mut W,
 ) -> Result<(), Stop>
     requires writer { W.failures writer.old + 1 < 2 ^ 64 }
-    ensures rows { OnOk result (WritesRows (state_in drive.old) (store_of drive.old) at style (W.passed writer.old) (W.passed writer.new)) }
+    ensures rows { OnOk result
+        (WritesRows (state_in drive.old) (store_of drive.old) at style (W.passed writer.old)
+        (W.passed writer.new)) }
     ensures failures { OnOk result (W.failures writer.new ≡ W.failures writer.old) }
     ensures ledger { drive.new.ledger ≡ drive.old.ledger }
     ensures store { store_of drive.new ≡ store_of drive.old }

@@ -244,7 +244,7 @@ stands_none s = record { rest = λ q lt apart. refl; past = past_same s s refl }
 pub goes_none : (s : State) (at : ℕ) → GoesOn s s at [] []
 goes_none s at = record { aims_are = refl; each = tt; placed = tt; numbered = tt; next = refl; begun = inl refl }
 
--- what stands by the first objects stands by all
+-- what is by the first objects is by all
 pub stands_whole : (s later : State) (aims : List Aim) (n : ℕ) → StandsBy s later (take n aims) → StandsBy s later aims
 stands_whole s later aims n before = record { rest = λ q lt apart. before.rest q lt (all_front (λ (a : Aim). q ≢ a.target) aims n apart); past = before.past }
 
@@ -275,7 +275,7 @@ pub ascending_item : (high : ℕ) (aims : List Aim) (i : ℕ) (a : Aim) → Asce
 ascending_item high aims i a ascend lt is =
     (subst (λ (x : Aim). x.target < high) (sym is) (ascending_at 0 high aims i a ascend lt).1, subst (λ (x : Aim). AllByRecursion (λ (p : Aim). x.target ≢ p.target) (take i aims)) (sym is) (ascending_apart 0 high aims i a ascend lt))
 
--- what stands by all objects where one of them was the last
+-- what is by all objects where one of them was the last
 pub stands_after : (s middle later : State) (at : ℕ) (aims : List Aim) (i : ℕ) (a : Aim) → i < length aims → a ≡ get_or aims i a → StandsBy s middle (take i aims) → LeavesOthers (number_after middle a at) middle later → LeavesPast middle later → StandsBy s later aims
 stands_after s middle later at aims i a lt is before others past =
     stands_whole s later aims (i + 1) (subst (StandsBy s later) (sym (one_more aims i a lt is)) (stands_on s middle later at (take i aims) a before others past))

@@ -41,7 +41,7 @@ joined bytes first size =
     ∙ ap (λ rest. take first bytes ++ rest) (take-append-drop size (drop first bytes))
     ∙ take-append-drop first bytes
 
--- two lists with the same front have so many bytes both
+-- two lists with the same front have this many bytes both
 reaches : (bytes now : List ℕ) (first : ℕ) → first ≤ length bytes → take first bytes ≡ take first now → first ≤ length now
 reaches bytes now first within same =
     let lengths : min first (length bytes) ≡ min first (length now) = sym (length-take first bytes) ∙ ap length same ∙ length-take first now in

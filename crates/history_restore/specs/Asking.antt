@@ -24,7 +24,7 @@ pub record Makes (s : State) (change : Change) (later : State) : Type 0 where
 abbrev pub Grants : State → Request → State → Type 0
 Grants s request later = (change : Change) → change_of s request ≡ Some change → Makes s change later
 
--- what is left to refuse of a change of an object that is there, within the limits: want of memory, of room or of a full journal's, or the
+-- what is left to refuse of a change of an object that is there, within the limits: lack of memory, of room or of a full journal's, or the
 -- clock's end
 abbrev pub is_left : Refusal → Bool
 is_left ClockEnd = true
@@ -64,6 +64,6 @@ IsFullFor store s request refusal = refusal ≡ ChainFull → (change : Change) 
 abbrev pub IsFullForOne : StoreFields → List Change → Refusal → Type 0
 IsFullForOne store changes refusal = refusal ≡ ChainFull → FindsFull store changes
 
--- So many changes since a state were made by moments of a clock, or none was: the clock passed the greater of both by that number at most.
+-- This many changes since a state were made by moments of a clock, or none was: the clock passed the greater of both by that number at most.
 abbrev pub IsWithinChanges : State → ℕ → ℕ → State → Type 0
 IsWithinChanges s now count later = later.clock ≤ max s.clock now + count

@@ -19,7 +19,7 @@ abbrev pub IsCut : List ℕ → List ℕ → Option ℕ → Type 0
 IsCut bytes now None = length now ≤ length bytes
 IsCut bytes now (Some size) = (size ≡ length bytes) × (length bytes < length now)
 
--- A patch has the bytes that an object had, from the first to the last that differs or is missing now: in front of it and behind it
+-- A patch has the bytes that an object had, from the first to the last that differs or is missing now: in front of it and after it
 -- they are the same, and neither its first nor its last byte is.
 pub record IsPatch (bytes now : List ℕ) (patch : Patch) : Type 0 where
   pub some : 0 < patch.length

@@ -38,11 +38,11 @@ pub record Restores (s later : State) (aim : Aim) (at : ℕ) (restored : Restore
   pub next : later.next ≡ next_by_plan restored.plan s.next
   pub content : content_of (present later restored.number) ≡ content_of (version_of s aim.object at)
 
--- Why an object's versions weren't read: its moment can't be, or for want of memory or of a pin.
+-- Why an object's versions weren't read: its moment can't be, or for lack of memory or of a pin.
 abbrev pub IsUnread : State → ℕ → ℕ → Refusal → Type 0
 IsUnread s o at refusal = (moment_refusal s o at ≡ Some refusal) ⊎ ((refusal ≡ NoMemory) ⊎ (refusal ≡ Busy))
 
--- The moments of an object that nothing to be kept needs: those behind the moment asked for and before its last change. Its version at the
+-- The moments of an object that nothing to be kept needs: those after the moment asked for and before its last change. Its version at the
 -- former and its present one stay; the versions between them are what a flush frees.
 abbrev pub between : ℕ → ℕ → Version → Option Span
 between o at now = if nat_le (min (at + 1) last_number) (changed_in now - 1) then Some (record { object = o; first = min (at + 1) last_number; last = changed_in now - 1 }) else None
@@ -53,7 +53,7 @@ flush_for o at now ChainFull = between o at now
 flush_for o at now _ = None
 
 -- Why an object wasn't restored, and what that leaves: its versions weren't read, and the state is what it was; or the moment can be read
--- and a request was refused, which is for want of memory or room, for a full journal or at the clock's end, of a version within the limits.
+-- and a request was refused, which is for lack of memory or room, for a full journal or at the clock's end, of a version within the limits.
 -- Where the journal is full, a flush is told.
 pub record IsStopped (s later : State) (aim : Aim) (at : ℕ) (failure : Failure) : Type 0 where
   pub aim_is : failure.aim ≡ aim

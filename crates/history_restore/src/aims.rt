@@ -2,7 +2,9 @@
 ghost use Rattle.std.specs.Prelude.{◌≡◌, filter, not, IfOk, IfErr};
 ghost use Rattle.s4_model.specs.Refusals.{is_absent};
 ghost use Rattle.drive.specs.Fields.{state_in, store_of};
-ghost use Rattle.history_restore.specs.Aims.{AreAims, AreAskedAims, aim_by, aims_by, counting, counts, has_stand_in, is_asked, is_not_skipped, object_for, own_aim};
+ghost use Rattle.history_restore.specs.Aims.{AreAims, AreAskedAims, aim_by, aims_by, counting};
+ghost use Rattle.history_restore.specs.Aims.{counts, has_stand_in, is_asked, is_not_skipped};
+ghost use Rattle.history_restore.specs.Aims.{object_for, own_aim};
 ghost use Rattle.history_restore.specs.Planning.{IsUnplanned};
 ghost use Rattle.history_restore.specs.Restoring.{IsUnread};
 
@@ -49,7 +51,8 @@ fn is_there(version: &Version) -> bool
     }
 }
 
-/// Whether a stand-in counts: its object was there at the moment and isn't any more, and what was made anew for it is there.
+/// Whether a stand-in counts: its object was there at the moment and isn't any more, and what was
+/// made anew for it is there.
 fn does_count<J: Naming>(
     alloc: Global,
     drive: &mut Drive<J>,
@@ -86,7 +89,8 @@ fn counting<J: Naming>(
     stand_ins: &[StandIn],
     at: Moment,
 ) -> Result<Vec<StandIn>, Failure>
-    ensures found { IfOk result (λ found. found.items ≡ counting (state_in drive.old) at stand_ins.now) }
+    ensures found { IfOk result
+        (λ found. found.items ≡ counting (state_in drive.old) at stand_ins.now) }
     ensures unplanned { IfErr result (IsUnplanned (state_in drive.old) at) }
     ensures state { state_in drive.new ≡ state_in drive.old }
     ensures store { store_of drive.new ≡ store_of drive.old }
@@ -128,7 +132,8 @@ fn object_for(stand_ins: &[StandIn], number: ObjectId) -> ObjectId
     number
 }
 
-/// The object that a number is the stand-in of, by those of these that count; the number's own where it is none.
+/// The object that a number is the stand-in of, by those of these that count; the number's own
+/// where it is none.
 #[tactic(auto, using(crate::proofs::Aimed::counted_here, crate::proofs::Aimed::counted_next, crate::proofs::Aimed::counted_own))]
 fn object_at<J: Naming>(
     alloc: Global,
@@ -138,7 +143,8 @@ fn object_at<J: Naming>(
     number: ObjectId,
     at: Moment,
 ) -> Result<ObjectId, Failure>
-    ensures object { IfOk result (λ object. object ≡ object_for (counting (state_in drive.old) at stand_ins.now) number) }
+    ensures object { IfOk result
+        (λ object. object ≡ object_for (counting (state_in drive.old) at stand_ins.now) number) }
     ensures unplanned { IfErr result (IsUnplanned (state_in drive.old) at) }
     ensures state { state_in drive.new ≡ state_in drive.old }
     ensures store { store_of drive.new ≡ store_of drive.old }
@@ -156,7 +162,8 @@ fn object_at<J: Naming>(
     Ok(number)
 }
 
-/// What a number is restored as: the object that it is the stand-in of, where that counts, or by itself. Nothing is done.
+/// What a number is restored as: the object that it is the stand-in of, where that counts, or by
+/// itself. Nothing is done.
 ///
 /// An error as of [`plan_objects`](crate::plan_objects).
 pub fn aim_at<J: Naming>(
@@ -167,7 +174,8 @@ pub fn aim_at<J: Naming>(
     number: ObjectId,
     at: Moment,
 ) -> Result<Aim, Failure>
-    ensures aim { IfOk result (λ aim. aim ≡ aim_by (counting (state_in drive.old) at stand_ins.now) number) }
+    ensures aim { IfOk result
+        (λ aim. aim ≡ aim_by (counting (state_in drive.old) at stand_ins.now) number) }
     ensures unplanned { IfErr result (IsUnplanned (state_in drive.old) at) }
     ensures state { state_in drive.new ≡ state_in drive.old }
     ensures store { store_of drive.new ≡ store_of drive.old }
@@ -227,11 +235,13 @@ pub fn aims_without(
     Ok(left)
 }
 
-/// The aims of all objects that have a row, by the ascending numbers under which they are restored. An object that was made anew by an
-/// earlier restore has the number of what was made, its stand-in, as long as that is there; a stand-in has no aim by itself.
+/// The aims of all objects that have a row, by the ascending numbers under which they are restored.
+/// An object that was made anew by an earlier restore has the number of what was made, its
+/// stand-in, as long as that is there; a stand-in has no aim by itself.
 ///
-/// Future, Expired or Flushed where the moment can't be read of the object of a stand-in; NoMemory where memory was refused, of object 0
-/// where that was for a list of all; Busy where a read would have needed a pin.
+/// Future, Expired or Flushed where the moment can't be read of the object of a stand-in; NoMemory
+/// where memory was refused, of object 0 where that was for a list of all; Busy where a read would
+/// have needed a pin.
 pub fn all_aims<J: Naming>(
     alloc: Global,
     drive: &mut Drive<J>,
@@ -239,7 +249,8 @@ pub fn all_aims<J: Naming>(
     stand_ins: &[StandIn],
     at: Moment,
 ) -> Result<Vec<Aim>, Failure>
-    ensures aims { IfOk result (λ aims. AreAims (state_in drive.old) (store_of drive.old) at stand_ins.now aims.items) }
+    ensures aims { IfOk result
+        (λ aims. AreAims (state_in drive.old) (store_of drive.old) at stand_ins.now aims.items) }
     ensures unplanned { IfErr result (IsUnplanned (state_in drive.old) at) }
     ensures state { state_in drive.new ≡ state_in drive.old }
     ensures store { store_of drive.new ≡ store_of drive.old }
@@ -259,7 +270,8 @@ pub fn all_aims<J: Naming>(
     }
 }
 
-/// The aims of those objects that are asked for and have a row, by the ascending numbers under which they are restored.
+/// The aims of those objects that are asked for and have a row, by the ascending numbers under
+/// which they are restored.
 ///
 /// An error as of [`all_aims`].
 pub fn asked_aims<J: Naming>(
@@ -270,7 +282,9 @@ pub fn asked_aims<J: Naming>(
     asked: &[ObjectId],
     at: Moment,
 ) -> Result<Vec<Aim>, Failure>
-    ensures aims { IfOk result (λ aims. AreAskedAims (state_in drive.old) (store_of drive.old) at stand_ins.now asked.now aims.items) }
+    ensures aims { IfOk result
+        (λ aims. AreAskedAims (state_in drive.old) (store_of drive.old) at stand_ins.now asked.now
+        aims.items) }
     ensures unplanned { IfErr result (IsUnplanned (state_in drive.old) at) }
     ensures state { state_in drive.new ≡ state_in drive.old }
     ensures store { store_of drive.new ≡ store_of drive.old }

@@ -3,7 +3,8 @@ ghost use Rattle.std.specs.Prelude.{OnOk, IfErr};
 ghost use Rattle.s4_model.specs.Refusals.{first_refusal};
 ghost use Rattle.drive.specs.Fields.{state_in, store_of};
 ghost use Rattle.drive.specs.Later.{IsOfVersions, object_asked};
-ghost use Rattle.history_restore.specs.Asking.{Grants, IsGiven, IsFullFor, IsWithinChanges, StoresAsked};
+ghost use Rattle.history_restore.specs.Asking.{Grants, IsGiven, IsFullFor, IsWithinChanges};
+ghost use Rattle.history_restore.specs.Asking.{StoresAsked};
 ghost use Rattle.history_restore.specs.Keeping.{LeavesPast, LeavesOthers};
 
 use drive::{Drive, Session};
@@ -11,7 +12,8 @@ use s4_model::laws::{a_change_acts_at_its_moment, the_state_goes_on_record_by_re
 use s4_types::{Moment, Refusal, Reply, Request};
 use segment_word::Naming;
 
-/// Asks for a change of an object, the next one's creation among them. Nothing but that object changes, whatever is answered.
+/// Asks for a change of an object, the next one's creation among them. Nothing but that object
+/// changes, whatever is answered.
 pub(crate) fn ask<J: Naming>(
     drive: &mut Drive<J>,
     session: &mut Session<J>,
@@ -20,11 +22,14 @@ pub(crate) fn ask<J: Naming>(
 ) -> Result<(), Refusal>
     requires { IsOfVersions request }
     ensures granted { OnOk result (Grants (state_in drive.old) request (state_in drive.new)) }
-    ensures refused { IfErr result (IsGiven (first_refusal (state_in drive.old) session.old.role request)) }
-    ensures stored { OnOk result (StoresAsked (store_of drive.old) (state_in drive.old) request (store_of drive.new)) }
+    ensures refused { IfErr result
+        (IsGiven (first_refusal (state_in drive.old) session.old.role request)) }
+    ensures stored { OnOk result
+        (StoresAsked (store_of drive.old) (state_in drive.old) request (store_of drive.new)) }
     ensures full { IfErr result (IsFullFor (store_of drive.old) (state_in drive.old) request) }
     ensures clock { IsWithinChanges (state_in drive.old) now 1 (state_in drive.new) }
-    ensures others { LeavesOthers (object_asked (state_in drive.old).next request) (state_in drive.old) (state_in drive.new) }
+    ensures others { LeavesOthers (object_asked (state_in drive.old).next request)
+        (state_in drive.old) (state_in drive.new) }
     ensures past { LeavesPast (state_in drive.old) (state_in drive.new) }
 {
     the_state_goes_on_record_by_record();

@@ -1,5 +1,6 @@
 //! What a plan asks for, done by requests.
-ghost use Rattle.std.specs.Prelude.{◌≡◌, ◌+◌, ◌≤◌, [], ◌∷◌, if◌then◌else◌, true, false, length, IfOk, IfErr, OnOk};
+ghost use Rattle.std.specs.Prelude.{◌≡◌, ◌+◌, ◌≤◌, [], ◌∷◌, if◌then◌else◌, true, false, length};
+ghost use Rattle.std.specs.Prelude.{IfOk, IfErr, OnOk};
 ghost use Rattle.s4_types.specs.declared.changes.Change.TheVariants as change;
 ghost use Rattle.s4_types.specs.declared.limits.TheConstants.{OBJECT_BYTES, ATTRIBUTE_BYTES};
 ghost use Rattle.s4_model.specs.Limits.{IsWithinLimits};
@@ -7,8 +8,11 @@ ghost use Rattle.s4_model.specs.Refusals.{present, is_absent};
 ghost use Rattle.s4_model.specs.Step.{part};
 ghost use Rattle.drive.specs.Fields.{state_in, store_of};
 ghost use Rattle.history_restore.specs.Content.{content_of, holding, bytes_of, attribute_of};
-ghost use Rattle.history_restore.specs.Plans.{cut_by, written_by, attribute_by, turned, number_by, next_by_plan, FitsCut, IsWithinBytes, IsWithinPlan, IsThereFor};
-ghost use Rattle.history_restore.specs.Plans.{cut_changes, written_changes, attribute_changes, made_changes, changes_by};
+ghost use Rattle.history_restore.specs.Plans.{cut_by, written_by, attribute_by, turned, number_by};
+ghost use Rattle.history_restore.specs.Plans.{next_by_plan, FitsCut, IsWithinBytes, IsWithinPlan};
+ghost use Rattle.history_restore.specs.Plans.{IsThereFor};
+ghost use Rattle.history_restore.specs.Plans.{cut_changes, written_changes, attribute_changes};
+ghost use Rattle.history_restore.specs.Plans.{made_changes, changes_by};
 ghost use Rattle.history_restore.specs.Asking.{is_left, AreStored, IsFullForOne, IsWithinChanges};
 ghost use Rattle.history_restore.specs.Keeping.{LeavesPast, LeavesOthers};
 
@@ -57,12 +61,18 @@ fn cut<J: Naming>(
     size: Option<u64>,
     now: Moment,
 ) -> Result<(), Refusal>
-    ensures content { OnOk result (content_of (present (state_in drive.new) object) ≡ content_of (cut_by size object 0 (present (state_in drive.old) object))) }
+    ensures content { OnOk result
+        (content_of (present (state_in drive.new) object)
+        ≡ content_of (cut_by size object 0 (present (state_in drive.old) object))) }
     ensures next { OnOk result ((state_in drive.new).next ≡ (state_in drive.old).next) }
-    ensures refused { IfErr result (λ e. is_absent (present (state_in drive.old) object) ≡ false → FitsCut size → is_left e ≡ true) }
-    ensures stored { OnOk result (AreStored (store_of drive.old) (cut_changes object size) (store_of drive.new)) }
+    ensures refused { IfErr result
+        (λ e. is_absent (present (state_in drive.old) object) ≡ false → FitsCut size
+        → is_left e ≡ true) }
+    ensures stored { OnOk result
+        (AreStored (store_of drive.old) (cut_changes object size) (store_of drive.new)) }
     ensures full { IfErr result (IsFullForOne (store_of drive.old) (cut_changes object size)) }
-    ensures clock { IsWithinChanges (state_in drive.old) now (length (cut_changes object size)) (state_in drive.new) }
+    ensures clock { IsWithinChanges (state_in drive.old) now (length (cut_changes object size))
+        (state_in drive.new) }
     ensures others { LeavesOthers object (state_in drive.old) (state_in drive.new) }
     ensures past { LeavesPast (state_in drive.old) (state_in drive.new) }
 {
@@ -83,12 +93,22 @@ fn write_patch<J: Naming>(
     now: Moment,
 ) -> Result<(), Refusal>
     requires { patch.offset + patch.length ≤ length bytes.now }
-    ensures content { OnOk result (content_of (present (state_in drive.new) object) ≡ content_of (written_by bytes.now (Some patch) object 0 (present (state_in drive.old) object))) }
+    ensures content { OnOk result
+        (content_of (present (state_in drive.new) object)
+        ≡ content_of
+        (written_by bytes.now (Some patch) object 0
+        (present (state_in drive.old) object))) }
     ensures next { OnOk result ((state_in drive.new).next ≡ (state_in drive.old).next) }
-    ensures refused { IfErr result (λ e. is_absent (present (state_in drive.old) object) ≡ false → length bytes.now ≤ OBJECT_BYTES → is_left e ≡ true) }
-    ensures stored { OnOk result (AreStored (store_of drive.old) (written_changes object bytes.now (Some patch)) (store_of drive.new)) }
-    ensures full { IfErr result (IsFullForOne (store_of drive.old) (written_changes object bytes.now (Some patch))) }
-    ensures clock { IsWithinChanges (state_in drive.old) now (length (written_changes object bytes.now (Some patch))) (state_in drive.new) }
+    ensures refused { IfErr result
+        (λ e. is_absent (present (state_in drive.old) object) ≡ false
+        → length bytes.now ≤ OBJECT_BYTES → is_left e ≡ true) }
+    ensures stored { OnOk result
+        (AreStored (store_of drive.old) (written_changes object bytes.now (Some patch))
+        (store_of drive.new)) }
+    ensures full { IfErr result
+        (IsFullForOne (store_of drive.old) (written_changes object bytes.now (Some patch))) }
+    ensures clock { IsWithinChanges (state_in drive.old) now
+        (length (written_changes object bytes.now (Some patch))) (state_in drive.new) }
     ensures others { LeavesOthers object (state_in drive.old) (state_in drive.new) }
     ensures past { LeavesPast (state_in drive.old) (state_in drive.new) }
 {
@@ -115,12 +135,21 @@ fn write<J: Naming>(
     now: Moment,
 ) -> Result<(), Refusal>
     requires { IsWithinBytes bytes.now patch }
-    ensures content { OnOk result (content_of (present (state_in drive.new) object) ≡ content_of (written_by bytes.now patch object 0 (present (state_in drive.old) object))) }
+    ensures content { OnOk result
+        (content_of (present (state_in drive.new) object)
+        ≡ content_of
+        (written_by bytes.now patch object 0 (present (state_in drive.old) object))) }
     ensures next { OnOk result ((state_in drive.new).next ≡ (state_in drive.old).next) }
-    ensures refused { IfErr result (λ e. is_absent (present (state_in drive.old) object) ≡ false → length bytes.now ≤ OBJECT_BYTES → is_left e ≡ true) }
-    ensures stored { OnOk result (AreStored (store_of drive.old) (written_changes object bytes.now patch) (store_of drive.new)) }
-    ensures full { IfErr result (IsFullForOne (store_of drive.old) (written_changes object bytes.now patch)) }
-    ensures clock { IsWithinChanges (state_in drive.old) now (length (written_changes object bytes.now patch)) (state_in drive.new) }
+    ensures refused { IfErr result
+        (λ e. is_absent (present (state_in drive.old) object) ≡ false
+        → length bytes.now ≤ OBJECT_BYTES → is_left e ≡ true) }
+    ensures stored { OnOk result
+        (AreStored (store_of drive.old) (written_changes object bytes.now patch)
+        (store_of drive.new)) }
+    ensures full { IfErr result
+        (IsFullForOne (store_of drive.old) (written_changes object bytes.now patch)) }
+    ensures clock { IsWithinChanges (state_in drive.old) now
+        (length (written_changes object bytes.now patch)) (state_in drive.new) }
     ensures others { LeavesOthers object (state_in drive.old) (state_in drive.new) }
     ensures past { LeavesPast (state_in drive.old) (state_in drive.new) }
 {
@@ -140,12 +169,22 @@ fn set_attribute<J: Naming>(
     wanted: bool,
     now: Moment,
 ) -> Result<(), Refusal>
-    ensures content { OnOk result (content_of (present (state_in drive.new) object) ≡ content_of (attribute_by attribute.now wanted object 0 (present (state_in drive.old) object))) }
+    ensures content { OnOk result
+        (content_of (present (state_in drive.new) object)
+        ≡ content_of
+        (attribute_by attribute.now wanted object 0
+        (present (state_in drive.old) object))) }
     ensures next { OnOk result ((state_in drive.new).next ≡ (state_in drive.old).next) }
-    ensures refused { IfErr result (λ e. is_absent (present (state_in drive.old) object) ≡ false → length attribute.now ≤ ATTRIBUTE_BYTES → is_left e ≡ true) }
-    ensures stored { OnOk result (AreStored (store_of drive.old) (attribute_changes object attribute.now wanted) (store_of drive.new)) }
-    ensures full { IfErr result (IsFullForOne (store_of drive.old) (attribute_changes object attribute.now wanted)) }
-    ensures clock { IsWithinChanges (state_in drive.old) now (length (attribute_changes object attribute.now wanted)) (state_in drive.new) }
+    ensures refused { IfErr result
+        (λ e. is_absent (present (state_in drive.old) object) ≡ false
+        → length attribute.now ≤ ATTRIBUTE_BYTES → is_left e ≡ true) }
+    ensures stored { OnOk result
+        (AreStored (store_of drive.old) (attribute_changes object attribute.now wanted)
+        (store_of drive.new)) }
+    ensures full { IfErr result
+        (IsFullForOne (store_of drive.old) (attribute_changes object attribute.now wanted)) }
+    ensures clock { IsWithinChanges (state_in drive.old) now
+        (length (attribute_changes object attribute.now wanted)) (state_in drive.new) }
     ensures others { LeavesOthers object (state_in drive.old) (state_in drive.new) }
     ensures past { LeavesPast (state_in drive.old) (state_in drive.new) }
 {
@@ -169,12 +208,22 @@ fn change<J: Naming>(
     now: Moment,
 ) -> Result<(), Refusal>
     requires { IsWithinPlan (bytes_of before.now) (Plan.Change changes) }
-    ensures content { OnOk result (content_of (present (state_in drive.new) object) ≡ content_of (turned before.now (Plan.Change changes) object 0 (present (state_in drive.old) object))) }
+    ensures content { OnOk result
+        (content_of (present (state_in drive.new) object)
+        ≡ content_of
+        (turned before.now (Plan.Change changes) object 0
+        (present (state_in drive.old) object))) }
     ensures next { OnOk result ((state_in drive.new).next ≡ (state_in drive.old).next) }
-    ensures refused { IfErr result (λ e. IsWithinLimits before.now → is_absent (present (state_in drive.old) object) ≡ false → is_left e ≡ true) }
-    ensures stored { OnOk result (AreStored (store_of drive.old) (changes_by before.now (Plan.Change changes) 0 object) (store_of drive.new)) }
-    ensures full { IfErr result (IsFullForOne (store_of drive.old) (changes_by before.now (Plan.Change changes) 0 object)) }
-    ensures clock { IsWithinChanges (state_in drive.old) now (length (changes_by before.now (Plan.Change changes) 0 object)) (state_in drive.new) }
+    ensures refused { IfErr result
+        (λ e. IsWithinLimits before.now
+        → is_absent (present (state_in drive.old) object) ≡ false → is_left e ≡ true) }
+    ensures stored { OnOk result
+        (AreStored (store_of drive.old) (changes_by before.now (Plan.Change changes) 0 object)
+        (store_of drive.new)) }
+    ensures full { IfErr result
+        (IsFullForOne (store_of drive.old) (changes_by before.now (Plan.Change changes) 0 object)) }
+    ensures clock { IsWithinChanges (state_in drive.old) now
+        (length (changes_by before.now (Plan.Change changes) 0 object)) (state_in drive.new) }
     ensures others { LeavesOthers object (state_in drive.old) (state_in drive.new) }
     ensures past { LeavesPast (state_in drive.old) (state_in drive.new) }
 {
@@ -202,13 +251,22 @@ fn create<J: Naming>(
     now: Moment,
 ) -> Result<ObjectId, Refusal>
     ensures number { IfOk result (λ number. number ≡ (state_in drive.old).next) }
-    ensures content { OnOk result (content_of (present (state_in drive.new) (state_in drive.old).next) ≡ holding [] attribute.now) }
+    ensures content { OnOk result
+        (content_of (present (state_in drive.new) (state_in drive.old).next)
+        ≡ holding [] attribute.now) }
     ensures next { OnOk result ((state_in drive.new).next ≡ (state_in drive.old).next + 1) }
-    ensures refused { IfErr result (λ e. length attribute.now ≤ ATTRIBUTE_BYTES → is_left e ≡ true) }
-    ensures stored { OnOk result (AreStored (store_of drive.old) (change.Create (state_in drive.old).next attribute.now ∷ []) (store_of drive.new)) }
-    ensures full { IfErr result (IsFullForOne (store_of drive.old) (change.Create (state_in drive.old).next attribute.now ∷ [])) }
-    ensures clock { IsWithinChanges (state_in drive.old) now (length (change.Create (state_in drive.old).next attribute.now ∷ [])) (state_in drive.new) }
-    ensures others { LeavesOthers (state_in drive.old).next (state_in drive.old) (state_in drive.new) }
+    ensures refused { IfErr result
+        (λ e. length attribute.now ≤ ATTRIBUTE_BYTES → is_left e ≡ true) }
+    ensures stored { OnOk result
+        (AreStored (store_of drive.old) (change.Create (state_in drive.old).next attribute.now ∷ [])
+        (store_of drive.new)) }
+    ensures full { IfErr result
+        (IsFullForOne (store_of drive.old)
+        (change.Create (state_in drive.old).next attribute.now ∷ [])) }
+    ensures clock { IsWithinChanges (state_in drive.old) now
+        (length (change.Create (state_in drive.old).next attribute.now ∷ [])) (state_in drive.new) }
+    ensures others { LeavesOthers (state_in drive.old).next (state_in drive.old)
+        (state_in drive.new) }
     ensures past { LeavesPast (state_in drive.old) (state_in drive.new) }
 {
     let number = drive.next();
@@ -228,13 +286,26 @@ fn remake<J: Naming>(
     now: Moment,
 ) -> Result<ObjectId, Refusal>
     ensures number { IfOk result (λ number. number ≡ (state_in drive.old).next) }
-    ensures content { OnOk result (content_of (present (state_in drive.new) (state_in drive.old).next) ≡ holding (bytes_of before.now) (attribute_of before.now)) }
+    ensures content { OnOk result
+        (content_of (present (state_in drive.new) (state_in drive.old).next)
+        ≡ holding (bytes_of before.now) (attribute_of before.now)) }
     ensures next { OnOk result ((state_in drive.new).next ≡ (state_in drive.old).next + 1) }
     ensures refused { IfErr result (λ e. IsWithinLimits before.now → is_left e ≡ true) }
-    ensures stored { OnOk result (AreStored (store_of drive.old) (change.Create (state_in drive.old).next (attribute_of before.now) ∷ made_changes (state_in drive.old).next (bytes_of before.now)) (store_of drive.new)) }
-    ensures full { IfErr result (IsFullForOne (store_of drive.old) (change.Create (state_in drive.old).next (attribute_of before.now) ∷ made_changes (state_in drive.old).next (bytes_of before.now))) }
-    ensures clock { IsWithinChanges (state_in drive.old) now (length (change.Create (state_in drive.old).next (attribute_of before.now) ∷ made_changes (state_in drive.old).next (bytes_of before.now))) (state_in drive.new) }
-    ensures others { LeavesOthers (state_in drive.old).next (state_in drive.old) (state_in drive.new) }
+    ensures stored { OnOk result
+        (AreStored (store_of drive.old)
+        (change.Create (state_in drive.old).next (attribute_of before.now)
+        ∷ made_changes (state_in drive.old).next (bytes_of before.now))
+        (store_of drive.new)) }
+    ensures full { IfErr result
+        (IsFullForOne (store_of drive.old)
+        (change.Create (state_in drive.old).next (attribute_of before.now)
+        ∷ made_changes (state_in drive.old).next (bytes_of before.now))) }
+    ensures clock { IsWithinChanges (state_in drive.old) now
+        (length
+        (change.Create (state_in drive.old).next (attribute_of before.now)
+        ∷ made_changes (state_in drive.old).next (bytes_of before.now))) (state_in drive.new) }
+    ensures others { LeavesOthers (state_in drive.old).next (state_in drive.old)
+        (state_in drive.new) }
     ensures past { LeavesPast (state_in drive.old) (state_in drive.new) }
 {
     let number = create(alloc, drive, session, attribute_of(before), now)?;
@@ -255,14 +326,27 @@ pub(crate) fn perform<J: Naming>(
     now: Moment,
 ) -> Result<ObjectId, Refusal>
     requires { IsWithinPlan (bytes_of before.now) plan }
-    ensures number { IfOk result (λ number. number ≡ number_by plan (state_in drive.old).next object) }
-    ensures content { OnOk result (content_of (present (state_in drive.new) (number_by plan (state_in drive.old).next object)) ≡ content_of (turned before.now plan object 0 (present (state_in drive.old) object))) }
-    ensures next { OnOk result ((state_in drive.new).next ≡ next_by_plan plan (state_in drive.old).next) }
-    ensures refused { IfErr result (λ e. IsWithinLimits before.now → IsThereFor plan (present (state_in drive.old) object) → is_left e ≡ true) }
-    ensures stored { OnOk result (AreStored (store_of drive.old) (changes_by before.now plan (state_in drive.old).next object) (store_of drive.new)) }
-    ensures full { IfErr result (IsFullForOne (store_of drive.old) (changes_by before.now plan (state_in drive.old).next object)) }
-    ensures clock { IsWithinChanges (state_in drive.old) now (length (changes_by before.now plan (state_in drive.old).next object)) (state_in drive.new) }
-    ensures others { LeavesOthers (number_by plan (state_in drive.old).next object) (state_in drive.old) (state_in drive.new) }
+    ensures number { IfOk result
+        (λ number. number ≡ number_by plan (state_in drive.old).next object) }
+    ensures content { OnOk result
+        (content_of (present (state_in drive.new) (number_by plan (state_in drive.old).next object))
+        ≡ content_of (turned before.now plan object 0 (present (state_in drive.old) object))) }
+    ensures next { OnOk result
+        ((state_in drive.new).next ≡ next_by_plan plan (state_in drive.old).next) }
+    ensures refused { IfErr result
+        (λ e. IsWithinLimits before.now
+        → IsThereFor plan (present (state_in drive.old) object) → is_left e ≡ true) }
+    ensures stored { OnOk result
+        (AreStored (store_of drive.old)
+        (changes_by before.now plan (state_in drive.old).next object) (store_of drive.new)) }
+    ensures full { IfErr result
+        (IsFullForOne (store_of drive.old)
+        (changes_by before.now plan (state_in drive.old).next object)) }
+    ensures clock { IsWithinChanges (state_in drive.old) now
+        (length (changes_by before.now plan (state_in drive.old).next object))
+        (state_in drive.new) }
+    ensures others { LeavesOthers (number_by plan (state_in drive.old).next object)
+        (state_in drive.old) (state_in drive.new) }
     ensures past { LeavesPast (state_in drive.old) (state_in drive.new) }
 {
     match plan {

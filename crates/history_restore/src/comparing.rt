@@ -1,4 +1,5 @@
-//! What an object was at a moment, beside what is there now under the number under which it is restored.
+//! What an object was at a moment, beside what is there now under the number under which it is
+//! restored.
 ghost use Rattle.std.specs.Prelude.{◌≡◌, IfOk, IfErr, OnOk};
 ghost use Rattle.s4_model.specs.Refusals.{present};
 ghost use Rattle.s4_model.specs.VersionAt.{version_of};
@@ -22,7 +23,8 @@ pub(crate) struct Compared {
     pub(crate) latest: Version,
 }
 
-/// What an object was at a moment that can be read, and what is there now under its number or that of its stand-in.
+/// What an object was at a moment that can be read, and what is there now under its number or that
+/// of its stand-in.
 pub(crate) fn compare<J: Naming>(
     alloc: Global,
     drive: &mut Drive<J>,
@@ -30,7 +32,8 @@ pub(crate) fn compare<J: Naming>(
     aim: &Aim,
     at: Moment,
 ) -> Result<Compared, Refusal>
-    ensures earlier { IfOk result (λ c. c.earlier ≡ version_of (state_in drive.old) aim.now.object at) }
+    ensures earlier { IfOk result
+        (λ c. c.earlier ≡ version_of (state_in drive.old) aim.now.object at) }
     ensures latest { IfOk result (λ c. c.latest ≡ present (state_in drive.old) aim.now.target) }
     ensures visible { OnOk result (IsVisible (state_in drive.old) aim.now.object at) }
     ensures refused { IfErr result (IsUnread (state_in drive.old) aim.now.object at) }

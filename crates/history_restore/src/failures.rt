@@ -12,11 +12,14 @@ use s4_types::{Moment, ObjectId, Refusal, Span, Version};
 pub struct Failure {
     /// The object, and the number under which it was to be restored.
     pub aim: Aim,
-    /// Future, Expired or Flushed where the moment can't be read, Expired also where the floor has passed it while other objects were
-    /// restored. ChainFull where the journal of that number is full, NoSpace where there is too little room for blocks, ClockEnd where no later
-    /// moment or no further number is left. NoMemory where memory was refused, Busy where a read would have needed a pin.
+    /// Future, Expired or Flushed where the moment can't be read, Expired also where the floor has
+    /// passed it while other objects were restored. ChainFull where the journal of that number is
+    /// full, NoSpace where there is too little room for blocks, ClockEnd where no later moment or
+    /// no further number is left. NoMemory where memory was refused, Busy where a read would have
+    /// needed a pin.
     pub refusal: Refusal,
-    /// Where the journal is full: the moments of that number whose flush may make room in it, if there are such.
+    /// Where the journal is full: the moments of that number whose flush may make room in it, if
+    /// there are such.
     pub flush: Option<Span>,
 }
 
@@ -29,8 +32,9 @@ fn changed_in(version: &Version) -> Moment
     }
 }
 
-/// The moments between the one asked for and the object's last change, both left out. The version at the former is what is restored, and
-/// the last change made the present one, which is there as long as the object is; only what was there between them can be given up.
+/// The moments between the one asked for and the object's last change, both left out. The version
+/// at the former is what is restored, and the last change made the present one, which is there as
+/// long as the object is; only what was there between them can be given up.
 pub fn between(object: ObjectId, at: Moment, latest: &Version) -> Option<Span>
     ensures { result ≡ between object at latest.now }
 {

@@ -1,21 +1,27 @@
 //! What objects were at a moment, made their present again by requests of a session.
 //!
-//! The layers above may rely on this: `plan_of` says what has to be done to an object, by what it was and what it is, with as few requests
-//! as serve, and `laws` that this turns it back. `restore_object` does what `plan_object` plans: afterwards the object has exactly the bytes
-//! and the attribute that it had, under its own number, or under the next one where it was deleted since. `restore_all` does so with every
-//! object that has a row, `restore_objects` with those of them that are asked for. Whatever these answer, every other object is what it was,
-//! every version up to the clock stays, and no moment is hidden. `make_room` alone hides moments, of the one object that it is asked for,
-//! and then cleans that object's chain; `newest_versions` says which moments are those of its newest versions. A refusal for a full journal
-//! comes only where one of the plan's changes would make it too long.
+//! The layers above may rely on this: `plan_of` says what has to be done to an object, by what it
+//! was and what it is, with as few requests as serve, and `laws` that this turns it back.
+//! `restore_object` does what `plan_object` plans: afterwards the object has exactly the bytes and
+//! the attribute that it had, under its own number, or under the next one where it was deleted
+//! since. `restore_all` does so with every object that has a row, `restore_objects` with those of
+//! them that are asked for. Whatever these answer, every other object is what it was, every version
+//! up to the clock stays, and no moment is hidden. `make_room` alone hides moments, of the one
+//! object that it is asked for, and then cleans that object's chain; `newest_versions` says which
+//! moments are those of its newest versions. A refusal for a full journal comes only where one of
+//! the plan's changes would make it too long.
 //!
-//! An object that an earlier restore made anew may be restored under the number that it got: then that is what is compared with what the
-//! object was, and turned back. `laws` says that a second restore has nothing to do, where nothing was changed since.
+//! An object that an earlier restore made anew may be restored under the number that it got: then
+//! that is what is compared with what the object was, and turned back. `laws` says that a second
+//! restore has nothing to do, where nothing was changed since.
 //!
-//! `plan_all` and `plan_objects` say before anything is changed what these do to each object, and `count_changes` by how many changes.
-//! They are put together of `all_aims` or `asked_aims` and of `plan_each`; `aims_without` leaves numbers out between these.
-//! Each change moves the clock on, and the floor with it, so that the moment may fall below the floor while objects are restored; that is
-//! refused then, and what was done before stays. `widen_window` keeps it in reach until that many changes are made: `laws` says so. Whoever
-//! saves the drive saves it only where all was done.
+//! `plan_all` and `plan_objects` say before anything is changed what these do to each object, and
+//! `count_changes` by how many changes. They are put together of `all_aims` or `asked_aims` and of
+//! `plan_each`; `aims_without` leaves numbers out between these. Each change moves the clock on,
+//! and the floor with it, so that the moment may fall below the floor while objects are restored;
+//! that is refused then, and what was done before stays. `widen_window` keeps it in reach until
+//! that many changes are made: `laws` says so. Whoever saves the drive saves it only where all was
+//! done.
 #![tactic(auto)]
 
 mod aims;

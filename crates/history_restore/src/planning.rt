@@ -3,7 +3,8 @@ ghost use Rattle.std.specs.Prelude.{◌≡◌, ◌+◌, ◌≤◌, if◌then◌e
 ghost use Rattle.s4_model.specs.Refusals.{last_number};
 ghost use Rattle.drive.specs.Fields.{state_in, store_of};
 ghost use Rattle.history_restore.specs.Plans.{change_count, count_of};
-ghost use Rattle.history_restore.specs.Planning.{IsPlanned, IsUnplanned, PlansEach, aims_planned, changes_planned, is_older};
+ghost use Rattle.history_restore.specs.Planning.{IsPlanned, IsUnplanned, PlansEach, aims_planned};
+ghost use Rattle.history_restore.specs.Planning.{changes_planned, is_older};
 ghost use Rattle.history_restore.specs.Whole.{PlansAll, PlansAsked, is_chosen};
 
 use crate::aims::{Aim, StandIn, all_aims, asked_aims};
@@ -52,7 +53,8 @@ pub fn plan_each<J: Naming>(
     aims: &[Aim],
     at: Moment,
 ) -> Result<Vec<ObjectPlan>, Failure>
-    ensures planned { IfOk result (λ plans. PlansEach (state_in drive.old) at aims.now plans.items) }
+    ensures planned { IfOk result
+        (λ plans. PlansEach (state_in drive.old) at aims.now plans.items) }
     ensures unplanned { IfErr result (IsUnplanned (state_in drive.old) at) }
     ensures state { state_in drive.new ≡ state_in drive.old }
     ensures store { store_of drive.new ≡ store_of drive.old }
@@ -71,12 +73,12 @@ pub fn plan_each<J: Naming>(
     Ok(plans)
 }
 
-/// What [`restore_objects`](crate::restore_objects) would do to the objects that are asked for. Nothing is done. An object that was made
-/// anew by an earlier restore is planned under the number of what was made, its stand-in, as long as that is there; a stand-in isn't
-/// planned by itself.
+/// What [`restore_objects`](crate::restore_objects) would do to the objects that are asked for.
+/// Nothing is done. An object that was made anew by an earlier restore is planned under the number
+/// of what was made, its stand-in, as long as that is there; a stand-in isn't planned by itself.
 ///
-/// Future, Expired or Flushed where the moment can't be read of one of them, with its number; NoMemory where memory was refused,
-/// Busy where a read would have needed a pin.
+/// Future, Expired or Flushed where the moment can't be read of one of them, with its number;
+/// NoMemory where memory was refused, Busy where a read would have needed a pin.
 pub fn plan_objects<J: Naming>(
     alloc: Global,
     drive: &mut Drive<J>,
@@ -85,7 +87,9 @@ pub fn plan_objects<J: Naming>(
     asked: &[ObjectId],
     at: Moment,
 ) -> Result<Vec<ObjectPlan>, Failure>
-    ensures planned { IfOk result (λ plans. PlansAsked (state_in drive.old) (store_of drive.old) at stand_ins.now asked.now plans.items) }
+    ensures planned { IfOk result
+        (λ plans. PlansAsked (state_in drive.old) (store_of drive.old) at stand_ins.now asked.now
+        plans.items) }
     ensures unplanned { IfErr result (IsUnplanned (state_in drive.old) at) }
     ensures state { state_in drive.new ≡ state_in drive.old }
     ensures store { store_of drive.new ≡ store_of drive.old }
@@ -97,8 +101,8 @@ pub fn plan_objects<J: Naming>(
     plan_each(alloc, drive, session, aims.as_slice(), at)
 }
 
-/// What [`restore_all`](crate::restore_all) would do to each object that has a row, with stand-ins as [`plan_objects`] has them. Nothing is
-/// done.
+/// What [`restore_all`](crate::restore_all) would do to each object that has a row, with stand-ins
+/// as [`plan_objects`] has them. Nothing is done.
 ///
 /// An error as of [`plan_objects`], of object 0 where there was no memory for a list of the rows.
 pub fn plan_all<J: Naming>(
@@ -108,7 +112,8 @@ pub fn plan_all<J: Naming>(
     stand_ins: &[StandIn],
     at: Moment,
 ) -> Result<Vec<ObjectPlan>, Failure>
-    ensures planned { IfOk result (λ plans. PlansAll (state_in drive.old) (store_of drive.old) at stand_ins.now plans.items) }
+    ensures planned { IfOk result
+        (λ plans. PlansAll (state_in drive.old) (store_of drive.old) at stand_ins.now plans.items) }
     ensures unplanned { IfErr result (IsUnplanned (state_in drive.old) at) }
     ensures state { state_in drive.new ≡ state_in drive.old }
     ensures store { store_of drive.new ≡ store_of drive.old }
@@ -138,7 +143,9 @@ fn count_if(wanted: bool) -> u64
 }
 
 fn count_of_changes(changes: &Changes) -> u64
-    ensures { result ≡ count_of changes.now.cut + (count_of changes.now.written + (if changes.now.attribute then 1 else 0)) }
+    ensures { result
+        ≡ count_of changes.now.cut
+        + (count_of changes.now.written + (if changes.now.attribute then 1 else 0)) }
 {
     count_of(changes.cut) + (count_of(changes.written) + count_if(changes.attribute))
 }
@@ -155,7 +162,8 @@ fn change_count(plan: &Plan) -> u64
     }
 }
 
-/// How many changes plans have together: as many moments as restoring takes. The greatest number where there are more.
+/// How many changes plans have together: as many moments as restoring takes. The greatest number
+/// where there are more.
 pub fn count_changes(plans: &[ObjectPlan]) -> u64
     ensures { result ≡ min last_number (changes_planned plans.now) }
 {
@@ -166,7 +174,8 @@ pub fn count_changes(plans: &[ObjectPlan]) -> u64
     count
 }
 
-/// Whether a plan is of an object that was there at the moment, or isn't there any more. One that was made since is to be deleted.
+/// Whether a plan is of an object that was there at the moment, or isn't there any more. One that
+/// was made since is to be deleted.
 fn is_older(plan: &Plan) -> bool
     ensures { result ≡ is_older plan.now }
 {
@@ -183,7 +192,8 @@ fn is_chosen(planned: &ObjectPlan, keep_newer: bool) -> bool
     !keep_newer || is_older(&planned.plan)
 }
 
-/// Of these plans those of objects that are to be restored: where newer objects are kept without those that were made since the moment.
+/// Of these plans those of objects that are to be restored: where newer objects are kept without
+/// those that were made since the moment.
 pub fn chosen_plans(
     alloc: Global,
     plans: &[ObjectPlan],

@@ -1,6 +1,7 @@
 //! What has to be done to an object, so that it is what it was.
 ghost use Rattle.std.specs.Prelude.{◌≡◌, ◌≢◌, ◌≤◌, length, MatchBool};
-ghost use Rattle.history_restore.specs.Plans.{IsCut, IsWritten, IsChangesOf, IsPlanBetween, IsPlan, is_idle};
+ghost use Rattle.history_restore.specs.Plans.{IsCut, IsWritten, IsChangesOf, IsPlanBetween, IsPlan};
+ghost use Rattle.history_restore.specs.Plans.{is_idle};
 
 use crate::differences::{end_of_difference, first_difference, front};
 use s4_types::Version;
@@ -30,7 +31,8 @@ pub enum Plan {
     Keep,
     /// It is deleted, as it wasn't there.
     Delete,
-    /// It isn't there any more: an object is made under the next number, with its attribute, and gets its bytes, of this length.
+    /// It isn't there any more: an object is made under the next number, with its attribute, and
+    /// gets its bytes, of this length.
     Remake(u64),
     /// It is changed.
     Change(Changes),
@@ -99,8 +101,9 @@ fn plan_between(bytes: &[u8], attribute: &[u8], now: &[u8], attribute_now: &[u8]
     }
 }
 
-/// What has to be done to an object, by what it was and what it is now. The plan is the only one: each request is there exactly where it is
-/// needed, and a write has no byte at either end that is what it was.
+/// What has to be done to an object, by what it was and what it is now. The plan is the only one:
+/// each request is there exactly where it is needed, and a write has no byte at either end that is
+/// what it was.
 pub fn plan_of(before: &Version, now: &Version) -> Plan
     ensures { IsPlan before.now now.now result }
 {

@@ -8,7 +8,8 @@ ghost use Rattle.drive.specs.Fields.{state_in, store_of};
 ghost use Rattle.history_restore.specs.Asking.{IsWithinChanges};
 ghost use Rattle.history_restore.specs.Plans.{IsPlan, change_count};
 ghost use Rattle.history_restore.specs.Keeping.{LeavesPast, LeavesOthers};
-ghost use Rattle.history_restore.specs.Restoring.{IsUnread, Restores, IsStopped, IsTooFull, number_after};
+ghost use Rattle.history_restore.specs.Restoring.{IsUnread, Restores, IsStopped, IsTooFull};
+ghost use Rattle.history_restore.specs.Restoring.{number_after};
 
 use crate::aims::Aim;
 use crate::changing::perform;
@@ -31,9 +32,11 @@ pub struct Restored {
     pub plan: Plan,
 }
 
-/// What would be done under a number, so that an object is what it was at a moment. Nothing is done.
+/// What would be done under a number, so that an object is what it was at a moment. Nothing is
+/// done.
 ///
-/// Future, Expired or Flushed where the moment can't be read; NoMemory where memory was refused; Busy alone else.
+/// Future, Expired or Flushed where the moment can't be read; NoMemory where memory was refused;
+/// Busy alone else.
 pub fn plan_object<J: Naming>(
     alloc: Global,
     drive: &mut Drive<J>,
@@ -41,7 +44,9 @@ pub fn plan_object<J: Naming>(
     aim: &Aim,
     at: Moment,
 ) -> Result<Plan, Refusal>
-    ensures plan { IfOk result (IsPlan (version_of (state_in drive.old) aim.now.object at) (present (state_in drive.old) aim.now.target)) }
+    ensures plan { IfOk result
+        (IsPlan (version_of (state_in drive.old) aim.now.object at)
+        (present (state_in drive.old) aim.now.target)) }
     ensures visible { OnOk result (IsVisible (state_in drive.old) aim.now.object at) }
     ensures refused { IfErr result (IsUnread (state_in drive.old) aim.now.object at) }
     ensures state { state_in drive.new ≡ state_in drive.old }
@@ -51,9 +56,10 @@ pub fn plan_object<J: Naming>(
     Ok(plan_of(&compared.earlier, &compared.latest))
 }
 
-/// Makes an object what it was at a moment, by requests at the moment `now` of the server's clock: exactly what [`plan_object`] plans.
-/// An object that was deleted since stays deleted, as numbers are given once; what it was is made anew under the next number. Where the
-/// number is that of a stand-in, this is what becomes what the object was.
+/// Makes an object what it was at a moment, by requests at the moment `now` of the server's clock:
+/// exactly what [`plan_object`] plans. An object that was deleted since stays deleted, as numbers
+/// are given once; what it was is made anew under the next number. Where the number is that of a
+/// stand-in, this is what becomes what the object was.
 ///
 /// A refusal says why, as [`Failure`] tells. What was done before it stays.
 pub fn restore_object<J: Naming>(
@@ -65,10 +71,16 @@ pub fn restore_object<J: Naming>(
     now: Moment,
 ) -> Result<Restored, Failure>
     ensures restored { IfOk result (Restores (state_in drive.old) (state_in drive.new) aim.now at) }
-    ensures stopped { IfErr result (IsStopped (state_in drive.old) (state_in drive.new) aim.now at) }
-    ensures full { IfErr result (λ failure. failure.refusal ≡ ChainFull → IsTooFull (state_in drive.old) (store_of drive.old) aim.now at) }
-    ensures clock { IfOk result (λ restored. IsWithinChanges (state_in drive.old) now (change_count restored.plan) (state_in drive.new)) }
-    ensures others { LeavesOthers (number_after (state_in drive.old) aim.now at) (state_in drive.old) (state_in drive.new) }
+    ensures stopped { IfErr result
+        (IsStopped (state_in drive.old) (state_in drive.new) aim.now at) }
+    ensures full { IfErr result
+        (λ failure. failure.refusal ≡ ChainFull
+        → IsTooFull (state_in drive.old) (store_of drive.old) aim.now at) }
+    ensures clock { IfOk result
+        (λ restored. IsWithinChanges (state_in drive.old) now (change_count restored.plan)
+        (state_in drive.new)) }
+    ensures others { LeavesOthers (number_after (state_in drive.old) aim.now at)
+        (state_in drive.old) (state_in drive.new) }
     ensures past { LeavesPast (state_in drive.old) (state_in drive.new) }
 {
     a_plan_turns_back();

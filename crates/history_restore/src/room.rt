@@ -15,7 +15,8 @@ use s4_types::{Moment, ObjectId, Refusal, Reply, Request, Span};
 use segment_word::Naming;
 use std::alloc::Global;
 
-/// Hides the moments of an object from `first` to `last`, by a request of an administrator's session.
+/// Hides the moments of an object from `first` to `last`, by a request of an administrator's
+/// session.
 fn flush<J: Naming>(
     drive: &mut Drive<J>,
     session: &mut Session<J>,
@@ -24,7 +25,8 @@ fn flush<J: Naming>(
     last: Moment,
     now: Moment,
 ) -> Result<(), Refusal>
-    ensures hides { OnOk result (HidesBetween (state_in drive.old) object first last (state_in drive.new)) }
+    ensures hides { OnOk result
+        (HidesBetween (state_in drive.old) object first last (state_in drive.new)) }
     ensures objects { LeavesObjects (state_in drive.old) object (state_in drive.new) }
     ensures clock { IsWithinChanges (state_in drive.old) now 1 (state_in drive.new) }
 {
@@ -42,11 +44,13 @@ fn flush<J: Naming>(
     Ok(())
 }
 
-/// Makes room in an object's chain: the moments of the object from `first` to `last` are hidden, and of its chain those inodes stay alone
-/// that can be read at some moment. The present of every object stays, and so does every version at a moment that can be read still.
+/// Makes room in an object's chain: the moments of the object from `first` to `last` are hidden,
+/// and of its chain those inodes stay alone that can be read at some moment. The present of every
+/// object stays, and so does every version at a moment that can be read still.
 ///
-/// Refused as a FlushO is, NotAdmin where the session isn't an administrator's among that; then nothing was hidden. NoMemory and NoRoom
-/// also of the cleaning; then the moments are hidden, and the chain is what it was.
+/// Refused as a FlushO is, NotAdmin where the session isn't an administrator's among that; then
+/// nothing was hidden. NoMemory and NoRoom also of the cleaning; then the moments are hidden, and
+/// the chain is what it was.
 pub fn make_room<J: Naming>(
     alloc: Global,
     drive: &mut Drive<J>,
@@ -56,7 +60,8 @@ pub fn make_room<J: Naming>(
     last: Moment,
     now: Moment,
 ) -> Result<(), Refusal>
-    ensures hides { OnOk result (HidesBetween (state_in drive.old) object first last (state_in drive.new)) }
+    ensures hides { OnOk result
+        (HidesBetween (state_in drive.old) object first last (state_in drive.new)) }
     ensures clean { OnOk result (IsClean (store_of drive.new) (state_in drive.new) object) }
     ensures objects { LeavesObjects (state_in drive.old) object (state_in drive.new) }
     ensures clock { IsWithinChanges (state_in drive.old) now 1 (state_in drive.new) }
@@ -84,7 +89,8 @@ fn begun_after(alloc: Global, at: Moment, entries: &[Entry]) -> Result<Vec<u64>,
 /// The moments of this many of the newest versions, where as many begin at these moments beside the
 /// last.
 fn newest(begun: &[u64], count: usize, object: ObjectId) -> Option<Span>
-    ensures { MatchOption result (length begun.now ≤ count) (λ span. IsOfNewest begun.now count object span) }
+    ensures { MatchOption result (length begun.now ≤ count)
+        (λ span. IsOfNewest begun.now count object span) }
 {
     if begun.len() <= count {
         return None;

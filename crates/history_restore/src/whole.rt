@@ -5,7 +5,9 @@ ghost use Rattle.drive.specs.Fields.{state_in, store_of};
 ghost use Rattle.history_restore.specs.Keeping.{LeavesPast};
 ghost use Rattle.history_restore.specs.Aims.{targets_of};
 ghost use Rattle.history_restore.specs.Rows.{AreRowsFrom, AscendBelow, is_among};
-ghost use Rattle.history_restore.specs.Whole.{RestoresEach, RestoresAsked, RestoresAll, StopsAll, IsCounted, LeavesRest, LeavesUnasked, PlansAll, PlansAsked, plans_of};
+ghost use Rattle.history_restore.specs.Whole.{RestoresEach, RestoresAsked, RestoresAll, StopsAll};
+ghost use Rattle.history_restore.specs.Whole.{IsCounted, LeavesRest, LeavesUnasked, PlansAll};
+ghost use Rattle.history_restore.specs.Whole.{PlansAsked, plans_of};
 
 use crate::aims::{Aim, StandIn, all_aims, asked_aims, own_aim};
 use crate::failures::{Failure, unread};
@@ -46,8 +48,10 @@ fn restore_each<J: Naming>(
     now: Moment,
 ) -> Result<Vec<Restored>, Failure>
     requires { AscendBelow 0 (state_in drive.old).next (targets_of aims.now) }
-    ensures each { IfOk result (λ all. RestoresEach (state_in drive.old) (state_in drive.new) at aims.now all.items) }
-    ensures counted { IfOk result (λ all. IsCounted (state_in drive.old) (state_in drive.new) now all.items) }
+    ensures each { IfOk result
+        (λ all. RestoresEach (state_in drive.old) (state_in drive.new) at aims.now all.items) }
+    ensures counted { IfOk result
+        (λ all. IsCounted (state_in drive.old) (state_in drive.new) now all.items) }
     ensures stopped { IfErr result (StopsAll (state_in drive.old) (state_in drive.new) at) }
     ensures rest { LeavesRest (state_in drive.old) (state_in drive.new) aims.now }
     ensures past { LeavesPast (state_in drive.old) (state_in drive.new) }
@@ -65,15 +69,18 @@ fn restore_each<J: Naming>(
 
 /// Whether a number is above one and below another.
 fn is_between(low: u64, number: u64, high: u64) -> bool
-    ensures { MatchBool result ((low < number) × (number < high)) ((low < number) × (number < high) → ⊥) }
+    ensures { MatchBool result ((low < number) × (number < high))
+        ((low < number) × (number < high) → ⊥) }
 {
     low < number && number < high
 }
 
-/// Whether the numbers under which objects are restored ascend from 1 on and are below the next one.
+/// Whether the numbers under which objects are restored ascend from 1 on and are below the next
+/// one.
 #[tactic(auto, using(crate::proofs::Rows::ascend_ends, crate::proofs::Rows::ascend_whole))]
 fn ascends_below(aims: &[Aim], next: ObjectId) -> bool
-    ensures { MatchBool result (AscendBelow 0 next (targets_of aims.now)) (AscendBelow 0 next (targets_of aims.now) → ⊥) }
+    ensures { MatchBool result (AscendBelow 0 next (targets_of aims.now))
+        (AscendBelow 0 next (targets_of aims.now) → ⊥) }
 {
     let mut last = 0;
     for aim in aims {
@@ -86,11 +93,12 @@ fn ascends_below(aims: &[Aim], next: ObjectId) -> bool
     true
 }
 
-/// Makes these objects what they were at a moment, by requests at the moment `now` of the server's clock, and says of each what was done,
-/// in their order. The numbers under which they are restored ascend, and were given.
+/// Makes these objects what they were at a moment, by requests at the moment `now` of the server's
+/// clock, and says of each what was done, in their order. The numbers under which they are restored
+/// ascend, and were given.
 ///
-/// A refusal says of which object and why, as [`restore_all`] does; NoObject of object 0 where the numbers aren't such, and then nothing
-/// was done.
+/// A refusal says of which object and why, as [`restore_all`] does; NoObject of object 0 where the
+/// numbers aren't such, and then nothing was done.
 pub fn restore_these<J: Naming>(
     alloc: Global,
     drive: &mut Drive<J>,
@@ -99,9 +107,12 @@ pub fn restore_these<J: Naming>(
     at: Moment,
     now: Moment,
 ) -> Result<Vec<Restored>, Failure>
-    ensures each { IfOk result (λ all. RestoresEach (state_in drive.old) (state_in drive.new) at aims.now all.items) }
-    ensures counted { IfOk result (λ all. IsCounted (state_in drive.old) (state_in drive.new) now all.items) }
-    ensures stopped { AscendBelow 0 (state_in drive.old).next (targets_of aims.now) → IfErr result (StopsAll (state_in drive.old) (state_in drive.new) at) }
+    ensures each { IfOk result
+        (λ all. RestoresEach (state_in drive.old) (state_in drive.new) at aims.now all.items) }
+    ensures counted { IfOk result
+        (λ all. IsCounted (state_in drive.old) (state_in drive.new) now all.items) }
+    ensures stopped { AscendBelow 0 (state_in drive.old).next (targets_of aims.now)
+        → IfErr result (StopsAll (state_in drive.old) (state_in drive.new) at) }
     ensures rest { LeavesRest (state_in drive.old) (state_in drive.new) aims.now }
     ensures past { LeavesPast (state_in drive.old) (state_in drive.new) }
 {
@@ -112,9 +123,10 @@ pub fn restore_these<J: Naming>(
     restore_each(alloc, drive, session, aims, at, now)
 }
 
-/// Makes the objects that are asked for what they were at a moment, by requests at the moment `now` of the server's clock, and tells of
-/// each that has a row what was done, by the ascending numbers under which they are restored and once, in whatever order and how often it
-/// is asked for: exactly what [`plan_objects`](crate::plan_objects) plans.
+/// Makes the objects that are asked for what they were at a moment, by requests at the moment `now`
+/// of the server's clock, and tells of each that has a row what was done, by the ascending numbers
+/// under which they are restored and once, in whatever order and how often it is asked for: exactly
+/// what [`plan_objects`](crate::plan_objects) plans.
 ///
 /// A refusal says of which object and why, as [`restore_all`] does.
 pub fn restore_objects<J: Naming>(
@@ -126,11 +138,17 @@ pub fn restore_objects<J: Naming>(
     at: Moment,
     now: Moment,
 ) -> Result<Vec<Restored>, Failure>
-    ensures asked { IfOk result (λ all. RestoresAsked (state_in drive.old) (state_in drive.new) at stand_ins.now asked.now all.items) }
-    ensures planned { IfOk result (λ all. PlansAsked (state_in drive.old) (store_of drive.old) at stand_ins.now asked.now (plans_of all.items)) }
-    ensures counted { IfOk result (λ all. IsCounted (state_in drive.old) (state_in drive.new) now all.items) }
+    ensures asked { IfOk result
+        (λ all. RestoresAsked (state_in drive.old) (state_in drive.new) at stand_ins.now asked.now
+        all.items) }
+    ensures planned { IfOk result
+        (λ all. PlansAsked (state_in drive.old) (store_of drive.old) at stand_ins.now asked.now
+        (plans_of all.items)) }
+    ensures counted { IfOk result
+        (λ all. IsCounted (state_in drive.old) (state_in drive.new) now all.items) }
     ensures stopped { IfErr result (StopsAll (state_in drive.old) (state_in drive.new) at) }
-    ensures unasked { LeavesUnasked (state_in drive.old) (state_in drive.new) at stand_ins.now asked.now }
+    ensures unasked { LeavesUnasked (state_in drive.old) (state_in drive.new) at stand_ins.now
+        asked.now }
     ensures past { LeavesPast (state_in drive.old) (state_in drive.new) }
 {
     drive.rules();
@@ -141,12 +159,14 @@ pub fn restore_objects<J: Naming>(
     restore_each(alloc, drive, session, aims.as_slice(), at, now)
 }
 
-/// Makes all objects of a drive what they were at a moment, by requests at the moment `now` of the server's clock, and tells of each object
-/// that has a row what was done to it, by ascending number: exactly what [`plan_all`](crate::plan_all) plans. An object that is
-/// made anew is a new one and isn't visited again.
+/// Makes all objects of a drive what they were at a moment, by requests at the moment `now` of the
+/// server's clock, and tells of each object that has a row what was done to it, by ascending
+/// number: exactly what [`plan_all`](crate::plan_all) plans. An object that is made anew is a new
+/// one and isn't visited again.
 ///
-/// A refusal says of which object and why, as [`Failure`] tells, of object 0 where there was no memory for a list of the rows. What was
-/// done before it stays; Expired comes where the floor has passed the moment by the changes that were made.
+/// A refusal says of which object and why, as [`Failure`] tells, of object 0 where there was no
+/// memory for a list of the rows. What was done before it stays; Expired comes where the floor has
+/// passed the moment by the changes that were made.
 pub fn restore_all<J: Naming>(
     alloc: Global,
     drive: &mut Drive<J>,
@@ -155,9 +175,13 @@ pub fn restore_all<J: Naming>(
     at: Moment,
     now: Moment,
 ) -> Result<Vec<Restored>, Failure>
-    ensures all { IfOk result (λ all. RestoresAll (state_in drive.old) (state_in drive.new) at stand_ins.now all.items) }
-    ensures planned { IfOk result (λ all. PlansAll (state_in drive.old) (store_of drive.old) at stand_ins.now (plans_of all.items)) }
-    ensures counted { IfOk result (λ all. IsCounted (state_in drive.old) (state_in drive.new) now all.items) }
+    ensures all { IfOk result
+        (λ all. RestoresAll (state_in drive.old) (state_in drive.new) at stand_ins.now all.items) }
+    ensures planned { IfOk result
+        (λ all. PlansAll (state_in drive.old) (store_of drive.old) at stand_ins.now
+        (plans_of all.items)) }
+    ensures counted { IfOk result
+        (λ all. IsCounted (state_in drive.old) (state_in drive.new) now all.items) }
     ensures stopped { IfErr result (StopsAll (state_in drive.old) (state_in drive.new) at) }
     ensures past { LeavesPast (state_in drive.old) (state_in drive.new) }
 {

@@ -28,7 +28,8 @@ fn set_window<J: Naming>(
     now: Moment,
 ) -> Result<(), Refusal>
     ensures widened { OnOk result (IsWidened (state_in drive.old) now window (state_in drive.new)) }
-    ensures refused { IfErr result (IsGiven (first_refusal (state_in drive.old) session.old.role (SetWindow window))) }
+    ensures refused { IfErr result
+        (IsGiven (first_refusal (state_in drive.old) session.old.role (SetWindow window))) }
     ensures store { store_of drive.new ≡ store_of drive.old }
     ensures past { OnErr result (LeavesPast (state_in drive.old) (state_in drive.new)) }
 {
@@ -41,10 +42,12 @@ fn set_window<J: Naming>(
     Ok(())
 }
 
-/// Keeps a moment in reach until this many changes are made by requests at the moment `now` of the server's clock: where it might expire by
-/// them the window is set to the least, in moments, that serves, and given. That is a change of its own, which is reckoned in.
+/// Keeps a moment in reach until this many changes are made by requests at the moment `now` of the
+/// server's clock: where it might expire by them the window is set to the least, in moments, that
+/// serves, and given. That is a change of its own, which is reckoned in.
 ///
-/// Refused as a SetWindow is, NotAdmin where the session isn't an administrator's among that; then the window is as it was.
+/// Refused as a SetWindow is, NotAdmin where the session isn't an administrator's among that; then
+/// the window is as it was.
 pub fn widen_window<J: Naming>(
     drive: &mut Drive<J>,
     session: &mut Session<J>,
@@ -52,8 +55,12 @@ pub fn widen_window<J: Naming>(
     changes: u64,
     now: Moment,
 ) -> Result<Option<u64>, Refusal>
-    ensures widened { IfOk result (λ widened. Widens (state_in drive.old) now at changes widened (state_in drive.new)) }
-    ensures refused { IfErr result (IsGiven (first_refusal (state_in drive.old) session.old.role (SetWindow (window_for (state_in drive.old) now at (changes + 1))))) }
+    ensures widened { IfOk result
+        (λ widened. Widens (state_in drive.old) now at changes widened (state_in drive.new)) }
+    ensures refused { IfErr result
+        (IsGiven
+        (first_refusal (state_in drive.old) session.old.role
+        (SetWindow (window_for (state_in drive.old) now at (changes + 1))))) }
     ensures store { store_of drive.new ≡ store_of drive.old }
     ensures past { OnErr result (LeavesPast (state_in drive.old) (state_in drive.new)) }
 {

@@ -1,5 +1,6 @@
 //! Attributes as people read them.
-ghost use Rattle.std.specs.Prelude.{◌≡◌, ◌++◌, true, false, IfOk, IfSome, IfNone, codes, string_bytes};
+ghost use Rattle.std.specs.Prelude.{◌≡◌, ◌++◌, true, false, IfOk, IfSome, IfNone, codes};
+ghost use Rattle.std.specs.Prelude.{string_bytes};
 ghost use Rattle.std.specs.List.{list_all};
 ghost use Rattle.std.specs.Str.{chars};
 ghost use Rattle.history_text.specs.Lines.{is_printable, are_printable, printed_attribute};
@@ -39,7 +40,8 @@ fn quoted(alloc: Global, text: &str) -> Result<String, AllocError>
 
 // The text that bytes are in UTF-8, where all its characters are printable.
 fn printable_text(bytes: &[u8]) -> Option<&str>
-    ensures some { IfSome result (λ text. (are_printable bytes.now ≡ true) × (text.now ≡ bytes.now)) }
+    ensures some { IfSome result
+        (λ text. (are_printable bytes.now ≡ true) × (text.now ≡ bytes.now)) }
     ensures none { IfNone result (are_printable bytes.now ≡ false) }
 {
     let Ok(text) = str::from_utf8(bytes) else {
@@ -51,8 +53,8 @@ fn printable_text(bytes: &[u8]) -> Option<&str>
     Some(text)
 }
 
-/// An attribute between quotation marks where it is text in UTF-8 of printable characters alone, and
-/// else in hex.
+/// An attribute between quotation marks where it is text in UTF-8 of printable characters alone,
+/// and else in hex.
 pub fn printed_attribute(alloc: Global, bytes: &[u8]) -> Result<String, AllocError>
     ensures { IfOk result (λ text. string_bytes text ≡ printed_attribute bytes.now) }
 {

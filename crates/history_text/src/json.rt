@@ -5,7 +5,10 @@ ghost use Rattle.hex.specs.Hex.{encode_lower};
 ghost use Rattle.serde_json.specs.Data.{string};
 ghost use Rattle.serde_json.specs.Written.{has_float};
 ghost use Rattle.moment_words.specs.declared.printing.MomentStyle.TheVariants.{Date};
-ghost use Rattle.history_text.specs.Json.{json_line, state_word, kind_word, text_data, time_data, listed_data, change_data, side_data, index_data, hidden_data, row_data, kinds_data, stat_data, times_data, counts_data, numbers_data};
+ghost use Rattle.history_text.specs.Json.{json_line, state_word, kind_word, text_data, time_data};
+ghost use Rattle.history_text.specs.Json.{listed_data, change_data, side_data, index_data};
+ghost use Rattle.history_text.specs.Json.{hidden_data, row_data, kinds_data, stat_data, times_data};
+ghost use Rattle.history_text.specs.Json.{counts_data, numbers_data};
 
 use crate::numbers::DriveNumbers;
 use codec::{Attribute, Pair};

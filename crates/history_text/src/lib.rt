@@ -1,6 +1,7 @@
 //! The lines of what a drive has of the past: for people in columns, for programs as JSON.
 //!
-//! The layer above may rely on this: each function gives exactly the text that its definition says, or NoMemory alone.
+//! The layer above may rely on this: each function gives exactly the text that its definition says,
+//! or NoMemory alone.
 #![tactic(auto)]
 
 mod attributes;

@@ -1,7 +1,13 @@
 //! The lines that people read.
 ghost use Rattle.std.specs.Prelude.{◌≡◌, IfOk, string_bytes};
 ghost use Rattle.moment_words.specs.Texts as texts;
-ghost use Rattle.history_text.specs.Lines.{column, moment_column, list_head, listed_line, state_text, kind_text, added_text, blocks_text, pair_text, sizes_text, detail_text, log_head, change_line, hidden_of, hidden_line, log_line, stat_head, kind_count, between_text, kinds_text, stat_line, counts_text, moments_text, hidden_text, numbers_lines};
+ghost use Rattle.history_text.specs.Lines.{column, moment_column, list_head, listed_line};
+ghost use Rattle.history_text.specs.Lines.{state_text, kind_text, added_text, blocks_text};
+ghost use Rattle.history_text.specs.Lines.{pair_text, sizes_text, detail_text, log_head};
+ghost use Rattle.history_text.specs.Lines.{change_line, hidden_of, hidden_line, log_line};
+ghost use Rattle.history_text.specs.Lines.{stat_head, kind_count, between_text, kinds_text};
+ghost use Rattle.history_text.specs.Lines.{stat_line, counts_text, moments_text, hidden_text};
+ghost use Rattle.history_text.specs.Lines.{numbers_lines};
 
 use crate::attributes::printed_attribute;
 use crate::json::kind_word;
@@ -216,7 +222,8 @@ fn kind_count(alloc: Global, kind: Kind, count: u64) -> Result<String, AllocErro
     format!(in alloc; "  {word} {count}")
 }
 
-// How many changes are of each kind between the one that makes an object and the one that deletes it.
+// How many changes are of each kind between the one that makes an object and the one that deletes
+// it.
 fn between_text(alloc: Global, kinds: &KindCounts) -> Result<String, AllocError>
     ensures { IfOk result (λ text. string_bytes text ≡ between_text kinds.now) }
 {

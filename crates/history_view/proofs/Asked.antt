@@ -12,7 +12,7 @@ module _ {A B : Type 0} (f : A → B) (p : A → Bool) where
       ap (map f) (filter_more p xs i d lt ∙ ap (λ (y : A). filter p (take i xs) ++ cond (p y) (y ∷ []) []) here ∙ ap (λ (l : List A). filter p (take i xs) ++ l) is)
       ∙ map-append f (filter p (take i xs)) made
 
-  -- one element more passes, and what it gives is behind what the others gave
+  -- one element more passes, and what it gives is after what the others gave
   pub passes_more : (xs : List A) (i : ℕ) (d x : A) (before after : List B) (y : B) → i < length xs → get_or xs i d ≡ x → p x ≡ true → before ≡ map f (filter p (take i xs)) → y ≡ f x → after ≡ before ++ y ∷ []
       → after ≡ map f (filter p (take (i + 1) xs))
   passes_more xs i d x before after y lt here passes so_far gives grown =

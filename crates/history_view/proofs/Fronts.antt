@@ -13,7 +13,7 @@ module _ {X : Type 0} (From : ℕ → List X → Type 0) where
   pub front_begun : IsFront [] 0
   front_begun rest more = more
 
-  -- an element more goes on from the number behind it
+  -- an element more goes on from the number after it
   pub front_more : (front : List X) (x : X) (last next : ℕ) → IsFront front last → ((rest : List X) → From next rest → From last (x ∷ rest)) → IsFront (front ++ x ∷ []) next
   front_more front x last next whole here rest more = subst (From 0) (sym (append_assoc front (x ∷ []) rest)) (whole (x ∷ rest) (here rest more))
 

@@ -10,7 +10,7 @@ use Rattle.codec.specs.Entry.{EntryFields, entry_rules, ascend_from, same_slot, 
 use Rattle.undo_redo.specs.Linked.{pointer_after}
 use Rattle.history_view.specs.Changes.{last_index, blocks_of, IsOutside, AllElseStays, SizesAreTold}
 
--- ascending indices begin with one that isn't below the given one, and go on behind it
+-- ascending indices begin with one that isn't below the given one, and go on after it
 ascends_on : (low : ℕ) (t : Triple) (triples : List Triple) → ascend_from low (t ∷ triples) ≡ true → (low ≤ t.index) × (ascend_from (t.index + 1) triples ≡ true)
 unfolding ascend_from
 ascends_on low t triples is =

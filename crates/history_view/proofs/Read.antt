@@ -39,7 +39,7 @@ live_by_inode : (s : State) (store : StoreFields) (o t : ℕ) (i : Inode) → De
 live_by_inode s store o t i decodes visible is alive =
     version_by_inode s store o t (Some i) decodes visible is ∙ cond-true i.alive (Live (bytes_of (contents_of store.log.held) i) i.attribute i.created i.changed) Absent alive
 
--- a read of so many bytes is all of a version that has no more
+-- a read of this many bytes is all of a version that has no more
 all_of_it : (content attribute bytes : List ℕ) (created changed : ℕ) → length content ≤ READ_BYTES → data_of (Live content attribute created changed) 0 READ_BYTES ≡ Some (Data bytes) → bytes ≡ content
 all_of_it content attribute bytes created changed short is = sym (inside is) ∙ take_all READ_BYTES content short
   where

@@ -65,7 +65,7 @@ clock_is_visible s o sound = record { kept = sound.floor_reached; reached = omeg
 pub size_is_long : (contents : Place → List ℕ) (i : Inode) → i.size ≡ length (bytes_of contents i)
 size_is_long contents i = sym (listed-length (byte_of contents i) 0 i.size)
 
--- what an inode tells is the version that it stands for
+-- what an inode tells is the version that it represents
 inode_tells : (contents : Place → List ℕ) (o : ℕ) (i : Inode) (alive : Bool) → i.alive ≡ alive → TellsVersion (meaning contents i) (listed_of o i)
 inode_tells contents o i true is =
     subst (λ (v : Version). TellsVersion v (listed_of o i)) (sym (cond-true i.alive (Live (bytes_of contents i) i.attribute i.created i.changed) Absent is))
@@ -74,7 +74,7 @@ inode_tells contents o i false is =
     subst (λ (v : Version). TellsVersion v (listed_of o i)) (sym (cond-false i.alive (Live (bytes_of contents i) i.attribute i.created i.changed) Absent is))
     (λ alive. true≢false (sym alive ∙ is))
 
--- an inode that isn't listed stands for no version
+-- an inode that isn't listed represents no version
 unlisted_is_dead : (contents : Place → List ℕ) (deleted : Bool) (i : Inode) → is_listed deleted i ≡ false → meaning contents i ≡ Absent
 unlisted_is_dead contents deleted i is =
     cond-false i.alive (Live (bytes_of contents i) i.attribute i.created i.changed) Absent (or_parts i.alive (deleted && not (i.changed == 0)) is).0
@@ -174,7 +174,7 @@ none_below_floor s o t below visible = absurd (omega (arith, visible.kept))
 pub clock_between : (s : State) (o : ℕ) → IsSound s → IsSeenBetween s o s.floor s.clock
 clock_between s o sound = record { moment = s.clock; begun = sound.floor_reached; ended = omega arith; visible = clock_is_visible s o sound }
 
--- where none is up to the middle, some is behind it
+-- where none is up to the middle, some is after it
 pub behind_middle : (s : State) (o low middle high : ℕ) → IsSeenBetween s o low high → NoneBelow s o low → (IsSeenBetween s o low middle → ⊥) → IsSeenBetween s o (middle + 1) high
 behind_middle s o low middle high between none never = record {
   moment = between.moment;

@@ -86,7 +86,7 @@ abbrev pub goes_on : LogRow → Bool
 goes_on (Changed o change) = is_kind change.kind Continued
 goes_on (Hidden run) = false
 
--- The first rows, up to so many changes, the last of them with all its rows.
+-- The first rows, up to this many changes, the last of them with all its rows.
 abbrev pub first_changes : ℕ → List LogRow → List LogRow
 first_changes left [] = []
 first_changes left (row ∷ rows) = if (left == 0) && not (goes_on row) then [] else row ∷ first_changes (if begins row then left - 1 else left) rows

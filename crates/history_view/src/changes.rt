@@ -2,7 +2,8 @@
 ghost use Rattle.std.specs.Prelude.{◌≡◌, IfOk, IfErr};
 ghost use Rattle.s4_types.specs.declared.refusals.Refusal.TheVariants.{NoMemory};
 ghost use Rattle.drive.specs.Fields.{state_in, store_of};
-ghost use Rattle.history_view.specs.Changes.{kind_of, blocks_of, change_of, is_asked, changes_between};
+ghost use Rattle.history_view.specs.Changes.{kind_of, blocks_of, change_of, is_asked};
+ghost use Rattle.history_view.specs.Changes.{changes_between};
 
 use crate::moments::is_visible;
 use codec::{Entry, Pair, PointerIndex, Triple};
@@ -32,14 +33,16 @@ pub enum Kind {
     Touched,
 }
 
-/// Blocks of an object, of 512 bytes each, by their index: the first and the last that have new bytes or are new holes.
+/// Blocks of an object, of 512 bytes each, by their index: the first and the last that have new
+/// bytes or are new holes.
 #[derive(Clone, Copy, PartialEq, Eq)]
 pub struct Blocks {
     pub first: PointerIndex,
     pub last: PointerIndex,
 }
 
-/// A change of an object. What is told in several entries of a journal is several changes of one moment, all but the first `Continued`.
+/// A change of an object. What is told in several entries of a journal is several changes of one
+/// moment, all but the first `Continued`.
 #[derive(Clone, Copy, PartialEq, Eq)]
 pub struct ObjectChange {
     pub moment: Moment,
@@ -121,8 +124,8 @@ fn is_asked<J: Naming>(
         && moment.number() <= until.number()
 }
 
-/// The changes of an object from a moment to another, both included, as far as these moments can be read: one for each entry of its
-/// journal, in order.
+/// The changes of an object from a moment to another, both included, as far as these moments can be
+/// read: one for each entry of its journal, in order.
 ///
 /// NoMemory alone, where the memory for them is refused.
 pub fn changes_between<J: Naming>(
@@ -132,7 +135,9 @@ pub fn changes_between<J: Naming>(
     since: Moment,
     until: Moment,
 ) -> Result<Vec<ObjectChange>, Refusal>
-    ensures changes { IfOk result (λ changes. changes.items ≡ changes_between (state_in drive.old) (store_of drive.old) object since until) }
+    ensures changes { IfOk result
+        (λ changes. changes.items
+        ≡ changes_between (state_in drive.old) (store_of drive.old) object since until) }
     ensures refusal { IfErr result (λ e. e ≡ NoMemory) }
     ensures ledger { drive.new.ledger ≡ drive.old.ledger }
     ensures store { store_of drive.new ≡ store_of drive.old }

@@ -1,6 +1,7 @@
 //! Which rows of a log are shown.
 ghost use Rattle.std.specs.Prelude.{◌≡◌, false, take, IfOk};
-ghost use Rattle.history_view.specs.LogRows.{is_kind, passes_kind, passes, of_kind, begins, goes_on, first_changes, limited};
+ghost use Rattle.history_view.specs.LogRows.{is_kind, passes_kind, passes, of_kind, begins};
+ghost use Rattle.history_view.specs.LogRows.{goes_on, first_changes, limited};
 
 use crate::changes::Kind;
 use crate::rows::LogRow;
@@ -32,8 +33,8 @@ fn passes(asked: Option<Kind>, has_passed: bool, row: &LogRow) -> bool
     }
 }
 
-/// The rows whose change is of the kind that is asked for, with those that go on with it, and all runs of hidden moments; all rows
-/// where no kind is asked for.
+/// The rows whose change is of the kind that is asked for, with those that go on with it, and all
+/// runs of hidden moments; all rows where no kind is asked for.
 pub(crate) fn of_kind(
     alloc: Global,
     rows: &[LogRow],
@@ -71,7 +72,7 @@ fn goes_on(row: &LogRow) -> bool
     }
 }
 
-// How many rows there are up to so many changes, the last of them with all its rows.
+// How many rows there are up to this many changes, the last of them with all its rows.
 fn front(rows: &[LogRow], changes: u64) -> usize
     ensures { take result rows.now ≡ first_changes changes rows.now }
 {
@@ -88,7 +89,8 @@ fn front(rows: &[LogRow], changes: u64) -> usize
     count
 }
 
-/// The first rows, up to so many changes where there is a limit, the last of them with all its rows. Runs of hidden moments don't count.
+/// The first rows, up to this many changes where there is a limit, the last of them with all its
+/// rows. Runs of hidden moments don't count.
 pub(crate) fn limited(rows: Vec<LogRow>, limit: Option<u64>) -> Vec<LogRow>
     ensures { result.items ≡ limited limit rows.items }
 {

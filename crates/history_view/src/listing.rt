@@ -1,7 +1,8 @@
 //! The objects of a drive at a moment.
 ghost use Rattle.std.specs.Prelude.{◌≡◌, ℕ, ◌<◌, IfSome, IfNone};
 ghost use Rattle.drive.specs.Fields.{state_in, store_of};
-ghost use Rattle.history_view.specs.Listing.{is_listed, listed_of, IsListedAt, IsListedNext, IsPassed};
+ghost use Rattle.history_view.specs.Listing.{is_listed, listed_of, IsListedAt, IsListedNext};
+ghost use Rattle.history_view.specs.Listing.{IsPassed};
 
 use crate::moments::is_visible;
 use codec::{Attribute, Inode};
@@ -13,7 +14,8 @@ use segment_word::Naming;
 #[derive(Clone, Copy, PartialEq, Eq)]
 pub struct Listed {
     pub object: ObjectId,
-    /// Whether it is there at the moment. If not, it was deleted before, and the rest says what it was last.
+    /// Whether it is there at the moment. If not, it was deleted before, and the rest says what it
+    /// was last.
     pub is_live: bool,
     /// In bytes.
     pub size: u32,
@@ -43,16 +45,19 @@ fn is_listed(deleted: bool, inode: &Inode) -> bool
     inode.alive || (deleted && inode.changed.number() != 0)
 }
 
-/// What is listed of an object at a moment: something where it is live then, and where the deleted ones are asked for also where it was
-/// deleted before. Nothing where that moment of it can't be read.
+/// What is listed of an object at a moment: something where it is live then, and where the deleted
+/// ones are asked for also where it was deleted before. Nothing where that moment of it can't be
+/// read.
 pub fn look_at<J: Naming>(
     drive: &mut Drive<J>,
     object: ObjectId,
     at: Moment,
     deleted: bool,
 ) -> Option<Listed>
-    ensures some { IfSome result (IsListedAt (state_in drive.old) (store_of drive.old) deleted at object) }
-    ensures none { IfNone result (IsPassed (state_in drive.old) (store_of drive.old) deleted at object) }
+    ensures some { IfSome result
+        (IsListedAt (state_in drive.old) (store_of drive.old) deleted at object) }
+    ensures none { IfNone result
+        (IsPassed (state_in drive.old) (store_of drive.old) deleted at object) }
     ensures ledger { drive.new.ledger ≡ drive.old.ledger }
     ensures store { store_of drive.new ≡ store_of drive.old }
 {
@@ -69,15 +74,18 @@ pub fn look_at<J: Naming>(
     Some(listed_of(object, &inode))
 }
 
-/// What is listed next above an object, by ascending number; object 0 is below all. Nothing where no greater object is listed.
+/// What is listed next above an object, by ascending number; object 0 is below all. Nothing where
+/// no greater object is listed.
 pub fn next_listed<J: Naming>(
     drive: &mut Drive<J>,
     after: ObjectId,
     at: Moment,
     deleted: bool,
 ) -> Option<Listed>
-    ensures some { IfSome result (IsListedNext (state_in drive.old) (store_of drive.old) deleted at after) }
-    ensures none { IfNone result ((o : ℕ) → after < o → IsPassed (state_in drive.old) (store_of drive.old) deleted at o) }
+    ensures some { IfSome result
+        (IsListedNext (state_in drive.old) (store_of drive.old) deleted at after) }
+    ensures none { IfNone result
+        ((o : ℕ) → after < o → IsPassed (state_in drive.old) (store_of drive.old) deleted at o) }
     ensures ledger { drive.new.ledger ≡ drive.old.ledger }
     ensures store { store_of drive.new ≡ store_of drive.old }
 {

@@ -4,7 +4,8 @@ ghost use Rattle.std.specs.List.{flat_map};
 ghost use Rattle.s4_types.specs.declared.refusals.Refusal.TheVariants.{NoMemory};
 ghost use Rattle.drive.specs.Fields.{state_in, store_of};
 ghost use Rattle.history_view.specs.declared.rows.LogRow.TheVariants.{Changed, Hidden};
-ghost use Rattle.history_view.specs.Logs.{AreAsked, AreRowsFrom, ShowsLog, IsShown, IsWithHidden, rows_of, concerns, cuts};
+ghost use Rattle.history_view.specs.Logs.{AreAsked, AreRowsFrom, ShowsLog, IsShown, IsWithHidden};
+ghost use Rattle.history_view.specs.Logs.{rows_of, concerns, cuts};
 
 use crate::changes::{Kind, ObjectChange, changes_between};
 use crate::filters::{limited, of_kind};
@@ -23,7 +24,8 @@ pub struct LogQuery {
     pub since: Moment,
     /// The last moment that is asked for.
     pub until: Moment,
-    /// The kind of changes that is asked for; none where all are. A change that is told in several rows has the kind of the first.
+    /// The kind of changes that is asked for; none where all are. A change that is told in several
+    /// rows has the kind of the first.
     pub kind: Option<Kind>,
     /// The most changes that are shown, if there is a limit.
     pub limit: Option<u64>,
@@ -43,7 +45,8 @@ fn all_objects<J: Naming>(alloc: Global, drive: &Drive<J>) -> Result<Vec<ObjectI
     Ok(objects)
 }
 
-/// The objects that are asked for: the one, or all that the drive has something of, by ascending number.
+/// The objects that are asked for: the one, or all that the drive has something of, by ascending
+/// number.
 pub(crate) fn objects_asked<J: Naming>(
     alloc: Global,
     drive: &Drive<J>,
@@ -91,7 +94,9 @@ fn with_runs(
     since: Moment,
     until: Moment,
 ) -> Result<Vec<LogRow>, AllocError>
-    ensures { IfOk result (λ rows. rows.items ≡ map Hidden (filter (cuts asked.now since until) runs.now) ++ changes.now) }
+    ensures { IfOk result
+        (λ rows. rows.items
+        ≡ map Hidden (filter (cuts asked.now since until) runs.now) ++ changes.now) }
 {
     let mut rows = Vec::new(alloc);
     for run in runs {
@@ -110,7 +115,8 @@ fn with_hidden<J: Naming>(
     query: &LogQuery,
     changes: &[LogRow],
 ) -> Result<Vec<LogRow>, Refusal>
-    ensures rows { IfOk result (λ rows. IsWithHidden (state_in drive.now) query.now changes.now rows.items) }
+    ensures rows { IfOk result
+        (λ rows. IsWithHidden (state_in drive.now) query.now changes.now rows.items) }
     ensures refusal { IfErr result (λ e. e ≡ NoMemory) }
 {
     let runs = drive.spans()?;
@@ -150,7 +156,12 @@ fn push_objects<J: Naming>(
     query: &LogQuery,
     rows: &mut Vec<LogRow>,
 ) -> Result<(), Refusal>
-    ensures rows { OnOk result (rows.new.items ≡ rows.old.items ++ flat_map (rows_of (state_in drive.old) (store_of drive.old) query.now.since query.now.until) objects.now) }
+    ensures rows { OnOk result
+        (rows.new.items
+        ≡ rows.old.items
+        ++ flat_map
+        (rows_of (state_in drive.old) (store_of drive.old) query.now.since
+        query.now.until) objects.now) }
     ensures refusal { IfErr result (λ e. e ≡ NoMemory) }
     ensures ledger { drive.new.ledger ≡ drive.old.ledger }
     ensures store { store_of drive.new ≡ store_of drive.old }
@@ -171,8 +182,9 @@ fn shown(alloc: Global, rows: Vec<LogRow>, query: &LogQuery) -> Result<Vec<LogRo
     Ok(limited(kept, query.limit))
 }
 
-/// The log that is asked for: a row for each entry of the objects' journals between the two moments that can be read, and one for each
-/// run of hidden moments that cuts them. A row that goes on with another comes directly after it. The drive and its clock stay.
+/// The log that is asked for: a row for each entry of the objects' journals between the two moments
+/// that can be read, and one for each run of hidden moments that cuts them. A row that goes on with
+/// another comes directly after it. The drive and its clock stay.
 ///
 /// NoMemory alone, where the memory for the rows is refused.
 pub fn log_rows<J: Naming>(
@@ -180,7 +192,8 @@ pub fn log_rows<J: Naming>(
     drive: &mut Drive<J>,
     query: &LogQuery,
 ) -> Result<Vec<LogRow>, Refusal>
-    ensures rows { IfOk result (λ rows. ShowsLog (state_in drive.old) (store_of drive.old) query.now rows.items) }
+    ensures rows { IfOk result
+        (λ rows. ShowsLog (state_in drive.old) (store_of drive.old) query.now rows.items) }
     ensures refusal { IfErr result (λ e. e ≡ NoMemory) }
     ensures ledger { drive.new.ledger ≡ drive.old.ledger }
     ensures store { store_of drive.new ≡ store_of drive.old }

@@ -8,7 +8,8 @@ use drive::Drive;
 use s4_types::{Moment, ObjectId};
 use segment_word::Naming;
 
-/// Whether a moment of an object can be read: it isn't below the floor, past the clock or hidden. Object 0 is hidden where all are.
+/// Whether a moment of an object can be read: it isn't below the floor, past the clock or hidden.
+/// Object 0 is hidden where all are.
 pub fn is_visible<J: Naming>(drive: &Drive<J>, object: ObjectId, at: Moment) -> bool
     ensures { result ≡ is_visible (state_in drive.now) object at }
 {

@@ -30,8 +30,11 @@ fn next_named<J: Naming>(
     name: &[u8],
     at: Moment,
 ) -> Option<ObjectId>
-    ensures some { IfSome result (IsNextNamed (state_in drive.old) (store_of drive.old) name.now at after) }
-    ensures none { IfNone result ((o : ℕ) → after < o → IsNamed (state_in drive.old) (store_of drive.old) name.now at o → ⊥) }
+    ensures some { IfSome result
+        (IsNextNamed (state_in drive.old) (store_of drive.old) name.now at after) }
+    ensures none { IfNone result
+        ((o : ℕ) → after < o
+        → IsNamed (state_in drive.old) (store_of drive.old) name.now at o → ⊥) }
     ensures ledger { drive.new.ledger ≡ drive.old.ledger }
     ensures store { store_of drive.new ≡ store_of drive.old }
 {
@@ -45,8 +48,8 @@ fn next_named<J: Naming>(
     None
 }
 
-/// The object that is live at a moment and whose attribute is the name then, byte for byte, where exactly one is: objects of which the
-/// moment can't be read don't count.
+/// The object that is live at a moment and whose attribute is the name then, byte for byte, where
+/// exactly one is: objects of which the moment can't be read don't count.
 ///
 /// NotNamed where none is, and NamedTwice where several are.
 #[tactic(auto, using(crate::proofs::Named::only_named))]
@@ -55,8 +58,10 @@ pub fn named_object<J: Naming>(
     name: &[u8],
     at: Moment,
 ) -> Result<ObjectId, NameRefusal>
-    ensures named { IfOk result (IsOnlyNamed (state_in drive.old) (store_of drive.old) name.now at) }
-    ensures refused { IfErr result (IsNameRefusal (state_in drive.old) (store_of drive.old) name.now at) }
+    ensures named { IfOk result
+        (IsOnlyNamed (state_in drive.old) (store_of drive.old) name.now at) }
+    ensures refused { IfErr result
+        (IsNameRefusal (state_in drive.old) (store_of drive.old) name.now at) }
     ensures ledger { drive.new.ledger ≡ drive.old.ledger }
     ensures store { store_of drive.new ≡ store_of drive.old }
 {

@@ -1,6 +1,7 @@
 //! The rows of a log, and their order.
 ghost use Rattle.std.specs.Prelude.{◌≡◌, IfOk};
-ghost use Rattle.history_view.specs.LogRows.{moment_of, object_of, rank, IsInOrder, IsByTime, IsOrderedBy};
+ghost use Rattle.history_view.specs.LogRows.{moment_of, object_of, rank, IsInOrder, IsByTime};
+ghost use Rattle.history_view.specs.LogRows.{IsOrderedBy};
 
 use crate::changes::ObjectChange;
 use s4_types::{Moment, ObjectId, Span};
@@ -72,7 +73,9 @@ fn by_time(rows: Vec<LogRow>, is_reversed: bool) -> Result<Vec<LogRow>, AllocErr
 }
 
 fn grouped(rows: Vec<LogRow>, is_reversed: bool) -> Result<Vec<LogRow>, AllocError>
-    ensures { IfOk result (λ ordered. IsOrderedBy (λ row. rank is_reversed (object_of row)) rows.items ordered.items) }
+    ensures { IfOk result
+        (λ ordered. IsOrderedBy (λ row. rank is_reversed (object_of row)) rows.items
+        ordered.items) }
 {
     let mut ordered = rows;
     ordered.sort_by_key(
@@ -83,8 +86,9 @@ fn grouped(rows: Vec<LogRow>, is_reversed: bool) -> Result<Vec<LogRow>, AllocErr
     Ok(ordered)
 }
 
-/// The rows in the order that is asked for. Rows of one moment, and of one object where each has its own together, keep the order
-/// that they had: so a change that is told in several rows stays in one piece.
+/// The rows in the order that is asked for. Rows of one moment, and of one object where each has
+/// its own together, keep the order that they had: so a change that is told in several rows stays
+/// in one piece.
 pub(crate) fn in_order(rows: Vec<LogRow>, order: LogOrder) -> Result<Vec<LogRow>, AllocError>
     ensures { IfOk result (λ ordered. IsInOrder order rows.items ordered.items) }
 {

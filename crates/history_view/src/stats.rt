@@ -120,7 +120,8 @@ fn stat_in<J: Naming>(
     object: ObjectId,
     query: &LogQuery,
 ) -> Result<Option<ObjectStat>, Refusal>
-    ensures stat { IfOk result (λ stat. stat ≡ stat_in (state_in drive.old) (store_of drive.old) query.now object) }
+    ensures stat { IfOk result
+        (λ stat. stat ≡ stat_in (state_in drive.old) (store_of drive.old) query.now object) }
     ensures refusal { IfErr result (λ e. e ≡ NoMemory) }
     ensures ledger { drive.new.ledger ≡ drive.old.ledger }
     ensures store { store_of drive.new ≡ store_of drive.old }
@@ -149,7 +150,11 @@ fn stats_in<J: Naming>(
     objects: &[ObjectId],
     query: &LogQuery,
 ) -> Result<Vec<ObjectStat>, Refusal>
-    ensures stats { IfOk result (λ stats. stats.items ≡ flat_map (λ o. option_to_list (stat_in (state_in drive.old) (store_of drive.old) query.now o)) objects.now) }
+    ensures stats { IfOk result
+        (λ stats. stats.items
+        ≡ flat_map
+        (λ o. option_to_list
+        (stat_in (state_in drive.old) (store_of drive.old) query.now o)) objects.now) }
     ensures refusal { IfErr result (λ e. e ≡ NoMemory) }
     ensures ledger { drive.new.ledger ≡ drive.old.ledger }
     ensures store { store_of drive.new ≡ store_of drive.old }
@@ -182,8 +187,9 @@ fn at_most(stats: Vec<ObjectStat>, limit: Option<u64>) -> Vec<ObjectStat>
     stats
 }
 
-/// What the log that is asked for comes to: each object once that has changes in it, by ascending number, or by descending where the
-/// order is reversed, and no more of them than the limit. The drive and its clock stay.
+/// What the log that is asked for comes to: each object once that has changes in it, by ascending
+/// number, or by descending where the order is reversed, and no more of them than the limit. The
+/// drive and its clock stay.
 ///
 /// NoMemory alone, where the memory for it is refused.
 pub fn log_stats<J: Naming>(
@@ -191,7 +197,8 @@ pub fn log_stats<J: Naming>(
     drive: &mut Drive<J>,
     query: &LogQuery,
 ) -> Result<Vec<ObjectStat>, Refusal>
-    ensures stats { IfOk result (λ stats. ShowsStats (state_in drive.old) (store_of drive.old) query.now stats.items) }
+    ensures stats { IfOk result
+        (λ stats. ShowsStats (state_in drive.old) (store_of drive.old) query.now stats.items) }
     ensures refusal { IfErr result (λ e. e ≡ NoMemory) }
     ensures ledger { drive.new.ledger ≡ drive.old.ledger }
     ensures store { store_of drive.new ≡ store_of drive.old }

@@ -20,7 +20,8 @@ use s4_types::{Bytes, Moment, ObjectId, Refusal, Reply, Request, Version};
 use segment_word::Naming;
 use std::alloc::{AllocError, Global};
 
-/// Why a moment of an object can't be read, if it can't: Future above the clock, Expired below the floor, else Flushed where it is hidden.
+/// Why a moment of an object can't be read, if it can't: Future above the clock, Expired below the
+/// floor, else Flushed where it is hidden.
 pub fn moment_refusal<J: Naming>(drive: &Drive<J>, object: ObjectId, at: Moment) -> Option<Refusal>
     ensures { result ≡ moment_refusal (state_in drive.now) object at }
 {
@@ -35,10 +36,11 @@ pub fn moment_refusal<J: Naming>(drive: &Drive<J>, object: ObjectId, at: Moment)
     }
 }
 
-/// What an object was at a moment: at most `READ_BYTES` bytes, which one read gives. The drive and its clock stay, whatever is answered.
+/// What an object was at a moment: at most `READ_BYTES` bytes, which one read gives. The drive and
+/// its clock stay, whatever is answered.
 ///
-/// Future, Expired or Flushed exactly where the moment of the object can't be read; else NoMemory where memory is refused, and Busy as
-/// a read may be.
+/// Future, Expired or Flushed exactly where the moment of the object can't be read; else NoMemory
+/// where memory is refused, and Busy as a read may be.
 pub fn version_at<J: Naming>(
     alloc: Global,
     drive: &mut Drive<J>,
@@ -48,7 +50,9 @@ pub fn version_at<J: Naming>(
 ) -> Result<Version, Refusal>
     ensures version { IfOk result (λ version. version ≡ version_of (state_in drive.old) object at) }
     ensures visible { OnOk result (IsVisible (state_in drive.old) object at) }
-    ensures refused { IfErr result (λ e. (moment_refusal (state_in drive.old) object at ≡ Some e) ⊎ ((e ≡ NoMemory) ⊎ (e ≡ Busy))) }
+    ensures refused { IfErr result
+        (λ e. (moment_refusal (state_in drive.old) object at ≡ Some e)
+        ⊎ ((e ≡ NoMemory) ⊎ (e ≡ Busy))) }
     ensures state { state_in drive.new ≡ state_in drive.old }
     ensures store { store_of drive.new ≡ store_of drive.old }
 {
@@ -99,8 +103,12 @@ fn read_whole<J: Naming>(
     object: ObjectId,
     at: Moment,
 ) -> Result<Bytes, Refusal>
-    ensures read { IfOk result (λ bytes. data_of (version_of (state_in drive.old) object at) 0 READ_BYTES ≡ Some (Data bytes)) }
-    ensures refused { IfErr result (λ e. (first_refusal (state_in drive.old) session.old.role (Read object 0 READ_BYTES (Some at)) ≡ Some e) ⊎ ((e ≡ NoMemory) ⊎ (e ≡ Busy))) }
+    ensures read { IfOk result
+        (λ bytes. data_of (version_of (state_in drive.old) object at) 0 READ_BYTES
+        ≡ Some (Data bytes)) }
+    ensures refused { IfErr result
+        (λ e. (first_refusal (state_in drive.old) session.old.role
+        (Read object 0 READ_BYTES (Some at)) ≡ Some e) ⊎ ((e ≡ NoMemory) ⊎ (e ≡ Busy))) }
     ensures state { state_in drive.new ≡ state_in drive.old }
     ensures store { store_of drive.new ≡ store_of drive.old }
 {

@@ -39,13 +39,13 @@ refused_truly known bytes e cause same (inl memory) is = absurd (not_memory caus
 refused_truly known bytes e cause same (inr (found, told, fault)) is =
     known_damaged known bytes cause same (subst (λ (c : Cause). FirstFault bytes (Some c)) (one_cause found cause (sym told ∙ is)) fault)
 
--- for want of memory, or as damaged for the first cause
+-- for lack of memory, or as damaged for the first cause
 pub refused_so : (known : Option (List ℕ)) (bytes : List ℕ) (e : Refusal) → AreKnown known bytes
     → ((e ≡ NoMemory) ⊎ ((found : Cause) × (e ≡ Damaged found) × FirstFault bytes (Some found))) → (e ≡ NoMemory) ⊎ SaysDamaged known e
 refused_so known bytes e same (inl memory) = inl memory
 refused_so known bytes e same (inr (found, told, fault)) = inr (subst (SaysDamaged known) (sym told) (known_damaged known bytes found same fault))
 
--- bytes that can't be split into parts spell no drive, for the same cause
+-- bytes that can't be split into parts encode no drive, for the same cause
 split_fault : (bytes : List ℕ) (cause : Cause) → FirstSplitCause bytes (Some cause) → FirstFault bytes (Some cause)
 split_fault bytes cause (inl bad) = inl bad
 split_fault bytes cause (inr (long, inl bad)) = inr (long, inl bad)
@@ -91,7 +91,7 @@ pub read_none : (start before after : Option (List ℕ)) (old bytes new : List �
 read_none start before after old bytes new so_far kept is known begun =
     subst (Consumes known after) (sym is) (Consumes-kept known before after bytes (so_far known begun) kept)
 
--- what begins with bytes does so with a piece behind it
+-- what begins with bytes does so with a piece after it
 pub starts_on : (front bytes piece new : List ℕ) → StartsWith bytes front → new ≡ bytes ++ piece → StartsWith new front
 starts_on front bytes piece new begins is =
     subst (λ (xs : List ℕ). StartsWith xs front) (sym is) (take-append-le (length front) bytes piece (starts_with_length bytes front begins) ∙ begins)

@@ -4,7 +4,7 @@ use Rattle.std.specs.Io.KnownBytes.{Keeps}
 use Rattle.s4_types.specs.declared.refusals.Cause.{Cause}
 use Rattle.image_commands.specs.Verifying.{IsDamaged}
 
--- what is known of a file spells no drive
+-- what is known of a file encodes no drive
 abbrev pub IsNoImage : Option (List ℕ) → Type 0
 IsNoImage known = (cause : Cause) × IsDamaged known cause
 
@@ -12,7 +12,7 @@ IsNoImage known = (cause : Cause) × IsDamaged known cause
 abbrev pub IsKeptWhereWhole : (known known' : Option (List ℕ)) → Type 0
 IsKeptWhereWhole known known' = Keeps known known' ⊎ IsNoImage known
 
--- A path leads to where a file is made beside the image at another path, or was left, by what a claim of that image reserves.
+-- A path names where a file is made beside the image at another path, or was left, by what a claim of that image reserves.
 abbrev pub IsBeside : {Claim : Type 0} → (leads : Claim → List ℕ → Type 0) → (reserves : Claim → List ℕ → Bool) → (image path : List ℕ) → Type 0
 IsBeside {Claim} leads reserves image path = (claim : Claim) × leads claim image × (reserves claim path ≡ true)
 

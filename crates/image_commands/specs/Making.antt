@@ -9,14 +9,14 @@ use Rattle.drive.specs.Fields.{DriveFields, history_of}
 use Rattle.verifier.specs.Saved.{SpellsSaved}
 use Rattle.image_commands.specs.Files.{AreKnown}
 
--- An empty store over a table of so many frames: nothing is held, no object has a row, and nothing was ever changed.
+-- An empty store over a table of this many frames: nothing is held, no object has a row, and nothing was ever changed.
 pub record IsEmptyStore (frames : ℕ) (store : StoreOf Table) : Type 0 where
   pub log : log_of store.table ≡ record { held = λ p. None; ahead = new_places frames; spent = 0; named = λ p. 0 }
   pub empty : (o : ℕ) → row_of store.rows o ≡ None
   pub latest : store.latest ≡ 0
   pub stands : IsStore (fields_of log_of store)
 
--- bytes that a new drive of so many frames with this window is saved as
+-- bytes that a new drive of this many frames with this window is saved as
 pub record SpellsNew (frames window : ℕ) (bytes : List ℕ) : Type 0 where
   pub drive : DriveFields
   pub history : history_of drive ≡ new_history window

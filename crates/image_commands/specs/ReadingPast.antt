@@ -28,7 +28,7 @@ abbrev pub IsLive : Version → Type 0
 IsLive Absent = ⊥
 IsLive (Live content attribute created changed) = ⊤
 
--- a version is live, and the output has all of its bytes behind it
+-- a version is live, and the output has all of its bytes after it
 pub record GivesVersion (version : Version) (output output' : Option (List ℕ)) : Type 0 where
   pub live : IsLive version
   pub wrote : Appends output output' (content_of version)
@@ -41,7 +41,7 @@ state_from base = state_of (record { base = base; records = [] })
 abbrev pub version_from : Base → ℕ → ℕ → Version
 version_from base o t = version_of (state_from base) o t
 
--- The output has the bytes of an object at a moment behind it: those of the drive that begins with what an image tells, which was read
+-- The output has the bytes of an object at a moment after it: those of the drive that begins with what an image tells, which was read
 -- and verified.
 pub record GivesObject (known : Option (List ℕ)) (o t : ℕ) (output output' : Option (List ℕ)) : Type 0 where
   pub image : ImageFields
@@ -63,7 +63,7 @@ pub record RefusesObject (known : Option (List ℕ)) (o t : ℕ) (refusal : Refu
   pub told : IsToldBy (image_in verified.bytes) base
   pub refused : RefusesVersion base o t refusal
 
--- a fault is a refusal for want of memory or of a seat, or one of which this holds
+-- a fault is a refusal for lack of memory or of a seat, or one of which this holds
 abbrev pub SaysRefused : (Refusal → Type 0) → Fault → Type 0
 SaysRefused Holds (Refused refusal) = (refusal ≡ NoMemory) ⊎ ((refusal ≡ Busy) ⊎ Holds refusal)
 SaysRefused Holds _ = ⊥

@@ -17,19 +17,19 @@ number_line frames objects clock window floor =
 abbrev pub image_line : ImageFields → List ℕ
 image_line image = number_line (length image.table.seat.frames) (length image.objects) image.clock image.window image.floor
 
--- an image that was read and verified: the bytes, where they are known, spell a drive, and it is what they tell
+-- an image that was read and verified: the bytes, where they are known, encode a drive, and it is what they tell
 pub record IsVerified (known : Option (List ℕ)) (image : ImageFields) : Type 0 where
   pub bytes : List ℕ
   pub read : AreKnown known bytes
   pub spelled : SpellsDrive bytes (image_in bytes)
   pub told : IsImageOf (image_in bytes) image
 
--- the bytes, where they are known, spell no drive, for this cause first
+-- the bytes, where they are known, encode no drive, for this cause first
 abbrev pub IsDamaged : Option (List ℕ) → Cause → Type 0
 IsDamaged None cause = ⊤
 IsDamaged (Some bytes) cause = FirstFault bytes (Some cause)
 
--- the output has the line of an image that was read and verified behind it
+-- the output has the line of an image that was read and verified after it
 pub record TellsImage (known : Option (List ℕ)) (output output' : Option (List ℕ)) : Type 0 where
   pub image : ImageFields
   pub verified : IsVerified known image

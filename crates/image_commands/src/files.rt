@@ -1,5 +1,6 @@
 //! The files that the commands read and write.
-ghost use Rattle.std.specs.Prelude.{◌≡◌, ℕ, Bool, true, false, List, [], Option, None, IfErr, IfOk, IfSome, IsFalse, IsTrue, OnErr, OnOk, string_bytes};
+ghost use Rattle.std.specs.Prelude.{◌≡◌, ℕ, Bool, true, false, List, [], Option, None, IfErr, IfOk};
+ghost use Rattle.std.specs.Prelude.{IfSome, IsFalse, IsTrue, OnErr, OnOk, string_bytes};
 ghost use Rattle.std.specs.Io.KnownBytes.{Keeps};
 ghost use Rattle.image_commands.specs.Files.{AreKnown, HasSome};
 
@@ -7,30 +8,32 @@ use crate::obstacles::Obstacle;
 use std::alloc::Global;
 use std::io::{self, Read, Write};
 
-/// Files, each found by its path. An error of the kind `OutOfMemory` says that a growth was refused.
+/// Files, each found by its path. An error of the kind `OutOfMemory` says that a growth was
+/// refused.
 pub trait Files {
     // The bytes of the file at a path, where they are known.
     ghost contents: { Self → List ℕ → Option (List ℕ) };
 
-    // Whether a path leads to what was claimed.
+    // Whether a path names what was claimed.
     ghost leads: { Self.Claim → List ℕ → Type 0 };
 
-    // Whether a path leads to where a file beside an image may be made, or was left.
+    // Whether a path names where a file beside an image may be made, or was left.
     ghost reserves: { Self.Claim → List ℕ → Bool };
 
-    // Whether a path leads to the file beside an image.
+    // Whether a path names the file beside an image.
     ghost is_beside: { Self.Beside → List ℕ → Bool };
 
-    // Whether a path leads to a file that was left beside an image.
+    // Whether a path names a file that was left beside an image.
     ghost is_left: { Self.Leftover → List ℕ → Bool };
 
-    // Whether two paths never lead to one file: what is written to the one is never what the other has.
+    // Whether two paths never lead to one file: what is written to the one is never what the other
+    // has.
     ghost apart: { List ℕ → List ℕ → Type 0 };
 
-    // Whether a path leads to what was opened to be written.
+    // Whether a path names what was opened to be written.
     ghost opens: { Self.Opened → List ℕ → Type 0 };
 
-    // Whether a path leads to what a writer writes.
+    // Whether a path names what a writer writes.
     ghost writes: { Self.Writer → List ℕ → Type 0 };
 
     /// What an opened file is read by.
@@ -45,7 +48,8 @@ pub trait Files {
     /// Where an image is, or will be. While this is kept no other program claims it.
     type Claim: Drop;
 
-    /// A file beside an image, which is to take its place. While this is kept it is no leftover of any program.
+    /// A file beside an image, which is to take its place. While this is kept it is no leftover of
+    /// any program.
     type Beside: Drop;
 
     /// A file that may have been left beside an image. While this is kept no other program has it.
@@ -55,43 +59,52 @@ pub trait Files {
     fn open(&self, path: &str) -> io::Result<Self::Reader>
         ensures bytes { IfOk result (λ r. Self.Reader.remaining r ≡ contents self.now path.now) };
 
-    /// Opens a file to be written, and makes it where nothing is there. What it has stays until it is emptied.
+    /// Opens a file to be written, and makes it where nothing is there. What it has stays until it
+    /// is emptied.
     fn open_output(&mut self, path: &str) -> io::Result<Self::Opened>
         ensures opened { IfOk result (λ o. opens o path.now) }
         ensures kept { (other : List ℕ) → Keeps (contents self.old other) (contents self.new other) };
 
-    /// Empties a file that was opened to be written. Where the system doesn't, each write to it fails.
+    /// Empties a file that was opened to be written. Where the system doesn't, each write to it
+    /// fails.
     fn empty(&mut self, opened: Self::Opened) -> Self::Writer
         ensures empty { AreKnown (Self.Writer.contents result) [] }
         ensures same { (path : List ℕ) → opens opened path → writes result path }
         ensures others { (path other : List ℕ) → opens opened path → apart other path → Keeps (contents self.old other) (contents self.new other) };
 
-    /// Whether a path still leads to what a writer wrote, or to a stream, when all is written: the file has what it took then.
+    /// Whether a path still refers to what a writer wrote, or to a stream, when all is written: the
+    /// file has what it took then.
     fn finish(&mut self, path: &str, writer: &Self::Writer) -> bool
-        ensures written { IsTrue result → Keeps (Self.Writer.contents writer.now) (contents self.new path.now) }
+        ensures written { IsTrue result
+            → Keeps (Self.Writer.contents writer.now) (contents self.new path.now) }
         ensures others { (other : List ℕ) → apart other path.now → Keeps (contents self.old other) (contents self.new other) };
 
-    /// Whether two paths lead to one file, or will where neither is there: then what is written to the one is what the other has. Never
-    /// so of terminals, sockets and other streams that have two ends.
+    /// Whether two paths name one file, or will where neither is there: then what is written to the
+    /// one is what the other has. Never so of terminals, sockets and other streams that have two
+    /// ends.
     fn are_same(&self, first: &str, second: &str) -> io::Result<bool>
         ensures apart { IfOk result (λ same. IsFalse same → apart first.now second.now) };
 
-    /// Claims the image at a path, or the path where nothing is there: where it is a link, the file that it leads to. An obstacle where
-    /// that is no regular file, may not be written, or is claimed by another program.
+    /// Claims the image at a path, or the path where nothing is there: where it is a link, the file
+    /// that it refers to. An obstacle where that is no regular file, may not be written, or is
+    /// claimed by another program.
     fn claim(&self, alloc: Global, path: &str) -> Result<Self::Claim, Obstacle>
         ensures claimed { IfOk result (λ c. leads c path.now) };
 
     /// Whether what was claimed is a file that has bytes.
     fn has_bytes(&self, claim: &Self::Claim) -> io::Result<bool>
-        ensures empty { IfOk result (λ has. IsFalse has → (path : List ℕ) → leads claim.now path → AreKnown (contents self.now path) []) }
+        ensures empty { IfOk result
+            (λ has. IsFalse has → (path : List ℕ) → leads claim.now path
+            → AreKnown (contents self.now path) []) }
         ensures some { IfOk result (λ has. IsTrue has → (path : List ℕ) → leads claim.now path → HasSome (contents self.now path)) };
 
-    /// Whether a path leads to where a file beside a claimed image may be made, or was left.
+    /// Whether a path names where a file beside a claimed image may be made, or was left.
     fn is_reserved(&self, claim: &Self::Claim, path: &str) -> io::Result<bool>
         ensures reserved { IfOk result (λ is. IsFalse is → reserves claim.now path.now ≡ false) };
 
-    /// Makes a file of this length in bytes beside an image, by a name that no file has, with the image's mode and owner. An obstacle,
-    /// too, where it is known already that it can't take the image's place.
+    /// Makes a file of this length in bytes beside an image, by a name that no file has, with the
+    /// image's mode and owner. An obstacle, too, where it is known already that it can't take the
+    /// image's place.
     fn make_beside(
         &mut self,
         alloc: Global,
@@ -99,14 +112,16 @@ pub trait Files {
         length: usize,
     ) -> Result<Self::Beside, Obstacle>
         ensures others { (path : List ℕ) → Keeps (contents self.old path) (contents self.new path) }
-        ensures reserved { IfOk result (λ b. (path : List ℕ) → is_beside b path ≡ true → reserves claim.now path ≡ true) }
+        ensures reserved { IfOk result
+            (λ b. (path : List ℕ) → is_beside b path ≡ true → reserves claim.now path ≡ true) }
         ensures unknown { IfOk result (λ b. (path : List ℕ) → is_beside b path ≡ true → contents self.old path ≡ None) };
 
     /// Removes the file beside an image.
     fn remove_beside(&mut self, beside: Self::Beside)
         ensures others { (path : List ℕ) → is_beside beside path ≡ false → Keeps (contents self.old path) (contents self.new path) };
 
-    /// The file of this number that was left beside a claimed image, where there is one that no program has.
+    /// The file of this number that was left beside a claimed image, where there is one that no
+    /// program has.
     fn leftover(&self, alloc: Global, claim: &Self::Claim, number: u32) -> Option<Self::Leftover>
         ensures reserved { IfSome result (λ left. (path : List ℕ) → is_left left path ≡ true → reserves claim.now path ≡ true) };
 
@@ -118,18 +133,26 @@ pub trait Files {
     fn remove_leftover(&mut self, leftover: Self::Leftover)
         ensures others { (path : List ℕ) → is_left leftover path ≡ false → Keeps (contents self.old path) (contents self.new path) };
 
-    /// Fills the file beside an image with these bytes and puts it in the image's place. Whoever reads the path, at whatever time,
-    /// finds all bytes of the old file or all of the new one. An error leaves the old file; where the new one has all bytes then, it
-    /// stays beside the old one, and its path is answered. So it is where the path leads no more to what was claimed.
+    /// Fills the file beside an image with these bytes and puts it in the image's place. Whoever
+    /// reads the path, at whatever time, finds all bytes of the old file or all of the new one. An
+    /// error leaves the old file; where the new one has all bytes then, it stays beside the old
+    /// one, and its path is answered. So it is where the path leads no more to what was claimed.
     fn replace(
         &mut self,
         claim: Self::Claim,
         beside: Self::Beside,
         bytes: &[u8],
     ) -> Result<Placed, NotReplaced>
-        ensures replaced { OnOk result ((path : List ℕ) → leads claim path → AreKnown (contents self.new path) bytes.now) }
-        ensures elsewhere { OnOk result ((path other : List ℕ) → leads claim path → apart path other → is_beside beside other ≡ false → Keeps (contents self.old other) (contents self.new other)) }
-        ensures others { OnErr result ((path : List ℕ) → is_beside beside path ≡ false → Keeps (contents self.old path) (contents self.new path)) }
+        ensures replaced { OnOk result
+            ((path : List ℕ) → leads claim path → AreKnown (contents self.new path) bytes.now) }
+        ensures elsewhere { OnOk result
+            ((path other : List ℕ) → leads claim path → apart path other
+            → is_beside beside other ≡ false
+            → Keeps (contents self.old other) (contents self.new other)) }
+        ensures others { OnErr result
+            ((path : List ℕ)
+            → is_beside beside path ≡ false
+            → Keeps (contents self.old path) (contents self.new path)) }
         ensures kept { IfErr result (λ why. IfSome why.kept (λ path. AreKnown (contents self.new (string_bytes path)) bytes.now)) };
 }
 

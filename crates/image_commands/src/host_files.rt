@@ -47,7 +47,8 @@ pub struct LeftFile {
     file: File,
 }
 
-/// The standard streams. The system opens no socket by a path, so what their paths name is not opened, but used as it is.
+/// The standard streams. The system opens no socket by a path, so what their paths name is not
+/// opened, but used as it is.
 #[derive(Clone, Copy, PartialEq, Eq)]
 enum Standard {
     Input,
@@ -276,7 +277,8 @@ fn standard_stream(path: &str) -> Option<Standard> {
     }
 }
 
-// A file that was opened to be written, without the bytes that it had. What is no file, as a pipe, has none.
+// A file that was opened to be written, without the bytes that it had. What is no file, as a pipe,
+// has none.
 fn emptied(file: File) -> Output {
     match remove_bytes(&file) {
         Ok(()) => Output::Named(file),
@@ -292,7 +294,8 @@ fn remove_bytes(file: &File) -> io::Result<()> {
     Ok(())
 }
 
-// Whether a path leads to this very file. What is no file, as a pipe, keeps nothing that is looked for at a path.
+// Whether a path names this very file. What is no file, as a pipe, keeps nothing that is looked for
+// at a path.
 fn is_still_at(rt: &HostRuntime, file: &File, path: &str) -> bool {
     match (file.metadata(), found(rt, path)) {
         (Ok(about), Some(now)) => !about.is_file() || are_one_file(&about, &now),
@@ -301,8 +304,9 @@ fn is_still_at(rt: &HostRuntime, file: &File, path: &str) -> bool {
     }
 }
 
-// The image of this path, locked against other programs. An obstacle where it is no regular file, or nobody may write it, though who
-// runs this may do anything; where another program has it, or has just put another one in its place.
+// The image of this path, locked against other programs. An obstacle where it is no regular file,
+// or nobody may write it, though who runs this may do anything; where another program has it, or
+// has just put another one in its place.
 fn locked(rt: &HostRuntime, path: &str) -> Result<File, Obstacle> {
     // A stream isn't opened: that could wait, or be seen at its other end.
     let about = fs::metadata(rt, path)?;
@@ -322,7 +326,8 @@ fn locked(rt: &HostRuntime, path: &str) -> Result<File, Obstacle> {
     }
 }
 
-// Locks a file against other programs, and says whether it is at its path then. Not so where another program has it.
+// Locks a file against other programs, and says whether it is at its path then. Not so where
+// another program has it.
 fn lock(rt: &HostRuntime, file: &File, path: &str) -> io::Result<bool> {
     match file.try_lock() {
         Ok(()) => is_at(rt, file, path),
@@ -350,8 +355,8 @@ fn is_led_to(rt: &HostRuntime, file: &File, path: &str) -> io::Result<bool> {
     }
 }
 
-// Makes an empty file beside an image, by the first name that no file has. So nobody else writes it, no file that was there is lost,
-// and the name is short however long the image's is.
+// Makes an empty file beside an image, by the first name that no file has. So nobody else writes
+// it, no file that was there is lost, and the name is short however long the image's is.
 fn new_beside(rt: &HostRuntime, alloc: Global, claim: &ImageClaim) -> Result<BesideFile, Obstacle> {
     // It is opened now, so that a folder of which that is refused is known before any session.
     let folder = File::open(rt, folder_of(Path::new(claim.path.as_str())))?;
@@ -369,8 +374,9 @@ fn new_beside(rt: &HostRuntime, alloc: Global, claim: &ImageClaim) -> Result<Bes
     Err(Obstacle::NoName)
 }
 
-// Whether a name beside an image is free. An image that is mounted by itself can't be renamed over, and the system says that of a link
-// of the image, too: so one is made by that name, and removed. What else a link is refused for proves nothing.
+// Whether a name beside an image is free. An image that is mounted by itself can't be renamed over,
+// and the system says that of a link of the image, too: so one is made by that name, and removed.
+// What else a link is refused for proves nothing.
 fn can_be_linked(rt: &HostRuntime, claim: &ImageClaim, path: &str) -> Result<bool, Obstacle> {
     if claim.image.is_none() {
         return Ok(true);
@@ -388,8 +394,8 @@ fn can_be_linked(rt: &HostRuntime, claim: &ImageClaim, path: &str) -> Result<boo
     }
 }
 
-// A file that was made at a path without links, and is locked. None where a file is there, or another program took this one for a
-// leftover before it was locked.
+// A file that was made at a path without links, and is locked. None where a file is there, or
+// another program took this one for a leftover before it was locked.
 fn made_locked(rt: &HostRuntime, claim: &ImageClaim, path: &str) -> Result<Option<File>, Obstacle> {
     let mode = if claim.image.is_some() {
         PRIVATE
@@ -456,7 +462,7 @@ fn keep_owner(file: &File, other: &Metadata) -> io::Result<()> {
     file.set_permissions(other.permissions())
 }
 
-// Gives a file so many zeros, which are written, so that the disk has room for them then.
+// Gives a file this many zeros, which are written, so that the disk has room for them then.
 fn write_zeros(file: &mut File, count: usize) -> io::Result<()> {
     for _ in 0..count.div_ceil(ZEROS.len()) {
         file.write_all(&ZEROS)?;
@@ -471,7 +477,8 @@ fn fill(file: &mut File, bytes: &[u8]) -> io::Result<()> {
     file.set_len(bytes.len() as u64)
 }
 
-// Gives the file beside an image the image's name once its bytes are on the disk, where that still names what was claimed.
+// Gives the file beside an image the image's name once its bytes are on the disk, where that still
+// names what was claimed.
 fn put_in_place(
     rt: &HostRuntime,
     claim: &ImageClaim,

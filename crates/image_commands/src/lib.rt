@@ -1,11 +1,14 @@
-//! The commands over images that serve no sessions: `new`, `verify` and `at`; and how every command reads an image and writes one.
+//! The commands over images that serve no sessions: `new`, `verify` and `at`; and how every command
+//! reads an image and writes one.
 //!
-//! The layer above may rely on this: `read_image` gives the image that a file's bytes spell, and `read_bytes` these, whatever they are.
-//! `verify_file` writes its line, `write_object`
-//! the bytes of an object at a moment in the drive that begins with it, and `make_file` leaves the image of a new drive in a file that
-//! had no bytes; what was written has been passed on where they succeed. `remove_leftovers` removes nothing that `verify` takes. That is proved over any `Files` that say what files hold. The system's files say
-//! nothing of it, since no clause of the standard library does: that they read and write as the trait says is tested through the
-//! program, and so is the line that a `Fault` prints.
+//! The layer above may rely on this: `read_image` gives the image that a file's bytes encode, and
+//! `read_bytes` these, whatever they are. `verify_file` writes its line, `write_object` the bytes
+//! of an object at a moment in the drive that begins with it, and `make_file` leaves the image of a
+//! new drive in a file that had no bytes; what was written has been passed on where they succeed.
+//! `remove_leftovers` removes nothing that `verify` takes. That is proved over any `Files` that say
+//! what files hold. The system's files say nothing of it, since no clause of the standard library
+//! does: that they read and write as the trait says is tested through the program, and so is the
+//! line that a `Fault` prints.
 #![tactic(auto)]
 
 mod beside;

@@ -6,7 +6,8 @@ use std::alloc::AllocError;
 use std::io;
 use thiserror::Error;
 
-/// Why a file can't be read or made, or an image not be put in its place. Each prints what is so, and what can be done.
+/// Why a file can't be read or made, or an image not be put in its place. Each prints what is so,
+/// and what can be done.
 #[derive(Clone, Copy, Debug, PartialEq, Eq, Error)]
 pub enum Obstacle {
     #[error("memory is short; try again with more")]
@@ -44,7 +45,8 @@ pub enum Obstacle {
     Moved,
     #[error("its folder cannot be written to the disk; the new image is there, unless the machine fails")]
     NotLasting,
-    /// Of a session's file: it is the image, is read or written by another session, or has the name of a file beside the image.
+    /// Of a session's file: it is the image, is read or written by another session, or has the name
+    /// of a file beside the image.
     #[error("it is the image, another session's file, or one beside the image; name another file")]
     Shared,
     #[error("another program has it in use; end that one, or name another file")]

@@ -23,7 +23,7 @@ pub fn are_one_file(one: &Metadata, other: &Metadata) -> bool {
         && !kind.is_socket()
 }
 
-/// Whether both paths lead to one file, of two that aren't there.
+/// Whether both paths name one file, of two that aren't there.
 pub fn are_one_path(rt: &HostRuntime, first: &str, second: &str) -> io::Result<bool> {
     let (first, second) = (end_of_links(rt, first)?, end_of_links(rt, second)?);
     let (first, second) = (Path::new(first.as_str()), Path::new(second.as_str()));
@@ -66,7 +66,7 @@ fn end_of_links(rt: &HostRuntime, path: &str) -> io::Result<String> {
     Ok(path)
 }
 
-// Where the link at a path leads to, if one is there.
+// Where the link at a path names, if one is there.
 fn next_link(rt: &HostRuntime, path: &str) -> io::Result<Option<String>> {
     match fs::read_link(rt, path) {
         Ok(next) => {
@@ -78,7 +78,8 @@ fn next_link(rt: &HostRuntime, path: &str) -> io::Result<Option<String>> {
     }
 }
 
-/// The path without links, and whether anything is there. An obstacle where a link leads nowhere, or no file can have the path.
+/// The path without links, and whether anything is there. An obstacle where a link leads nowhere,
+/// or no file can have the path.
 pub fn real_path(rt: &HostRuntime, alloc: Global, path: &str) -> Result<(String, bool), Obstacle> {
     match fs::canonicalize(rt, path) {
         Ok(found) => return Ok((found.into_string(), true)),

@@ -6,7 +6,8 @@ ghost use Rattle.drive.specs.Opened.{base_of};
 ghost use Rattle.s4_types.specs.declared.refusals.Refusal.TheVariants.{NoObject};
 ghost use Rattle.s4_types.specs.declared.versions.Version.TheVariants.{Absent};
 ghost use Rattle.image_commands.specs.Faults.{SaysUnwritten};
-ghost use Rattle.image_commands.specs.ReadingPast.{GivesObject, GivesVersion, RefusesVersion, SaysRefused, SaysUngiven, version_from};
+ghost use Rattle.image_commands.specs.ReadingPast.{GivesObject, GivesVersion, RefusesVersion};
+ghost use Rattle.image_commands.specs.ReadingPast.{SaysRefused, SaysUngiven, version_from};
 
 use crate::faults::Fault;
 use crate::files::Files;
@@ -31,8 +32,12 @@ pub fn write_object<'a, T: Threads, F: Files, W: Sink>(
     writer: &mut W,
 ) -> Result<(), Fault<'a>>
     requires writer { W.failures writer.old + 1 < 2 ^ 64 }
-    ensures object { OnOk result (GivesObject (F.contents files.now asked.entry.image.now) asked.entry.object asked.entry.moment (W.passed writer.old) (W.passed writer.new)) }
-    ensures fault { IfErr result (SaysUngiven (F.contents files.now asked.entry.image.now) asked.entry.image.now asked.entry.object asked.entry.moment (W.failures writer.old) (W.failures writer.new)) }
+    ensures object { OnOk result
+        (GivesObject (F.contents files.now asked.entry.image.now) asked.entry.object
+        asked.entry.moment (W.passed writer.old) (W.passed writer.new)) }
+    ensures fault { IfErr result
+        (SaysUngiven (F.contents files.now asked.entry.image.now) asked.entry.image.now
+        asked.entry.object asked.entry.moment (W.failures writer.old) (W.failures writer.new)) }
 {
     let image = match read_image(rt, alloc, files, asked.image) {
         Ok(image) => image,
@@ -55,8 +60,12 @@ fn write_named<'a, J: Naming, W: Sink>(
     requires frames { opened.store.table.seat.table ≡ J.frames }
     requires base { base_of (fields_of log_of opened.store) opened.timeline opened.next ≡ J.base }
     requires writer { W.failures writer.old + 1 < 2 ^ 64 }
-    ensures version { OnOk result (GivesVersion (version_from J.base asked.entry.object asked.entry.moment) (W.passed writer.old) (W.passed writer.new)) }
-    ensures fault { IfErr result (λ fault. SaysRefused (RefusesVersion J.base asked.entry.object asked.entry.moment) fault ⊎ SaysUnwritten (W.failures writer.old) (W.failures writer.new) fault) }
+    ensures version { OnOk result
+        (GivesVersion (version_from J.base asked.entry.object asked.entry.moment)
+        (W.passed writer.old) (W.passed writer.new)) }
+    ensures fault { IfErr result
+        (λ fault. SaysRefused (RefusesVersion J.base asked.entry.object asked.entry.moment) fault
+        ⊎ SaysUnwritten (W.failures writer.old) (W.failures writer.new) fault) }
 {
     let mut drive = opened.named::<J>();
     let mut session = match drive.session(Role::Client) {
@@ -74,8 +83,11 @@ fn write_named<'a, J: Naming, W: Sink>(
 /// Writes the bytes of a version. NoObject where it is absent.
 pub fn write_version<'a, W: Sink>(version: &Version, writer: &mut W) -> Result<(), Fault<'a>>
     requires writer { W.failures writer.old + 1 < 2 ^ 64 }
-    ensures version { OnOk result (GivesVersion version.now (W.passed writer.old) (W.passed writer.new)) }
-    ensures fault { IfErr result (λ fault. ((version.now ≡ Absent) × (fault ≡ Fault.Refused NoObject)) ⊎ SaysUnwritten (W.failures writer.old) (W.failures writer.new) fault) }
+    ensures version { OnOk result
+        (GivesVersion version.now (W.passed writer.old) (W.passed writer.new)) }
+    ensures fault { IfErr result
+        (λ fault. ((version.now ≡ Absent) × (fault ≡ Fault.Refused NoObject))
+        ⊎ SaysUnwritten (W.failures writer.old) (W.failures writer.new) fault) }
 {
     match version {
         Version::Live { bytes, .. } => write_out(writer, bytes.as_slice()),

@@ -1,12 +1,14 @@
 //! Drives that are written to files, and `new`.
-ghost use Rattle.std.specs.Prelude.{◌≡◌, ◌+◌, ◌*◌, ℕ, true, false, List, [], None, IfErr, IfOk, OnErr, OnOk};
+ghost use Rattle.std.specs.Prelude.{◌≡◌, ◌+◌, ◌*◌, ℕ, true, false, List, [], None, IfErr, IfOk};
+ghost use Rattle.std.specs.Prelude.{OnErr, OnOk};
 ghost use Rattle.std.specs.Io.KnownBytes.{Keeps};
 ghost use Rattle.s4_types.specs.Sizes.{IsFrameCount};
 ghost use Rattle.s4_types.specs.declared.refusals.Refusal.TheVariants.{NoMemory};
 ghost use Rattle.s4_types.specs.declared.limits.TheConstants.{PAYLOAD_BLOCKS, RUNS_IN_ALL};
 ghost use Rattle.s4_model.specs.State.{new_base};
 ghost use Rattle.image_commands.specs.Files.{AreKnown};
-ghost use Rattle.image_commands.specs.Faults.{KeepsMade, KeepsNew, SaysUnmade, SaysUnplaced, SaysUnwritable};
+ghost use Rattle.image_commands.specs.Faults.{KeepsMade, KeepsNew, SaysUnmade, SaysUnplaced};
+ghost use Rattle.image_commands.specs.Faults.{SaysUnwritable};
 ghost use Rattle.image_commands.specs.Making.{HasNew, IsEmptyStore, SpellsNew};
 
 use crate::faults::{Fault, writing};
@@ -22,21 +24,29 @@ use std::alloc::Global;
 use std::marker::Brand;
 use verifier::save;
 
-/// Writes the image of a new drive, by a name that no file has or in place of a file without bytes. What has bytes is refused, since it
-/// may be a drive.
+/// Writes the image of a new drive, by a name that no file has or in place of a file without bytes.
+/// What has bytes is refused, since it may be a drive.
 pub fn make_file<'a, F: Files>(
     alloc: Global,
     files: &mut F,
     asked: New<'a>,
 ) -> Result<Placed, Fault<'a>>
     requires frames { IsFrameCount asked.frames }
-    ensures image { OnOk result (HasNew asked.entry.frames asked.entry.window (F.contents files.new asked.entry.image.now)) }
+    ensures image { OnOk result
+        (HasNew asked.entry.frames asked.entry.window
+        (F.contents files.new asked.entry.image.now)) }
     // What has bytes is refused.
     ensures empty { OnOk result (AreKnown (F.contents files.old asked.entry.image.now) []) }
-    ensures others { OnOk result ((path : List ℕ) → F.apart asked.entry.image.now path → Keeps (F.contents files.old path) (F.contents files.new path)) }
-    ensures kept { OnErr result ((path : List ℕ) → Keeps (F.contents files.old path) (F.contents files.new path)) }
-    ensures fault { IfErr result (SaysUnmade (F.contents files.old asked.entry.image.now) asked.entry.image.now) }
-    ensures named { IfErr result (KeepsMade asked.entry.frames asked.entry.window (F.contents files.new)) }
+    ensures others { OnOk result
+        ((path : List ℕ)
+        → F.apart asked.entry.image.now path
+        → Keeps (F.contents files.old path) (F.contents files.new path)) }
+    ensures kept { OnErr result
+        ((path : List ℕ) → Keeps (F.contents files.old path) (F.contents files.new path)) }
+    ensures fault { IfErr result
+        (SaysUnmade (F.contents files.old asked.entry.image.now) asked.entry.image.now) }
+    ensures named { IfErr result
+        (KeepsMade asked.entry.frames asked.entry.window (F.contents files.new)) }
 {
     let made = match NewDrive::new(alloc, asked.frames as usize, asked.window) {
         Ok(made) => made,
@@ -61,10 +71,14 @@ fn empty_place<'a, F: Files>(
     ensures path { IfOk result (λ place. place.path.now ≡ path.now) }
     ensures claimed { IfOk result (λ place. F.leads place.claim place.path.now) }
     ensures empty { OnOk result (AreKnown (F.contents files.old path.now) []) }
-    ensures others { (other : List ℕ) → Keeps (F.contents files.old other) (F.contents files.new other) }
-    ensures unknown { IfOk result (λ place. (other : List ℕ) → F.is_beside place.beside other ≡ true → F.contents files.old other ≡ None) }
+    ensures others { (other : List ℕ)
+        → Keeps (F.contents files.old other) (F.contents files.new other) }
+    ensures unknown { IfOk result
+        (λ place. (other : List ℕ)
+        → F.is_beside place.beside other ≡ true → F.contents files.old other ≡ None) }
     ensures fault { IfErr result (SaysUnmade (F.contents files.old path.now) path.now) }
-    ensures named { IfErr result (λ fault. (frames window : ℕ) → KeepsMade frames window (F.contents files.new) fault) }
+    ensures named { IfErr result
+        (λ fault. (frames window : ℕ) → KeepsMade frames window (F.contents files.new) fault) }
 {
     let claim = match files.claim(alloc, path) {
         Ok(claim) => claim,
@@ -84,7 +98,8 @@ fn save_new<J: Naming>(alloc: Global, made: NewDrive, asked: New<'_>) -> Result<
     requires base { new_base made.window ≡ J.base }
     requires window { made.window ≡ asked.window }
     requires store { IsEmptyStore asked.frames made.store }
-    ensures image { IfOk result (λ bytes. SpellsNew asked.entry.frames asked.entry.window bytes.items) }
+    ensures image { IfOk result
+        (λ bytes. SpellsNew asked.entry.frames asked.entry.window bytes.items) }
     ensures refusal { IfErr result (λ e. e ≡ NoMemory) }
 {
     let mut drive = made.named::<J>();
@@ -100,7 +115,8 @@ pub struct Place<'a, F: Files> {
 }
 
 impl<'a, F: Files> Place<'a, F> {
-    /// Makes a file of this length in bytes beside an image: what is put there later has room on the disk.
+    /// Makes a file of this length in bytes beside an image: what is put there later has room on
+    /// the disk.
     pub fn beside(
         alloc: Global,
         files: &mut F,
@@ -111,9 +127,14 @@ impl<'a, F: Files> Place<'a, F> {
         requires claimed { F.leads claim path.now }
         ensures path { IfOk result (λ place. place.path.now ≡ path.now) }
         ensures claimed { IfOk result (λ place. F.leads place.claim place.path.now) }
-        ensures others { (other : List ℕ) → Keeps (F.contents files.old other) (F.contents files.new other) }
-        ensures reserved { IfOk result (λ place. (other : List ℕ) → F.is_beside place.beside other ≡ true → F.reserves claim other ≡ true) }
-        ensures unknown { IfOk result (λ place. (other : List ℕ) → F.is_beside place.beside other ≡ true → F.contents files.old other ≡ None) }
+        ensures others { (other : List ℕ)
+            → Keeps (F.contents files.old other) (F.contents files.new other) }
+        ensures reserved { IfOk result
+            (λ place. (other : List ℕ)
+            → F.is_beside place.beside other ≡ true → F.reserves claim other ≡ true) }
+        ensures unknown { IfOk result
+            (λ place. (other : List ℕ)
+            → F.is_beside place.beside other ≡ true → F.contents files.old other ≡ None) }
         ensures fault { IfErr result (SaysUnwritable path.now) }
     {
         match files.make_beside(alloc, &claim, length) {
@@ -128,17 +149,28 @@ impl<'a, F: Files> Place<'a, F> {
 
     /// Leaves the image as it is.
     pub fn leave(self, files: &mut F)
-        ensures others { (other : List ℕ) → F.is_beside self.entry.beside other ≡ false → Keeps (F.contents files.old other) (F.contents files.new other) }
+        ensures others { (other : List ℕ)
+            → F.is_beside self.entry.beside other ≡ false
+            → Keeps (F.contents files.old other) (F.contents files.new other) }
     {
         files.remove_beside(self.beside);
     }
 
-    /// Replaces the image by these bytes. Where that fails and they are all in the file beside it, the fault names that.
+    /// Replaces the image by these bytes. Where that fails and they are all in the file beside it,
+    /// the fault names that.
     pub fn put(self, files: &mut F, bytes: &[u8]) -> Result<Placed, Fault<'a>>
         requires claimed { F.leads self.claim self.path.now }
-        ensures image { OnOk result (AreKnown (F.contents files.new self.entry.path.now) bytes.now) }
-        ensures elsewhere { OnOk result ((other : List ℕ) → F.apart self.entry.path.now other → F.is_beside self.entry.beside other ≡ false → Keeps (F.contents files.old other) (F.contents files.new other)) }
-        ensures others { OnErr result ((other : List ℕ) → F.is_beside self.entry.beside other ≡ false → Keeps (F.contents files.old other) (F.contents files.new other)) }
+        ensures image { OnOk result
+            (AreKnown (F.contents files.new self.entry.path.now) bytes.now) }
+        ensures elsewhere { OnOk result
+            ((other : List ℕ)
+            → F.apart self.entry.path.now other
+            → F.is_beside self.entry.beside other ≡ false
+            → Keeps (F.contents files.old other) (F.contents files.new other)) }
+        ensures others { OnErr result
+            ((other : List ℕ)
+            → F.is_beside self.entry.beside other ≡ false
+            → Keeps (F.contents files.old other) (F.contents files.new other)) }
         ensures fault { IfErr result (SaysUnplaced self.entry.path.now) }
         ensures kept { IfErr result (λ fault. KeepsNew (F.contents files.new) bytes.now fault) }
     {
@@ -160,10 +192,12 @@ impl<'a, F: Files> Place<'a, F> {
     }
 }
 
-/// How many bytes the longest image of so many frames has: all are used, each block of payload is a row's own, and there are as many
-/// runs of hidden moments as a drive may have.
+/// How many bytes the longest image of this many frames has: all are used, each block of payload is
+/// a row's own, and there are as many runs of hidden moments as a drive may have.
 pub fn longest_image(frames: u16) -> usize
-    ensures { result ≡ 512 + 8 * frames + 8192 * frames + 40 * (frames * PAYLOAD_BLOCKS) + 24 * RUNS_IN_ALL + 32 }
+    ensures { result
+        ≡ 512 + 8 * frames + 8192 * frames + 40 * (frames * PAYLOAD_BLOCKS) + 24 * RUNS_IN_ALL
+        + 32 }
 {
     let rows = u32::from(frames) * PAYLOAD_BLOCKS as u32;
     image_length(frames, frames, rows, RUNS_IN_ALL as u32)

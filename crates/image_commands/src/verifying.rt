@@ -1,11 +1,13 @@
 //! `verify`, and how each command reads an image.
-ghost use Rattle.std.specs.Prelude.{◌≡◌, ℕ, ◌+◌, ◌^◌, ◌<◌, List, Option, IfOk, IfSome, IfErr, IsTrue, OnOk, length, string_bytes};
+ghost use Rattle.std.specs.Prelude.{◌≡◌, ℕ, ◌+◌, ◌^◌, ◌<◌, List, Option, IfOk, IfSome, IfErr};
+ghost use Rattle.std.specs.Prelude.{IsTrue, OnOk, length, string_bytes};
 ghost use Rattle.std.specs.Io.{StartsWith};
 ghost use Rattle.std.specs.Io.KnownBytes.{Appends, Consumes, IsAtEnd};
 ghost use Rattle.image_commands.specs.Faults.{SaysUnread, SaysUnverified, SaysUnwritten};
 ghost use Rattle.image_commands.specs.Files.{AreKnown};
 ghost use Rattle.image_commands.specs.Leaving.{IsNoImage};
-ghost use Rattle.image_commands.specs.Verifying.{number_line, image_line, IsDamaged, IsVerified, TellsImage};
+ghost use Rattle.image_commands.specs.Verifying.{number_line, image_line, IsDamaged, IsVerified};
+ghost use Rattle.image_commands.specs.Verifying.{TellsImage};
 
 use crate::faults::{Fault, reading};
 use crate::files::Files;
@@ -20,13 +22,15 @@ use std::io::{self, Read};
 use std::thread::Threads;
 use verifier::{Image, verify};
 
-/// How much of a file is looked at first: as many bytes as a header and a digest have, and fewer than any image has.
+/// How much of a file is looked at first: as many bytes as a header and a digest have, and fewer
+/// than any image has.
 const FRONT_BYTES: usize = 544;
 
 /// How many bytes are asked for at once.
 const PIECE_BYTES: usize = 4096;
 
-/// The image in a file, which was verified. What is damaged by the length that its front tells isn't read further.
+/// The image in a file, which was verified. What is damaged by the length that its front tells
+/// isn't read further.
 pub fn read_image<'a, T: Threads, F: Files>(
     rt: &T,
     alloc: Global,
@@ -76,7 +80,8 @@ fn read_whole<'a, F: Files>(alloc: Global, files: &F, path: &'a str) -> Result<V
     }
 }
 
-/// All bytes of a file, whatever they are. Damaged by its length where it has more than the longest image: it isn't read to its end then.
+/// All bytes of a file, whatever they are. Damaged by its length where it has more than the longest
+/// image: it isn't read to its end then.
 pub fn read_bytes<'a, F: Files>(
     alloc: Global,
     files: &F,
@@ -95,10 +100,11 @@ pub fn read_bytes<'a, F: Files>(
     }
 }
 
-// All bytes of a reader, none where they are more than so many: then one more of them is read.
+// All bytes of a reader, none where they are more than this many: then one more of them is read.
 fn read_shorter<R: Read>(alloc: Global, reader: &mut R, most: usize) -> io::Result<Option<Vec<u8>>>
     requires most { most < 2 ^ 39 }
-    ensures bytes { IfOk result (λ read. IfSome read (λ bytes. AreKnown (R.remaining reader.old) bytes.items)) }
+    ensures bytes { IfOk result
+        (λ read. IfSome read (λ bytes. AreKnown (R.remaining reader.old) bytes.items)) }
 {
     let mut bytes = Vec::new(alloc);
     read_until(reader, &mut bytes, most + 1)?;
@@ -108,10 +114,12 @@ fn read_shorter<R: Read>(alloc: Global, reader: &mut R, most: usize) -> io::Resu
     Ok(Some(bytes))
 }
 
-// All bytes of a reader. Where they are too few or have no header in front, or are more than an image with that header can have, why
-// they are no image: then no more of them is read, since they may be many.
+// All bytes of a reader. Where they are too few or have no header in front, or are more than an
+// image with that header can have, why they are no image: then no more of them is read, since they
+// may be many.
 fn read_bounded<R: Read>(alloc: Global, reader: &mut R) -> io::Result<Result<Vec<u8>, Cause>>
-    ensures bytes { IfOk result (λ read. IfOk read (λ bytes. AreKnown (R.remaining reader.old) bytes.items)) }
+    ensures bytes { IfOk result
+        (λ read. IfOk read (λ bytes. AreKnown (R.remaining reader.old) bytes.items)) }
     ensures damaged { IfOk result (λ read. IfErr read (IsDamaged (R.remaining reader.old))) }
 {
     let mut bytes = Vec::new(alloc);
@@ -129,9 +137,12 @@ fn read_bounded<R: Read>(alloc: Global, reader: &mut R) -> io::Result<Result<Vec
     Ok(Ok(bytes))
 }
 
-// Adds what a reader gives until there are so many bytes, or it has no more.
+// Adds what a reader gives until there are this many bytes, or it has no more.
 fn read_until<R: Read>(reader: &mut R, bytes: &mut Vec<u8>, most: usize) -> io::Result<()>
-    ensures read { OnOk result ((known : Option (List ℕ)) → Consumes known (R.remaining reader.old) bytes.old.items → Consumes known (R.remaining reader.new) bytes.new.items) }
+    ensures read { OnOk result
+        ((known : Option (List ℕ))
+        → Consumes known (R.remaining reader.old) bytes.old.items
+        → Consumes known (R.remaining reader.new) bytes.new.items) }
     ensures front { OnOk result (StartsWith bytes.new.items bytes.old.items) }
     ensures whole { OnOk result (length bytes.new.items < most → IsAtEnd (R.remaining reader.new)) }
 {
@@ -161,8 +172,12 @@ pub fn verify_file<'a, T: Threads, F: Files, W: Sink>(
     writer: &mut W,
 ) -> Result<(), Fault<'a>>
     requires writer { W.failures writer.old + 1 < 2 ^ 64 }
-    ensures line { OnOk result (TellsImage (F.contents files.now asked.entry.image.now) (W.passed writer.old) (W.passed writer.new)) }
-    ensures fault { IfErr result (SaysUnverified (F.contents files.now asked.entry.image.now) asked.entry.image.now (W.failures writer.old) (W.failures writer.new)) }
+    ensures line { OnOk result
+        (TellsImage (F.contents files.now asked.entry.image.now) (W.passed writer.old)
+        (W.passed writer.new)) }
+    ensures fault { IfErr result
+        (SaysUnverified (F.contents files.now asked.entry.image.now) asked.entry.image.now
+        (W.failures writer.old) (W.failures writer.new)) }
 {
     let image = match read_image(rt, alloc, files, asked.image) {
         Ok(image) => image,
@@ -178,8 +193,11 @@ fn write_image_numbers<'a, W: Sink>(
     writer: &mut W,
 ) -> Result<(), Fault<'a>>
     requires writer { W.failures writer.old + 1 < 2 ^ 64 }
-    ensures line { OnOk result (Appends (W.passed writer.old) (W.passed writer.new) (image_line image.now)) }
-    ensures fault { IfErr result (λ fault. (known : Option (List ℕ)) (path : List ℕ) → SaysUnverified known path (W.failures writer.old) (W.failures writer.new) fault) }
+    ensures line { OnOk result
+        (Appends (W.passed writer.old) (W.passed writer.new) (image_line image.now)) }
+    ensures fault { IfErr result
+        (λ fault. (known : Option (List ℕ)) (path : List ℕ)
+        → SaysUnverified known path (W.failures writer.old) (W.failures writer.new) fault) }
 {
     write_numbers(
         alloc,
@@ -205,7 +223,9 @@ fn write_numbers<'a, W: Sink>(
     requires writer { W.failures writer.old + 1 < 2 ^ 64 }
     ensures line { OnOk result (Appends (W.passed writer.old) (W.passed writer.new)
         (number_line frames objects clock window floor)) }
-    ensures fault { IfErr result (λ fault. (known : Option (List ℕ)) (path : List ℕ) → SaysUnverified known path (W.failures writer.old) (W.failures writer.new) fault) }
+    ensures fault { IfErr result
+        (λ fault. (known : Option (List ℕ)) (path : List ℕ)
+        → SaysUnverified known path (W.failures writer.old) (W.failures writer.new) fault) }
 {
     match number_line(alloc, frames, objects, clock, window, floor) {
         Ok(line) => write_out(writer, line.as_bytes()),
@@ -222,7 +242,8 @@ fn number_line(
     window: u64,
     floor: Moment,
 ) -> Result<String, AllocError>
-    ensures { IfOk result (λ line. string_bytes line ≡ number_line frames objects clock window floor) }
+    ensures { IfOk result
+        (λ line. string_bytes line ≡ number_line frames objects clock window floor) }
 {
     let (clock, floor) = (clock.number(), floor.number());
     format!(in alloc;

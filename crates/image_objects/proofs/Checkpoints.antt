@@ -15,7 +15,7 @@ use Rattle.image_objects.specs.Inodes.{checkpoint_used, checkpoint_places_used}
 use Rattle.image_objects.specs.Saved.{HoldsUsed, saved_row}
 use Rattle.image_objects.proofs.Using.{used_too}
 
--- a checkpoint stands in one block, where its pointer leads to
+-- a checkpoint is in one block, where its pointer refers to
 pub its_place : (view : BlockView) (c : Option Place) → option_to_list c ≡ places_named view c
 unfolding places_in
 its_place view None = refl

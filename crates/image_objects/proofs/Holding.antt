@@ -1,4 +1,4 @@
--- A chain that stands is held where its blocks alone are.
+-- A chain that is is held where its blocks alone are.
 use Rattle.std.proofs.Common.{◌≡◌, ℕ, zero, suc, ◌+◌, ◌<◌, ◌≤◌, ◌==◌, ◌&&◌, true, leb, ltb, cond, inl, inr, List, [], ◌∷◌, ◌++◌, length, Option, Some, None, IsSome, is_some, unwrap_or, refl, sym, ap, ◌∙◌, subst, arith}
 use Rattle.std.proofs.lemmas.Bool.{cases_Bool, false≢true, and_from, leb-true, leb-false, lt-ltb, ltb-true, ltb-false, eq-eqb}
 use Rattle.std.proofs.lemmas.Option.{none-some, same_Some}

@@ -1,4 +1,4 @@
--- A row whose version chain stands is a row where its blocks alone are held.
+-- A row whose version chain is is a row where its blocks alone are held.
 use Rattle.std.proofs.Common.{◌≡◌, ℕ, ◌≤◌, cond, true, inl, inr, List, [], ◌∷◌, Option, Some, None, IsSome, is_some, refl, sym, ap, ◌∙◌, subst}
 use Rattle.std.specs.Prelude.{MatchOption}
 use Rattle.std.proofs.lemmas.Bool.{cases_Bool, false≢true}
@@ -39,7 +39,7 @@ pub record RestsOnBlocks : Type 0 where
   pub told : (held later : Place → Option Stored) (o : ℕ) (p : Place) → ((q : Place) → is_one_of (checkpoint_places held o p) q ≡ true → of_checkpoints o later q ≡ of_checkpoints o held q) → checkpoint_held later o p ≡ checkpoint_held held o p
   pub places : (held later : Place → Option Stored) (o : ℕ) (p : Place) → ((q : Place) → is_one_of (checkpoint_places held o p) q ≡ true → of_checkpoints o later q ≡ of_checkpoints o held q) → checkpoint_places later o p ≡ checkpoint_places held o p
 
--- of the used blocks of an object's checkpoints, those alone of the one that this pointer leads to are held
+-- of the used blocks of an object's checkpoints, those alone of the one that this pointer refers to are held
 abbrev HeldAlone : (Place → Option Stored) → (Place → Option Stored) → ℕ → Option Place → Type 0
 HeldAlone used held o q = (p : Place) → of_checkpoints o held p ≡ named_at (places_named (of_checkpoints o used) q) (of_checkpoints o used) p
 

@@ -27,7 +27,7 @@ listed_cases x xs y there = elim (Contains-append_cases (x ∷ []) xs y there) [
 
 -- ---- rows that ascend
 
--- each row is of an object above the first number, and was made behind the second
+-- each row is of an object above the first number, and was made after the second
 pub above : (clock low made : ℕ) (rows : List ImageRow) (row : ImageRow) → RowsAscend clock low made rows → Contains rows row → (low < row.object) × (made < row.created)
 above clock low made [] row ascend there = absurd (none_listed row there)
 above clock low made (x ∷ rows) row ascend there = elim (listed_cases x rows row there) [
@@ -63,7 +63,7 @@ made_by clock low made (x ∷ rows) row ascend there = elim (listed_cases x rows
   | inr behind ↦ made_by clock x.object x.created rows row ascend.3 behind
 ]
 
--- of two rows, that of the greater object is behind the other
+-- of two rows, that of the greater object is after the other
 pub later_row : (clock low made : ℕ) (x : ImageRow) (rows : List ImageRow) (a b : ImageRow) → RowsAscend clock low made (x ∷ rows) → Contains (x ∷ rows) a → Contains (x ∷ rows) b → a.object < b.object → Contains rows b
 later_row clock low made x rows a b ascend first second less = elim (listed_cases x rows b second) [
   | inl is ↦

@@ -1,4 +1,4 @@
--- No moment stands in two chains, exactly where the moments of all chains, each told once, have none twice.
+-- No moment is in two chains, exactly where the moments of all chains, each told once, have none twice.
 use Rattle.std.proofs.Common.{◌≡◌, inl, inr, ℕ, ◌<◌, ◌≤◌, true, false, leb, List, [], ◌∷◌, ◌++◌, get_or, map, Option, refl, sym, ap, ◌∙◌, subst, arith}
 use Rattle.std.specs.Prelude.{nat_eq}
 use Rattle.std.specs.List.{AllByRecursion, Contains, IsDistinct, dedup_from}
@@ -82,7 +82,7 @@ of_a_row used (x ∷ rows) m there = elim (Contains-append_cases (moments_of_cha
   | inr behind ↦ (let r : OfARow used rows m = of_a_row used rows m behind in record { row = r.row; listed = behind_listed x rows r.row r.listed; found = r.found })
 ]
 
--- ---- numbers that stand once in joined lists
+-- ---- numbers that are once in joined lists
 
 none_twice : StandOnce []
 unfolding IsDistinct

@@ -160,7 +160,7 @@ same_back names p q = elim (cases_Bool (same_place p q)) [
   ]
 ]
 
--- as often as slots lead to a place, it is listed among the places that they lead to
+-- as often as slots refer to a place, it is listed among the places that they refer to
 slots_counted : OneName → (p : Place) (slots : List (Option Place)) → times p (places_in slots) ≡ times_led p slots
 slots_counted names p [] = counted_none p
 slots_counted names p (None ∷ slots) =
@@ -173,7 +173,7 @@ slots_counted names p (Some q ∷ slots) =
     let rest = slots_counted names p slots in
     omega (arith, first, listed, same, rest)
 
--- a place that slots lead to is one of them
+-- a place that slots refer to is one of them
 pub led_there : OneName → (slots : List (Option Place)) (p : Place) → 0 < times_led p slots → Contains slots (Some p)
 led_there names slots p some =
     let same = slots_counted names p slots in
@@ -203,7 +203,7 @@ named_other : OneName → HasBlocks → (used : Place → Option Stored) (row : 
 named_other names has used row clock kind p stands is other named =
     false≢true (sym other ∙ seen_of_data kind row.object (used p) (named_is_used names has used row clock kind p stands named) is)
 
--- so a used block of data is listed as often as the row's pointers lead to it
+-- so a used block of data is listed as often as the row's pointers refer to it
 times_named : OneName → HasBlocks → (used : Place → Option Stored) (row : ImageRow) (clock : ℕ) (p : Place) → ObjectStands used row clock → is_data (used p) ≡ true → times p (places_named used row) ≡ times_led p (pointers_used used row)
 times_named names has used row clock p stands is =
     let chain = places_of_chain used row in

@@ -14,7 +14,7 @@ use Rattle.time_read.specs.Orderly.{inode_behind, IsFromTo, IsOrderlyChain}
 abbrev pub Timely : ℕ → ℕ → Inode → Type 0
 Timely created clock i = i.alive ≡ true → IsFromTo created clock i.changed
 
--- What is known of the inodes up to the one behind so many entries: whether one of them is live, that each was changed in
+-- What is known of the inodes up to the one after this many entries: whether one of them is live, that each was changed in
 -- time, and that none but the first or the last is dead.
 pub record SeenTo (created clock : ℕ) (first : Inode) (entries : List EntryFields) (i : ℕ) (inode : Inode) (live : Bool) : Type 0 where
   pub is : inode ≡ inode_behind first entries i
@@ -51,7 +51,7 @@ neither_live : (one other : Bool) → (one || other) ≡ false → (one ≡ fals
 neither_live true other h = absurd (both_ways true h refl)
 neither_live false other h = (refl, h)
 
--- the inode behind one entry more
+-- the inode after one entry more
 pub seen_more : (created clock : ℕ) (first : Inode) (entries : List EntryFields) (i left : ℕ) (inode next : Inode) (live now : Bool) (e : EntryFields)
     → SeenTo created clock first entries i inode live → i < length entries → e ≡ get_or entries i e → left + (i + 1) ≡ length entries → next ≡ redone e inode
     → Timely created clock next → (0 < left → next.alive ≡ true) → now ≡ (live || next.alive) → SeenTo created clock first entries (i + 1) next now
@@ -81,7 +81,7 @@ seen_more created clock first entries i left inode next live now e s lt is left_
           ]);
     }
 
--- behind more entries than there are stands the last inode
+-- after more entries than there are stands the last inode
 behind_end : (first : Inode) (entries : List EntryFields) (n : ℕ) → length entries ≤ n → inode_behind first entries n ≡ inode_behind first entries (length entries)
 behind_end first entries n le = ap (λ (es : List EntryFields). redone_all es first) (take_all n entries le ∙ sym (take_all (length entries) entries (omega arith)))
 
@@ -110,7 +110,7 @@ one_lives created clock first entries i inode false s end h =
           absurd (s.none refl i (omega arith) (ap (λ (j : Inode). j.alive) (behind_end first entries i end ∙ sym (behind_end first entries h.live.0 (omega (arith, high, end)))) ∙ h.live.1)))
     ]
 
--- where the chain is in order, the inode behind the next entry passes both tests
+-- where the chain is in order, the inode after the next entry passes both tests
 pub next_timely : (created clock : ℕ) (first : Inode) (entries : List EntryFields) (i : ℕ) (inode next : Inode) (live : Bool) (e : EntryFields) → SeenTo created clock first entries i inode live → i < length entries → e ≡ get_or entries i e → next ≡ redone e inode
     → IsOrderlyChain created clock first entries → Timely created clock next
 next_timely created clock first entries i inode next live e s lt is made h =

@@ -1,4 +1,4 @@
--- What an inode of an image's row points to the row leads to: such a row alone is a store's, over all that is used.
+-- What an inode of an image's row points to the row refers to: such a row alone is a store's, over all that is used.
 use Rattle.std.proofs.Common.{◌≡◌, ℕ, [], ◌∷◌, Option, Some, refl, sym, ap, ◌∙◌, subst}
 use Rattle.std.specs.List.{Contains}
 use Rattle.std.proofs.lemmas.Option.{same_Some}

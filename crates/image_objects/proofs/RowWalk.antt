@@ -18,7 +18,7 @@ use Rattle.image_objects.specs.private.Places.{places_of_chain}
 abbrev pub places_left : ℕ → (Place → Option JournalFields) → Option Place → List Place
 places_left n blocks from = places_of (unwrap_or (links_from n blocks from) [])
 
--- so many blocks at most are left, and with their places those that were added are all
+-- this many blocks at most are left, and with their places those that were added are all
 pub record IsLeft (n : ℕ) (blocks : Place → Option JournalFields) (from : Option Place) (items whole : List Place) : Type 0 where
   pub there : IsSome (links_from n blocks from)
   pub is : items ++ places_left n blocks from ≡ whole

@@ -1,4 +1,4 @@
--- An object that is held stands in the image under the row that its own is saved as.
+-- An object that is held is in the image under the row that its own is saved as.
 use Rattle.std.proofs.Common.{◌≡◌, ℕ, ◌≤◌, List, get_or, Option, Some, None, IsSome, is_some, refl, sym, ap, ◌∙◌, subst}
 use Rattle.std.specs.Prelude.{MatchOption}
 use Rattle.std.specs.List.{All, AllByRecursion}

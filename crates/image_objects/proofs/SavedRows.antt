@@ -12,7 +12,7 @@ use Rattle.image_objects.specs.Saved.{ObjectsAscend, saved_row, saved_rows}
 use Rattle.image_objects.proofs.Kept.{found_here, found_behind}
 use Rattle.image_objects.proofs.Listed.{none_listed, listed_cases}
 
--- the first and those behind it are listed
+-- the first and those after it are listed
 pub first_listed : {X : Type 0} (x : X) (xs : List X) → Contains (x ∷ xs) x
 first_listed x xs = Contains-append_left (x ∷ []) xs x (0, omega arith, refl)
 
@@ -73,7 +73,7 @@ pub all_saved : (P : ImageRow → Type 0) (rows : List (ℕ × Row)) → ((e : �
 all_saved P [] each = tt
 all_saved P (x ∷ rows) each = (each x (first_listed x rows), all_saved P rows (λ e there. each e (listed_behind x rows e there)))
 
--- each object is above the first number, and was made behind the second, by the clock
+-- each object is above the first number, and was made after the second, by the clock
 abbrev pub EachAbove : ℕ → ℕ → ℕ → List (ℕ × Row) → Type 0
 EachAbove clock object created rows = (e : ℕ × Row) → Contains rows e → (object < e.0) × (created < e.1.created) × (e.1.created ≤ clock)
 

@@ -1,4 +1,4 @@
--- In a list that is sorted, a number that stands twice stands at two places in a row.
+-- In a list that is sorted, a number that is twice is at two places in a row.
 use Rattle.std.proofs.Common.{◌≡◌, ◌↔◌, inl, inr, ℕ, ◌+◌, ◌<◌, ◌≤◌, List, length, slice_index, get_or, arith}
 use Rattle.std.specs.Prelude.{nat_eq}
 use Rattle.std.specs.Cmp.{unsigned_Decides}

@@ -1,4 +1,4 @@
--- An object that stands in an image is held as it stands, where just what rows name is held.
+-- An object that is in an image is held as it stands, where just what rows name is held.
 use Rattle.std.proofs.Common.{◌≡◌, ℕ, ◌≤◌, true, List, ◌++◌, get_or, Option, Some, None, IsSome, is_some, refl, sym, ap, ◌∙◌, subst, append-nil}
 use Rattle.std.specs.List.{All, Contains}
 use Rattle.std.proofs.lemmas.Bool.{false≢true, cond-true}
@@ -109,13 +109,13 @@ same_present laws used held row clock stamp s =
     ∙ ap (λ (i : Inode). redone_all (entries_of held row.object kept) i) (same_first used held row clock stamp s)
     ∙ ap (λ (es : List EntryFields). redone_all es (first_used used row)) s.entries
 
--- ---- the data that the row leads to
+-- ---- the data that the row refers to
 
 pub some_there : {X : Type 0} (found : Option X) → IsSome found → (x : X) × (found ≡ Some x)
 some_there None some = absurd (false≢true some)
 some_there (Some x) some = (x, refl)
 
--- a block that the row leads to is held as it is used
+-- a block that the row refers to is held as it is used
 record LeadsTo (used held : Place → Option Stored) (o : ℕ) (p : Place) : Type 0 where
   there : IsSome (of_kind Data o held p)
   contents : contents_of held p ≡ contents_of used p
@@ -182,7 +182,7 @@ held_as_used laws used held rows row clock stamp ascend stand holds there =
       named = λ p some. subst (λ (slots : List (Option Place)). Contains slots (Some p)) (sym pointers) (data_named used held rows row clock ascend holds there p some);
     }
 
--- the row that is kept names no older checkpoints, so it names data by the pointers alone that the row leads to
+-- the row that is kept names no older checkpoints, so it names data by the pointers alone that the row refers to
 pub named_as_used : CheckpointIsTold → (used held : Place → Option Stored) (rows : List ImageRow) (row : ImageRow) (clock stamp : ℕ) → RowsAscend clock 0 0 rows → HoldsWhatIsNamed used held rows → Contains rows row → IsHeldAsUsed used held row clock stamp
     → pointers_named held row.object (kept_row used row stamp) ≡ pointers_used used row
 named_as_used told used held rows row clock stamp ascend holds there as_used =

@@ -1,4 +1,4 @@
--- How often the pointers of rows that stand lead to a place: those of one row alone do, that of the object whose data is there.
+-- How often the pointers of rows that are in order refer to a place: those of one row alone do, that of the object whose data is there.
 use Rattle.std.proofs.Common.{◌≡◌, inl, inr, ℕ, ◌<◌, ◌≤◌, true, false, List, [], ◌∷◌, length, Option, Some, None, IsSome, is_some, refl, sym, ap, ◌∙◌, subst, append-nil, arith}
 use Rattle.std.specs.List.{All, AllByRecursion, Contains}
 use Rattle.std.proofs.lemmas.Bool.{cases_Bool, cases_lt, cond-true, cond-false, false≢true}
@@ -22,7 +22,7 @@ use Rattle.image_objects.proofs.HeldByName.{one_kind, held_named}
 use Rattle.image_objects.proofs.Named.{OneName, led_there, seen_parts}
 use Rattle.image_objects.proofs.Standing.{CheckpointIsTold, named_as_used, some_there}
 
--- ---- a place that a row leads to
+-- ---- a place that a row refers to
 
 -- an object's data is data, and of no other object
 data_there : (o : ℕ) (found : Option Stored) → IsSome (seen_as Data o found) → is_data found ≡ true
@@ -75,7 +75,7 @@ one_told names used clock low made (x ∷ rows) row p there ascend stand listed 
       omega (arith, none, rest)
 ]
 
--- so no place is told more often than one row leads to it
+-- so no place is told more often than one row refers to it
 few_told : OneName → (used : Place → Option Stored) (clock low made : ℕ) (rows : List ImageRow) (p : Place) (most : ℕ) → RowsAscend clock low made rows → AllByRecursion (λ row. ObjectStands used row clock) rows
     → ((row : ImageRow) → Contains rows row → times_led p (pointers_used used row) ≤ most) → times_told used rows p ≤ most
 few_told names used clock low made [] p most ascend stand each = omega arith
@@ -105,7 +105,7 @@ pub rows_tell_few : OneName → CheckpointIsTold → RowsHaveFewPointers → (us
 rows_tell_few names told law used held rows clock p ascend stand holds as_used =
     few_told names used clock 0 0 rows p 12144 ascend stand.objects (λ row there. few_led told law used held rows row clock p ascend holds there (as_used row there))
 
--- each data block of an object that is held has as many names as the pointers of its row lead to it
+-- each data block of an object that is held has as many names as the pointers of its row refer to it
 abbrev pub IsCounted : Log → ℕ → Row → Type 0
 IsCounted log o row = IsNamedBy o log (pointers_named log.held o row)
 

@@ -129,7 +129,7 @@ on_bad left good at next whole is step falls before = sym (step ∙ ap (λ b. co
 
 -- ---- a walk and a chain
 
--- an entry of so many bytes doesn't fit behind the newest of the blocks
+-- an entry of this many bytes doesn't fit after the newest of the blocks
 abbrev pub NoRoom : ℕ → List (List EntryFields) → Type 0
 NoRoom size [] = Unit {0}
 NoRoom size (newest ∷ older) = JOURNAL_ENTRY_BYTES < entries_length newest + size

@@ -1,4 +1,4 @@
--- What is read of a row's journal chain in an image, and when the chain stands by itself: before any inode is made of it.
+-- What is read of a row's journal chain in an image, and when the chain is by itself: before any inode is made of it.
 use Rattle.std.specs.Prelude.{◌≡◌, ℕ, ◌≤◌, nat_lt, if◌then◌else◌, true, List, [], Option, None, IsSome, unwrap_or}
 use Rattle.std.specs.List.{AllByRecursion}
 use Rattle.s4_types.specs.declared.limits.TheConstants.{CHAIN_ENTRY_BYTES}
@@ -20,8 +20,8 @@ blocks_used used row = unwrap_or (chain_blocks (of_kind Journal row.object used)
 abbrev pub entries_used : (Place → Option Stored) → ImageRow → List EntryFields
 entries_used used row = unwrap_or (chain_entries used row.object row.head) []
 
--- A row's chain stands in an image up to its clock. From the head on each pointer names a used journal block of the object
--- that spells one, up to a hole that comes after at most CHAIN_BLOCKS blocks. The blocks keep the rule of packing, and their entries
+-- A row's chain is in an image up to its clock. From the head on each pointer names a used journal block of the object
+-- that encodes one, up to a hole that comes after at most CHAIN_BLOCKS blocks. The blocks keep the rule of packing, and their entries
 -- have no more bytes than a chain's may. Each entry is of a moment from the object's making to the clock. Moments don't
 -- descend, and entries of one moment are one change's.
 pub record ChainStands (used : Place → Option Stored) (row : ImageRow) (clock : ℕ) : Type 0 where

@@ -40,7 +40,7 @@ pub record TellsTheRow (row : ImageRow) (clock : ℕ) (c : CheckpointFields) : T
 abbrev pub HasItsPlace : ℕ → List EntryFields → Inode → Type 0
 HasItsPlace moment entries inode = inode_after (undone_all (entries_by moment entries) inode) entries moment ≡ inode
 
--- A row's checkpoint stands beside the row's entries: a checkpoint of the object is used at the place, it tells what the row
+-- A row's checkpoint is beside the row's entries: a checkpoint of the object is used at the place, it tells what the row
 -- tells, and has its place.
 pub record CheckpointStands (used : Place → Option Stored) (row : ImageRow) (clock : ℕ) (entries : List EntryFields) (p : Place) : Type 0 where
   pub found : CheckpointFields

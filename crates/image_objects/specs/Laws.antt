@@ -14,7 +14,7 @@ use Rattle.image_objects.specs.Inodes.{first_used}
 use Rattle.image_objects.specs.VersionChain.{kept_row, present_used}
 use Rattle.image_objects.specs.Objects.{pointers_used, inode_used}
 
--- An object is held as it stands in the image, under the row that a drive keeps of it with this stamp. It has the entries, the
+-- An object is held as it is in the image, under the row that a drive keeps of it with this stamp. It has the entries, the
 -- first inode and at each moment the inode and the version that it has in the image, and at the clock the present inode. Its row
 -- stands, is in order up to the clock, and leads to all of its data that is held.
 pub record IsHeldAsUsed (used held : Place → Option Stored) (row : ImageRow) (clock stamp : ℕ) : Type 0 where
@@ -28,6 +28,6 @@ pub record IsHeldAsUsed (used held : Place → Option Stored) (row : ImageRow) (
   pub object : IsObject held row.object (kept_row used row stamp) clock
   pub named : DataIsNamed held row.object (kept_row used row stamp)
 
--- each data block that an inode of a row points to, at whatever moment, is one that the row leads to
+-- each data block that an inode of a row points to, at whatever moment, is one that the row refers to
 abbrev pub InodesUsedPointToWhatRowsLeadTo : Type 0
 InodesUsedPointToWhatRowsLeadTo = (used : Place → Option Stored) (row : ImageRow) (t n : ℕ) (p : Place) → pointer_at (inode_used used row t) n ≡ Some p → Contains (pointers_used used row) (Some p)

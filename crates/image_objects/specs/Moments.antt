@@ -15,6 +15,6 @@ moments_of_chain entries = dedup nat_eq (map (λ e. e.moment) entries)
 abbrev pub moments_used : (Place → Option Stored) → List ImageRow → List ℕ
 moments_used used rows = flat_map (λ row. moments_of_chain (entries_used used row)) rows
 
--- no number stands in a list twice
+-- no number is in a list twice
 abbrev pub StandOnce : List ℕ → Type 0
 StandOnce numbers = IsDistinct nat_eq numbers

@@ -12,8 +12,8 @@ use Rattle.version_store.specs.Store.{times_led}
 use Rattle.image_objects.specs.Inodes.{checkpoint_places_used}
 use Rattle.image_objects.specs.Objects.{pointers_used}
 
--- A row of an image names its object's block of this kind at a place: it stands in the row's chain; or it is a block of the
--- row's checkpoint; or a pointer that the row leads to is this place.
+-- A row of an image names its object's block of this kind at a place: it is in the row's chain; or it is a block of the
+-- row's checkpoint; or a pointer that the row refers to is this place.
 abbrev pub NamesUsed : (Place → Option Stored) → ImageRow → BlockKind → Place → Type 0
 NamesUsed used row Journal p = 0 < times p (chain_places (of_kind Journal row.object used) row.object row.head)
 NamesUsed used row Checkpoint p = is_one_of (checkpoint_places_used used row) p ≡ true
@@ -32,11 +32,11 @@ pub record HoldsWhatIsNamed (used held : Place → Option Stored) (rows : List I
   pub named : (p : Place) (block : Stored) → held p ≡ Some block → IsNamedBy used rows p block
   pub all : (p : Place) (block : Stored) → used p ≡ Some block → IsNamedBy used rows p block → held p ≡ Some block
 
--- how often the pointers of rows lead to a place, all rows taken together
+-- how often the pointers of rows refer to a place, all rows taken together
 abbrev pub times_told : (Place → Option Stored) → List ImageRow → Place → ℕ
 times_told used [] p = 0
 times_told used (row ∷ rows) p = times_led p (pointers_used used row) + times_told used rows p
 
--- each used data block has as many names as the rows' pointers lead to it
+-- each used data block has as many names as the rows' pointers refer to it
 abbrev pub NamesAreCounted : (Place → Option Stored) → (Place → ℕ) → List ImageRow → Type 0
 NamesAreCounted used named rows = (p : Place) → is_data (used p) ≡ true → named p ≡ times_told used rows p

@@ -1,4 +1,4 @@
--- When an object stands in an image: its row's version chain does, its pointers lead to its data, and its inodes are tidy.
+-- When an object is in an image: its row's version chain is, its pointers refer to its data, and its inodes are tidy.
 use Rattle.std.specs.Prelude.{ℕ, List, ◌++◌, Option}
 use Rattle.std.specs.List.{All}
 use Rattle.s4_types.specs.Pointer.{Place}
@@ -13,7 +13,7 @@ use Rattle.image_objects.specs.Chains.{entries_used}
 use Rattle.image_objects.specs.Inodes.{checkpoint_used, first_used}
 use Rattle.image_objects.specs.VersionChain.{VersionChainStands}
 
--- All pointers to data that a row of an image leads to, holes among them: those of its checkpoint, and behind them both sides
+-- All pointers to data that a row of an image leads to, holes among them: those of its checkpoint, and after them both sides
 -- of each triple of its chain, the oldest entry first.
 abbrev pub pointers_used : (Place → Option Stored) → ImageRow → List (Option Place)
 pointers_used used row = pointers_kept (checkpoint_used used row) ++ sides_told (entries_used used row)
@@ -22,8 +22,8 @@ pointers_used used row = pointers_kept (checkpoint_used used row) ++ sides_told 
 abbrev pub inode_used : (Place → Option Stored) → ImageRow → ℕ → Inode
 inode_used used row t = inode_after (first_used used row) (entries_used used row) t
 
--- An object stands in an image up to its clock. Its version chain does; each pointer that its row leads to is a hole or leads to a
--- used data block of the object; and at each moment its inode is tidy. So an inode that stands between two entries of one
+-- An object is in an image up to its clock. Its version chain is; each pointer that its row refers to is a hole or refers to a
+-- used data block of the object; and at each moment its inode is tidy. So an inode that is between two entries of one
 -- moment need not be.
 pub record ObjectStands (used : Place → Option Stored) (row : ImageRow) (clock : ℕ) : Type 0 where
   pub versions : VersionChainStands used row clock

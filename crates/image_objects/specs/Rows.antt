@@ -16,13 +16,13 @@ RowsAscend clock object created [] = Unit {0}
 RowsAscend clock object created (row ∷ rows) =
     (object < row.object) × (created < row.created) × (row.created ≤ clock) × RowsAscend clock row.object row.created rows
 
--- no moment stands in the chains of two of these rows
+-- no moment is in the chains of two of these rows
 abbrev pub RowsShareNoMoment : (Place → Option Stored) → List ImageRow → Type 0
 RowsShareNoMoment used [] = Unit {0}
 RowsShareNoMoment used (row ∷ rows) =
     AllByRecursion (λ other. ShareNoMoment (entries_used used row) (entries_used used other)) rows × RowsShareNoMoment used rows
 
--- All rows stand in an image up to its clock: each object does, and no moment stands in the chains of two.
+-- All rows are in an image up to its clock: each object is, and no moment is in the chains of two.
 pub record RowsStand (used : Place → Option Stored) (rows : List ImageRow) (clock : ℕ) : Type 0 where
   pub objects : AllByRecursion (λ row. ObjectStands used row clock) rows
   pub apart : RowsShareNoMoment used rows

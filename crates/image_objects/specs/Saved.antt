@@ -33,7 +33,7 @@ ObjectsAscend low [] = Unit {0}
 ObjectsAscend low (e ∷ rows) = (low ≤ e.0) × ObjectsAscend (e.0 + 1) rows
 
 -- A row that is saved tells over the used blocks what it tells over those that are held: the entries, the first inode, at each
--- moment the inode, and the pointers that it leads to. And the drive that is opened again keeps the same row, but for the older
+-- moment the inode, and the pointers that it refers to. And the drive that is opened again keeps the same row, but for the older
 -- checkpoints that it names.
 pub record IsSavedAsHeld (used held : Place → Option Stored) (o : ℕ) (row : Row) : Type 0 where
   pub entries : entries_used used (saved_row o row) ≡ entries_of held o row

@@ -1,4 +1,4 @@
--- When the whole version chain of a row stands in an image: the chain, the checkpoint, and the inodes that the entries lead through.
+-- When the whole version chain of a row is in an image: the chain, the checkpoint, and the inodes that the entries lead through.
 use Rattle.std.specs.Prelude.{ℕ, if◌then◌else◌, List, [], Option, None}
 use Rattle.s4_types.specs.Pointer.{Place}
 use Rattle.block_log.specs.Log.{Stored}
@@ -14,12 +14,12 @@ use Rattle.image_objects.specs.declared.rows.ImageRow.{ImageRow}
 use Rattle.image_objects.specs.Chains.{ChainStands, entries_used}
 use Rattle.image_objects.specs.Inodes.{BeginningStands, first_used, checkpoint_places_used}
 
--- the inode behind all entries of a row's chain: the present one
+-- the inode after all entries of a row's chain: the present one
 abbrev pub present_used : (Place → Option Stored) → ImageRow → Inode
 present_used used row = redone_all (entries_used used row) (first_used used row)
 
--- A row's version chain stands in an image up to its clock. The chain stands by itself. The row's checkpoint stands, or the entries
--- tell the making. Each entry leads on from the inode that the entry before it leads to. Of these inodes one is live, a dead
+-- A row's version chain is in an image up to its clock. The chain is by itself. The row's checkpoint stands, or the entries
+-- tell the making. Each entry leads on from the inode that the entry before it refers to. Of these inodes one is live, a dead
 -- one is the first or the last, the first is blank where it is dead, and the last change of each live one is from the making
 -- to the clock.
 pub record VersionChainStands (used : Place → Option Stored) (row : ImageRow) (clock : ℕ) : Type 0 where

@@ -1,7 +1,8 @@
 //! A row's whole chain.
 ghost use Rattle.std.specs.Prelude.{◌≡◌, ◌≤◌, IfSome, IfNone, IfOk, IfErr, map, nat_le};
 ghost use Rattle.s4_types.specs.declared.refusals.Refusal.TheVariants.{NoMemory};
-ghost use Rattle.s4_types.specs.declared.limits.TheConstants.{CHAIN_ENTRY_BYTES, JOURNAL_ENTRY_BYTES};
+ghost use Rattle.s4_types.specs.declared.limits.TheConstants.{CHAIN_ENTRY_BYTES};
+ghost use Rattle.s4_types.specs.declared.limits.TheConstants.{JOURNAL_ENTRY_BYTES};
 ghost use Rattle.codec.specs.Fields.{kept};
 ghost use Rattle.codec.specs.Entry.{entry_length, entries_length};
 ghost use Rattle.journal_chain.specs.Packing.{packed, filled_bytes};
@@ -33,7 +34,9 @@ pub struct ImageChain {
 /// How many bytes entries have. None where they are more than a chain's may be.
 #[tactic(auto, using(crate::proofs::Bytes::bytes_none, crate::proofs::Bytes::bytes_next))]
 fn bytes_of(entries: &[Entry]) -> Option<usize>
-    ensures { result ≡ kept (nat_le (entries_length entries.now) CHAIN_ENTRY_BYTES) (entries_length entries.now) }
+    ensures { result
+        ≡ kept (nat_le (entries_length entries.now) CHAIN_ENTRY_BYTES)
+        (entries_length entries.now) }
 {
     let mut bytes = 0;
     for entry in entries {
@@ -62,7 +65,7 @@ fn head_bytes_of(entries: &[Entry]) -> usize
     newest
 }
 
-/// A row's journal chain in an image whose clock stands at a moment. None exactly where it doesn't stand.
+/// A row's journal chain in an image whose clock is at a moment. None exactly where it isn't there.
 ///
 /// NoMemory alone, where the memory for the entries is refused. Linear in the chain's blocks.
 pub fn read_chain<U: UsedBlocks>(
@@ -71,11 +74,21 @@ pub fn read_chain<U: UsedBlocks>(
     row: &ImageRow,
     clock: Moment,
 ) -> Result<Option<ImageChain>, Refusal>
-    ensures stands { IfOk result (λ found. IfSome found (λ chain. ChainStands (U.used used.now) row.now clock)) }
-    ensures only { IfOk result (λ found. IfNone found (ChainStands (U.used used.now) row.now clock → ⊥)) }
-    ensures entries { IfOk result (λ found. IfSome found (λ chain. chain.entries.items ≡ entries_used (U.used used.now) row.now)) }
-    ensures bytes { IfOk result (λ found. IfSome found (λ chain. chain.journal_bytes ≡ entries_length (entries_used (U.used used.now) row.now))) }
-    ensures head { IfOk result (λ found. IfSome found (λ chain. chain.head_bytes ≡ filled_bytes (packed (entries_used (U.used used.now) row.now)))) }
+    ensures stands { IfOk result
+        (λ found. IfSome found (λ chain. ChainStands (U.used used.now) row.now clock)) }
+    ensures only { IfOk result
+        (λ found. IfNone found (ChainStands (U.used used.now) row.now clock → ⊥)) }
+    ensures entries { IfOk result
+        (λ found. IfSome found
+        (λ chain. chain.entries.items ≡ entries_used (U.used used.now) row.now)) }
+    ensures bytes { IfOk result
+        (λ found. IfSome found
+        (λ chain. chain.journal_bytes
+        ≡ entries_length (entries_used (U.used used.now) row.now))) }
+    ensures head { IfOk result
+        (λ found. IfSome found
+        (λ chain. chain.head_bytes
+        ≡ filled_bytes (packed (entries_used (U.used used.now) row.now)))) }
     ensures refusal { IfErr result (λ e. e ≡ NoMemory) }
 {
     filled_bytes_after();

@@ -45,10 +45,12 @@ fn does_continue(before: &Entry, entry: &Entry) -> bool
         && are_above(before.triples(), entry.triples())
 }
 
-/// How many entries of its moment an entry ends, behind one that ends so many. None where it can't stand there.
+/// How many entries of its moment an entry ends, after one that ends this many. None where it can't
+/// be there.
 fn count_behind(count: usize, before: &Entry, entry: &Entry) -> Option<usize>
     ensures { (later : List EntryFields)
-        → grouped_behind count before.now (entry.now ∷ later) ≡ option_map_or (λ n. grouped_behind n entry.now later) result false }
+        → grouped_behind count before.now (entry.now ∷ later)
+        ≡ option_map_or (λ n. grouped_behind n entry.now later) result false }
 {
     if before.moment() < entry.moment() {
         return Some(1);
@@ -59,8 +61,8 @@ fn count_behind(count: usize, before: &Entry, entry: &Entry) -> Option<usize>
     if is_next { Some(count + 1) } else { None }
 }
 
-/// Whether moments don't descend, and entries of one moment are one change's: at most three, of which each later one
-/// continues the one before it.
+/// Whether moments don't descend, and entries of one moment are one change's: at most three, of
+/// which each later one continues the one before it.
 pub(crate) fn are_grouped(entries: &[Entry]) -> bool
     ensures { result ≡ grouped entries.now }
 {

@@ -1,11 +1,13 @@
 //! The inode before a row's first entry, and the checkpoint's place.
-ghost use Rattle.std.specs.Prelude.{◌≡◌, ◌≤◌, true, length, Option, Some, IfSome, IfNone, MatchOption};
+ghost use Rattle.std.specs.Prelude.{◌≡◌, ◌≤◌, true, length, Option, Some, IfSome, IfNone};
+ghost use Rattle.std.specs.Prelude.{MatchOption};
 ghost use Rattle.s4_types.specs.declared.limits.TheConstants.{OBJECT_BLOCKS};
 ghost use Rattle.codec.specs.Checkpoint.{CheckpointFields, CheckpointNumbers};
 ghost use Rattle.undo_redo.specs.Runs.{undone_all, redone_all, entries_by, blank};
 ghost use Rattle.checkpoint.specs.Held.{checkpoint_held};
 ghost use Rattle.time_read.specs.Orderly.{BeginsDead};
-ghost use Rattle.image_objects.specs.Inodes.{TellsTheRow, HasItsPlace, CheckpointStands, BeginningStands, first_before};
+ghost use Rattle.image_objects.specs.Inodes.{TellsTheRow, HasItsPlace, CheckpointStands};
+ghost use Rattle.image_objects.specs.Inodes.{BeginningStands, first_before};
 
 use crate::links::{has_status, is_same_slot};
 use crate::rows::ImageRow;
@@ -17,7 +19,8 @@ use s4_types::{Moment, ObjectId, Ptr};
 use undo_redo::laws::a_blank_inode_has_holes_alone;
 use undo_redo::{blank, redo, undo};
 
-/// The object's checkpoint at a place. None where the image has no such used block there, or where it spells none.
+/// The object's checkpoint at a place. None where the image has no such used block there, or where
+/// it encodes none.
 #[tactic(auto, unfolding(checkpoint::specs::Held::checkpoint_in))]
 pub fn read_checkpoint<U: UsedBlocks>(used: &U, object: ObjectId, place: Ptr) -> Option<Checkpoint>
     ensures exact { result ≡ checkpoint_held (U.used used.now) object place }
@@ -91,7 +94,8 @@ pub(crate) fn is_same_inode(one: &Inode, other: &Inode) -> bool
     are_same_slots(&one.pointers, &other.pointers)
 }
 
-/// Whether a checkpoint tells the object, its making and the moment that a row tells, which is from the making to the clock.
+/// Whether a checkpoint tells the object, its making and the moment that a row tells, which is from
+/// the making to the clock.
 fn tells_the_row(row: &ImageRow, clock: Moment, checkpoint: &Checkpoint) -> bool
     ensures is { result ≡ true → TellsTheRow row.now clock checkpoint.now }
     ensures only { TellsTheRow row.now clock checkpoint.now → result ≡ true }
@@ -103,12 +107,13 @@ fn tells_the_row(row: &ImageRow, clock: Moment, checkpoint: &Checkpoint) -> bool
         && checkpoint.inode().created.number() == row.created.number()
 }
 
-/// The inode before all entries, from the one that a checkpoint tells. None where that has no place among the inodes of the
-/// entries.
+/// The inode before all entries, from the one that a checkpoint tells. None where that has no place
+/// among the inodes of the entries.
 fn inode_before(checkpoint: &Inode, at: Moment, entries: &[Entry]) -> Option<Inode>
     requires { length checkpoint.now.pointers ≡ OBJECT_BLOCKS }
     ensures place { IfSome result (λ first. HasItsPlace at entries.now checkpoint.now) }
-    ensures first { IfSome result (λ first. first ≡ undone_all (entries_by at entries.now) checkpoint.now) }
+    ensures first { IfSome result
+        (λ first. first ≡ undone_all (entries_by at entries.now) checkpoint.now) }
     ensures count { IfSome result (λ first. length first.pointers ≡ OBJECT_BLOCKS) }
     ensures only { IfNone result (HasItsPlace at entries.now checkpoint.now → ⊥) }
 {
@@ -122,9 +127,11 @@ fn inode_before(checkpoint: &Inode, at: Moment, entries: &[Entry]) -> Option<Ino
     Some(first)
 }
 
-/// The blank inode, where a row without a checkpoint has no checkpoint moment, and entries that tell the making.
+/// The blank inode, where a row without a checkpoint has no checkpoint moment, and entries that
+/// tell the making.
 fn blank_before(row: &ImageRow, entries: &[Entry]) -> Option<Inode>
-    ensures stands { IfSome result (λ first. (row.now.checkpoint_moment ≡ 0) × BeginsDead entries.now) }
+    ensures stands { IfSome result
+        (λ first. (row.now.checkpoint_moment ≡ 0) × BeginsDead entries.now) }
     ensures first { IfSome result (λ first. first ≡ blank row.now.created) }
     ensures only { IfNone result ((row.now.checkpoint_moment ≡ 0) × BeginsDead entries.now → ⊥) }
 {
@@ -140,7 +147,7 @@ fn blank_before(row: &ImageRow, entries: &[Entry]) -> Option<Inode>
     Some(blank(row.created))
 }
 
-/// The inode before all entries of a row, from its checkpoint. None where that doesn't stand.
+/// The inode before all entries of a row, from its checkpoint. None where that isn't there.
 fn first_of_checkpoint<U: UsedBlocks>(
     used: &U,
     row: &ImageRow,
@@ -149,10 +156,13 @@ fn first_of_checkpoint<U: UsedBlocks>(
     place: Ptr,
 ) -> Option<Inode>
     requires { row.now.checkpoint ≡ Some place }
-    ensures stands { IfSome result (λ first. CheckpointStands (U.used used.now) row.now clock entries.now place) }
-    ensures first { IfSome result (λ first. first ≡ first_before (U.used used.now) row.now entries.now) }
+    ensures stands { IfSome result
+        (λ first. CheckpointStands (U.used used.now) row.now clock entries.now place) }
+    ensures first { IfSome result
+        (λ first. first ≡ first_before (U.used used.now) row.now entries.now) }
     ensures count { IfSome result (λ first. length first.pointers ≡ OBJECT_BLOCKS) }
-    ensures only { IfNone result (CheckpointStands (U.used used.now) row.now clock entries.now place → ⊥) }
+    ensures only { IfNone result
+        (CheckpointStands (U.used used.now) row.now clock entries.now place → ⊥) }
 {
     let Some(checkpoint) = read_checkpoint(used, row.object, place) else {
         return None;
@@ -166,15 +176,17 @@ fn first_of_checkpoint<U: UsedBlocks>(
     Some(first)
 }
 
-/// The inode before all entries of a row. None where the row's beginning doesn't stand.
+/// The inode before all entries of a row. None where the row's beginning isn't there.
 pub(crate) fn first_inode<U: UsedBlocks>(
     used: &U,
     row: &ImageRow,
     clock: Moment,
     entries: &[Entry],
 ) -> Option<Inode>
-    ensures stands { IfSome result (λ first. BeginningStands (U.used used.now) row.now clock entries.now) }
-    ensures first { IfSome result (λ first. first ≡ first_before (U.used used.now) row.now entries.now) }
+    ensures stands { IfSome result
+        (λ first. BeginningStands (U.used used.now) row.now clock entries.now) }
+    ensures first { IfSome result
+        (λ first. first ≡ first_before (U.used used.now) row.now entries.now) }
     ensures count { IfSome result (λ first. length first.pointers ≡ OBJECT_BLOCKS) }
     ensures only { IfNone result (BeginningStands (U.used used.now) row.now clock entries.now → ⊥) }
 {

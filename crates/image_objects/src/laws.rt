@@ -1,5 +1,7 @@
-//! Laws of the objects of an image, for the layers above: each function does nothing, and its contract is the law.
-ghost use Rattle.std.specs.Prelude.{◌≡◌, ◌↔◌, ℕ, ◌+◌, ◌^◌, ◌<◌, ◌≤◌, ◌==◌, if◌then◌else◌, true, List, [], ◌∷◌, ◌++◌, length, slice_index, Option, Some, None};
+//! Laws of the objects of an image, for the layers above: each function does nothing, and its
+//! contract is the law.
+ghost use Rattle.std.specs.Prelude.{◌≡◌, ◌↔◌, ℕ, ◌+◌, ◌^◌, ◌<◌, ◌≤◌, ◌==◌, if◌then◌else◌, true};
+ghost use Rattle.std.specs.Prelude.{List, [], ◌∷◌, ◌++◌, length, slice_index, Option, Some, None};
 ghost use Rattle.std.specs.List.{AllByRecursion, Contains};
 ghost use Rattle.std.specs.List.Sorted.{IsPermutation, IsSorted};
 ghost use Rattle.std.specs.Ordering.{nat_cmp};
@@ -34,35 +36,47 @@ use time_read::laws::the_last_inode_is_current;
 use undo_redo::laws::groups_join_and_part;
 use version_store::laws::{inodes_point_to_what_rows_name, places_have_few_names};
 
-/// Where just what rows name is held, these blocks are held of an object that has one of the rows, each as it is used: of its
-/// journal those of the row's chain, of its checkpoints those of the one that the row names, and of its data those that the row leads to.
+/// Where just what rows name is held, these blocks are held of an object that has one of the rows,
+/// each as it is used: of its journal those of the row's chain, of its checkpoints those of the one
+/// that the row names, and of its data those that the row refers to.
 pub fn what_is_named_is_held_of_each()
     ensures journal { (used held : Place → Option Stored) (rows : List ImageRow) (clock : ℕ) (row : ImageRow) → RowsAscend clock 0 0 rows → HoldsWhatIsNamed used held rows → Contains rows row
         → (p : Place) → of_kind Journal row.object held p ≡ chain_view used row p }
     ensures checkpoint { (used held : Place → Option Stored) (rows : List ImageRow) (clock : ℕ) (row : ImageRow) → RowsAscend clock 0 0 rows → HoldsWhatIsNamed used held rows → Contains rows row
         → (p : Place) → of_checkpoints row.object held p ≡ checkpoint_view used row p }
     ensures data { (used held : Place → Option Stored) (rows : List ImageRow) (clock : ℕ) (row : ImageRow) → RowsAscend clock 0 0 rows → HoldsWhatIsNamed used held rows → Contains rows row
-        → (p : Place) (bytes : List ℕ) → (of_kind Data row.object held p ≡ Some bytes) ↔ ((of_kind Data row.object used p ≡ Some bytes) × Contains (pointers_used used row) (Some p)) }
+        → (p : Place) (bytes : List ℕ)
+        → (of_kind Data row.object held p ≡ Some bytes)
+        ↔ ((of_kind Data row.object used p ≡ Some bytes)
+        × Contains (pointers_used used row) (Some p)) }
 {}
 
-/// The rows that a drive keeps of an image's are found by their objects: each row of the image, and no other; so none of an object
-/// above all of them.
+/// The rows that a drive keeps of an image's are found by their objects: each row of the image, and
+/// no other; so none of an object above all of them.
 pub fn kept_rows_are_listed()
-    ensures listed { (used : Place → Option Stored) (rows : List ImageRow) (clock : ℕ) (row : ImageRow) → RowsAscend clock 0 0 rows → Contains rows row → row_of (kept_rows used rows) row.object ≡ Some (kept_row used row 0) }
+    ensures listed { (used : Place → Option Stored) (rows : List ImageRow) (clock : ℕ)
+        (row : ImageRow) → RowsAscend clock 0 0 rows → Contains rows row
+        → row_of (kept_rows used rows) row.object ≡ Some (kept_row used row 0) }
     ensures only { (used : Place → Option Stored) (rows : List ImageRow) (o : ℕ) (found : Row) → row_of (kept_rows used rows) o ≡ Some found
         → (row : ImageRow) × Contains rows row × (row.object ≡ o) × (found ≡ kept_row used row 0) }
-    ensures none { (used : Place → Option Stored) (rows : List ImageRow) (o : ℕ) → ((row : ImageRow) → Contains rows row → row.object ≡ o → ⊥) → row_of (kept_rows used rows) o ≡ None }
-    ensures above { (used : Place → Option Stored) (rows : List ImageRow) (next o : ℕ) → AllByRecursion (λ row. row.object < next) rows → next ≤ o → row_of (kept_rows used rows) o ≡ None }
+    ensures none { (used : Place → Option Stored) (rows : List ImageRow) (o : ℕ)
+        → ((row : ImageRow) → Contains rows row → row.object ≡ o → ⊥)
+        → row_of (kept_rows used rows) o ≡ None }
+    ensures above { (used : Place → Option Stored) (rows : List ImageRow) (next o : ℕ)
+        → AllByRecursion (λ row. row.object < next) rows → next ≤ o
+        → row_of (kept_rows used rows) o ≡ None }
 {}
 
-/// Each data block that an inode of an image's row points to, at whatever moment, is one that the row leads to.
+/// Each data block that an inode of an image's row points to, at whatever moment, is one that the
+/// row refers to.
 pub fn inodes_used_point_to_what_rows_lead_to()
     ensures { InodesUsedPointToWhatRowsLeadTo }
 {
     inodes_point_to_what_rows_name();
 }
 
-/// Where all rows of an image stand and just what they name is held, each of their objects is held as it stands in the image.
+/// Where all rows of an image stand and just what they name is held, each of their objects is held
+/// as it is in the image.
 pub fn an_object_that_stands_is_held()
     ensures { (used held : Place → Option Stored) (rows : List ImageRow) (row : ImageRow) (clock stamp : ℕ) → RowsAscend clock 0 0 rows → RowsStand used rows clock → HoldsWhatIsNamed used held rows → Contains rows row
         → IsHeldAsUsed used held row clock stamp }
@@ -77,7 +91,8 @@ pub fn an_object_that_stands_is_held()
     inodes_used_point_to_what_rows_lead_to();
 }
 
-/// Where all rows of an image stand and just what they name is held, no place is told by their pointers more than 12,144 times.
+/// Where all rows of an image stand and just what they name is held, no place is told by their
+/// pointers more than 12,144 times.
 pub fn rows_that_stand_tell_few()
     ensures { (used held : Place → Option Stored) (rows : List ImageRow) (clock : ℕ) (p : Place) → RowsAscend clock 0 0 rows → RowsStand used rows clock → HoldsWhatIsNamed used held rows
         → times_told used rows p ≤ 12144 }
@@ -88,9 +103,9 @@ pub fn rows_that_stand_tell_few()
     places_have_few_names();
 }
 
-/// Where all rows of an image stand and just what they name is held, and each data block has as many names as their pointers lead
-/// to it, they make a store of a drive, whose last change was at the clock: of places that are fewer than 2^46, counted with those
-/// ahead.
+/// Where all rows of an image stand and just what they name is held, and each data block has as
+/// many names as their pointers lead to it, they make a store of a drive, whose last change was at
+/// the clock: of places that are fewer than 2^46, counted with those ahead.
 pub fn rows_that_stand_make_a_store()
     ensures { (used held : Place → Option Stored) (rows : List ImageRow) (clock : ℕ) (log : Log) → RowsAscend clock 0 0 rows → RowsStand used rows clock → HoldsWhatIsNamed used held rows
         → log.held ≡ held → NamesAreOfData log → NamesAreCounted used log.named rows → log.spent + length log.ahead < 2 ^ 46 → IsStore (record { rows = kept_rows used rows; log = log; latest = clock }) }
@@ -100,26 +115,36 @@ pub fn rows_that_stand_make_a_store()
     an_object_that_stands_is_held();
 }
 
-/// Where the moments of all chains, those of each chain told once, have no number twice, no moment stands in the chains of two
-/// rows; and the other way round where the entries of each chain are grouped, as those of rows that stand are.
+/// Where the moments of all chains, those of each chain told once, have no number twice, no moment
+/// is in the chains of two rows; and the other way round where the entries of each chain are
+/// grouped, as those of rows that stand are.
 pub fn moments_told_once_are_not_shared()
-    ensures apart { (used : Place → Option Stored) (rows : List ImageRow) → StandOnce (moments_used used rows) → RowsShareNoMoment used rows }
-    ensures once { (used : Place → Option Stored) (rows : List ImageRow) → AllByRecursion (λ row. grouped (entries_used used row) ≡ true) rows → RowsShareNoMoment used rows → StandOnce (moments_used used rows) }
-    ensures standing { (used : Place → Option Stored) (rows : List ImageRow) (clock : ℕ) → RowsStand used rows clock → StandOnce (moments_used used rows) }
+    ensures apart { (used : Place → Option Stored) (rows : List ImageRow)
+        → StandOnce (moments_used used rows) → RowsShareNoMoment used rows }
+    ensures once { (used : Place → Option Stored) (rows : List ImageRow)
+        → AllByRecursion (λ row. grouped (entries_used used row) ≡ true) rows
+        → RowsShareNoMoment used rows → StandOnce (moments_used used rows) }
+    ensures standing { (used : Place → Option Stored) (rows : List ImageRow) (clock : ℕ)
+        → RowsStand used rows clock → StandOnce (moments_used used rows) }
 {
     groups_join_and_part();
 }
 
-/// The moments of a chain are told entry by entry: the moment of one more entry comes behind them, where it isn't that of the entry
-/// before it.
+/// The moments of a chain are told entry by entry: the moment of one more entry comes after them,
+/// where it isn't that of the entry before it.
 pub fn moments_are_told_one_by_one()
     ensures moments { (entries : List EntryFields) (e : EntryFields) → 1 ≤ e.moment
-        → moments_of_chain (entries ++ e ∷ []) ≡ moments_of_chain entries ++ (if e.moment == last_moment 0 entries then [] else e.moment ∷ []) }
-    ensures last { (entries : List EntryFields) (e : EntryFields) → last_moment 0 (entries ++ e ∷ []) ≡ e.moment }
+        → moments_of_chain (entries ++ e ∷ [])
+        ≡ moments_of_chain entries
+        ++ (if e.moment == last_moment 0 entries then [] else e.moment ∷ []) }
+    ensures last { (entries : List EntryFields) (e : EntryFields)
+        → last_moment 0 (entries ++ e ∷ []) ≡ e.moment }
 {}
 
-/// No number stands in a list twice exactly where no two neighbours are equal once it is sorted.
+/// No number is in a list twice exactly where no two neighbours are equal once it is sorted.
 pub fn neighbours_tell_what_stands_twice()
     ensures { (numbers sorted : List ℕ) → IsPermutation numbers sorted → IsSorted nat_cmp sorted
-        → StandOnce numbers ↔ ((k : ℕ) → k + 1 < length sorted → slice_index sorted k ≡ slice_index sorted (k + 1) → ⊥) }
+        → StandOnce numbers
+        ↔ ((k : ℕ) → k + 1 < length sorted
+        → slice_index sorted k ≡ slice_index sorted (k + 1) → ⊥) }
 {}

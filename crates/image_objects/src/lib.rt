@@ -1,14 +1,18 @@
-//! The objects of an image: whether each keeps the rules, with its journal, its pointers and its inodes, and which blocks they name.
+//! The objects of an image: whether each keeps the rules, with its journal, its pointers and its
+//! inodes, and which blocks they name.
 //!
-//! An image is seen through its used blocks: what each pointer names in it. The layers above may rely on this: a row's chain, and its
-//! whole version chain, is read exactly where it keeps the rules, with all entries, the two counts of bytes that a drive's row keeps, the
-//! first inode and the present one. A block of one kind and object, a journal block and a checkpoint are read alike. The places that a
-//! row names are listed; and where all rows keep the rules and just what they name is held, the rows make a store of a drive, in which
-//! each object has at each moment the inode that it has in the image. The other way round, the rows of a store, saved as an image's,
+//! An image is seen through its used blocks: what each pointer names in it. The layers above may
+//! rely on this: a row's chain, and its whole version chain, is read exactly where it keeps the
+//! rules, with all entries, the two counts of bytes that a drive's row keeps, the first inode and
+//! the present one. A block of one kind and object, a journal block and a checkpoint are read
+//! alike. The places that a row names are listed; and where all rows keep the rules and just what
+//! they name is held, the rows make a store of a drive, in which each object has at each moment the
+//! inode that it has in the image. The other way round, the rows of a store, saved as an image's,
 //! keep the rules where what the store holds is used. What the bytes of an image are is read below.
 //!
-//! `version_chain_laws` says that a version chain that keeps the rules is a row of a drive, in order up to the clock, where of the object's journal
-//! blocks and checkpoints those alone are held that it names.
+//! `version_chain_laws` says that a version chain that keeps the rules is a row of a drive, in
+//! order up to the clock, where of the object's journal blocks and checkpoints those alone are held
+//! that it names.
 #![tactic(auto)]
 
 mod chains;

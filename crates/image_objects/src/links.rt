@@ -88,7 +88,8 @@ pub(crate) fn stands_before(inode: &Inode, entry: &Entry) -> bool
     are_earlier(inode, entry.triples())
 }
 
-/// Whether entries lead on from a first inode, each from the one that the entry before it leads to.
+/// Whether entries lead on from a first inode, each from the one that the entry before it refers
+/// to.
 pub(crate) fn is_run(first: &Inode, entries: &[Entry]) -> bool
     requires { length first.now.pointers ≡ OBJECT_BLOCKS }
     ensures run { result ≡ true → Run first.now entries.now (redone_all entries.now first.now) }

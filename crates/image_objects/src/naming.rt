@@ -23,7 +23,7 @@ use codec::{Entry, Triple};
 use s4_types::limits::CHAIN_BLOCKS;
 use s4_types::{Ptr, Refusal};
 
-/// Adds the place that a slot leads to, where it isn't a hole.
+/// Adds the place that a slot refers to, where it isn't a hole.
 fn push_slot(slot: Option<Ptr>, places: &mut Vec<Ptr>) -> Result<(), Refusal>
     ensures places { IfOk result (λ _. places.new.items ≡ places.old.items ++ option_to_list slot) }
     ensures refusal { IfErr result (λ e. e ≡ NoMemory) }
@@ -34,7 +34,7 @@ fn push_slot(slot: Option<Ptr>, places: &mut Vec<Ptr>) -> Result<(), Refusal>
     Ok(())
 }
 
-/// Adds the places that slots lead to.
+/// Adds the places that slots refer to.
 fn push_slots(slots: &[Option<Ptr>], places: &mut Vec<Ptr>) -> Result<(), Refusal>
     ensures places { IfOk result (λ _. places.new.items ≡ places.old.items ++ places_in slots.now) }
     ensures refusal { IfErr result (λ e. e ≡ NoMemory) }
@@ -45,9 +45,10 @@ fn push_slots(slots: &[Option<Ptr>], places: &mut Vec<Ptr>) -> Result<(), Refusa
     Ok(())
 }
 
-/// Adds the places that both sides of triples lead to.
+/// Adds the places that both sides of triples refer to.
 fn push_triples(triples: &[Triple], places: &mut Vec<Ptr>) -> Result<(), Refusal>
-    ensures places { IfOk result (λ _. places.new.items ≡ places.old.items ++ places_in (sides_of triples.now)) }
+    ensures places { IfOk result
+        (λ _. places.new.items ≡ places.old.items ++ places_in (sides_of triples.now)) }
     ensures refusal { IfErr result (λ e. e ≡ NoMemory) }
 {
     for triple in triples {
@@ -59,7 +60,8 @@ fn push_triples(triples: &[Triple], places: &mut Vec<Ptr>) -> Result<(), Refusal
 
 /// Adds the places that both sides of the triples of entries lead to.
 fn push_entries(entries: &[Entry], places: &mut Vec<Ptr>) -> Result<(), Refusal>
-    ensures places { IfOk result (λ _. places.new.items ≡ places.old.items ++ places_in (sides_told entries.now)) }
+    ensures places { IfOk result
+        (λ _. places.new.items ≡ places.old.items ++ places_in (sides_told entries.now)) }
     ensures refusal { IfErr result (λ e. e ≡ NoMemory) }
 {
     for entry in entries {
@@ -68,9 +70,12 @@ fn push_entries(entries: &[Entry], places: &mut Vec<Ptr>) -> Result<(), Refusal>
     Ok(())
 }
 
-/// Adds the places that the pointers of a row's checkpoint lead to.
+/// Adds the places that the pointers of a row's checkpoint refer to.
 fn push_kept<U: UsedBlocks>(used: &U, row: &ImageRow, places: &mut Vec<Ptr>) -> Result<(), Refusal>
-    ensures places { IfOk result (λ _. places.new.items ≡ places.old.items ++ places_in (pointers_kept (checkpoint_used (U.used used.now) row.now))) }
+    ensures places { IfOk result
+        (λ _. places.new.items
+        ≡ places.old.items
+        ++ places_in (pointers_kept (checkpoint_used (U.used used.now) row.now))) }
     ensures refusal { IfErr result (λ e. e ≡ NoMemory) }
 {
     let Some(checkpoint) = checkpoint_of(used, row) else {
@@ -85,7 +90,9 @@ fn push_checkpoint<U: UsedBlocks>(
     row: &ImageRow,
     places: &mut Vec<Ptr>,
 ) -> Result<(), Refusal>
-    ensures places { IfOk result (λ _. places.new.items ≡ places.old.items ++ checkpoint_places_used (U.used used.now) row.now) }
+    ensures places { IfOk result
+        (λ _. places.new.items
+        ≡ places.old.items ++ checkpoint_places_used (U.used used.now) row.now) }
     ensures refusal { IfErr result (λ e. e ≡ NoMemory) }
 {
     push_slot(row.checkpoint, places)
@@ -94,7 +101,8 @@ fn push_checkpoint<U: UsedBlocks>(
 /// Adds the places of the blocks of a row's chain, the newest first.
 fn push_chain<U: UsedBlocks>(used: &U, row: &ImageRow, places: &mut Vec<Ptr>) -> Result<(), Refusal>
     requires { (clock : ℕ) × ChainStands (U.used used.now) row.now clock }
-    ensures places { IfOk result (λ _. places.new.items ≡ places.old.items ++ places_of_chain (U.used used.now) row.now) }
+    ensures places { IfOk result
+        (λ _. places.new.items ≡ places.old.items ++ places_of_chain (U.used used.now) row.now) }
     ensures refusal { IfErr result (λ e. e ≡ NoMemory) }
 {
     let mut next = row.head;
@@ -120,7 +128,8 @@ fn push_all<U: UsedBlocks>(
 ) -> Result<(), Refusal>
     requires chain { (clock : ℕ) × ChainStands (U.used used.now) row.now clock }
     requires entries { entries.now ≡ entries_used (U.used used.now) row.now }
-    ensures places { IfOk result (λ _. places.new.items ≡ places.old.items ++ places_named (U.used used.now) row.now) }
+    ensures places { IfOk result
+        (λ _. places.new.items ≡ places.old.items ++ places_named (U.used used.now) row.now) }
     ensures refusal { IfErr result (λ e. e ≡ NoMemory) }
 {
     push_chain(used, row, places)?;
@@ -129,8 +138,9 @@ fn push_all<U: UsedBlocks>(
     push_entries(entries, places)
 }
 
-/// Adds the places of all used blocks that a row of an image names: its chain's, its checkpoint's, and those of its data. The
-/// place of a data block is added as often as the row's pointers lead to it.
+/// Adds the places of all used blocks that a row of an image names: its chain's, its checkpoint's,
+/// and those of its data. The place of a data block is added as often as the row's pointers refer
+/// to it.
 ///
 /// NoMemory alone, after which some of them may have been added. Linear in the chain's blocks.
 pub fn push_named<U: UsedBlocks>(
@@ -143,9 +153,14 @@ pub fn push_named<U: UsedBlocks>(
     requires entries { versions.now.chain.entries.items ≡ entries_used (U.used used.now) row.now }
     ensures only { IfOk result (λ _. (p : Place) → Contains places.new.items p
         → Contains places.old.items p ⊎ ((kind : BlockKind) × NamesUsed (U.used used.now) row.now kind p)) }
-    ensures all { IfOk result (λ _. (kind : BlockKind) (p : Place) → NamesUsed (U.used used.now) row.now kind p → Contains places.new.items p) }
-    ensures kept { IfOk result (λ _. (p : Place) → Contains places.old.items p → Contains places.new.items p) }
-    ensures used { IfOk result (λ _. (p : Place) → Contains places.new.items p → Contains places.old.items p ⊎ IsSome (U.used used.now p)) }
+    ensures all { IfOk result
+        (λ _. (kind : BlockKind) (p : Place)
+        → NamesUsed (U.used used.now) row.now kind p → Contains places.new.items p) }
+    ensures kept { IfOk result
+        (λ _. (p : Place) → Contains places.old.items p → Contains places.new.items p) }
+    ensures used { IfOk result
+        (λ _. (p : Place) → Contains places.new.items p
+        → Contains places.old.items p ⊎ IsSome (U.used used.now p)) }
     ensures counted { IfOk result (λ _. (p : Place) → is_data (U.used used.now p) ≡ true
         → times p places.new.items ≡ times p places.old.items + times_led p (pointers_used (U.used used.now) row.now)) }
     ensures refusal { IfErr result (λ e. e ≡ NoMemory) }
@@ -155,7 +170,8 @@ pub fn push_named<U: UsedBlocks>(
     push_all(used, row, versions.chain.entries.as_slice(), places)
 }
 
-/// Each place that a row of an object which stands in an image names has a used block of the object, of that kind.
+/// Each place that a row of an object which is in an image names has a used block of the object, of
+/// that kind.
 pub fn what_a_row_names_is_used()
     ensures { (used : Place → Option Stored) (row : RowFields) (clock : ℕ) (kind : BlockKind) (p : Place) → ObjectStands used row clock
         → NamesUsed used row kind p → IsSome (of_kind kind row.object used p) }

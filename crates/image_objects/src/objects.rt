@@ -15,7 +15,8 @@ use crate::{ImageRow, UsedBlocks, VersionChain, read_version_chain};
 use s4_types::{Moment, Refusal};
 use std::alloc::Global;
 
-/// What a drive keeps of an object of an image whose clock stands at a moment. None exactly where the object doesn't stand.
+/// What a drive keeps of an object of an image whose clock is at a moment. None exactly where the
+/// object isn't there.
 ///
 /// NoMemory alone, where the memory for the entries is refused. Linear in the chain's blocks.
 pub fn read_object<U: UsedBlocks>(
@@ -24,14 +25,29 @@ pub fn read_object<U: UsedBlocks>(
     row: &ImageRow,
     clock: Moment,
 ) -> Result<Option<VersionChain>, Refusal>
-    ensures stands { IfOk result (λ found. IfSome found (λ versions. ObjectStands (U.used used.now) row.now clock)) }
-    ensures only { IfOk result (λ found. IfNone found (ObjectStands (U.used used.now) row.now clock → ⊥)) }
-    ensures entries { IfOk result (λ found. IfSome found (λ versions. versions.chain.entries.items ≡ entries_used (U.used used.now) row.now)) }
-    ensures bytes { IfOk result (λ found. IfSome found (λ versions. versions.chain.journal_bytes ≡ entries_length (entries_used (U.used used.now) row.now))) }
-    ensures head { IfOk result (λ found. IfSome found (λ versions. versions.chain.head_bytes ≡ filled_bytes (packed (entries_used (U.used used.now) row.now)))) }
-    ensures first { IfOk result (λ found. IfSome found (λ versions. versions.first ≡ first_used (U.used used.now) row.now)) }
-    ensures count { IfOk result (λ found. IfSome found (λ versions. length versions.first.pointers ≡ OBJECT_BLOCKS)) }
-    ensures present { IfOk result (λ found. IfSome found (λ versions. versions.present ≡ present_used (U.used used.now) row.now)) }
+    ensures stands { IfOk result
+        (λ found. IfSome found (λ versions. ObjectStands (U.used used.now) row.now clock)) }
+    ensures only { IfOk result
+        (λ found. IfNone found (ObjectStands (U.used used.now) row.now clock → ⊥)) }
+    ensures entries { IfOk result
+        (λ found. IfSome found
+        (λ versions. versions.chain.entries.items ≡ entries_used (U.used used.now) row.now)) }
+    ensures bytes { IfOk result
+        (λ found. IfSome found
+        (λ versions. versions.chain.journal_bytes
+        ≡ entries_length (entries_used (U.used used.now) row.now))) }
+    ensures head { IfOk result
+        (λ found. IfSome found
+        (λ versions. versions.chain.head_bytes
+        ≡ filled_bytes (packed (entries_used (U.used used.now) row.now)))) }
+    ensures first { IfOk result
+        (λ found. IfSome found
+        (λ versions. versions.first ≡ first_used (U.used used.now) row.now)) }
+    ensures count { IfOk result
+        (λ found. IfSome found (λ versions. length versions.first.pointers ≡ OBJECT_BLOCKS)) }
+    ensures present { IfOk result
+        (λ found. IfSome found
+        (λ versions. versions.present ≡ present_used (U.used used.now) row.now)) }
     ensures refusal { IfErr result (λ e. e ≡ NoMemory) }
 {
     let Some(versions) = read_version_chain(alloc, used, row, clock)? else {

@@ -14,7 +14,8 @@ use undo_redo::{blank, redo};
 /// Whether the last change of an inode is from a moment to a later one, where the inode is live.
 fn is_timely(inode: &Inode, created: Moment, clock: Moment) -> bool
     ensures is { result ≡ true → inode.now.alive ≡ true → IsFromTo created clock inode.now.changed }
-    ensures only { (inode.now.alive ≡ true → IsFromTo created clock inode.now.changed) → result ≡ true }
+    ensures only { (inode.now.alive ≡ true → IsFromTo created clock inode.now.changed)
+        → result ≡ true }
 {
     if !inode.alive {
         return true;
@@ -35,7 +36,7 @@ fn begins_blank(first: &Inode, created: Moment) -> bool
     is_same_inode(first, &blank(created))
 }
 
-/// Whether an inode may stand in front of so many entries: a dead one in front of none.
+/// Whether an inode may be in front of this many entries: a dead one in front of none.
 fn may_stand(inode: &Inode, left: usize) -> bool
     ensures is { result ≡ true → 0 < left → inode.now.alive ≡ true }
     ensures only { (0 < left → inode.now.alive ≡ true) → result ≡ true }
@@ -50,8 +51,9 @@ fn is_live_by(before: bool, inode: &Inode) -> bool
     before || inode.alive
 }
 
-/// Whether the inodes that entries lead to from a first one are in order up to a clock: the last change of each live one is
-/// from the making to the clock, a dead one is the first or the last, the first is blank where it is dead, and one is live.
+/// Whether the inodes that entries lead to from a first one are in order up to a clock: the last
+/// change of each live one is from the making to the clock, a dead one is the first or the last,
+/// the first is blank where it is dead, and one is live.
 pub(crate) fn is_orderly(first: &Inode, entries: &[Entry], created: Moment, clock: Moment) -> bool
     requires count { length first.now.pointers ≡ OBJECT_BLOCKS }
     requires moments { AllByRecursion (λ e. IsFromTo created clock e.moment) entries.now }

@@ -1,4 +1,4 @@
-//! Whether the pointers that a row leads to lead to its data.
+//! Whether the pointers that a row refers to lead to its data.
 ghost use Rattle.std.specs.Prelude.{◌≡◌, true, [], ◌∷◌};
 ghost use Rattle.std.specs.List.{All};
 ghost use Rattle.version_store.specs.Store.{IsLed, sides_of, sides_told, pointers_kept};
@@ -11,7 +11,8 @@ use block_log::BlockKind;
 use codec::{Checkpoint, Entry, Triple};
 use s4_types::{ObjectId, Ptr};
 
-/// The checkpoint that a row names. None where it names none, or where none of the object is used there.
+/// The checkpoint that a row names. None where it names none, or where none of the object is used
+/// there.
 pub(crate) fn checkpoint_of<U: UsedBlocks>(used: &U, row: &ImageRow) -> Option<Checkpoint>
     ensures { result ≡ checkpoint_used (U.used used.now) row.now }
 {
@@ -19,7 +20,7 @@ pub(crate) fn checkpoint_of<U: UsedBlocks>(used: &U, row: &ImageRow) -> Option<C
     read_checkpoint(used, row.object, place)
 }
 
-/// Whether a pointer is a hole, or leads to a used data block of an object.
+/// Whether a pointer is a hole, or refers to a used data block of an object.
 fn is_led<U: UsedBlocks>(used: &U, object: ObjectId, pointer: Option<Ptr>) -> bool
     ensures is { result ≡ true → IsLed (U.used used.now) object pointer }
     ensures only { IsLed (U.used used.now) object pointer → result ≡ true }
@@ -45,8 +46,11 @@ fn are_led<U: UsedBlocks>(used: &U, object: ObjectId, pointers: &[Option<Ptr>]) 
 
 /// The same of the pointers of a row's checkpoint.
 fn is_checkpoint_led<U: UsedBlocks>(used: &U, row: &ImageRow) -> bool
-    ensures is { result ≡ true → All (IsLed (U.used used.now) row.now.object) (pointers_kept (checkpoint_used (U.used used.now) row.now)) }
-    ensures only { All (IsLed (U.used used.now) row.now.object) (pointers_kept (checkpoint_used (U.used used.now) row.now)) → result ≡ true }
+    ensures is { result ≡ true
+        → All (IsLed (U.used used.now) row.now.object)
+        (pointers_kept (checkpoint_used (U.used used.now) row.now)) }
+    ensures only { All (IsLed (U.used used.now) row.now.object)
+        (pointers_kept (checkpoint_used (U.used used.now) row.now)) → result ≡ true }
 {
     let Some(checkpoint) = checkpoint_of(used, row) else {
         return true;
@@ -56,8 +60,10 @@ fn is_checkpoint_led<U: UsedBlocks>(used: &U, row: &ImageRow) -> bool
 
 /// The same of both sides of a triple.
 fn are_sides_led<U: UsedBlocks>(used: &U, object: ObjectId, triple: &Triple) -> bool
-    ensures is { result ≡ true → All (IsLed (U.used used.now) object) (triple.now.before ∷ triple.now.after ∷ []) }
-    ensures only { All (IsLed (U.used used.now) object) (triple.now.before ∷ triple.now.after ∷ []) → result ≡ true }
+    ensures is { result ≡ true
+        → All (IsLed (U.used used.now) object) (triple.now.before ∷ triple.now.after ∷ []) }
+    ensures only { All (IsLed (U.used used.now) object) (triple.now.before ∷ triple.now.after ∷ [])
+        → result ≡ true }
 {
     is_led(used, object, triple.before) && is_led(used, object, triple.after)
 }
@@ -88,11 +94,14 @@ fn are_entries_led<U: UsedBlocks>(used: &U, object: ObjectId, entries: &[Entry])
     true
 }
 
-/// Whether each pointer that a row leads to is a hole, or leads to a used data block of the row's object.
+/// Whether each pointer that a row refers to is a hole, or refers to a used data block of the row's
+/// object.
 pub(crate) fn is_row_led<U: UsedBlocks>(used: &U, row: &ImageRow, entries: &[Entry]) -> bool
     requires { entries.now ≡ entries_used (U.used used.now) row.now }
-    ensures is { result ≡ true → All (IsLed (U.used used.now) row.now.object) (pointers_used (U.used used.now) row.now) }
-    ensures only { All (IsLed (U.used used.now) row.now.object) (pointers_used (U.used used.now) row.now) → result ≡ true }
+    ensures is { result ≡ true
+        → All (IsLed (U.used used.now) row.now.object) (pointers_used (U.used used.now) row.now) }
+    ensures only { All (IsLed (U.used used.now) row.now.object)
+        (pointers_used (U.used used.now) row.now) → result ≡ true }
 {
     is_checkpoint_led(used, row) && are_entries_led(used, row.object, entries)
 }

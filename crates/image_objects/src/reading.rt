@@ -12,7 +12,7 @@ use block_log::{Block, BlockKind};
 use codec::{Entry, EntryReader, decode_journal};
 use s4_types::{ObjectId, Ptr, Refusal};
 
-/// The journal block of an object that the bytes spell. None where they spell none.
+/// The journal block of an object that the bytes encode. None where they encode none.
 #[tactic(auto, unfolding(journal_chain::specs::Chain::journal_of))]
 fn journal_of(object: ObjectId, bytes: Block) -> Option<EntryReader>
     ensures exact { result ≡ journal_of object bytes }
@@ -28,7 +28,8 @@ fn journal_of(object: ObjectId, bytes: Block) -> Option<EntryReader>
     Some(EntryReader::new(bytes))
 }
 
-/// The object's journal block at a place. None where the image has no such used block there, or where it spells none.
+/// The object's journal block at a place. None where the image has no such used block there, or
+/// where it encodes none.
 pub fn read_journal<U: UsedBlocks>(used: &U, object: ObjectId, place: Ptr) -> Option<EntryReader>
     ensures exact { result ≡ journal_held (U.used used.now) object place }
     ensures rules { IfSome result (λ block. journal_rules block ≡ true) }
@@ -44,13 +45,14 @@ pub(crate) struct BlockBytes {
     pub(crate) first: usize,
 }
 
-/// Puts the entries of a block behind others, the newest first.
+/// Puts the entries of a block after others, the newest first.
 pub(crate) fn take_entries(
     block: EntryReader,
     entries: &mut Vec<Entry>,
 ) -> Result<BlockBytes, Refusal>
     requires { entries_length block.entries ≤ JOURNAL_ENTRY_BYTES }
-    ensures entries { IfOk result (λ _. reverse entries.new.items ≡ block.entries ++ reverse entries.old.items) }
+    ensures entries { IfOk result
+        (λ _. reverse entries.new.items ≡ block.entries ++ reverse entries.old.items) }
     ensures all { IfOk result (λ bytes. bytes.all ≡ entries_length block.entries) }
     ensures first { IfOk result (λ bytes. bytes.first ≡ first_length block.entries) }
     ensures refusal { IfErr result (λ e. e ≡ NoMemory) }

@@ -1,4 +1,5 @@
-//! Laws of the rows of a store that are saved as an image's: each function does nothing, and its contract is the law.
+//! Laws of the rows of a store that are saved as an image's: each function does nothing, and its
+//! contract is the law.
 ghost use Rattle.std.specs.Prelude.{◌≡◌, ℕ, ◌≤◌, Option, Some};
 ghost use Rattle.s4_types.specs.Pointer.{Place};
 ghost use Rattle.block_log.specs.Log.{Stored};
@@ -8,7 +9,8 @@ ghost use Rattle.time_read.specs.Orderly.{IsOrderly};
 ghost use Rattle.version_store.specs.Store.{IsObject, IsStore, StoreFields};
 ghost use Rattle.image_objects.specs.Objects.{ObjectStands};
 ghost use Rattle.image_objects.specs.Rows.{RowsAscend, RowsStand};
-ghost use Rattle.image_objects.specs.Saved.{HoldsUsed, HoldsWhatIsSaved, IsSavedAsHeld, ObjectsAscend, saved_row, saved_rows};
+ghost use Rattle.image_objects.specs.Saved.{HoldsUsed, HoldsWhatIsSaved, IsSavedAsHeld};
+ghost use Rattle.image_objects.specs.Saved.{ObjectsAscend, saved_row, saved_rows};
 
 use checkpoint::laws::{a_checkpoint_has_its_blocks, a_checkpoint_rests_on_its_blocks};
 use inode::laws::only_its_blocks_matter;
@@ -18,16 +20,18 @@ use time_read::laws::an_orderly_row_stays;
 use undo_redo::laws::a_run_has_one_end_and_one_beginning;
 use version_store::laws::what_is_held_is_what_rows_name;
 
-/// Where what is held is used, a row of a drive that is saved as an image's tells the same as before.
+/// Where what is held is used, a row of a drive that is saved as an image's tells the same as
+/// before.
 pub fn a_saved_row_tells_the_same()
-    ensures { (used held : Place → Option Stored) (o : ℕ) (row : Row) → HoldsUsed used held → IsRow held o row → IsSavedAsHeld used held o row }
+    ensures { (used held : Place → Option Stored) (o : ℕ) (row : Row) → HoldsUsed used held
+        → IsRow held o row → IsSavedAsHeld used held o row }
 {
     a_checkpoint_rests_on_its_blocks();
     a_checkpoint_has_its_blocks();
 }
 
-/// Where what is held is used, an object that is held stands in the image under the row that its own is saved as, up to each clock
-/// from the last change on.
+/// Where what is held is used, an object that is held is in the image under the row that its own is
+/// saved as, up to each clock from the last change on.
 pub fn a_row_that_is_held_stands()
     ensures { (used held : Place → Option Stored) (o latest clock : ℕ) (row : Row) → HoldsUsed used held → IsObject held o row latest → IsOrderly held o row latest → latest ≤ clock
         → ObjectStands used (saved_row o row) clock }
@@ -41,8 +45,8 @@ pub fn a_row_that_is_held_stands()
     only_its_blocks_matter();
 }
 
-/// Where what a store holds is used, and its rows are listed by ascending object, they ascend and stand as an image's, up to each
-/// clock from the last change on.
+/// Where what a store holds is used, and its rows are listed by ascending object, they ascend and
+/// are as an image's, up to each clock from the last change on.
 pub fn a_store_stands_in_its_image()
     ensures stand { (used : Place → Option Stored) (s : StoreFields) (low clock : ℕ) → IsStore s → s.latest ≤ clock → HoldsUsed used s.log.held → ObjectsAscend low s.rows
         → RowsStand used (saved_rows s.rows) clock }
@@ -54,7 +58,8 @@ pub fn a_store_stands_in_its_image()
     a_row_that_is_held_stands();
 }
 
-/// And of the used blocks just those are held that the rows of the image name, and those of older checkpoints.
+/// And of the used blocks just those are held that the rows of the image name, and those of older
+/// checkpoints.
 pub fn what_is_held_is_what_saved_rows_name()
     ensures { (used : Place → Option Stored) (s : StoreFields) (low : ℕ) → IsStore s → HoldsUsed used s.log.held → ObjectsAscend low s.rows
         → HoldsWhatIsSaved used s }

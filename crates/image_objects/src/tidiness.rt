@@ -1,5 +1,6 @@
 //! Whether the inodes that are current at some moment are tidy.
-ghost use Rattle.std.specs.Prelude.{◌≡◌, ℕ, ◌<◌, ◌≤◌, true, length, slice_index, slice_index_or, None};
+ghost use Rattle.std.specs.Prelude.{◌≡◌, ℕ, ◌<◌, ◌≤◌, true, length, slice_index, slice_index_or};
+ghost use Rattle.std.specs.Prelude.{None};
 ghost use Rattle.s4_types.specs.declared.limits.TheConstants.{OBJECT_BLOCKS};
 ghost use Rattle.undo_redo.specs.Groups.{grouped};
 ghost use Rattle.undo_redo.specs.Runs.{inode_after};
@@ -16,8 +17,10 @@ use undo_redo::redo;
 
 /// Whether the bytes from an index on are zeros.
 fn ends_in_zeros(bytes: &[u8], from: usize) -> bool
-    ensures is { result ≡ true → (n : ℕ) → from ≤ n → n < length bytes.now → slice_index bytes.now n ≡ 0 }
-    ensures only { ((n : ℕ) → from ≤ n → n < length bytes.now → slice_index bytes.now n ≡ 0) → result ≡ true }
+    ensures is { result ≡ true → (n : ℕ) → from ≤ n → n < length bytes.now
+        → slice_index bytes.now n ≡ 0 }
+    ensures only { ((n : ℕ) → from ≤ n → n < length bytes.now → slice_index bytes.now n ≡ 0)
+        → result ≡ true }
 {
     for index in from..bytes.len() {
         if bytes[index] != 0 {
@@ -27,7 +30,7 @@ fn ends_in_zeros(bytes: &[u8], from: usize) -> bool
     true
 }
 
-/// Whether the bytes behind a slot are zeros from an index on. A hole has zeros alone.
+/// Whether the bytes that a slot refers to are zeros from an index on. A hole has zeros alone.
 fn has_zeros_from<U: UsedBlocks>(used: &U, slot: Option<Ptr>, from: usize) -> bool
     ensures is { result ≡ true → HasZerosFrom (contents_of (U.used used.now)) slot from }
     ensures only { HasZerosFrom (contents_of (U.used used.now)) slot from → result ≡ true }
@@ -54,7 +57,8 @@ fn has_holes_from(slots: &[Option<Ptr>], from: usize) -> bool
     true
 }
 
-/// Whether the bytes of an inode at and past its size are zeros, in the block that the size ends in.
+/// Whether the bytes of an inode at and past its size are zeros, in the block that the size ends
+/// in.
 fn ends_tidily<U: UsedBlocks>(used: &U, inode: &Inode) -> bool
     requires { length inode.now.pointers ≡ OBJECT_BLOCKS }
     ensures is { result ≡ true → EndsInZeros (contents_of (U.used used.now)) inode.now }
@@ -87,7 +91,8 @@ fn is_tidy<U: UsedBlocks>(used: &U, inode: &Inode) -> bool
     ends_tidily(used, inode)
 }
 
-/// Whether an inode is tidy, where it is current at some moment: it is so from a first moment on, up to the next entry's.
+/// Whether an inode is tidy, where it is current at some moment: it is so from a first moment on,
+/// up to the next entry's.
 fn stands_tidily<U: UsedBlocks>(used: &U, inode: &Inode, first: Moment, next: Moment) -> bool
     requires { length inode.now.pointers ≡ OBJECT_BLOCKS }
     ensures is { result ≡ true → first < next → Tidy (contents_of (U.used used.now)) inode.now }
@@ -96,17 +101,22 @@ fn stands_tidily<U: UsedBlocks>(used: &U, inode: &Inode, first: Moment, next: Mo
     next <= first || is_tidy(used, inode)
 }
 
-/// Whether the inode of a chain is tidy at each moment. One that stands between two entries of a moment is not looked at.
+/// Whether the inode of a chain is tidy at each moment. One that is between two entries of a moment
+/// is not looked at.
 pub(crate) fn are_tidy<U: UsedBlocks>(used: &U, first: &Inode, entries: &[Entry]) -> bool
     requires count { length first.now.pointers ≡ OBJECT_BLOCKS }
     requires groups { grouped entries.now ≡ true }
-    ensures is { result ≡ true → (t : ℕ) → Tidy (contents_of (U.used used.now)) (inode_after first.now entries.now t) }
-    ensures only { ((t : ℕ) → Tidy (contents_of (U.used used.now)) (inode_after first.now entries.now t)) → result ≡ true }
+    ensures is { result ≡ true → (t : ℕ)
+        → Tidy (contents_of (U.used used.now)) (inode_after first.now entries.now t) }
+    ensures only { ((t : ℕ)
+        → Tidy (contents_of (U.used used.now)) (inode_after first.now entries.now t))
+        → result ≡ true }
 {
     groups_join_and_part();
     let mut inode = *first;
     let mut since = Moment::new(0);
-    // Each inode is looked at whole, its last block too where an entry left that: a chain has at most `CHAIN_ENTRIES`.
+    // Each inode is looked at whole, its last block too where an entry left that: a chain has at
+    // most `CHAIN_ENTRIES`.
     for entry in entries {
         if !stands_tidily(used, &inode, since, entry.moment()) {
             return false;

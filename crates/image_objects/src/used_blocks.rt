@@ -27,7 +27,8 @@ impl Model for UsedBlock {
 
 /// The blocks of an image that are used.
 pub trait UsedBlocks {
-    // What each pointer names: nothing where no frame has a used block there at the pointer's generation.
+    // What each pointer names: nothing where no frame has a used block there at the pointer's
+    // generation.
     ghost used: { Self → Place → Option Stored };
 
     /// The used block at a place. None where the pointer names none. No memory is taken.

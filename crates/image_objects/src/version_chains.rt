@@ -26,11 +26,12 @@ pub struct VersionChain {
     pub chain: ImageChain,
     /// The inode before all entries.
     pub first: Inode,
-    /// The inode behind all entries.
+    /// The inode after all entries.
     pub present: Inode,
 }
 
-/// The inode before all entries of a chain that stands. None where the row's version chain doesn't stand.
+/// The inode before all entries of a chain that stands. None where the row's version chain isn't
+/// there.
 fn leading_inode<U: UsedBlocks>(
     used: &U,
     row: &ImageRow,
@@ -56,7 +57,7 @@ fn leading_inode<U: UsedBlocks>(
     Some(first)
 }
 
-/// A row's version chain in an image whose clock stands at a moment. None exactly where it doesn't stand.
+/// A row's version chain in an image whose clock is at a moment. None exactly where it isn't there.
 ///
 /// NoMemory alone, where the memory for the entries is refused. Linear in the chain's blocks.
 pub fn read_version_chain<U: UsedBlocks>(
@@ -65,14 +66,29 @@ pub fn read_version_chain<U: UsedBlocks>(
     row: &ImageRow,
     clock: Moment,
 ) -> Result<Option<VersionChain>, Refusal>
-    ensures stands { IfOk result (λ found. IfSome found (λ versions. VersionChainStands (U.used used.now) row.now clock)) }
-    ensures only { IfOk result (λ found. IfNone found (VersionChainStands (U.used used.now) row.now clock → ⊥)) }
-    ensures entries { IfOk result (λ found. IfSome found (λ versions. versions.chain.entries.items ≡ entries_used (U.used used.now) row.now)) }
-    ensures bytes { IfOk result (λ found. IfSome found (λ versions. versions.chain.journal_bytes ≡ entries_length (entries_used (U.used used.now) row.now))) }
-    ensures head { IfOk result (λ found. IfSome found (λ versions. versions.chain.head_bytes ≡ filled_bytes (packed (entries_used (U.used used.now) row.now)))) }
-    ensures first { IfOk result (λ found. IfSome found (λ versions. versions.first ≡ first_used (U.used used.now) row.now)) }
-    ensures count { IfOk result (λ found. IfSome found (λ versions. length versions.first.pointers ≡ OBJECT_BLOCKS)) }
-    ensures present { IfOk result (λ found. IfSome found (λ versions. versions.present ≡ present_used (U.used used.now) row.now)) }
+    ensures stands { IfOk result
+        (λ found. IfSome found (λ versions. VersionChainStands (U.used used.now) row.now clock)) }
+    ensures only { IfOk result
+        (λ found. IfNone found (VersionChainStands (U.used used.now) row.now clock → ⊥)) }
+    ensures entries { IfOk result
+        (λ found. IfSome found
+        (λ versions. versions.chain.entries.items ≡ entries_used (U.used used.now) row.now)) }
+    ensures bytes { IfOk result
+        (λ found. IfSome found
+        (λ versions. versions.chain.journal_bytes
+        ≡ entries_length (entries_used (U.used used.now) row.now))) }
+    ensures head { IfOk result
+        (λ found. IfSome found
+        (λ versions. versions.chain.head_bytes
+        ≡ filled_bytes (packed (entries_used (U.used used.now) row.now)))) }
+    ensures first { IfOk result
+        (λ found. IfSome found
+        (λ versions. versions.first ≡ first_used (U.used used.now) row.now)) }
+    ensures count { IfOk result
+        (λ found. IfSome found (λ versions. length versions.first.pointers ≡ OBJECT_BLOCKS)) }
+    ensures present { IfOk result
+        (λ found. IfSome found
+        (λ versions. versions.present ≡ present_used (U.used used.now) row.now)) }
     ensures refusal { IfErr result (λ e. e ≡ NoMemory) }
 {
     let Some(chain) = read_chain(alloc, used, row, clock)? else {

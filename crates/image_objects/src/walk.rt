@@ -1,5 +1,6 @@
 //! A chain walked back from its head.
-ghost use Rattle.std.specs.Prelude.{◌≡◌, ◌+◌, ◌&&◌, ℕ, true, nat_lt, nat_le, if◌then◌else◌, Option, Some, None, IfOk, IfErr, option_map};
+ghost use Rattle.std.specs.Prelude.{◌≡◌, ◌+◌, ◌&&◌, ℕ, true, nat_lt, nat_le, if◌then◌else◌, Option};
+ghost use Rattle.std.specs.Prelude.{Some, None, IfOk, IfErr, option_map};
 ghost use Rattle.s4_types.specs.declared.limits.TheConstants.{CHAIN_BLOCKS, JOURNAL_ENTRY_BYTES};
 ghost use Rattle.s4_types.specs.declared.refusals.Refusal.TheVariants.{NoMemory};
 ghost use Rattle.s4_types.specs.Pointer.{Place};
@@ -26,12 +27,14 @@ struct Walk {
 }
 
 impl Walk {
-    /// Goes on by one block. False where its entries leave room for the first one of the block behind it.
+    /// Goes on by one block. False where its entries leave room for the first one of the block
+    /// after it.
     fn take(&mut self, block: EntryReader) -> Result<bool, Refusal>
         requires { journal_rules block ≡ true }
         ensures goes { IfOk result (λ good. (left : ℕ) (blocks : Place → Option JournalFields) (p : Place)
             → self.old.previous ≡ Some p → blocks p ≡ Some block
-            → reached (left + 1) blocks self.old.first_bytes self.old.previous self.old.entries.items
+            → reached (left + 1) blocks self.old.first_bytes self.old.previous
+            self.old.entries.items
             ≡ (if good then reached left blocks self.new.first_bytes self.new.previous self.new.entries.items else None)) }
         ensures refusal { IfErr result (λ e. e ≡ NoMemory) }
     {
@@ -45,8 +48,9 @@ impl Walk {
     }
 }
 
-/// The entries of the journal blocks of an object from a head on, the oldest first. None where they are no chain of at most
-/// `CHAIN_BLOCKS` blocks, and where the first entry of a block fits behind those of the block before.
+/// The entries of the journal blocks of an object from a head on, the oldest first. None where they
+/// are no chain of at most `CHAIN_BLOCKS` blocks, and where the first entry of a block fits after
+/// those of the block before.
 ///
 /// NoMemory alone, where the memory for the entries is refused.
 pub(crate) fn entries_from<U: UsedBlocks>(

@@ -1,4 +1,4 @@
--- Parts of a list of bytes are bytes; blocks one behind the other.
+-- Parts of a list of bytes are bytes; blocks one after the other.
 use Rattle.std.proofs.Common.{◌≡◌, ℕ, ◌+◌, ◌<◌, List, [], ◌∷◌, ◌++◌, length, get_or, take, drop, sym, ap, subst, ◌∙◌, append_assoc, arith, inl, inr}
 use Rattle.std.specs.List.{concat}
 use Rattle.std.proofs.lemmas.Bool.{cases_lt}
@@ -15,7 +15,7 @@ bytes_before n bytes h i =
       | inr le ↦ rw (get_or_past (take n bytes) i 0 (omega (arith, length-take n bytes))) (omega arith)
     ]
 
--- what stands behind other bytes
+-- what comes after other bytes
 bytes_behind : (front rest bytes : List ℕ) → bytes ≡ front ++ rest → IsBytes bytes → IsBytes rest
 bytes_behind front rest bytes e h i =
     subst (λ (n : ℕ). n < 256) (get_or-append-add front rest i 0) (subst (λ (b : List ℕ). get_or b (length front + i) 0 < 256) e (h (length front + i)))
@@ -23,7 +23,7 @@ bytes_behind front rest bytes e h i =
 pub bytes_after : (n : ℕ) (bytes : List ℕ) → IsBytes bytes → IsBytes (drop n bytes)
 bytes_after n bytes h = bytes_behind (take n bytes) (drop n bytes) bytes (sym (take-append-drop n bytes)) h
 
--- a block more behind other bytes
+-- a block more after other bytes
 pub joined_more : (head : List ℕ) (blocks : List (List ℕ)) (i : ℕ) → i < length blocks → (head ++ concat (take i blocks)) ++ get_or blocks i [] ≡ head ++ concat (take (i + 1) blocks)
 joined_more head blocks i lt =
     let block = get_or blocks i [] in

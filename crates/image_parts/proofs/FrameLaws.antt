@@ -1,4 +1,4 @@
--- Frames that are spelled are read, and what is read of them is spelled.
+-- Frames that are encoded are read, and what is read of them is encoded.
 use Rattle.std.proofs.Common.{◌≡◌, ℕ, zero, suc, ◌+◌, ◌≤◌, List, [], ◌∷◌, ◌++◌, length, take, drop, refl, sym, ap, subst, ◌∙◌, arith, append_assoc, length-append, length-drop}
 use Rattle.std.specs.Int.{w64}
 use Rattle.std.specs.List.{flat_map, AllByRecursion}
@@ -11,7 +11,7 @@ use Rattle.image_parts.specs.Header.{number_in}
 use Rattle.image_parts.specs.Frames.{FrameFields, IsFrame, contents_length, frame_bytes, frame_in, frame_length, frames_in, frames_length}
 use Rattle.image_parts.proofs.NumberLaws.{long_again, long_behind, long_length, long_back, long_below}
 
--- ---- what is read is spelled
+-- ---- what is read is encoded
 
 frame_back : (bytes : List ℕ) → IsBytes bytes → frame_length bytes ≤ length bytes → frame_bytes (frame_in bytes) ≡ take (frame_length bytes) bytes
 frame_back bytes h le =
@@ -38,7 +38,7 @@ frames_are (suc n) bytes h le =
     let size = frame_length bytes in
     (frame_is bytes h (omega (arith, le)), frames_are n (drop size bytes) (bytes_after size bytes h) (omega (arith, le, length-drop size bytes)))
 
--- ---- what is spelled is read
+-- ---- what is encoded is read
 
 -- the bytes begin with a frame, and go on with others
 record Begins (bytes : List ℕ) (f : FrameFields) (rest : List ℕ) : Type 0 where
@@ -67,7 +67,7 @@ begins f rest k =
       behind = sym (drop-drop (contents_length (number_in w64 bytes)) 8 bytes) ∙ behind;
     }
 
--- so many frames are read, and have so many bytes
+-- this many frames are read, and have this many bytes
 pub record AllRead (frames : List FrameFields) (bytes : List ℕ) : Type 0 where
   pub are : frames_in (length frames) bytes ≡ frames
   pub size : frames_length (length frames) bytes ≡ length (flat_map frame_bytes frames)

@@ -1,4 +1,4 @@
--- Frames one behind the other, as loops go over them.
+-- Frames one after the other, as loops go over them.
 use Rattle.std.proofs.Common.{◌≡◌, ◌≢◌, ℕ, zero, suc, ◌+◌, ◌-◌, ◌*◌, ◌<◌, ◌≤◌, List, Bool, true, false, length, drop, refl, sym, ap, ◌∙◌, arith, length-drop, drop-drop}
 use Rattle.std.specs.Prelude.{if◌then◌else◌, ◌==◌}
 use Rattle.std.specs.Int.{w64}
@@ -9,13 +9,13 @@ length_more : (count : ℕ) (bytes : List ℕ) → count ≢ 0 → frames_length
 length_more zero bytes some = absurd (some refl)
 length_more (suc n) bytes some = let k : suc n - 1 ≡ n = omega arith in rw k refl
 
--- behind the first frame the others fit what is left
+-- after the first frame the others fit what is left
 pub rest_fits : (count : ℕ) (bytes rest : List ℕ) → count ≢ 0 → frames_length count bytes ≤ length bytes → rest ≡ drop (frame_length bytes) bytes → frames_length (count - 1) rest ≤ length rest
 rest_fits count bytes rest some fits is =
     let more = length_more count bytes some in
     rw is (omega (arith, fits, more, length-drop (frame_length bytes) bytes))
 
--- so many of the frames were passed, and the others stand here
+-- this many of the frames were passed, and the others are here
 pub record Passed (count i : ℕ) (bytes rest : List ℕ) : Type 0 where
   pub total : frames_length count bytes + length rest ≡ frames_length (count - i) rest + length bytes
   pub behind : drop (frames_length (count - i) rest) rest ≡ drop (frames_length count bytes) bytes

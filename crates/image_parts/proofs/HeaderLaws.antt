@@ -1,4 +1,4 @@
--- A header that is spelled is read, and one that bytes begin with is read of all that begins so.
+-- A header that is encoded is read, and one that bytes begin with is read of all that begins so.
 use Rattle.std.proofs.Common.{◌≡◌, ℕ, ◌+◌, ◌^◌, ◌<◌, ◌≤◌, List, ◌++◌, ap, ◌∙◌, length, take, drop, arith, length-append, length-drop}
 use Rattle.std.specs.Int.{Width, w16, w32, w64, byte_len, from_be_bytes}
 use Rattle.std.proofs.lemmas.List.{take-append-le, drop-append-le}
@@ -45,7 +45,7 @@ header_length h =
 
 -- ---- the header of a front
 
--- a part of a front is the same with more behind it
+-- a part of a front is the same with more after it
 part : (n k : ℕ) (front rest : List ℕ) → k + n ≤ length front → take n (drop k (front ++ rest)) ≡ take n (drop k front)
 part n k front rest le =
     ap (take n) (drop-append-le k front rest (omega (arith, le))) ∙ take-append-le n (drop k front) rest (omega (arith, le, length-drop k front))

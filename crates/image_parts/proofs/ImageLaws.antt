@@ -1,4 +1,4 @@
--- Bytes that no test refuses spell the image that is read from them, and what spells an image is read as that image.
+-- Bytes that no test refuses encode the image that is read from them, and what encodes an image is read as that image.
 use Rattle.std.proofs.Common.{◌≡◌, ℕ, zero, suc, ◌+◌, ◌-◌, ◌*◌, ◌≤◌, List, ◌++◌, length, take, drop, None, refl, sym, ap, subst, ◌∙◌, arith, inl, inr, append_assoc, length-append, length-drop}
 use Rattle.std.specs.Prelude.{slice_index}
 use Rattle.std.specs.Int.{w32, to_be_bytes}
@@ -56,7 +56,7 @@ they_hold bytes (inr (long, inr (header, inr (filled, inr (digest, inr (frames, 
 they_hold bytes (inr (long, inr (header, inr (filled, inr (digest, inr (frames, inr (spans, inr (rows, e)))))))) =
     record { long = long; header = header; filled = filled; digest = digest; frames = frames; spans = spans; rows = rows }
 
--- four parts one behind the other
+-- four parts one after the other
 four : (a b c d : ℕ) (bytes : List ℕ) → take a bytes ++ (take b (drop a bytes) ++ (take c (drop b (drop a bytes)) ++ take d (drop c (drop b (drop a bytes))))) ≡ take (a + (b + (c + d))) bytes
 four a b c d bytes =
     let one = drop a bytes in
@@ -153,7 +153,7 @@ found bytes h none =
       spelled = spelled_by bytes (front_bytes (image_in bytes)) all.digest (front_is bytes h all.header fit);
     }
 
--- ---- bytes that spell an image
+-- ---- bytes that encode an image
 
 abbrev behind_spans : Image → List ℕ
 behind_spans image = sha256 (front_bytes image)

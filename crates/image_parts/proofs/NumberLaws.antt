@@ -1,4 +1,4 @@
--- Numbers that are spelled are read, and numbers that are read are spelled.
+-- Numbers that are encoded are read, and numbers that are read are encoded.
 use Rattle.std.proofs.Common.{◌≡◌, ℕ, ◌^◌, ◌<◌, ◌≤◌, List, ◌++◌, length, take, drop, refl, arith}
 use Rattle.std.specs.Int.{w32, w64}
 use Rattle.std.proofs.lemmas.List.{length-take}

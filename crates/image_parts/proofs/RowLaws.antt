@@ -1,4 +1,4 @@
--- Rows and spans that are spelled are read, and what is read of them is spelled.
+-- Rows and spans that are encoded are read, and what is read of them is encoded.
 use Rattle.std.proofs.Common.{◌≡◌, ℕ, zero, suc, ◌+◌, ◌*◌, ◌≤◌, List, [], ◌∷◌, ◌++◌, length, take, drop, refl, sym, ap, ◌∙◌, arith, append_assoc, length-append, length-drop}
 use Rattle.std.specs.Int.{w64}
 use Rattle.std.specs.List.{flat_map, AllByRecursion}
@@ -15,11 +15,11 @@ use Rattle.image_parts.specs.Spans.{IsSpan, span_bytes, span_in, spans_in}
 use Rattle.image_parts.specs.declared.rows.RowPart.{RowPart}
 use Rattle.image_parts.proofs.NumberLaws.{long_back, long_below}
 
--- ---- parts of one width, one behind the other
+-- ---- parts of one width, one after the other
 
 module _ {X : Type 0} (width : ℕ) (spell : X → List ℕ) (first : List ℕ → X) (firsts : ℕ → List ℕ → List X)
     (none : (bytes : List ℕ) → firsts 0 bytes ≡ []) (more : (n : ℕ) (bytes : List ℕ) → firsts (suc n) bytes ≡ first bytes ∷ firsts n (drop width bytes)) where
-  -- what is read is spelled
+  -- what is read is encoded
   module _ (back : (bytes : List ℕ) → IsBytes bytes → width ≤ length bytes → spell (first bytes) ≡ take width bytes) where
     pub all_back : (n : ℕ) (bytes : List ℕ) → IsBytes bytes → width * n ≤ length bytes → flat_map spell (firsts n bytes) ≡ take (width * n) bytes
     all_back zero bytes h le = let k : width * 0 ≡ 0 = omega arith in ap (flat_map spell) (none bytes) ∙ ap (λ (m : ℕ). take m bytes) (sym k)
@@ -30,7 +30,7 @@ module _ {X : Type 0} (width : ℕ) (spell : X → List ℕ) (first : List ℕ �
         let joined : flat_map spell (first bytes ∷ firsts n (drop width bytes)) ≡ take width bytes ++ take (width * n) (drop width bytes) = flat_map-cons spell (first bytes) (firsts n (drop width bytes)) ∙ rw (here, later) refl in
         ap (flat_map spell) (more n bytes) ∙ joined ∙ sym (take-add width (width * n) bytes) ∙ ap (λ (m : ℕ). take m bytes) (sym k)
 
-  -- what is spelled is read
+  -- what is encoded is read
   module _ (Fits : X → Type 0) (again : (x : X) (rest : List ℕ) → Fits x → first (spell x ++ rest) ≡ x) (behind : (x : X) (rest : List ℕ) → drop width (spell x ++ rest) ≡ rest) where
     pub all_again : (xs : List X) (rest : List ℕ) → AllByRecursion Fits xs → firsts (length xs) (flat_map spell xs ++ rest) ≡ xs
     all_again [] rest fits = none rest

@@ -1,4 +1,4 @@
--- Rows and spans one behind the other, as loops go over them.
+-- Rows and spans one after the other, as loops go over them.
 use Rattle.std.proofs.Common.{◌≡◌, ◌≢◌, ℕ, zero, suc, ◌+◌, ◌-◌, ◌*◌, ◌<◌, ◌≤◌, List, [], ◌∷◌, length, drop, Some, None, refl, sym, ap, ◌∙◌, arith}
 use Rattle.s4_types.specs.declared.spans.Span.{Span}
 use Rattle.std.specs.List.{slice_get}
@@ -11,7 +11,7 @@ rows_more : (count : ℕ) (bytes : List ℕ) → count ≢ 0 → rows_in count b
 rows_more zero bytes some = absurd (some refl)
 rows_more (suc n) bytes some = let k : suc n - 1 ≡ n = omega arith in rw k refl
 
--- the first of some rows, and those behind it
+-- the first of some rows, and those after it
 pub next_row : (rows : List RowPart) (count : ℕ) (bytes rest : List ℕ) (row : RowPart) → rows_in count bytes ≡ rows → count ≢ 0 → row ≡ row_in bytes → rest ≡ drop 40 bytes → rows ≡ row ∷ rows_in (count - 1) rest
 next_row rows count bytes rest row all some first behind = sym all ∙ rw (first, behind) (rows_more count bytes some)
 

@@ -16,7 +16,7 @@ count_other object s spans other =
     let no : eqb s.object object ≡ false = ne_eqb s.object object other in
     sum_by-cons (λ (x : Span). cond (eqb x.object object) 1 0) s spans ∙ rw no (zero-add (span_count object spans))
 
--- how many spans of each object can come behind one that is the nth of its list
+-- how many spans of each object can come after one that is the nth of its list
 record Few (object : ℕ) (before : Span) (nth : ℕ) (spans : List Span) : Type 0 where
   here : object ≡ before.object → nth + span_count object spans ≤ 64
   passed : object < before.object → span_count object spans ≡ 0

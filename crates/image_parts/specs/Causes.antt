@@ -25,7 +25,7 @@ HasDigest bytes = drop (length bytes - 32) bytes ≡ sha256 (take (length bytes 
 abbrev pub Tested : Type 0 → Cause → (Option Cause → Type 0) → Option Cause → Type 0
 Tested holds cause later found = ((holds → ⊥) × (found ≡ Some cause)) ⊎ (holds × later found)
 
--- the tests of whether the bytes can be split into parts, in their order, and what comes behind them
+-- the tests of whether the bytes can be split into parts, in their order, and what comes after them
 abbrev pub TestedSplit : List ℕ → (Option Cause → Type 0) → Option Cause → Type 0
 TestedSplit bytes later =
     Tested (IsLong bytes) Length (
@@ -36,7 +36,7 @@ TestedSplit bytes later =
 abbrev pub FirstSplitCause : List ℕ → Option Cause → Type 0
 FirstSplitCause bytes found = TestedSplit bytes (λ f. f ≡ None) found
 
--- the tests of all parts, in their order, and what comes behind them
+-- the tests of all parts, in their order, and what comes after them
 abbrev pub TestedParts : List ℕ → (Option Cause → Type 0) → Option Cause → Type 0
 TestedParts bytes later =
     TestedSplit bytes (

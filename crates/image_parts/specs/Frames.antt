@@ -1,4 +1,4 @@
--- The frames of an image: how each is spelled and read, and their rules.
+-- The frames of an image: how each is encoded and read, and their rules.
 use Rattle.std.specs.Prelude.{◌≡◌, ◌≢◌, ℕ, zero, suc, ◌+◌, ◌/◌, ◌%◌, ◌^◌, ◌<◌, ◌≤◌, ◌==◌, Bool, List, [], ◌∷◌, ◌++◌, length, take, drop, slice_index_or, count_by, if◌then◌else◌}
 use Rattle.std.specs.Int.{w64}
 use Rattle.std.specs.Simd.{first_chunks}
@@ -32,12 +32,12 @@ contents_length word = if state_of word == 0 then 0 else 8192
 unfoldable pub blocks_of : List ℕ → List (List ℕ)
 blocks_of contents = first_chunks 512 (length contents / 512) contents
 
--- ---- spelling
+-- ---- encoding
 
 abbrev pub frame_bytes : FrameFields → List ℕ
 frame_bytes f = number w64 f.word ++ f.contents
 
--- a frame has a spelling: its word is one, and its bytes are as many as the word says
+-- a frame has an encoding: its word is one, and its bytes are as many as the word says
 pub record IsFrame (f : FrameFields) : Type 0 where
   pub word : f.word < 2 ^ 64
   pub contents : length f.contents ≡ contents_length f.word
@@ -65,7 +65,7 @@ frames_in (suc n) bytes = frame_in bytes ∷ frames_in n (drop (frame_length byt
 
 -- ---- rules
 
--- The first block is the summary of this frame at this generation, over the 15 blocks behind it. Of an open frame at most 14
+-- The first block is the summary of this frame at this generation, over the 15 blocks after it. Of an open frame at most 14
 -- of these are used.
 pub record HasSummary (number : ℕ) (f : FrameFields) : Type 0 where
   pub summary : SummaryFields
@@ -74,7 +74,7 @@ pub record HasSummary (number : ℕ) (f : FrameFields) : Type 0 where
   pub spelled : SpellsSummary (drop 1 (blocks_of f.contents)) (slice_index_or (blocks_of f.contents) 0 []) summary
   pub room : state_of f.word ≡ 1 → length summary.roles ≤ 14
 
--- What is read of a frame: nothing of a free one, and of any other the summary that its first block spells over those behind it.
+-- What is read of a frame: nothing of a free one, and of any other the summary that its first block encodes over those after it.
 abbrev pub IsReadOf : FrameFields → FrameRead → Type 0
 IsReadOf f Free = state_of f.word ≡ 0
 IsReadOf f (Used summary) =

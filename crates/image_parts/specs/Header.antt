@@ -1,4 +1,4 @@
--- The header of an image: how it is spelled in 512 bytes, how it is read from them, and its rules.
+-- The header of an image: how it is encoded in 512 bytes, how it is read from them, and its rules.
 use Rattle.std.specs.Prelude.{◌≡◌, ℕ, ◌-◌, ◌<◌, ◌≤◌, List, ◌∷◌, ◌++◌, take, drop, slice_index}
 use Rattle.std.specs.Int.{Width, w16, w32, w64, byte_len, from_be_bytes}
 use Rattle.s4_types.specs.Sizes.{IsFrameCount}
@@ -20,7 +20,7 @@ header_bytes h =
     (number w16 h.frames ++ (zeros 6 ++ (number w64 h.clock ++ (number w64 h.window ++ (number w64 h.floor ++
     (number w64 h.next ++ (number w32 h.rows ++ (number w32 h.spans ++ zeros 456))))))))
 
--- the numbers that stand in the places of a header's, whatever the bytes are
+-- the numbers that are in the places of a header's, whatever the bytes are
 unfoldable pub header_in : List ℕ → Header
 header_in bytes = record {
   frames = number_in w16 (drop 8 bytes);
@@ -40,7 +40,7 @@ pub record KeepsHeaderRules (h : Header) : Type 0 where
   pub next : 1 ≤ h.next
   pub given : h.next - 1 ≤ h.clock
 
--- the bytes begin with the header that is read from them, spelled, and it keeps the rules
+-- the bytes begin with the header that is read from them, encoded, and it keeps the rules
 pub record HasHeader (bytes : List ℕ) : Type 0 where
   pub spelled : take 512 bytes ≡ header_bytes (header_in bytes)
   pub rules : KeepsHeaderRules (header_in bytes)

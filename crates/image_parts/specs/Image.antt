@@ -32,7 +32,7 @@ header_of image = record {
   spans = length image.spans;
 }
 
--- ---- spelling
+-- ---- encoding
 
 -- all bytes in front of the digest
 unfoldable pub front_bytes : Image → List ℕ
@@ -44,7 +44,7 @@ front_bytes image =
 unfoldable pub image_bytes : Image → List ℕ
 image_bytes image = front_bytes image ++ sha256 (front_bytes image)
 
--- an image has a spelling: its numbers are in their ranges
+-- an image has an encoding: its numbers are in their ranges
 pub record IsImage (image : Image) : Type 0 where
   pub clock : image.clock < 2 ^ 64
   pub window : image.window < 2 ^ 64
@@ -61,7 +61,7 @@ pub record KeepsRules (image : Image) : Type 0 where
   pub spans : KeepSpanRules (header_of image) image.spans
   pub rows : KeepRowRules (header_of image) image.rows
 
--- the bytes spell this image, which keeps the rules
+-- the bytes encode this image, which keeps the rules
 pub record SpellsImage (bytes : List ℕ) (image : Image) : Type 0 where
   pub is : IsImage image
   pub rules : KeepsRules image
@@ -69,15 +69,15 @@ pub record SpellsImage (bytes : List ℕ) (image : Image) : Type 0 where
 
 -- ---- reading
 
--- what stands behind the header
+-- what comes after the header
 abbrev pub behind_header : List ℕ → List ℕ
 behind_header bytes = drop 512 bytes
 
--- what stands behind the frames
+-- what comes after the frames
 abbrev pub behind_frames : List ℕ → List ℕ
 behind_frames bytes = drop (frames_length (header_in bytes).frames (behind_header bytes)) (behind_header bytes)
 
--- what stands behind the rows
+-- what comes after the rows
 abbrev pub behind_rows : List ℕ → List ℕ
 behind_rows bytes = drop (40 * (header_in bytes).rows) (behind_frames bytes)
 

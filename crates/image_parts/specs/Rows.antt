@@ -1,4 +1,4 @@
--- The rows of an image: how each is spelled and read, and those of their rules that look at no chain.
+-- The rows of an image: how each is encoded and read, and those of their rules that look at no chain.
 use Rattle.std.specs.Prelude.{◌≡◌, ℕ, zero, suc, ◌^◌, ◌<◌, ◌≤◌, List, [], ◌∷◌, ◌++◌, drop}
 use Rattle.std.specs.Int.{w64}
 use Rattle.codec.specs.Fields.{number}
@@ -12,7 +12,7 @@ row_bytes r =
     number w64 r.object ++ (number w64 r.created ++ (number w64 r.checkpoint ++
     (number w64 r.checkpoint_moment ++ number w64 r.head)))
 
--- a row has a spelling: its numbers are in their ranges
+-- a row has an encoding: its numbers are in their ranges
 pub record IsRow (r : RowPart) : Type 0 where
   pub object : r.object < 2 ^ 64
   pub created : r.created < 2 ^ 64
@@ -35,7 +35,7 @@ abbrev pub rows_in : ℕ → List ℕ → List RowPart
 rows_in zero bytes = []
 rows_in (suc n) bytes = row_in bytes ∷ rows_in n (drop 40 bytes)
 
--- The rules of a row behind one of this object and creation: object and creation are greater, the object was given, it was
+-- The rules of a row after one of this object and creation: object and creation are greater, the object was given, it was
 -- made by the clock, and where its checkpoint is a hole, which is eight zeros, there is no moment of one.
 pub record KeepsRowRules (h : Header) (object created : ℕ) (r : RowPart) : Type 0 where
   pub ascends : object < r.object
@@ -44,7 +44,7 @@ pub record KeepsRowRules (h : Header) (object created : ℕ) (r : RowPart) : Typ
   pub made : r.created ≤ h.clock
   pub hole : r.checkpoint ≡ 0 → r.checkpoint_moment ≡ 0
 
--- each row keeps the rules behind the one before it
+-- each row keeps the rules after the one before it
 abbrev pub RowsFollow : Header → ℕ → ℕ → List RowPart → Type 0
 RowsFollow h object created [] = Unit {0}
 RowsFollow h object created (r ∷ rows) = KeepsRowRules h object created r × RowsFollow h r.object r.created rows

@@ -1,4 +1,4 @@
--- The spans of an image: how each is spelled and read, and their rules.
+-- The spans of an image: how each is encoded and read, and their rules.
 use Rattle.std.specs.Prelude.{◌≡◌, ◌⊎◌, ℕ, zero, suc, ◌+◌, ◌^◌, ◌<◌, ◌≤◌, List, [], ◌∷◌, ◌++◌, length, drop, count_by, ◌==◌}
 use Rattle.std.specs.Int.{w64}
 use Rattle.s4_types.specs.declared.limits.TheConstants.{RUNS_IN_A_LIST, RUNS_IN_ALL}
@@ -11,7 +11,7 @@ use Rattle.image_parts.specs.declared.headers.Header.{Header}
 unfoldable pub span_bytes : Span → List ℕ
 span_bytes s = number w64 s.object ++ (number w64 s.first ++ number w64 s.last)
 
--- a span has a spelling: its numbers are in their ranges
+-- a span has an encoding: its numbers are in their ranges
 pub record IsSpan (s : Span) : Type 0 where
   pub object : s.object < 2 ^ 64
   pub first : s.first < 2 ^ 64
@@ -38,7 +38,7 @@ pub record KeepsSpanRules (h : Header) (s : Span) : Type 0 where
   pub order : s.first ≤ s.last
   pub clock : s.last < h.clock
 
--- a span begins the next list, behind one of the list before it
+-- a span begins the next list, after one of the list before it
 abbrev pub BeginsList : Span → Span → Type 0
 BeginsList before s = before.object < s.object
 

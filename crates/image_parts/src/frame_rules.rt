@@ -1,13 +1,16 @@
-ghost use Rattle.std.specs.Prelude.{◌≡◌, ◌≢◌, [], MatchOption, IfSome, Some, length, drop, slice_index_or};
+ghost use Rattle.std.specs.Prelude.{◌≡◌, ◌≢◌, [], MatchOption, IfSome, Some, length, drop};
+ghost use Rattle.std.specs.Prelude.{slice_index_or};
 ghost use Rattle.codec.specs.Summary.{SummaryFields, SpellsSummary};
-ghost use Rattle.image_parts.specs.Frames.{state_of, readers_of, generation_of, blocks_of, HasSummary, KeepsFrameRules, IsReadOf};
+ghost use Rattle.image_parts.specs.Frames.{state_of, readers_of, generation_of, blocks_of};
+ghost use Rattle.image_parts.specs.Frames.{HasSummary, KeepsFrameRules, IsReadOf};
 
 use crate::frames::FramePart;
 use block_log::Block;
 use codec::{Summary, decode_summary};
 use s4_types::limits::PAYLOAD_BLOCKS;
 
-/// States of a frame, in the two low bits of its word: 0 is free, 1 open, 2 sealed, 3 being emptied.
+/// States of a frame, in the two low bits of its word: 0 is free, 1 open, 2 sealed, 3 being
+/// emptied.
 const STATES: u64 = 4;
 
 /// The numbers that the field of readers has.
@@ -37,11 +40,14 @@ fn generation_in(word: u64) -> u64
     word / GENERATION
 }
 
-/// The summary that the first of 16 blocks spells over the others, if it spells one.
+/// The summary that the first of 16 blocks encodes over the others, if it encodes one.
 fn summary_in(blocks: &[Block]) -> Option<Summary>
     requires { length blocks.now ≡ 16 }
-    ensures found { IfSome result (λ summary. SpellsSummary (drop 1 blocks.now) (slice_index_or blocks.now 0 []) summary) }
-    ensures only { (summary : SummaryFields) → SpellsSummary (drop 1 blocks.now) (slice_index_or blocks.now 0 []) summary → result ≡ Some summary }
+    ensures found { IfSome result
+        (λ summary. SpellsSummary (drop 1 blocks.now) (slice_index_or blocks.now 0 []) summary) }
+    ensures only { (summary : SummaryFields)
+        → SpellsSummary (drop 1 blocks.now) (slice_index_or blocks.now 0 []) summary
+        → result ≡ Some summary }
 {
     let (_, payload) = blocks.split_at(1);
     let Ok(payload) = <&[Block; PAYLOAD_BLOCKS]>::try_from(payload) else {
@@ -50,11 +56,15 @@ fn summary_in(blocks: &[Block]) -> Option<Summary>
     decode_summary(&blocks[0], payload)
 }
 
-/// The summary that the first block of a frame that isn't free spells, where it is that of this frame as its word says.
+/// The summary that the first block of a frame that isn't free encodes, where it is that of this
+/// frame as its word says.
 fn summary_of(number: u16, frame: &FramePart<'_>) -> Option<Summary>
     requires { state_of frame.now.word ≢ 0 }
-    ensures has { MatchOption result (HasSummary number frame.now → ⊥) (λ summary. HasSummary number frame.now) }
-    ensures spelled { IfSome result (λ summary. SpellsSummary (drop 1 (blocks_of frame.now.contents)) (slice_index_or (blocks_of frame.now.contents) 0 []) summary) }
+    ensures has { MatchOption result (HasSummary number frame.now → ⊥)
+        (λ summary. HasSummary number frame.now) }
+    ensures spelled { IfSome result
+        (λ summary. SpellsSummary (drop 1 (blocks_of frame.now.contents))
+        (slice_index_or (blocks_of frame.now.contents) 0 []) summary) }
 {
     let summary = summary_in(frame.blocks())?;
     let word = frame.word();
@@ -76,9 +86,11 @@ pub enum FrameRead {
     Used(Summary),
 }
 
-/// What the frame of this number is. None exactly where it breaks a rule of a frame by itself. Its bytes are hashed once.
+/// What the frame of this number is. None exactly where it breaks a rule of a frame by itself. Its
+/// bytes are hashed once.
 pub fn read_frame(number: u16, frame: &FramePart<'_>) -> Option<FrameRead>
-    ensures rules { MatchOption result (KeepsFrameRules number frame.now → ⊥) (λ read. KeepsFrameRules number frame.now) }
+    ensures rules { MatchOption result (KeepsFrameRules number frame.now → ⊥)
+        (λ read. KeepsFrameRules number frame.now) }
     ensures read { IfSome result (λ read. IsReadOf frame.now read) }
 {
     let word = frame.word();

@@ -1,6 +1,9 @@
 ghost use Rattle.std.specs.Iterator.{YieldsFirst, item_count};
-ghost use Rattle.std.specs.Prelude.{◌≡◌, ℕ, ◌+◌, ◌^◌, ◌<◌, ◌≤◌, ◌≢◌, [], ◌∷◌, List, MatchOption, length, drop};
-ghost use Rattle.image_parts.specs.Frames.{FrameFields, state_of, is_open, contents_length, blocks_of, frame_in, frame_length, frames_in, frames_length};
+ghost use Rattle.std.specs.Prelude.{◌≡◌, ℕ, ◌+◌, ◌^◌, ◌<◌, ◌≤◌, ◌≢◌, [], ◌∷◌, List, MatchOption};
+ghost use Rattle.std.specs.Prelude.{length, drop};
+ghost use Rattle.image_parts.specs.Frames.{FrameFields, state_of, is_open, contents_length};
+ghost use Rattle.image_parts.specs.Frames.{blocks_of, frame_in, frame_length, frames_in};
+ghost use Rattle.image_parts.specs.Frames.{frames_length};
 
 use crate::numbers::long_at;
 use block_log::Block;
@@ -32,7 +35,8 @@ impl<'a> Model for FramePart<'a> {
 }
 
 impl<'a> FramePart<'a> {
-    /// The word: the frame's state in the 2 low bits, its readers in the next 30, its generation in the 32 high ones.
+    /// The word: the frame's state in the 2 low bits, its readers in the next 30, its generation in
+    /// the 32 high ones.
     pub fn word(&self) -> u64
         ensures { result ≡ self.now.word }
     {
@@ -66,9 +70,12 @@ fn bytes_behind(word: u64) -> usize
     if word % 4 == 0 { 0 } else { CONTENTS_BYTES }
 }
 
-/// The frame that the bytes begin with, and the bytes behind it. None where it isn't whole.
+/// The frame that the bytes begin with, and the bytes after it. None where it isn't whole.
 pub(crate) fn split_frame(bytes: &[u8]) -> Option<(FramePart<'_>, &[u8])>
-    ensures { MatchOption result (length bytes.now < frame_length bytes.now) (λ x. (x.0 ≡ frame_in bytes.now) × (x.1.now ≡ drop (frame_length bytes.now) bytes.now) × (frame_length bytes.now ≤ length bytes.now)) }
+    ensures { MatchOption result (length bytes.now < frame_length bytes.now)
+        (λ x. (x.0 ≡ frame_in bytes.now)
+        × (x.1.now ≡ drop (frame_length bytes.now) bytes.now)
+        × (frame_length bytes.now ≤ length bytes.now)) }
 {
     if bytes.len() < WORD_BYTES {
         return None;
@@ -83,9 +90,11 @@ pub(crate) fn split_frame(bytes: &[u8]) -> Option<(FramePart<'_>, &[u8])>
     Some((FramePart { word, contents }, rest))
 }
 
-/// What stands behind the first frames. None where they aren't whole.
+/// What comes after the first frames. None where they aren't whole.
 pub(crate) fn behind_frames(count: u16, bytes: &[u8]) -> Option<&[u8]>
-    ensures { MatchOption result (length bytes.now < frames_length count bytes.now) (λ rest. (rest.now ≡ drop (frames_length count bytes.now) bytes.now) × (frames_length count bytes.now ≤ length bytes.now)) }
+    ensures { MatchOption result (length bytes.now < frames_length count bytes.now)
+        (λ rest. (rest.now ≡ drop (frames_length count bytes.now) bytes.now)
+        × (frames_length count bytes.now ≤ length bytes.now)) }
 {
     let mut rest = bytes;
     for _ in 0..count {

@@ -22,7 +22,7 @@ pub struct Header {
     pub spans: u32,
 }
 
-/// The numbers that stand in a header's places.
+/// The numbers that are in a header's places.
 #[tactic(auto, unfolding(crate::specs::Header::header_in))]
 fn numbers_in(bytes: &[u8]) -> Header
     requires { 512 ≤ length bytes.now }
@@ -39,7 +39,7 @@ fn numbers_in(bytes: &[u8]) -> Header
     }
 }
 
-/// The one spelling of a header.
+/// The one encoding of a header.
 #[tactic(auto, unfolding(crate::specs::Header::header_bytes))]
 pub(crate) fn spelling_of(header: &Header) -> Writing
     ensures { result.items ≡ header_bytes header.now }
@@ -73,19 +73,22 @@ fn keeps_rules(header: &Header) -> bool
         && next - 1 <= clock
 }
 
-/// Whether the bytes begin with this header's spelling.
+/// Whether the bytes begin with this header's encoding.
 fn begins_with(bytes: &[u8], header: &Header) -> bool
     requires { 512 ≤ length bytes.now }
-    ensures { MatchBool result (take 512 bytes.now ≡ header_bytes header.now) (take 512 bytes.now ≢ header_bytes header.now) }
+    ensures { MatchBool result (take 512 bytes.now ≡ header_bytes header.now)
+        (take 512 bytes.now ≢ header_bytes header.now) }
 {
     let (front, _) = bytes.split_at(HEADER_BYTES);
     front == spelling_of(header).as_slice()
 }
 
-/// The header that the bytes begin with. None where they begin with no header's spelling, or a rule of headers is broken.
+/// The header that the bytes begin with. None where they begin with no header's encoding, or a rule
+/// of headers is broken.
 pub(crate) fn read_header(bytes: &[u8]) -> Option<Header>
     requires { 512 ≤ length bytes.now }
-    ensures { MatchOption result (HasHeader bytes.now → ⊥) (λ header. (header ≡ header_in bytes.now) × HasHeader bytes.now) }
+    ensures { MatchOption result (HasHeader bytes.now → ⊥)
+        (λ header. (header ≡ header_in bytes.now) × HasHeader bytes.now) }
 {
     let header = numbers_in(bytes);
     if !begins_with(bytes, &header) || !keeps_rules(&header) {

@@ -26,7 +26,8 @@ fn push_long(out: &mut Vec<u8>, n: u64) -> Result<(), Refusal>
     Ok(())
 }
 
-/// How many bytes an image has of so many frames, of which some aren't free and so have blocks, and of so many rows and spans.
+/// How many bytes an image has of this many frames, of which some aren't free and so have blocks,
+/// and of this many rows and spans.
 pub fn image_length(frames: u16, with_blocks: u16, rows: u32, spans: u32) -> usize
     ensures { result ≡ 512 + 8 * frames + 8192 * with_blocks + 40 * rows + 24 * spans + 32 }
 {
@@ -45,10 +46,11 @@ pub fn push_header(out: &mut Vec<u8>, header: &Header) -> Result<(), Refusal>
     Ok(())
 }
 
-/// Adds a frame: its word, and its blocks, which are none where it is free. The only error is NoMemory, after which some of
-/// them may have been added.
+/// Adds a frame: its word, and its blocks, which are none where it is free. The only error is
+/// NoMemory, after which some of them may have been added.
 pub fn push_frame(out: &mut Vec<u8>, word: u64, blocks: &[Block]) -> Result<(), Refusal>
-    ensures items { OnOk result (out.new.items ≡ out.old.items ++ (number w64 word ++ concat blocks.now)) }
+    ensures items { OnOk result
+        (out.new.items ≡ out.old.items ++ (number w64 word ++ concat blocks.now)) }
     ensures memory { IfErr result (λ refusal. refusal ≡ NoMemory) }
 {
     push_long(out, word)?;

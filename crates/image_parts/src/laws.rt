@@ -10,28 +10,34 @@ ghost use Rattle.image_parts.specs.Spans.{KeepSpanRules, span_count};
 ghost use Rattle.image_parts.specs.Causes.{FirstCause};
 ghost use Rattle.image_parts.specs.declared.headers.Header.{Header as Head};
 
-/// Bytes that no test refuses spell the image that is read from them.
+/// Bytes that no test refuses encode the image that is read from them.
 pub fn what_no_test_refuses_is_an_image()
-    ensures { (bytes : List ℕ) → AreBytes bytes → FirstCause bytes None → SpellsImage bytes (image_in bytes) }
+    ensures { (bytes : List ℕ) → AreBytes bytes → FirstCause bytes None
+        → SpellsImage bytes (image_in bytes) }
 {}
 
-/// What spells an image is refused by no test, and read as that image.
+/// What encodes an image is refused by no test, and read as that image.
 pub fn an_image_is_read()
-    ensures tests { (bytes : List ℕ) (image : Image) → SpellsImage bytes image → FirstCause bytes None }
-    ensures read { (bytes : List ℕ) (image : Image) → SpellsImage bytes image → image_in bytes ≡ image }
+    ensures tests { (bytes : List ℕ) (image : Image) → SpellsImage bytes image
+        → FirstCause bytes None }
+    ensures read { (bytes : List ℕ) (image : Image) → SpellsImage bytes image
+        → image_in bytes ≡ image }
 {}
 
-/// No two images share a spelling.
+/// No two images share an encoding.
 pub fn one_image_a_spelling()
-    ensures { (bytes : List ℕ) (image other : Image) → SpellsImage bytes image → SpellsImage bytes other → image ≡ other }
+    ensures { (bytes : List ℕ) (image other : Image) → SpellsImage bytes image
+        → SpellsImage bytes other → image ≡ other }
 {}
 
 /// The tests come to one cause.
 pub fn one_first_cause()
-    ensures { (bytes : List ℕ) (found other : Option Found) → FirstCause bytes found → FirstCause bytes other → found ≡ other }
+    ensures { (bytes : List ℕ) (found other : Option Found) → FirstCause bytes found
+        → FirstCause bytes other → found ≡ other }
 {}
 
 /// A list has at most `RUNS_IN_A_LIST` spans, whether of one object or of all.
 pub fn a_list_has_few_spans()
-    ensures { (header : Head) (spans : List Hidden) (object : ℕ) → KeepSpanRules header spans → span_count object spans ≤ RUNS_IN_A_LIST }
+    ensures { (header : Head) (spans : List Hidden) (object : ℕ) → KeepSpanRules header spans
+        → span_count object spans ≤ RUNS_IN_A_LIST }
 {}

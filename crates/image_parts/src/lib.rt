@@ -1,13 +1,15 @@
-//! The parts of an image, which is a drive saved as one list of bytes: a header, frames, rows, spans and a digest.
+//! The parts of an image, which is a drive saved as one list of bytes: a header, frames, rows,
+//! spans and a digest.
 //!
-//! The layers above may rely on this: an image's parts give one list of bytes and a list of bytes gives the parts of at most
-//! one image. `split_parts` answers these parts, which stay where the bytes are, or why there are none. Each further test is
-//! a function of its own, so that the layer above can make them side by side and build on what one of them read: `has_digest`,
-//! `read_frame` of each frame, `spans_keep_rules`, `rows_keep_rules`. Where all hold, the bytes spell the image of the parts;
-//! the order in which a failing test is told is that of `FirstCause`.
+//! The layers above may rely on this: an image's parts give one list of bytes and a list of bytes
+//! gives the parts of at most one image. `split_parts` answers these parts, which stay where the
+//! bytes are, or why there are none. Each further test is a function of its own, so that the layer
+//! above can make them side by side and build on what one of them read: `has_digest`, `read_frame`
+//! of each frame, `spans_keep_rules`, `rows_keep_rules`. Where all hold, the bytes encode the image
+//! of the parts; the order in which a failing test is told is that of `FirstCause`.
 //!
-//! What rows' chains and checkpoints have to keep isn't told here. A row's two pointers are kept as their bytes are, since
-//! bytes that spell no pointer are no damage of a row's.
+//! What rows' chains and checkpoints have to keep isn't told here. A row's two pointers are kept as
+//! their bytes are, since bytes that encode no pointer are no damage of a row's.
 #![tactic(auto)]
 
 mod digests;

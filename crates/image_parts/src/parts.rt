@@ -10,7 +10,7 @@ use crate::rows::{ROW_BYTES, Rows};
 use crate::spans::{SPAN_BYTES, Spans};
 use std::marker::Model;
 
-/// The parts of an image, which stand in the bytes that they were read from.
+/// The parts of an image, which are in the bytes that they were read from.
 #[derive(Drop)]
 pub struct ImageParts<'a> {
     header: Header,
@@ -34,12 +34,14 @@ impl<'a> Model for ImageParts<'a> {
 }
 
 impl<'a> ImageParts<'a> {
-    /// The parts that a header and the words of the frames tell. None where these don't fill the bytes exactly.
+    /// The parts that a header and the words of the frames tell. None where these don't fill the
+    /// bytes exactly.
     #[tactic(auto, unfolding(crate::specs::Image::image_in))]
     pub(crate) fn of(header: Header, bytes: &'a [u8]) -> Option<Self>
         requires header { header ≡ header_in bytes.now }
         requires long { 512 ≤ length bytes.now }
-        ensures { MatchOption result (IsFilled bytes.entry.now → ⊥) (λ parts. (parts ≡ image_in bytes.entry.now) × IsFilled bytes.entry.now) }
+        ensures { MatchOption result (IsFilled bytes.entry.now → ⊥)
+            (λ parts. (parts ≡ image_in bytes.entry.now) × IsFilled bytes.entry.now) }
     {
         let (_, frames) = bytes.split_at(HEADER_BYTES);
         let rows = behind_frames(header.frames, frames)?;

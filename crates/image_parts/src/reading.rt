@@ -1,4 +1,5 @@
-ghost use Rattle.std.specs.Prelude.{◌≡◌, ◌^◌, ◌<◌, ◌≤◌, ◌++◌, List, ℕ, Some, None, IfOk, IfErr, IfSome, IfNone, length};
+ghost use Rattle.std.specs.Prelude.{◌≡◌, ◌^◌, ◌<◌, ◌≤◌, ◌++◌, List, ℕ, Some, None, IfOk, IfErr};
+ghost use Rattle.std.specs.Prelude.{IfSome, IfNone, length};
 ghost use Rattle.s4_types.specs.declared.refusals.Cause.TheVariants.{Header as HeaderCause, Length};
 ghost use Rattle.image_parts.specs.Header.{header_in, KeepsHeaderRules};
 ghost use Rattle.image_parts.specs.Image.{header_of, image_in, longest_of};
@@ -10,11 +11,12 @@ use crate::image_writing::image_length;
 use crate::parts::ImageParts;
 use s4_types::Cause;
 
-/// The parts that the bytes are split into by their header and the words of the frames. Otherwise the cause of the first of
-/// three tests that fails: there are as many bytes as a header and a digest have, a header stands in front, and the parts fill
-/// the bytes exactly.
+/// The parts that the bytes are split into by their header and the words of the frames. Otherwise
+/// the cause of the first of three tests that fails: there are as many bytes as a header and a
+/// digest have, a header is in front, and the parts fill the bytes exactly.
 ///
-/// No part was looked at yet, nor the digest. It takes no memory, and looks at no more than the header and a word of each frame.
+/// No part was looked at yet, nor the digest. It takes no memory, and looks at no more than the
+/// header and a word of each frame.
 pub fn split_parts(bytes: &[u8]) -> Result<ImageParts<'_>, Cause>
     ensures damaged { IfErr result (λ cause. FirstSplitCause bytes.now (Some cause)) }
     ensures whole { IfOk result (λ parts. FirstSplitCause bytes.now None) }
@@ -35,16 +37,22 @@ pub fn split_parts(bytes: &[u8]) -> Result<ImageParts<'_>, Cause>
     Ok(parts)
 }
 
-/// How many bytes the longest image has that begins with these: the one of their header in which no frame is free. Bytes that begin
-/// so and are more aren't filled by their parts. None where no header stands in front.
+/// How many bytes the longest image has that begins with these: the one of their header in which no
+/// frame is free. Bytes that begin so and are more aren't filled by their parts. None where no
+/// header is in front.
 ///
-/// So what begins with these bytes can be refused before all of it was read, for the cause that `split_parts` would find.
+/// So what begins with these bytes can be refused before all of it was read, for the cause that
+/// `split_parts` would find.
 pub fn longest_with(front: &[u8]) -> Option<usize>
     requires long { 544 ≤ length front.now }
     ensures longest { IfSome result (λ longest. longest ≡ longest_of (header_in front.now)) }
     ensures below { IfSome result (λ longest. longest < 2 ^ 39) }
-    ensures longer { IfSome result (λ longest. (rest : List ℕ) → longest < length (front.now ++ rest) → FirstSplitCause (front.now ++ rest) (Some Length)) }
-    ensures none { IfNone result ((rest : List ℕ) → FirstSplitCause (front.now ++ rest) (Some HeaderCause)) }
+    ensures longer { IfSome result
+        (λ longest. (rest : List ℕ)
+        → longest < length (front.now ++ rest)
+        → FirstSplitCause (front.now ++ rest) (Some Length)) }
+    ensures none { IfNone result
+        ((rest : List ℕ) → FirstSplitCause (front.now ++ rest) (Some HeaderCause)) }
 {
     let Some(header) = read_header(front) else {
         return None;

@@ -7,9 +7,10 @@ use crate::parts::ImageParts;
 use crate::rows::RowPart;
 use s4_types::{Moment, ObjectId};
 
-/// Whether a row keeps the rules behind one of this object and creation.
+/// Whether a row keeps the rules after one of this object and creation.
 fn keeps_rules(header: &Header, object: ObjectId, created: Moment, row: &RowPart) -> bool
-    ensures { MatchBool result (KeepsRowRules header.now object created row.now) (KeepsRowRules header.now object created row.now → ⊥) }
+    ensures { MatchBool result (KeepsRowRules header.now object created row.now)
+        (KeepsRowRules header.now object created row.now → ⊥) }
 {
     object.number() < row.object.number()
         && created.number() < row.created.number()
@@ -18,9 +19,10 @@ fn keeps_rules(header: &Header, object: ObjectId, created: Moment, row: &RowPart
         && (row.checkpoint != 0 || row.checkpoint_moment.number() == 0)
 }
 
-/// Whether each row keeps the rules behind the one before it.
+/// Whether each row keeps the rules after the one before it.
 pub fn rows_keep_rules(parts: &ImageParts<'_>) -> bool
-    ensures { MatchBool result (KeepRowRules (header_of parts.now) parts.now.rows) (KeepRowRules (header_of parts.now) parts.now.rows → ⊥) }
+    ensures { MatchBool result (KeepRowRules (header_of parts.now) parts.now.rows)
+        (KeepRowRules (header_of parts.now) parts.now.rows → ⊥) }
 {
     let header = parts.header();
     let mut object = ObjectId::new(0);

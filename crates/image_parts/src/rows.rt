@@ -1,5 +1,6 @@
 ghost use Rattle.std.specs.Iterator.{YieldsFirst, item_count};
-ghost use Rattle.std.specs.Prelude.{◌≡◌, ℕ, ◌+◌, ◌*◌, ◌<◌, ◌≤◌, [], ◌∷◌, List, MatchOption, length, drop, slice_get, Option, Some, IfSome};
+ghost use Rattle.std.specs.Prelude.{◌≡◌, ℕ, ◌+◌, ◌*◌, ◌<◌, ◌≤◌, [], ◌∷◌, List, MatchOption, length};
+ghost use Rattle.std.specs.Prelude.{drop, slice_get, Option, Some, IfSome};
 ghost use Rattle.std.specs.Int.{w64};
 ghost use Rattle.s4_types.specs.Pointer.{Place};
 ghost use Rattle.codec.specs.Fields.{SpellsSlot, number};
@@ -13,8 +14,8 @@ use std::marker::Model;
 /// Bytes of a row.
 pub(crate) const ROW_BYTES: usize = 40;
 
-/// A row of an image: an object, and where its checkpoint and its chain begin. The eight bytes of each pointer stand as a
-/// number: 0 is a hole, and not every other number spells a pointer.
+/// A row of an image: an object, and where its checkpoint and its chain begin. The eight bytes of
+/// each pointer are as a number: 0 is a hole, and not every other number encodes a pointer.
 #[derive(Clone, Copy)]
 pub struct RowPart {
     pub object: ObjectId,
@@ -26,7 +27,7 @@ pub struct RowPart {
     pub head: u64,
 }
 
-/// The pointer, or the hole, that a number's bytes spell. None where they spell neither.
+/// The pointer, or the hole, that a number's bytes encode. None where they encode neither.
 #[tactic(auto, unfolding(codec::specs::Fields::number))]
 fn slot_of(bytes: u64) -> Option<Option<Ptr>>
     ensures found { IfSome result (λ ptr. SpellsSlot (number w64 bytes) ptr) }
@@ -36,18 +37,22 @@ fn slot_of(bytes: u64) -> Option<Option<Ptr>>
 }
 
 impl RowPart {
-    /// The pointer to the checkpoint, or none where it is a hole. None where the bytes spell neither.
+    /// The pointer to the checkpoint, or none where it is a hole. None where the bytes encode
+    /// neither.
     pub fn checkpoint_slot(&self) -> Option<Option<Ptr>>
         ensures found { IfSome result (λ ptr. SpellsSlot (number w64 self.now.checkpoint) ptr) }
-        ensures only { (ptr : Option Place) → SpellsSlot (number w64 self.now.checkpoint) ptr → result ≡ Some ptr }
+        ensures only { (ptr : Option Place)
+            → SpellsSlot (number w64 self.now.checkpoint) ptr → result ≡ Some ptr }
     {
         slot_of(self.checkpoint)
     }
 
-    /// The pointer to the newest journal block, or none where it is a hole. None where the bytes spell neither.
+    /// The pointer to the newest journal block, or none where it is a hole. None where the bytes
+    /// encode neither.
     pub fn head_slot(&self) -> Option<Option<Ptr>>
         ensures found { IfSome result (λ ptr. SpellsSlot (number w64 self.now.head) ptr) }
-        ensures only { (ptr : Option Place) → SpellsSlot (number w64 self.now.head) ptr → result ≡ Some ptr }
+        ensures only { (ptr : Option Place)
+            → SpellsSlot (number w64 self.now.head) ptr → result ≡ Some ptr }
     {
         slot_of(self.head)
     }
@@ -103,7 +108,7 @@ impl<'a> Rows<'a> {
         self.count
     }
 
-    /// The row of an index among those that were not given. None behind the last.
+    /// The row of an index among those that were not given. None after the last.
     pub fn get(&self, index: u32) -> Option<RowPart>
         ensures { result ≡ slice_get self.now index }
     {

@@ -57,7 +57,7 @@ impl<'a> Spans<'a> {
         self.count
     }
 
-    /// The span of an index among those that were not given. None behind the last.
+    /// The span of an index among those that were not given. None after the last.
     pub fn get(&self, index: u32) -> Option<Span>
         ensures { result ≡ slice_get self.now index }
     {

@@ -137,7 +137,7 @@ each_whole used (part ∷ parts) (row ∷ rows) g files zero d all none inside =
     row_by used part row.object row.present g rows (counted used g row) files all.0.object all.0.present (nothing_before used rows (counted used g row) none)
 each_whole used (part ∷ parts) (row ∷ rows) g files (suc k) d all none inside = each_whole used parts rows (counted used g row) (with_row used g row files) k d all.1 none (omega (arith, inside))
 
--- ---- the objects that no row leads to
+-- ---- the objects that no row refers to
 
 unlisted_keep : (used : Place → Option Stored) (key : ℕ) (unlisted : List Unlisted) (files : List NamedFile) (bytes : List ℕ) → HasNamed files (file_name key) bytes → HasNamed (with_all_unlisted used unlisted files) (file_name key) bytes
 unlisted_keep used key [] files bytes has = has

@@ -27,7 +27,7 @@ files_become : (change : List NamedFile → List NamedFile) (known later : Optio
 files_become change None later files are becomes = subst (λ x. AreFiles x (change files)) (sym becomes) tt
 files_become change (Some known) later files are becomes = subst (λ x. AreFiles x (change files)) (sym becomes) (ap change are)
 
--- one change behind another is one
+-- one change after another is one
 pub changes_join : (f g h : List NamedFile → List NamedFile) (a b c : Option (List NamedFile)) → b ≡ option_map f a → c ≡ option_map g b → ((files : List NamedFile) → g (f files) ≡ h files) → c ≡ option_map h a
 changes_join f g h None b c first second is = second ∙ ap (option_map g) first
 changes_join f g h (Some files) b c first second is = second ∙ ap (option_map g) first ∙ ap Some (is files)
@@ -95,7 +95,7 @@ given_on s n m row given given' start files files' lt next before salvaged count
       becomes = changes_join (with_rows used none before.rows) (with_row used (counted_all used none before.rows) row) (with_rows used none (before.rows ++ row ∷ [])) start files files' before.becomes changes (rows_more used none before.rows row);
     }
 
--- all are, where there is none behind
+-- all are, where there is none after
 pub all_given : (s : SalvageFields) (n : ℕ) (given : GivenOut) (files files' : Option (List NamedFile)) → length s.rows ≤ n → GivenTo s n given files files' → GivesRows s given files files'
 all_given s n given files files' le before =
     let used = used_at s.table in
@@ -109,7 +109,7 @@ all_given s n given files files' le before =
 
 -- ---- all of an image
 
--- the objects that no row leads to behind the rows, and these behind the lines of lost frames, in a folder that had nothing
+-- the objects that no row refers to after the rows, and these after the lines of lost frames, in a folder that had nothing
 pub gives_out : (s : SalvageFields) (given : GivenOut) (first begun told files later : Option (List NamedFile)) → AreFiles first [] → begun ≡ option_map (with_file manifest_name []) first → told ≡ option_map (with_frames s.lost) begun
     → GivesRows s given told files → later ≡ option_map (with_all_unlisted (used_at s.table) s.unlisted) files → GivesOut s given first later
 gives_out s given first begun told files later empty begins tells gives unlisted = record {
@@ -138,7 +138,7 @@ pub if_writing_explains : {A : Type 0} → (files : Option (List NamedFile)) (re
 if_writing_explains files (Ok value) of = tt
 if_writing_explains files (Err e) of = writing_explains files e of
 
--- ---- the objects that no row leads to
+-- ---- the objects that no row refers to
 
 -- what is left to be given out of them gives all
 abbrev pub GivesLeft : (Place → Option Stored) → List Unlisted → ℕ → Option (List NamedFile) → Option (List NamedFile) → Type 0

@@ -100,7 +100,7 @@ rows_push used bytes frames n places are row = record {
   ascend = ascend_push 0 n places are.ascend;
 }
 
--- a place behind all frames that were found is in none of them
+-- a place after all frames that were found is in none of them
 outside_of : (bytes : List ℕ) (n next : ℕ) (frames : List ℕ) → AreFoundTo bytes n next frames → next ≤ n → IsWithin frames n → ⊥
 outside_of bytes n next frames found past within =
     let end : within.0 + 8192 ≤ next = found.ends within.0 within.1 in

@@ -57,7 +57,7 @@ data_there : (o : ℕ) (held : Option Stored) → IsSome (seen_as Data o held) �
 data_there o None some = absurd (cc)
 data_there o (Some block) some = by_kind (same_kind Data block.kind && block.object == o) block.bytes some
 
--- where each pointer of an inode leads to data of its object, it stands for the same over that data alone
+-- where each pointer of an inode refers to data of its object, it represents the same over that data alone
 same_version : OnlyItsBlocksMatter → (used : Place → Option Stored) (o : ℕ) (i : Inode) → ((k : ℕ) (p : Place) → pointer_at i k ≡ Some p → IsSome (of_kind Data o used p)) → meaning (data_of used o) i ≡ meaning (contents_of used) i
 same_version only used o i led = (only (contents_of used) (data_of used o) i (λ k p is. data_there o (used p) (led k p is))).0
 

@@ -13,11 +13,11 @@ use Rattle.inode.specs.Contents.{bytes_of}
 abbrev pub data_of : (Place → Option Stored) → ℕ → Place → List ℕ
 data_of used o = λ p. unwrap_or (of_kind Data o used p) []
 
--- the bytes of an inode of an object: zeros stand for what is gone
+-- the bytes of an inode of an object: zeros represent what is gone
 abbrev pub salvaged_bytes : (Place → Option Stored) → ℕ → Inode → List ℕ
 salvaged_bytes used o i = bytes_of (data_of used o) i
 
--- whether a pointer leads to no data block of the object
+-- whether a pointer refers to no data block of the object
 abbrev pub leads_nowhere : (Place → Option Stored) → ℕ → Option Place → Bool
 leads_nowhere used o None = false
 leads_nowhere used o (Some p) = is_none (of_kind Data o used p)

@@ -11,7 +11,7 @@ use Rattle.segment_table.specs.Table.{Table, slots_at}
 use Rattle.verifier.specs.Tables.{no_part}
 
 -- A frame of an image is whole: its word says that it is open or sealed, and it keeps the rules of the frame of its number, so that its
--- first block is its summary, with the right digest of the blocks behind it.
+-- first block is its summary, with the right digest of the blocks after it.
 pub record IsWhole (number : ℕ) (f : FrameFields) : Type 0 where
   pub state : (state_of f.word ≡ 1) ⊎ (state_of f.word ≡ 2)
   pub rules : KeepsFrameRules number f

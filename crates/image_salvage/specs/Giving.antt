@@ -22,7 +22,7 @@ use Rattle.image_salvage.specs.Salvaging.{SalvageFields}
 
 -- ---- one row
 
--- What becomes of a row, behind the object that was given out last. A deleted object has no file. A row that gives no inode is lost, and
+-- What becomes of a row, after the object that was given out last. A deleted object has no file. A row that gives no inode is lost, and
 -- so is one of an object that isn't above that last one: it tells again of one that was given out, or is out of order.
 abbrev pub fate_by : ℕ → ℕ → Option Inode → Fate
 fate_by last o None = Lost
@@ -35,7 +35,7 @@ fate_of last row = fate_by last row.object row.present
 abbrev pub capped : ℕ → ℕ
 capped n = min n (2 ^ 64 - 1)
 
--- the counts with an object more that was given out, of which so many blocks are gone
+-- the counts with an object more that was given out, of which this many blocks are gone
 abbrev pub with_given : ℕ → ℕ → GivenOut → GivenOut
 with_given o gone g = record {
   last = o;
@@ -139,7 +139,7 @@ salvaged_files s rows = with_all_unlisted (used_at s.table) s.unlisted (with_row
 abbrev pub AreGivenBy : SalvageFields → List Salvaged → Type 0
 AreGivenBy s rows = AllZip (IsSalvagedBy (used_at s.table)) s.rows rows
 
--- The rows of an image were given out behind what a folder had.
+-- The rows of an image were given out after what a folder had.
 pub record GivesRows (s : SalvageFields) (given : GivenOut) (files files' : Option (List NamedFile)) : Type 0 where
   pub rows : List Salvaged
   pub are : AreGivenBy s rows

@@ -22,7 +22,7 @@ use Rattle.history_export.specs.Folders.{NamedFile}
 use Rattle.image_salvage.specs.Salvaging.{SalvageFields, IsSalvageOf}
 use Rattle.image_salvage.specs.Wholeness.{IsGivenWhole, HasEachLive}
 
--- the version that an inode of an object stands for over the blocks that were salvaged
+-- the version that an inode of an object represents over the blocks that were salvaged
 abbrev pub salvaged_version : (Place → Option Stored) → ℕ → Inode → Version
 salvaged_version seen o i = meaning (data_of seen o) i
 

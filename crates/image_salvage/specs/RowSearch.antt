@@ -13,7 +13,7 @@ use Rattle.image_salvage.specs.Rows.{IsPresentOf}
 abbrev pub row_from : List ℕ → ℕ → RowPart
 row_from bytes place = row_in (drop place bytes)
 
--- The 40 bytes at a place are a row whose version chain stands over these used blocks.
+-- The 40 bytes at a place are a row whose version chain is over these used blocks.
 pub record LeadsAt (used : Place → Option Stored) (bytes : List ℕ) (place : ℕ) : Type 0 where
   pub inside : place + 40 ≤ length bytes
   pub inode : Inode

@@ -13,7 +13,7 @@ use Rattle.image_salvage.specs.declared.rows.Salvaged.{Salvaged}
 abbrev pub last_moment : ℕ
 last_moment = 2 ^ 64 - 1
 
--- The present inode of the object of a row: its bytes spell a row whose version chain stands, and the inode is behind all its entries.
+-- The present inode of the object of a row: its bytes encode a row whose version chain stands, and the inode is after all its entries.
 pub record IsPresentOf (used : Place → Option Stored) (part : RowPart) (inode : Inode) : Type 0 where
   pub row : ImageRow
   pub spelled : SpellsRow part row
@@ -24,7 +24,7 @@ pub record IsPresentOf (used : Place → Option Stored) (part : RowPart) (inode 
 abbrev pub IsThere : (Place → Option Stored) → RowPart → Type 0
 IsThere used part = (inode : Inode) × IsPresentOf used part inode
 
--- The object of a row is lost: its bytes spell no row whose version chain stands.
+-- The object of a row is lost: its bytes encode no row whose version chain stands.
 abbrev pub IsLost : (Place → Option Stored) → RowPart → Type 0
 IsLost used part = (row : ImageRow) → SpellsRow part row → VersionChainStands used row last_moment → ⊥
 

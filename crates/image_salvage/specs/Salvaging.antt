@@ -37,7 +37,7 @@ rows_counted bytes Span = 0
 rows_counted bytes Row = 0
 rows_counted bytes Chain = 0
 
--- why bytes are no image of a drive, or none where they spell the one that is read from them
+-- why bytes are no image of a drive, or none where they encode the one that is read from them
 abbrev pub HasFault : List ℕ → Option Cause → Type 0
 HasFault bytes None = SpellsDrive bytes (image_in bytes)
 HasFault bytes (Some cause) = FirstFault bytes (Some cause)

@@ -43,7 +43,7 @@ pub record IsGivenWhole (s : SalvageFields) (files : Option (List NamedFile)) : 
   pub intact : s.lost ≡ []
   pub each : (k : ℕ) (part : RowPart) → k < length s.rows → RowIsWhole (used_at s.table) (slice_index_or s.rows k part) files
 
--- The bytes spell the image of a drive, and the files have each of its live objects: with the bytes of the version that is current at its
+-- The bytes encode the image of a drive, and the files have each of its live objects: with the bytes of the version that is current at its
 -- clock, by the rows and over the used blocks by which the drive is opened.
 pub record HasEachLive (bytes : List ℕ) (files : Option (List NamedFile)) : Type 0 where
   pub image : Image

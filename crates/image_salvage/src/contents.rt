@@ -4,7 +4,8 @@ ghost use Rattle.s4_types.specs.declared.refusals.Refusal.TheVariants.{NoMemory}
 ghost use Rattle.codec.specs.Checkpoint.{pointer_at};
 ghost use Rattle.inode.specs.Contents.{byte_in, byte_of};
 ghost use Rattle.segment_table.specs.Used.{used_at};
-ghost use Rattle.image_salvage.specs.Contents.{data_of, salvaged_bytes, leads_nowhere, is_gone, blocks_gone};
+ghost use Rattle.image_salvage.specs.Contents.{data_of, salvaged_bytes, leads_nowhere, is_gone};
+ghost use Rattle.image_salvage.specs.Contents.{blocks_gone};
 
 use crate::used::TableBlocks;
 use block_log::BlockKind;
@@ -15,7 +16,7 @@ use s4_types::{ObjectId, Ptr, Refusal};
 use segment_table::TableBuilder;
 use std::alloc::Global;
 
-/// The slot of an index, or none behind the last.
+/// The slot of an index, or none after the last.
 fn slot_at(slots: &[Option<Ptr>], index: usize) -> Option<Ptr>
     ensures { result ≡ slice_index_or slots.now index None }
 {
@@ -25,14 +26,15 @@ fn slot_at(slots: &[Option<Ptr>], index: usize) -> Option<Ptr>
     slots[index]
 }
 
-/// The pointer of an index of an inode, or none where that is a hole or behind the last.
+/// The pointer of an index of an inode, or none where that is a hole or after the last.
 fn slot_of(inode: &Inode, index: usize) -> Option<Ptr>
     ensures { result ≡ pointer_at inode.now index }
 {
     slot_at(&inode.pointers, index)
 }
 
-/// The byte of an index in the data block of an object that a slot leads to: 0 in a hole, and where the block is gone.
+/// The byte of an index in the data block of an object that a slot refers to: 0 in a hole, and
+/// where the block is gone.
 fn byte_in(table: &TableBuilder, object: ObjectId, slot: Option<Ptr>, index: usize) -> u8
     requires { index < 512 }
     ensures { result ≡ byte_in (data_of (used_at table.now) object) slot index }
@@ -47,14 +49,16 @@ fn byte_in(table: &TableBuilder, object: ObjectId, slot: Option<Ptr>, index: usi
     }
 }
 
-/// The bytes of an inode of an object, cut to its size: zeros stand for the blocks that are gone. NoMemory alone.
+/// The bytes of an inode of an object, cut to its size: zeros represent the blocks that are gone.
+/// NoMemory alone.
 pub(crate) fn content_of(
     alloc: Global,
     table: &TableBuilder,
     object: ObjectId,
     inode: &Inode,
 ) -> Result<Vec<u8>, Refusal>
-    ensures bytes { IfOk result (λ bytes. bytes.items ≡ salvaged_bytes (used_at table.now) object inode.now) }
+    ensures bytes { IfOk result
+        (λ bytes. bytes.items ≡ salvaged_bytes (used_at table.now) object inode.now) }
     ensures refusal { IfErr result (λ e. e ≡ NoMemory) }
 {
     let mut bytes = Vec::new(alloc);
@@ -66,7 +70,7 @@ pub(crate) fn content_of(
     Ok(bytes)
 }
 
-/// Whether a pointer leads to no data block of an object.
+/// Whether a pointer refers to no data block of an object.
 fn leads_nowhere(table: &TableBuilder, object: ObjectId, slot: Option<Ptr>) -> bool
     ensures { result ≡ leads_nowhere (used_at table.now) object slot }
 {

@@ -25,7 +25,8 @@ fn given_value(alloc: Global, given: &GivenOut) -> Result<Value, AllocError>
     })
 }
 
-/// What was given out of an image, as one line of JSON: an object with the counts by their names, and whether the bytes are no image.
+/// What was given out of an image, as one line of JSON: an object with the counts by their names,
+/// and whether the bytes are no image.
 pub fn given_json(alloc: Global, given: &GivenOut) -> Result<String, AllocError>
     ensures { IfOk result (λ line. string_bytes line ≡ given_line given.now) }
 {

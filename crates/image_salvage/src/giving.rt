@@ -7,7 +7,10 @@ ghost use Rattle.history_export.specs.Manifest.{manifest_name};
 ghost use Rattle.history_export.specs.Exports.{Explains, IsOfWriting};
 ghost use Rattle.image_salvage.specs.Contents.{blocks_gone};
 ghost use Rattle.image_salvage.specs.Manifest.{lost_object_line};
-ghost use Rattle.image_salvage.specs.Giving.{GivesOut, GivesRows, counted, fate_of, is_whole, left_out_of, none_given, with_frames, with_given, with_lost, with_row, with_salvaged, with_unlisted, with_all_unlisted};
+ghost use Rattle.image_salvage.specs.Giving.{GivesOut, GivesRows, counted, fate_of, is_whole};
+ghost use Rattle.image_salvage.specs.Giving.{left_out_of, none_given, with_frames, with_given};
+ghost use Rattle.image_salvage.specs.Giving.{with_lost, with_row, with_salvaged, with_unlisted};
+ghost use Rattle.image_salvage.specs.Giving.{with_all_unlisted};
 ghost use Rattle.image_salvage.specs.Wholeness.{IsGivenWhole};
 
 use crate::manifest::{
@@ -22,7 +25,8 @@ use history_view::listed_of;
 use s4_types::ObjectId;
 use std::alloc::Global;
 
-/// What was given out of an image, and what is lost. Each count stops at 2^64 - 1, far above what an image can have.
+/// What was given out of an image, and what is lost. Each count stops at 2^64 - 1, far above what
+/// an image can have.
 #[derive(Clone, Copy, Debug, PartialEq, Eq)]
 pub struct GivenOut {
     /// The last object that was given out, 0 where none was.
@@ -31,12 +35,13 @@ pub struct GivenOut {
     pub objects: u64,
     /// How many blocks of these are gone, for which zeros stand.
     pub blocks_gone: u64,
-    /// How many rows gave no object: they give none, or name one again or out of order, or an older block of it than there is, or aren't found
-    /// though the header counts them.
+    /// How many rows gave no object: they give none, or name one again or out of order, or an older
+    /// block of it than there is, or aren't found though the header counts them.
     pub lost_objects: u64,
     /// How many frames are lost.
     pub lost_frames: u64,
-    /// How many objects were given out beside these that no row gives. Their blocks that are gone aren't counted above.
+    /// How many objects were given out beside these that no row gives. Their blocks that are gone
+    /// aren't counted above.
     pub unlisted: u64,
     /// Of how many of these a newer change was left out, since it may not be there whole.
     pub left_out: u64,
@@ -53,7 +58,7 @@ impl GivenOut {
         sound && (self.lost_objects == 0 && self.lost_frames == 0)
     }
 
-    // With an object more, of which so many blocks are gone.
+    // With an object more, of which this many blocks are gone.
     fn with_given(&self, object: ObjectId, gone: u64) -> GivenOut
         ensures { result ≡ with_given object gone self.now }
     {
@@ -96,7 +101,7 @@ enum Fate {
     Deleted,
 }
 
-// What becomes of a row, behind the object that was given out last.
+// What becomes of a row, after the object that was given out last.
 fn fate_of(last: ObjectId, row: &Salvaged) -> Fate
     ensures { result ≡ fate_of last row.now }
 {
@@ -112,20 +117,25 @@ fn fate_of(last: ObjectId, row: &Salvaged) -> Fate
     Fate::Given(inode)
 }
 
-/// Writes each object that was salvaged into an empty folder, as a file of its bytes, and what each file is into a manifest, one line of
-/// JSON for each, in the order of the rows. Lines in front tell of the frames that are lost, and lines between of the objects. An object
-/// that was deleted has neither. Objects that no row gives come last, in a folder of their own.
+/// Writes each object that was salvaged into an empty folder, as a file of its bytes, and what each
+/// file is into a manifest, one line of JSON for each, in the order of the rows. Lines in front
+/// tell of the frames that are lost, and lines between of the objects. An object that was deleted
+/// has neither. Objects that no row gives come last, in a folder of their own.
 ///
-/// Where what was given out is whole, each object of the image is in the folder, with all of its bytes, and none of its blocks is gone.
+/// Where what was given out is whole, each object of the image is in the folder, with all of its
+/// bytes, and none of its blocks is gone.
 ///
-/// NotEmpty where anything is in the folder. In memory there is one object at a time, beside the image.
+/// NotEmpty where anything is in the folder. In memory there is one object at a time, beside the
+/// image.
 pub fn give_out<F: Folder>(
     alloc: Global,
     image: &SalvagedImage,
     folder: &mut F,
 ) -> Result<GivenOut, ExportError>
-    ensures gives { IfOk result (λ given. GivesOut image.now given (F.files folder.old) (F.files folder.new)) }
-    ensures whole { IfOk result (λ given. is_whole given ≡ true → IsGivenWhole image.now (F.files folder.new)) }
+    ensures gives { IfOk result
+        (λ given. GivesOut image.now given (F.files folder.old) (F.files folder.new)) }
+    ensures whole { IfOk result
+        (λ given. is_whole given ≡ true → IsGivenWhole image.now (F.files folder.new)) }
     ensures path { F.path folder.new ≡ F.path folder.old }
     ensures refused { IfErr result (Explains (F.files folder.old)) }
 {
@@ -138,7 +148,8 @@ pub fn give_out<F: Folder>(
 
 // Adds the lines of lost frames to the manifest.
 fn tell_frames<F: Folder>(alloc: Global, lost: &[u16], folder: &mut F) -> Result<(), ExportError>
-    ensures files { OnOk result (F.files folder.new ≡ option_map (with_frames lost.now) (F.files folder.old)) }
+    ensures files { OnOk result
+        (F.files folder.new ≡ option_map (with_frames lost.now) (F.files folder.old)) }
     ensures path { F.path folder.new ≡ F.path folder.old }
     ensures refused { IfErr result IsOfWriting }
 {
@@ -158,7 +169,8 @@ fn give_rows<F: Folder>(
     image: &SalvagedImage,
     folder: &mut F,
 ) -> Result<GivenOut, ExportError>
-    ensures gives { IfOk result (λ given. GivesRows image.now given (F.files folder.old) (F.files folder.new)) }
+    ensures gives { IfOk result
+        (λ given. GivesRows image.now given (F.files folder.old) (F.files folder.new)) }
     ensures path { F.path folder.new ≡ F.path folder.old }
     ensures refused { IfErr result IsOfWriting }
 {
@@ -177,8 +189,8 @@ fn left_out_of(unlisted: &[Unlisted]) -> u64
     unlisted.iter().filter(|it| it.left_out).count() as u64
 }
 
-// Nothing is given out of an image yet: what is known are its missing rows, its lost frames, the objects that no row gives, how many changes of
-// these were left out, and whether it has a fault.
+// Nothing is given out of an image yet: what is known are its missing rows, its lost frames, the
+// objects that no row gives, how many changes of these were left out, and whether it has a fault.
 fn none_given(image: &SalvagedImage) -> GivenOut
     ensures { result ≡ none_given image.now }
 {
@@ -202,7 +214,10 @@ fn give_row<F: Folder>(
     row: &Salvaged,
     given: &mut GivenOut,
 ) -> Result<(), ExportError>
-    ensures files { OnOk result (F.files folder.new ≡ option_map (with_row (used_at image.now.table) given.old row.now) (F.files folder.old)) }
+    ensures files { OnOk result
+        (F.files folder.new
+        ≡ option_map (with_row (used_at image.now.table) given.old row.now)
+        (F.files folder.old)) }
     ensures path { F.path folder.new ≡ F.path folder.old }
     ensures given { OnOk result (given.new ≡ counted (used_at image.now.table) given.old row.now) }
     ensures refused { IfErr result IsOfWriting }
@@ -223,9 +238,15 @@ fn give_object<F: Folder>(
     inode: &Inode,
     given: &mut GivenOut,
 ) -> Result<(), ExportError>
-    ensures files { OnOk result (F.files folder.new ≡ option_map (with_salvaged (used_at image.now.table) object inode.now) (F.files folder.old)) }
+    ensures files { OnOk result
+        (F.files folder.new
+        ≡ option_map (with_salvaged (used_at image.now.table) object inode.now)
+        (F.files folder.old)) }
     ensures path { F.path folder.new ≡ F.path folder.old }
-    ensures given { OnOk result (given.new ≡ with_given object (blocks_gone (used_at image.now.table) object inode.now) given.old) }
+    ensures given { OnOk result
+        (given.new
+        ≡ with_given object (blocks_gone (used_at image.now.table) object inode.now)
+        given.old) }
     ensures refused { IfErr result IsOfWriting }
 {
     let content = image.content(alloc, object, inode)?;
@@ -244,7 +265,10 @@ fn tell_lost<F: Folder>(
     object: ObjectId,
     given: &mut GivenOut,
 ) -> Result<(), ExportError>
-    ensures files { OnOk result (F.files folder.new ≡ option_map (with_bytes manifest_name (lost_object_line object)) (F.files folder.old)) }
+    ensures files { OnOk result
+        (F.files folder.new
+        ≡ option_map (with_bytes manifest_name (lost_object_line object))
+        (F.files folder.old)) }
     ensures path { F.path folder.new ≡ F.path folder.old }
     ensures given { OnOk result (given.new ≡ with_lost given.old) }
     ensures refused { IfErr result IsOfWriting }
@@ -261,7 +285,10 @@ fn give_all_unlisted<F: Folder>(
     image: &SalvagedImage,
     folder: &mut F,
 ) -> Result<(), ExportError>
-    ensures files { OnOk result (F.files folder.new ≡ option_map (with_all_unlisted (used_at image.now.table) image.now.unlisted) (F.files folder.old)) }
+    ensures files { OnOk result
+        (F.files folder.new
+        ≡ option_map (with_all_unlisted (used_at image.now.table) image.now.unlisted)
+        (F.files folder.old)) }
     ensures path { F.path folder.new ≡ F.path folder.old }
     ensures refused { IfErr result IsOfWriting }
 {
@@ -279,7 +306,10 @@ fn give_unlisted<F: Folder>(
     folder: &mut F,
     unlisted: &Unlisted,
 ) -> Result<(), ExportError>
-    ensures files { OnOk result (F.files folder.new ≡ option_map (with_unlisted (used_at image.now.table) unlisted.now) (F.files folder.old)) }
+    ensures files { OnOk result
+        (F.files folder.new
+        ≡ option_map (with_unlisted (used_at image.now.table) unlisted.now)
+        (F.files folder.old)) }
     ensures path { F.path folder.new ≡ F.path folder.old }
     ensures refused { IfErr result IsOfWriting }
 {

@@ -8,7 +8,9 @@ ghost use Rattle.object_map.specs.Objects.{value_of};
 ghost use Rattle.segment_table.specs.Used.{used_at};
 ghost use Rattle.image_salvage.specs.declared.newest.Note.{Note as Noted};
 ghost use Rattle.image_salvage.specs.Newest.{AreGenerations, AreNewest, order_of};
-ghost use Rattle.image_salvage.specs.Heads.{CountsKept, LeadsOn, MakesByCheckpoint, MakesByJournal, MakesHead, MakesRow, blocks_kept, checkpoint_note, last_of, row_alone, row_from, step_by};
+ghost use Rattle.image_salvage.specs.Heads.{CountsKept, LeadsOn, MakesByCheckpoint, MakesByJournal};
+ghost use Rattle.image_salvage.specs.Heads.{MakesHead, MakesRow, blocks_kept, checkpoint_note};
+ghost use Rattle.image_salvage.specs.Heads.{last_of, row_alone, row_from, step_by};
 
 use crate::contents::count_gone;
 use crate::newest::{Note, offer, place_at};
@@ -33,7 +35,9 @@ fn order_of(place: Ptr) -> usize
 
 /// Whose the used block at a place is. None where none is used there.
 fn owner_of(table: &TableBuilder, place: Ptr) -> Option<ObjectId>
-    ensures { MatchOption result (used_at table.now place ≡ None) (λ object. (block : Stored) × (used_at table.now place ≡ Some block) × (block.object ≡ object)) }
+    ensures { MatchOption result (used_at table.now place ≡ None)
+        (λ object. (block : Stored)
+        × (used_at table.now place ≡ Some block) × (block.object ≡ object)) }
 {
     let block = table.used(place)?;
     let role = block.role();
@@ -64,7 +68,9 @@ fn note_of(table: &TableBuilder, object: ObjectId, place: Ptr, checkpoint: &Chec
 
 /// What the checkpoint at a place makes. None where none is used there.
 fn checkpoint_note(table: &TableBuilder, place: Ptr) -> Option<Note>
-    ensures { MatchOption result ((note : Noted) → MakesByCheckpoint (used_at table.now) place note → ⊥) (MakesByCheckpoint (used_at table.now) place) }
+    ensures { MatchOption result
+        ((note : Noted) → MakesByCheckpoint (used_at table.now) place note → ⊥)
+        (MakesByCheckpoint (used_at table.now) place) }
 {
     let object = owner_of(table, place)?;
     let blocks = TableBlocks { table };
@@ -80,8 +86,11 @@ fn look_for_checkpoint(
     notes: &mut BTreeMap<u64, Note>,
 ) -> Result<(), Refusal>
     requires generations { AreGenerations (used_at table.now) generations.now }
-    requires newest { AreNewest (MakesByCheckpoint (used_at table.now)) order (value_of notes.old.entries) }
-    ensures newest { OnOk result (AreNewest (MakesByCheckpoint (used_at table.now)) (order + 1) (value_of notes.new.entries)) }
+    requires newest { AreNewest (MakesByCheckpoint (used_at table.now)) order
+        (value_of notes.old.entries) }
+    ensures newest { OnOk result
+        (AreNewest (MakesByCheckpoint (used_at table.now)) (order + 1)
+        (value_of notes.new.entries)) }
     ensures refusal { IfErr result (λ e. e ≡ NoMemory) }
 {
     let Some(place) = place_at(generations, order) else {
@@ -100,7 +109,9 @@ pub(crate) fn newest_checkpoints(
     generations: &[u32],
 ) -> Result<BTreeMap<u64, Note>, Refusal>
     requires generations { AreGenerations (used_at table.now) generations.now }
-    ensures newest { IfOk result (λ notes. AreNewest (MakesByCheckpoint (used_at table.now)) 16384 (value_of notes.entries)) }
+    ensures newest { IfOk result
+        (λ notes. AreNewest (MakesByCheckpoint (used_at table.now)) 16384
+        (value_of notes.entries)) }
     ensures refusal { IfErr result (λ e. e ≡ NoMemory) }
 {
     let mut notes = BTreeMap::new(alloc);
@@ -110,9 +121,13 @@ pub(crate) fn newest_checkpoints(
     Ok(notes)
 }
 
-/// How many blocks of a row's inode aren't gone, and one more. None where it gives none. NoMemory alone.
+/// How many blocks of a row's inode aren't gone, and one more. None where it gives none. NoMemory
+/// alone.
 fn kept_by(alloc: Global, table: &TableBuilder, row: &ImageRow) -> Result<Option<usize>, Refusal>
-    ensures found { IfOk result (λ found. MatchOption found (LeadsOn (used_at table.now) row.now → ⊥) (λ kept. LeadsOn (used_at table.now) row.now × (kept ≡ blocks_kept (used_at table.now) row.now))) }
+    ensures found { IfOk result
+        (λ found. MatchOption found (LeadsOn (used_at table.now) row.now → ⊥)
+        (λ kept. LeadsOn (used_at table.now) row.now
+        × (kept ≡ blocks_kept (used_at table.now) row.now))) }
     ensures refusal { IfErr result (λ e. e ≡ NoMemory) }
 {
     let blocks = TableBlocks { table };
@@ -130,14 +145,17 @@ struct Head {
     kept: usize,
 }
 
-/// The row of an object with the journal block at a place as its newest, and no checkpoint. NoMemory alone.
+/// The row of an object with the journal block at a place as its newest, and no checkpoint.
+/// NoMemory alone.
 fn head_alone(
     alloc: Global,
     table: &TableBuilder,
     object: ObjectId,
     place: Ptr,
 ) -> Result<Head, Refusal>
-    ensures made { IfOk result (λ head. (head.row ≡ row_alone object place) × CountsKept (used_at table.now) head.row head.kept) }
+    ensures made { IfOk result
+        (λ head. (head.row ≡ row_alone object place)
+        × CountsKept (used_at table.now) head.row head.kept) }
     ensures refusal { IfErr result (λ e. e ≡ NoMemory) }
 {
     let row = ImageRow {
@@ -153,9 +171,13 @@ fn head_alone(
     Ok(Head { row, kept })
 }
 
-/// The row of an object with the journal block at a place as its newest, and its newest checkpoint. None where it has none.
+/// The row of an object with the journal block at a place as its newest, and its newest checkpoint.
+/// None where it has none.
 fn row_from(checkpoints: &BTreeMap<u64, Note>, object: ObjectId, place: Ptr) -> Option<ImageRow>
-    ensures { MatchOption result (value_of checkpoints.now.entries object ≡ None) (λ row. (note : Noted) × (value_of checkpoints.now.entries object ≡ Some note) × (row ≡ row_from note.row place)) }
+    ensures { MatchOption result (value_of checkpoints.now.entries object ≡ None)
+        (λ row. (note : Noted)
+        × (value_of checkpoints.now.entries object ≡ Some note)
+        × (row ≡ row_from note.row place)) }
 {
     let note = checkpoints.get(&object.number())?;
     Some(ImageRow {
@@ -164,8 +186,8 @@ fn row_from(checkpoints: &BTreeMap<u64, Note>, object: ObjectId, place: Ptr) -> 
     })
 }
 
-/// The row that the journal block of an object at a place makes: with its newest checkpoint where that row gives an inode, and else with
-/// none. NoMemory alone.
+/// The row that the journal block of an object at a place makes: with its newest checkpoint where
+/// that row gives an inode, and else with none. NoMemory alone.
 fn head_of(
     alloc: Global,
     table: &TableBuilder,
@@ -173,7 +195,9 @@ fn head_of(
     object: ObjectId,
     place: Ptr,
 ) -> Result<Head, Refusal>
-    ensures made { IfOk result (λ head. MakesRow (used_at table.now) (value_of checkpoints.now.entries object) object place head.row head.kept) }
+    ensures made { IfOk result
+        (λ head. MakesRow (used_at table.now) (value_of checkpoints.now.entries object) object place
+        head.row head.kept) }
     ensures refusal { IfErr result (λ e. e ≡ NoMemory) }
 {
     let Some(row) = row_from(checkpoints, object, place) else {
@@ -210,7 +234,12 @@ fn head_note(
     checkpoints: &BTreeMap<u64, Note>,
     place: Ptr,
 ) -> Result<Option<Note>, Refusal>
-    ensures made { IfOk result (λ found. MatchOption found ((note : Noted) → MakesByJournal (used_at table.now) (value_of checkpoints.now.entries) place note → ⊥) (MakesByJournal (used_at table.now) (value_of checkpoints.now.entries) place)) }
+    ensures made { IfOk result
+        (λ found. MatchOption found
+        ((note : Noted)
+        → MakesByJournal (used_at table.now) (value_of checkpoints.now.entries) place note
+        → ⊥)
+        (MakesByJournal (used_at table.now) (value_of checkpoints.now.entries) place)) }
     ensures refusal { IfErr result (λ e. e ≡ NoMemory) }
 {
     let Some(object) = owner_of(table, place) else {
@@ -233,14 +262,19 @@ fn head_note(
     }))
 }
 
-/// What the checkpoint or the journal block at a place makes. None where neither is used there. NoMemory alone.
+/// What the checkpoint or the journal block at a place makes. None where neither is used there.
+/// NoMemory alone.
 fn note_at(
     alloc: Global,
     table: &TableBuilder,
     checkpoints: &BTreeMap<u64, Note>,
     place: Ptr,
 ) -> Result<Option<Note>, Refusal>
-    ensures made { IfOk result (λ found. MatchOption found ((note : Noted) → MakesHead (used_at table.now) (value_of checkpoints.now.entries) place note → ⊥) (MakesHead (used_at table.now) (value_of checkpoints.now.entries) place)) }
+    ensures made { IfOk result
+        (λ found. MatchOption found
+        ((note : Noted)
+        → MakesHead (used_at table.now) (value_of checkpoints.now.entries) place note → ⊥)
+        (MakesHead (used_at table.now) (value_of checkpoints.now.entries) place)) }
     ensures refusal { IfErr result (λ e. e ≡ NoMemory) }
 {
     match checkpoint_note(table, place) {
@@ -259,8 +293,11 @@ fn look_for_head(
     notes: &mut BTreeMap<u64, Note>,
 ) -> Result<(), Refusal>
     requires generations { AreGenerations (used_at table.now) generations.now }
-    requires newest { AreNewest (MakesHead (used_at table.now) (value_of checkpoints.now.entries)) order (value_of notes.old.entries) }
-    ensures newest { OnOk result (AreNewest (MakesHead (used_at table.now) (value_of checkpoints.now.entries)) (order + 1) (value_of notes.new.entries)) }
+    requires newest { AreNewest (MakesHead (used_at table.now) (value_of checkpoints.now.entries))
+        order (value_of notes.old.entries) }
+    ensures newest { OnOk result
+        (AreNewest (MakesHead (used_at table.now) (value_of checkpoints.now.entries)) (order + 1)
+        (value_of notes.new.entries)) }
     ensures refusal { IfErr result (λ e. e ≡ NoMemory) }
 {
     let Some(place) = place_at(generations, order) else {
@@ -273,7 +310,8 @@ fn look_for_head(
     }
 }
 
-/// The newest row that blocks make of each object. NoMemory alone. Linear in the frames: of each journal block one chain is read.
+/// The newest row that blocks make of each object. NoMemory alone. Linear in the frames: of each
+/// journal block one chain is read.
 pub(crate) fn newest_heads(
     alloc: Global,
     table: &TableBuilder,
@@ -281,7 +319,9 @@ pub(crate) fn newest_heads(
     checkpoints: &BTreeMap<u64, Note>,
 ) -> Result<BTreeMap<u64, Note>, Refusal>
     requires generations { AreGenerations (used_at table.now) generations.now }
-    ensures newest { IfOk result (λ notes. AreNewest (MakesHead (used_at table.now) (value_of checkpoints.now.entries)) 16384 (value_of notes.entries)) }
+    ensures newest { IfOk result
+        (λ notes. AreNewest (MakesHead (used_at table.now) (value_of checkpoints.now.entries)) 16384
+        (value_of notes.entries)) }
     ensures refusal { IfErr result (λ e. e ≡ NoMemory) }
 {
     let mut notes = BTreeMap::new(alloc);

@@ -7,8 +7,8 @@ use inode::laws::only_its_blocks_matter;
 use undo_redo::laws::the_inode_at_a_moment;
 use verifier::laws::{what_has_a_fault_spells_nothing, what_has_no_fault_is_an_image};
 
-/// Of an image that isn't damaged no object is lost, and each stands for the version that it has at the clock in a drive that is opened
-/// from it.
+/// Of an image that isn't damaged no object is lost, and each represents the version that it has at
+/// the clock in a drive that is opened from it.
 pub fn an_undamaged_image_is_salvaged_whole()
     ensures { AnUndamagedImageIsSalvagedWhole }
 {
@@ -22,8 +22,8 @@ pub fn an_undamaged_image_is_salvaged_whole()
     what_has_no_fault_is_an_image();
 }
 
-/// Where nothing of what was salvaged is lost, the bytes are an image, and each object that is live in a drive that is opened from it has a file
-/// with exactly the bytes of its version at the clock.
+/// Where nothing of what was salvaged is lost, the bytes are an image, and each object that is live
+/// in a drive that is opened from it has a file with exactly the bytes of its version at the clock.
 pub fn what_is_whole_is_all()
     ensures { WhatIsWholeIsAll }
 {

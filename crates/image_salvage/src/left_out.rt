@@ -5,7 +5,8 @@ ghost use Rattle.segment_table.specs.Used.{used_at};
 ghost use Rattle.image_objects.specs.Chains.{entries_used};
 ghost use Rattle.image_objects.specs.Inodes.{first_used};
 ghost use Rattle.image_objects.specs.VersionChain.{present_used};
-ghost use Rattle.image_salvage.specs.LeftOut.{cut_at, cut_moment, inode_before, is_at_end, is_last_of_frame, may_go_on, newest_of};
+ghost use Rattle.image_salvage.specs.LeftOut.{cut_at, cut_moment, inode_before, is_at_end};
+ghost use Rattle.image_salvage.specs.LeftOut.{is_last_of_frame, may_go_on, newest_of};
 
 use codec::{Entry, Inode, Triple};
 use image_objects::{ImageRow, VersionChain};
@@ -14,8 +15,8 @@ use s4_types::{Moment, Ptr};
 use segment_table::TableBuilder;
 use undo_redo::redo;
 
-/// Whether the change of an entry can have no pointer after this one, the entry's last: an object has no further block, or it ends there and
-/// didn't end later before the change.
+/// Whether the change of an entry can have no pointer after this one, the entry's last: an object
+/// has no further block, or it ends there and didn't end later before the change.
 fn is_at_end(entry: &Entry, last: Option<Triple>) -> bool
     ensures { result ≡ is_at_end entry.now last }
 {

@@ -1,7 +1,9 @@
 //! The manifest of a salvage: what each of its files is, and what is lost.
 ghost use Rattle.std.specs.Prelude.{◌≡◌, IfOk, string_bytes};
 ghost use Rattle.serde_json.specs.View.{view};
-ghost use Rattle.image_salvage.specs.Manifest.{salvaged_data, salvaged_line, unlisted_data, unlisted_line, unlisted_name, lost_frame_data, lost_frame_line, lost_object_data, lost_object_line};
+ghost use Rattle.image_salvage.specs.Manifest.{salvaged_data, salvaged_line, unlisted_data};
+ghost use Rattle.image_salvage.specs.Manifest.{unlisted_line, unlisted_name, lost_frame_data};
+ghost use Rattle.image_salvage.specs.Manifest.{lost_frame_line, lost_object_data, lost_object_line};
 
 use history_export::file_name;
 use history_text::{json_line, text_value};
@@ -39,7 +41,7 @@ fn salvaged_value(
     })
 }
 
-/// The line of an object of these bytes, of which so many blocks are gone.
+/// The line of an object of these bytes, of which this many blocks are gone.
 pub(crate) fn salvaged_line(
     alloc: Global,
     row: &Listed,
@@ -90,7 +92,8 @@ fn unlisted_value(
     })
 }
 
-/// The line of an object that no row gives, of these bytes, of which so many blocks are gone, and whether a newer change of it was left out.
+/// The line of an object that no row gives, of these bytes, of which this many blocks are gone, and
+/// whether a newer change of it was left out.
 pub(crate) fn unlisted_line(
     alloc: Global,
     row: &Listed,
@@ -98,7 +101,8 @@ pub(crate) fn unlisted_line(
     gone: u64,
     left_out: bool,
 ) -> Result<String, AllocError>
-    ensures { IfOk result (λ line. string_bytes line ≡ unlisted_line row.now content.now gone left_out) }
+    ensures { IfOk result
+        (λ line. string_bytes line ≡ unlisted_line row.now content.now gone left_out) }
 {
     let value = unlisted_value(alloc, row, content, gone, left_out)?;
     json_line(alloc, &value)

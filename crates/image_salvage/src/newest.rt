@@ -16,8 +16,8 @@ pub(crate) struct Note {
     pub(crate) row: ImageRow,
     /// That of the checkpoint, or of the journal block's newest entry.
     pub(crate) moment: Moment,
-    /// How far that entry is in the change of its moment: one more than the first index of its pointers, 0 where it has none. A checkpoint
-    /// comes after all entries of its moment.
+    /// How far that entry is in the change of its moment: one more than the first index of its
+    /// pointers, 0 where it has none. A checkpoint comes after all entries of its moment.
     pub(crate) step: usize,
     /// The more blocks the row's inode still has, the more; 0 where the row gives none.
     pub(crate) kept: usize,
@@ -53,7 +53,9 @@ fn is_passed(notes: &BTreeMap<u64, Note>, note: &Note) -> bool
 
 /// Sets the value of a key. NoMemory alone.
 fn put<V: Copy + Drop>(map: &mut BTreeMap<u64, V>, key: u64, value: &V) -> Result<(), Refusal>
-    ensures put { OnOk result ((q : ℕ) → value_of map.new.entries q ≡ with_value (value_of map.old.entries) key value.now q) }
+    ensures put { OnOk result
+        ((q : ℕ)
+        → value_of map.new.entries q ≡ with_value (value_of map.old.entries) key value.now q) }
     ensures refusal { IfErr result (λ e. e ≡ NoMemory) }
 {
     map.insert(key, *value)?;
@@ -62,7 +64,9 @@ fn put<V: Copy + Drop>(map: &mut BTreeMap<u64, V>, key: u64, value: &V) -> Resul
 
 /// Takes a note where none that is newer is there of its object. NoMemory alone.
 pub(crate) fn offer(notes: &mut BTreeMap<u64, Note>, note: &Note) -> Result<(), Refusal>
-    ensures taken { OnOk result ((o : ℕ) → value_of notes.new.entries o ≡ with_newer (value_of notes.old.entries) note.now o) }
+    ensures taken { OnOk result
+        ((o : ℕ)
+        → value_of notes.new.entries o ≡ with_newer (value_of notes.old.entries) note.now o) }
     ensures refusal { IfErr result (λ e. e ≡ NoMemory) }
 {
     if is_passed(notes, note) {
@@ -71,9 +75,11 @@ pub(crate) fn offer(notes: &mut BTreeMap<u64, Note>, note: &Note) -> Result<(), 
     put(notes, note.row.object.number(), note)
 }
 
-/// The place that comes here in the order of frames and blocks, at the generation of its frame. None where there is none.
+/// The place that comes here in the order of frames and blocks, at the generation of its frame.
+/// None where there is none.
 pub(crate) fn place_at(generations: &[u32], order: usize) -> Option<Ptr>
-    ensures { MatchOption result ((p : Place) → IsPlace p → IsAt generations.now order p → ⊥) (λ place. IsPlace place × IsAt generations.now order place) }
+    ensures { MatchOption result ((p : Place) → IsPlace p → IsAt generations.now order p → ⊥)
+        (λ place. IsPlace place × IsAt generations.now order place) }
 {
     let (frame, block) = (order / FRAME_BLOCKS, order % FRAME_BLOCKS);
     if frame >= generations.len() {

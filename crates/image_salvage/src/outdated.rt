@@ -1,13 +1,14 @@
 //! Rows of a damaged image that name an older block of their object than there is.
 //!
-//! A row has no digest. Where a bit of it is turned it may name an older block of its object, which leads to an older version, or to one
-//! that never was, in the midst of a change.
+//! A row has no digest. Where a bit of it is turned it may name an older block of its object, which
+//! leads to an older version, or to one that never was, in the midst of a change.
 ghost use Rattle.std.specs.Prelude.{◌≡◌, IfOk, IfErr, OnOk, MatchBool};
 ghost use Rattle.s4_types.specs.declared.refusals.Refusal.TheVariants.{NoMemory};
 ghost use Rattle.object_map.specs.Objects.{value_of};
 ghost use Rattle.segment_table.specs.Used.{used_at};
 ghost use Rattle.image_salvage.specs.Heads.{last_of};
-ghost use Rattle.image_salvage.specs.Outdated.{AreBelieved, IsOutdated, is_before, is_entry_before, is_head_before, is_row_before};
+ghost use Rattle.image_salvage.specs.Outdated.{AreBelieved, IsOutdated, is_before, is_entry_before};
+ghost use Rattle.image_salvage.specs.Outdated.{is_head_before, is_row_before};
 ghost use Rattle.image_salvage.specs.private.Passing.{Believes};
 
 use crate::heads::{newest_entry, step_of};
@@ -43,7 +44,8 @@ fn is_entry_before(block: EntryReader, note: &Note) -> bool
     }
 }
 
-/// The same of the newest journal block that a row names, if it names one. Nothing is known of one that is gone.
+/// The same of the newest journal block that a row names, if it names one. Nothing is known of one
+/// that is gone.
 fn is_head_before(table: &TableBuilder, object: ObjectId, head: Option<Ptr>, note: &Note) -> bool
     ensures { result ≡ is_head_before (used_at table.now) object head note.now }
 {
@@ -64,7 +66,9 @@ fn is_row_before(
     head: Option<Ptr>,
     heads: &BTreeMap<u64, Note>,
 ) -> bool
-    ensures { result ≡ is_row_before (used_at table.now) row.now head (value_of heads.now.entries row.now.object) }
+    ensures { result
+        ≡ is_row_before (used_at table.now) row.now head
+        (value_of heads.now.entries row.now.object) }
 {
     let Some(note) = heads.get(&row.object.number()) else {
         return false;
@@ -75,7 +79,8 @@ fn is_row_before(
 
 /// Whether a row names older blocks than the newest of its object.
 fn is_outdated(table: &TableBuilder, row: &RowPart, heads: &BTreeMap<u64, Note>) -> bool
-    ensures { MatchBool result (IsOutdated (used_at table.now) (value_of heads.now.entries) row.now) (IsOutdated (used_at table.now) (value_of heads.now.entries) row.now → ⊥) }
+    ensures { MatchBool result (IsOutdated (used_at table.now) (value_of heads.now.entries) row.now)
+        (IsOutdated (used_at table.now) (value_of heads.now.entries) row.now → ⊥) }
 {
     let Some(head) = row.head_slot() else {
         return false;
@@ -90,7 +95,9 @@ fn believe(
     heads: &BTreeMap<u64, Note>,
     believed: &mut Vec<RowPart>,
 ) -> Result<(), Refusal>
-    ensures believes { OnOk result (Believes (used_at table.now) (value_of heads.now.entries) row.now believed.old.items believed.new.items) }
+    ensures believes { OnOk result
+        (Believes (used_at table.now) (value_of heads.now.entries) row.now believed.old.items
+        believed.new.items) }
     ensures refusal { IfErr result (λ e. e ≡ NoMemory) }
 {
     if is_outdated(table, row, heads) {
@@ -106,7 +113,9 @@ pub(crate) fn believed_rows(
     rows: &[RowPart],
     heads: &BTreeMap<u64, Note>,
 ) -> Result<Vec<RowPart>, Refusal>
-    ensures believed { IfOk result (λ believed. AreBelieved (used_at table.now) (value_of heads.now.entries) rows.now believed.items) }
+    ensures believed { IfOk result
+        (λ believed. AreBelieved (used_at table.now) (value_of heads.now.entries) rows.now
+        believed.items) }
     ensures refusal { IfErr result (λ e. e ≡ NoMemory) }
 {
     let mut believed = Vec::new(alloc);

@@ -44,7 +44,8 @@ fn first_row(bytes: &[u8]) -> RowPart
 
 /// What the bytes at a place are as a row. None where they end before.
 fn row_at(bytes: &[u8], place: usize) -> Option<RowPart>
-    ensures { MatchOption result (length bytes.now < place + 40) (λ part. (part ≡ row_from bytes.now place) × (place + 40 ≤ length bytes.now)) }
+    ensures { MatchOption result (length bytes.now < place + 40)
+        (λ part. (part ≡ row_from bytes.now place) × (place + 40 ≤ length bytes.now)) }
 {
     if bytes.len() < ROW_BYTES || bytes.len() - ROW_BYTES < place {
         return None;
@@ -61,7 +62,10 @@ fn leading_row(
     bytes: &[u8],
     place: usize,
 ) -> Result<Option<RowPart>, Refusal>
-    ensures found { IfOk result (λ found. MatchOption found (LeadsAt (used_at table.now) bytes.now place → ⊥) (λ part. (part ≡ row_from bytes.now place) × LeadsAt (used_at table.now) bytes.now place)) }
+    ensures found { IfOk result
+        (λ found. MatchOption found (LeadsAt (used_at table.now) bytes.now place → ⊥)
+        (λ part. (part ≡ row_from bytes.now place)
+        × LeadsAt (used_at table.now) bytes.now place)) }
     ensures refusal { IfErr result (λ e. e ≡ NoMemory) }
 {
     let Some(part) = row_at(bytes, place) else {
@@ -73,8 +77,8 @@ fn leading_row(
     Ok(Some(part))
 }
 
-/// Looks at a place: for a frame that begins there, whose bytes are passed over, and else for a row that gives its object, which is
-/// noted. The place up to which the bytes are those of frames.
+/// Looks at a place: for a frame that begins there, whose bytes are passed over, and else for a row
+/// that gives its object, which is noted. The place up to which the bytes are those of frames.
 #[tactic(auto, using(crate::proofs::RowFinding::searched_skipped, crate::proofs::RowFinding::searched_without, crate::proofs::RowFinding::searched_row))]
 fn look_at(
     alloc: Global,
@@ -85,7 +89,8 @@ fn look_at(
     next: usize,
 ) -> Result<usize, Refusal>
     requires finds { FindsRowsTo (used_at table.now) bytes.now place next rows.old.items }
-    ensures finds { IfOk result (λ later. FindsRowsTo (used_at table.now) bytes.now (place + 1) later rows.new.items) }
+    ensures finds { IfOk result
+        (λ later. FindsRowsTo (used_at table.now) bytes.now (place + 1) later rows.new.items) }
     ensures refusal { IfErr result (λ e. e ≡ NoMemory) }
 {
     if place < next {
@@ -101,8 +106,8 @@ fn look_at(
     Ok(next)
 }
 
-/// All rows that are found in bytes, in their order: at each place, outside of the frames that are found, where 40 bytes are a row whose
-/// chain and checkpoint stand over the blocks of a table.
+/// All rows that are found in bytes, in their order: at each place, outside of the frames that are
+/// found, where 40 bytes are a row whose chain and checkpoint are over the blocks of a table.
 ///
 /// NoMemory alone, where memory for the rows is refused.
 #[tactic(auto, using(crate::proofs::RowFinding::none_searched, crate::proofs::RowFinding::all_searched))]

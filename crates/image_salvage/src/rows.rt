@@ -22,7 +22,8 @@ pub struct Salvaged {
     pub present: Option<Inode>,
 }
 
-/// A row of an image, with the pointers that its bytes spell. None where they spell neither a pointer nor a hole.
+/// A row of an image, with the pointers that its bytes encode. None where they encode neither a
+/// pointer nor a hole.
 fn row_of(part: &RowPart) -> Option<ImageRow>
     ensures found { IfSome result (λ row. SpellsRow part.now row) }
     ensures only { (row : RowFields) → SpellsRow part.now row → result ≡ Some row }
@@ -40,7 +41,9 @@ fn row_of(part: &RowPart) -> Option<ImageRow>
 
 /// The present inode of the object of a row. None exactly where it is lost. NoMemory alone.
 fn present_of(alloc: Global, table: &TableBuilder, part: &RowPart) -> Result<Option<Inode>, Refusal>
-    ensures found { IfOk result (λ found. MatchOption found (IsLost (used_at table.now) part.now) (IsPresentOf (used_at table.now) part.now)) }
+    ensures found { IfOk result
+        (λ found. MatchOption found (IsLost (used_at table.now) part.now)
+        (IsPresentOf (used_at table.now) part.now)) }
     ensures refusal { IfErr result (λ e. e ≡ NoMemory) }
 {
     let Some(row) = row_of(part) else {
@@ -72,7 +75,9 @@ pub(crate) fn salvage_row(
 /// Whether a row gives its object. NoMemory alone.
 #[tactic(auto, using(crate::proofs::RowFinding::stands_there))]
 pub(crate) fn leads(alloc: Global, table: &TableBuilder, part: &RowPart) -> Result<bool, Refusal>
-    ensures found { IfOk result (λ leads. MatchBool leads (IsThere (used_at table.now) part.now) (IsLost (used_at table.now) part.now)) }
+    ensures found { IfOk result
+        (λ leads. MatchBool leads (IsThere (used_at table.now) part.now)
+        (IsLost (used_at table.now) part.now)) }
     ensures refusal { IfErr result (λ e. e ≡ NoMemory) }
 {
     let Some(row) = row_of(part) else {

@@ -1,5 +1,7 @@
 //! Frames that are found in bytes by themselves.
-ghost use Rattle.std.specs.Prelude.{◌≡◌, ℕ, ◌+◌, ◌<◌, ◌≤◌, List, [], false, length, replicate, take, drop, slice_index_or, slice_set, IfOk, IfErr, MatchOption};
+ghost use Rattle.std.specs.Prelude.{◌≡◌, ℕ, ◌+◌, ◌<◌, ◌≤◌, List, [], false, length, replicate};
+ghost use Rattle.std.specs.Prelude.{take, drop, slice_index_or, slice_set, IfOk, IfErr};
+ghost use Rattle.std.specs.Prelude.{MatchOption};
 ghost use Rattle.s4_types.specs.declared.limits.TheConstants.{MOST_FRAMES};
 ghost use Rattle.s4_types.specs.declared.refusals.Refusal.TheVariants.{NoMemory};
 ghost use Rattle.codec.specs.Summary.{SummaryFields as Summed, SpellsSummary};
@@ -9,7 +11,8 @@ ghost use Rattle.segment_word.specs.Layout.{frame_at};
 ghost use Rattle.segment_table.specs.Table.{slots_at};
 ghost use Rattle.segment_table.specs.Used.{used_at};
 ghost use Rattle.image_salvage.specs.Newest.{AreGenerations};
-ghost use Rattle.image_salvage.specs.Searching.{Finds, FindsTo, HasBlocksAt, HasGenerations, IsFrameAt, blocks_from};
+ghost use Rattle.image_salvage.specs.Searching.{Finds, FindsTo, HasBlocksAt, HasGenerations};
+ghost use Rattle.image_salvage.specs.Searching.{IsFrameAt, blocks_from};
 
 use block_log::Block;
 use codec::laws::one_summary_a_spelling;
@@ -25,7 +28,9 @@ pub(crate) const FRAME_BYTES: usize = 8192;
 
 /// The bytes of the 16 blocks that begin at a place. None where the bytes end before.
 fn contents_at(bytes: &[u8], place: usize) -> Option<&[u8]>
-    ensures { MatchOption result (length bytes.now < place + 8192) (λ contents. (contents.now ≡ take 8192 (drop place bytes.now)) × (length contents.now ≡ 8192) × (place + 8192 ≤ length bytes.now)) }
+    ensures { MatchOption result (length bytes.now < place + 8192)
+        (λ contents. (contents.now ≡ take 8192 (drop place bytes.now))
+        × (length contents.now ≡ 8192) × (place + 8192 ≤ length bytes.now)) }
 {
     if bytes.len() < FRAME_BYTES || bytes.len() - FRAME_BYTES < place {
         return None;
@@ -55,9 +60,12 @@ pub(crate) struct FoundFrame<'a> {
     pub(crate) blocks: &'a [Block; FRAME_BLOCKS],
 }
 
-/// The frame that begins at a place. None exactly where none does. Its bytes are hashed where they begin as a summary does.
+/// The frame that begins at a place. None exactly where none does. Its bytes are hashed where they
+/// begin as a summary does.
 pub(crate) fn frame_from(bytes: &[u8], place: usize) -> Option<FoundFrame<'_>>
-    ensures { MatchOption result ((summary : Summed) → IsFrameAt bytes.now place summary → ⊥) (λ found. IsFrameAt bytes.now place found.summary × (found.blocks.now ≡ blocks_from bytes.now place)) }
+    ensures { MatchOption result ((summary : Summed) → IsFrameAt bytes.now place summary → ⊥)
+        (λ found. IsFrameAt bytes.now place found.summary
+        × (found.blocks.now ≡ blocks_from bytes.now place)) }
 {
     let blocks = blocks_in(contents_at(bytes, place)?);
     let (_, payload) = blocks.split_at(1);
@@ -74,20 +82,29 @@ pub(crate) fn frame_from(bytes: &[u8], place: usize) -> Option<FoundFrame<'_>>
 /// Sets a frame that is free in a table to the blocks of one that begins at a place.
 fn set_found(table: &mut TableBuilder, number: u16, found: &FoundFrame<'_>)
     requires numbered { found.now.summary.frame ≡ number }
-    requires spelled { SpellsSummary (drop 1 found.now.blocks.now) (slice_index_or found.now.blocks.now 0 []) found.now.summary }
+    requires spelled { SpellsSummary (drop 1 found.now.blocks.now)
+        (slice_index_or found.now.blocks.now 0 []) found.now.summary }
     requires inside { number < length table.old.seat.frames }
     requires counted { length table.old.slots ≡ length table.old.seat.frames }
     requires free { (frame_at table.old.seat.frames number).phase ≡ Free }
-    ensures frame { (bytes : List ℕ) (place : ℕ) → found.now.blocks.now ≡ blocks_from bytes place → IsFrameAt bytes place found.now.summary → HasBlocksAt bytes place number (frame_at table.new.seat.frames number) (slots_at table.new.slots number) }
-    ensures frames { table.new.seat.frames ≡ slice_set table.old.seat.frames number (frame_at table.new.seat.frames number) }
-    ensures slots { table.new.slots ≡ slice_set table.old.slots number (slots_at table.new.slots number) }
-    ensures generation { (frame_at table.new.seat.frames number).generation ≡ found.now.summary.generation }
+    ensures frame { (bytes : List ℕ) (place : ℕ)
+        → found.now.blocks.now ≡ blocks_from bytes place
+        → IsFrameAt bytes place found.now.summary
+        → HasBlocksAt bytes place number (frame_at table.new.seat.frames number)
+        (slots_at table.new.slots number) }
+    ensures frames { table.new.seat.frames
+        ≡ slice_set table.old.seat.frames number (frame_at table.new.seat.frames number) }
+    ensures slots { table.new.slots
+        ≡ slice_set table.old.slots number (slots_at table.new.slots number) }
+    ensures generation { (frame_at table.new.seat.frames number).generation
+        ≡ found.now.summary.generation }
 {
     table.set_used(number, FrameState::Sealed, &found.summary, found.blocks);
 }
 
-/// Looks at a place: at a frame that begins there, behind those that were found, and takes its blocks where it is the first of its number.
-/// The place up to which the bytes are those of frames that were found.
+/// Looks at a place: at a frame that begins there, after those that were found, and takes its
+/// blocks where it is the first of its number. The place up to which the bytes are those of frames
+/// that were found.
 #[tactic(auto, using(crate::proofs::Finding::goes_on_skipped, crate::proofs::Finding::goes_on_without, crate::proofs::Finding::free_yet))]
 fn look_at(
     table: &mut TableBuilder,
@@ -144,13 +161,16 @@ fn none_at_first(alloc: Global) -> Result<Vec<u32>, Refusal>
     Ok(vec![in alloc; 0; MOST_FRAMES]?)
 }
 
-/// The table of all frames that are found in bytes: at whatever place one begins, whose first block is the summary, with the right digest,
-/// of the others. Of several of one number it has the first. All others are free.
+/// The table of all frames that are found in bytes: at whatever place one begins, whose first block
+/// is the summary, with the right digest, of the others. Of several of one number it has the first.
+/// All others are free.
 ///
-/// NoMemory alone, where memory for the table is refused. Linear in the bytes: the bytes of a frame aren't searched again.
+/// NoMemory alone, where memory for the table is refused. Linear in the bytes: the bytes of a frame
+/// aren't searched again.
 pub(crate) fn find_frames(alloc: Global, bytes: &[u8]) -> Result<FoundFrames, Refusal>
     ensures finds { IfOk result (λ found. Finds bytes.now found.table) }
-    ensures generations { IfOk result (λ found. AreGenerations (used_at found.table) found.generations.items) }
+    ensures generations { IfOk result
+        (λ found. AreGenerations (used_at found.table) found.generations.items) }
     ensures refusal { IfErr result (λ e. e ≡ NoMemory) }
 {
     let mut table = TableBuilder::new(alloc, MOST_FRAMES)?;

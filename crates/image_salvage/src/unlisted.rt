@@ -1,5 +1,6 @@
 //! The objects that no row gives.
-ghost use Rattle.std.specs.Prelude.{◌≡◌, ℕ, ◌<◌, ◌++◌, [], ◌∷◌, None, IfSome, IfNone, IfOk, IfErr, OnOk, is_some, option_copied};
+ghost use Rattle.std.specs.Prelude.{◌≡◌, ℕ, ◌<◌, ◌++◌, [], ◌∷◌, None, IfSome, IfNone, IfOk, IfErr};
+ghost use Rattle.std.specs.Prelude.{OnOk, is_some, option_copied};
 ghost use Rattle.s4_types.specs.declared.refusals.Refusal.TheVariants.{NoMemory};
 ghost use Rattle.object_map.specs.Objects.{IsNextAbove, value_of, without_value};
 ghost use Rattle.segment_table.specs.Used.{used_at};
@@ -8,7 +9,8 @@ ghost use Rattle.image_objects.specs.Inodes.{first_used};
 ghost use Rattle.image_objects.specs.VersionChain.{present_used};
 ghost use Rattle.image_salvage.specs.LeftOut.{cut_moment};
 ghost use Rattle.image_salvage.specs.Newest.{AreGenerations};
-ghost use Rattle.image_salvage.specs.Unlisted.{FindsUnlisted, first_moment, inode_made, unlisted_inode};
+ghost use Rattle.image_salvage.specs.Unlisted.{FindsUnlisted, first_moment, inode_made};
+ghost use Rattle.image_salvage.specs.Unlisted.{unlisted_inode};
 ghost use Rattle.image_salvage.specs.private.Passing.{AddsFound, AreFoundAll, AreLeft, IsLeft};
 
 use crate::heads::{newest_checkpoints, newest_heads};
@@ -26,13 +28,16 @@ use std::alloc::Global;
 use std::collections::BTreeMap;
 use std::ops::Bound;
 
-/// A live object that no row gives, as it is after the last change that its newest block has whole. It may have been deleted or hidden since.
+/// A live object that no row gives, as it is after the last change that its newest block has whole.
+/// It may have been deleted or hidden since.
 #[derive(Clone, Copy)]
 pub struct Unlisted {
     pub object: ObjectId,
-    /// Where no checkpoint says when the object was made, that is the moment of the first entry of its journal.
+    /// Where no checkpoint says when the object was made, that is the moment of the first entry of
+    /// its journal.
     pub inode: Inode,
-    /// Whether the newest change was left out: its last entry that is found may have others after it, in a frame that is lost.
+    /// Whether the newest change was left out: its last entry that is found may have others after
+    /// it, in a frame that is lost.
     pub left_out: bool,
 }
 
@@ -47,7 +52,8 @@ pub(crate) fn push<T: Copy>(items: &mut Vec<T>, item: &T) -> Result<(), Refusal>
 
 /// The value of a key goes, if there is one.
 fn take_out<V: Drop>(map: &mut BTreeMap<u64, V>, key: u64)
-    ensures { (q : ℕ) → value_of map.new.entries q ≡ without_value (value_of map.old.entries) key q }
+    ensures { (q : ℕ)
+        → value_of map.new.entries q ≡ without_value (value_of map.old.entries) key q }
 {
     let _ = map.remove(&key);
 }
@@ -69,7 +75,9 @@ fn pass_row(
     row: &RowPart,
     heads: &mut BTreeMap<u64, Note>,
 ) -> Result<(), Refusal>
-    ensures left { OnOk result (IsLeft (used_at table.now) row.now (value_of heads.old.entries) (value_of heads.new.entries)) }
+    ensures left { OnOk result
+        (IsLeft (used_at table.now) row.now (value_of heads.old.entries)
+        (value_of heads.new.entries)) }
     ensures refusal { IfErr result (λ e. e ≡ NoMemory) }
 {
     if !leads(alloc, table, row)? {
@@ -86,7 +94,9 @@ fn pass_rows(
     rows: &[RowPart],
     heads: &mut BTreeMap<u64, Note>,
 ) -> Result<(), Refusal>
-    ensures left { OnOk result (AreLeft (used_at table.now) rows.now (value_of heads.old.entries) (value_of heads.new.entries)) }
+    ensures left { OnOk result
+        (AreLeft (used_at table.now) rows.now (value_of heads.old.entries)
+        (value_of heads.new.entries)) }
     ensures refusal { IfErr result (λ e. e ≡ NoMemory) }
 {
     for row in rows {
@@ -105,7 +115,8 @@ fn first_moment(entries: &[Entry]) -> Moment
     }
 }
 
-/// The inode that a row gives that was made of blocks, by the one after its entries and the moment of the first.
+/// The inode that a row gives that was made of blocks, by the one after its entries and the moment
+/// of the first.
 fn inode_made(row: &ImageRow, first: Moment, present: &Inode) -> Inode
     ensures { result ≡ inode_made row.now.checkpoint first present.now }
 {
@@ -158,7 +169,9 @@ fn add_found(
     found: &mut Vec<Unlisted>,
 ) -> Result<(), Refusal>
     requires numbered { 0 < object }
-    ensures found { OnOk result (AddsFound (used_at table.now) (value_of heads.now.entries) object found.old.items found.new.items) }
+    ensures found { OnOk result
+        (AddsFound (used_at table.now) (value_of heads.now.entries) object found.old.items
+        found.new.items) }
     ensures refusal { IfErr result (λ e. e ≡ NoMemory) }
 {
     let Some(note) = note_at(heads, object) else {
@@ -176,13 +189,15 @@ fn add_found(
     push(found, &unlisted)
 }
 
-/// The objects of which the newest rows that blocks make give live inodes, ascending. NoMemory alone.
+/// The objects of which the newest rows that blocks make give live inodes, ascending. NoMemory
+/// alone.
 fn all_found(
     alloc: Global,
     table: &TableBuilder,
     heads: &BTreeMap<u64, Note>,
 ) -> Result<Vec<Unlisted>, Refusal>
-    ensures found { IfOk result (λ found. AreFoundAll (used_at table.now) (value_of heads.now.entries) found.items) }
+    ensures found { IfOk result
+        (λ found. AreFoundAll (used_at table.now) (value_of heads.now.entries) found.items) }
     ensures refusal { IfErr result (λ e. e ≡ NoMemory) }
 {
     let mut found = Vec::new(alloc);
@@ -201,10 +216,11 @@ pub(crate) struct FoundObjects {
     pub(crate) unlisted: Vec<Unlisted>,
 }
 
-/// Those of these rows that aren't outdated, and the live objects that none of them gives, ascending, as far as whole frames have their
-/// checkpoints and journals.
+/// Those of these rows that aren't outdated, and the live objects that none of them gives,
+/// ascending, as far as whole frames have their checkpoints and journals.
 ///
-/// NoMemory alone, where memory for them is refused. Of each journal block one chain is read, and of each row: linear in the image.
+/// NoMemory alone, where memory for them is refused. Of each journal block one chain is read, and
+/// of each row: linear in the image.
 pub(crate) fn find_unlisted(
     alloc: Global,
     table: &TableBuilder,
@@ -212,7 +228,9 @@ pub(crate) fn find_unlisted(
     there: &[RowPart],
 ) -> Result<FoundObjects, Refusal>
     requires generations { AreGenerations (used_at table.now) generations.now }
-    ensures finds { IfOk result (λ found. FindsUnlisted (used_at table.now) there.now found.rows.items found.unlisted.items) }
+    ensures finds { IfOk result
+        (λ found. FindsUnlisted (used_at table.now) there.now found.rows.items
+        found.unlisted.items) }
     ensures refusal { IfErr result (λ e. e ≡ NoMemory) }
 {
     let checkpoints = newest_checkpoints(alloc, table, generations)?;

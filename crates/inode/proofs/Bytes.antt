@@ -45,7 +45,7 @@ pub bytes_of_hole : (contents : Place → List ℕ) (slot : Option Place) (bytes
 bytes_of_hole contents slot bytes e same =
     same ∙ zeros-listed 512 ∙ ap (λ s. listed (byte_in contents s) 0 512) (sym e)
 
--- the bytes of the block behind a pointer, read whole
+-- the bytes of the block that a pointer refers to, read whole
 pub bytes_of_slot : (contents : Place → List ℕ) (slot : Option Place) (p : Place) (bytes : List ℕ) → slot ≡ Some p → bytes ≡ contents p → length bytes ≡ 512 → bytes ≡ listed (byte_in contents slot) 0 512
 bytes_of_slot contents slot p bytes e same len =
     listed-is (byte_in contents slot) 0 512 bytes len (λ i lt. let start : i ≡ 0 + i = omega arith in ap (λ l. get_or l i 0) same ∙ sym (ap (λ s. byte_in contents s i) e) ∙ ap (byte_in contents slot) start)

@@ -1,4 +1,4 @@
--- What an inode means rests on the blocks alone that its pointers lead to.
+-- What an inode means rests on the blocks alone that its pointers refer to.
 use Rattle.std.proofs.Common.{◌≡◌, ℕ, ◌+◌, ◌/◌, ◌%◌, cond, List, get_or, Option, Some, None, IsSome, refl, ap, ◌∙◌}
 use Rattle.s4_types.specs.Pointer.{Place}
 use Rattle.s4_types.specs.declared.versions.Version.TheVariants.{Absent, Live}

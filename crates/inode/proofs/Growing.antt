@@ -89,7 +89,7 @@ grows-none object log = record {
   others = λ kind o p other. refl;
 }
 
--- the first place ahead, and those behind it
+-- the first place ahead, and those after it
 ahead_is : (ahead : List Place) (q : Place) → slice_get ahead 0 ≡ Some q → ahead ≡ q ∷ drop 1 ahead
 ahead_is [] q e = absurd (none-some q e)
 ahead_is (p ∷ ahead) q e = ap (λ first. first ∷ ahead) (same_Some p q e)
@@ -139,7 +139,7 @@ take_one_more : (before mid : List Place) (n m : ℕ) (q : Place) → mid ≡ dr
 take_one_more before mid n m q e more first =
     ap (λ k. take k before) (sym more) ∙ take-add n 1 before ∙ ap (λ rest. take n before ++ take 1 rest) (sym e ∙ ahead_is mid q first)
 
--- what is newly held stands at a place that was taken before, or at the new one
+-- what is newly held is at a place that was taken before, or at the new one
 among_one_more : (before mid : Log) (n m : ℕ) (q : Place) (block : Stored) → TakesPlaces n before mid → n + 1 ≡ m → slice_get mid.ahead 0 ≡ Some q
     → (p : Place) → before.held p ≡ None → IsSome (with_held mid.held q block p) → Contains (take m before.ahead) p
 among_one_more before mid n m q block takes more first p none some =

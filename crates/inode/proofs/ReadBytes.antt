@@ -12,7 +12,7 @@ use Rattle.inode.proofs.Listing.{listed-length, listed-at, listed-is, listed-sam
 pub slot_is : (i : Inode) (k : ℕ) (slot d : Option Place) → k < length i.pointers → slot ≡ get_or i.pointers k d → slot ≡ pointer_at i k
 slot_is i k slot d lt e = e ∙ get_or_default i.pointers k d None lt
 
--- so many bytes of a block that is held at a place
+-- this many bytes of a block that is held at a place
 stored_part : (contents : Place → List ℕ) (p : Place) (o : Option Stored) (old new : List ℕ) (from count : ℕ) → contents p ≡ bytes_stored o → IsSome o → IfSome o (λ block. new ≡ old ++ take count (drop from block.bytes)) → length new ≡ length old + count → new ≡ old ++ listed (byte_in contents (Some p)) from count
 stored_part contents p None old new from count same some h added = absurd (cc)
 stored_part contents p (Some block) old new from count same some h added =
@@ -21,7 +21,7 @@ stored_part contents p (Some block) old new from count same some h added =
     h ∙ ap (λ l. old ++ l) (listed-is (byte_in contents (Some p)) from count part (omega (arith, len, added))
     (λ i lt. get_or-take count (drop from block.bytes) i 0 lt ∙ get_or-drop from block.bytes i 0 ∙ ap (λ l. get_or l (from + i) 0) (sym same)))
 
--- bytes of the block behind a pointer were added
+-- bytes of the block that a pointer refers to were added
 pub block_added : (held : Place → Option Stored) (slot : Option Place) (p : Place) (old new : List ℕ) (from count : ℕ) → slot ≡ Some p → IsSome (held p) → IfSome (held p) (λ block. new ≡ old ++ take count (drop from block.bytes)) → length new ≡ length old + count → new ≡ old ++ listed (byte_in (contents_of held) slot) from count
 block_added held slot p old new from count e some h added =
     stored_part (contents_of held) p (held p) old new from count refl some h added ∙ ap (λ s. old ++ listed (byte_in (contents_of held) s) from count) (sym e)

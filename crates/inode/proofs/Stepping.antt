@@ -19,7 +19,7 @@ use Rattle.inode.proofs.Frames.{byte_of-same, kept-agree}
 abbrev pub pointer_upto : List Place → Inode → ℕ → ℕ → ℕ → Option Place
 pointer_upto ahead i first index k = cond (nat_le first k && nat_lt k index) (slice_get ahead (k - first)) (pointer_at i k)
 
--- What stands once the blocks from the first up to another index are appended.
+-- What is once the blocks from the first up to another index are appended.
 pub record Upto (object : ℕ) (bytes_at : ℕ → ℕ) (i : Inode) (first index : ℕ) (before now : Log) (slots : List (Option Place)) : Type 0 where
   pub log : now ≡ with_data object (listed_blocks bytes_at first (index - first)) before
   pub growth : GrowsBy object (listed_blocks bytes_at first (index - first)) before now

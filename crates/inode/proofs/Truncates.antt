@@ -1,4 +1,4 @@
--- A truncation: the inode after it stands for the version after it.
+-- A truncation: the inode after it represents the version after it.
 use Rattle.std.proofs.Common.{◌≡◌, ℕ, ◌+◌, ◌*◌, ◌/◌, ◌%◌, ◌<◌, ◌≤◌, ◌==◌, Bool, true, false, not, ◌&&◌, cond, nat_le, nat_lt, is_some, List, [], ◌∷◌, length, get_or, set, slice_get, Option, Some, None, inl, inr, refl, ap, sym, ◌∙◌, subst, arith}
 use Rattle.std.proofs.lemmas.Bool.{cases_lt, cases_eq, cases_Bool, cond-true, cond-false, eq-eqb, ne_eqb, eqb-true, eqb-false, true≢false, lt-ltb, le-ltb, le-leb, lt-leb, ltb-true, ltb-false, and_parts, and_from, and_cases, and_left, and_right, not-false, not-true}
 use Rattle.std.proofs.lemmas.List.{get_or-set_same, get_or-set_other}
@@ -76,7 +76,7 @@ not_some (Some p) e = absurd (true≢false e)
 uncut_long : (old size n : ℕ) → nat_lt size old ≡ false → size ≤ n → old ≤ n
 uncut_long old size n e le = let short : old ≤ size = ltb-false size old e in omega arith
 
--- where no block is cut, nothing stands behind the size in the block that it ends in
+-- where no block is cut, nothing comes after the size in the block that it ends in
 uncut_zero : (contents : Place → List ℕ) (i : Inode) (size n : ℕ) → Tidy contents i → is_cut i size ≡ false → size ≤ n → n / 512 ≡ size / 512 → 512 * (n / 512) < size → byte_of contents i n ≡ 0
 uncut_zero contents i size n tidy e le index low =
     elim (and_cases (nat_lt size i.size) (not (size % 512 == 0) && is_some (pointer_at i (size / 512))) e) [

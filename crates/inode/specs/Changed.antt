@@ -19,7 +19,7 @@ byte_cut contents i size n = if nat_lt n size then byte_of contents i n else 0
 abbrev pub block_of : (ℕ → ℕ) → ℕ → List ℕ
 block_of bytes_at k = listed bytes_at (512 * k) 512
 
--- so many such blocks from an index on, by ascending index
+-- this many such blocks from an index on, by ascending index
 unfoldable pub listed_blocks : (ℕ → ℕ) → ℕ → ℕ → List (List ℕ)
 listed_blocks bytes_at first count = map (block_of bytes_at) (range_with_len first count)
 

@@ -1,4 +1,4 @@
--- What an inode means over the blocks that its pointers lead to.
+-- What an inode means over the blocks that its pointers refer to.
 use Rattle.std.specs.Prelude.{ℕ, ◌/◌, ◌%◌, if◌then◌else◌, List, [], map, slice_index, Option, None, Some}
 use Rattle.std.specs.List.{range_with_len}
 use Rattle.s4_types.specs.Pointer.{Place}
@@ -17,7 +17,7 @@ bytes_stored (Some block) = block.bytes
 abbrev pub contents_of : (Place → Option Stored) → Place → List ℕ
 contents_of held = λ p. bytes_stored (held p)
 
--- the byte of that index in the block that a slot leads to: 0 in a hole, and past a block's end
+-- the byte of that index in the block that a slot refers to: 0 in a hole, and past a block's end
 abbrev pub byte_in : (Place → List ℕ) → Option Place → ℕ → ℕ
 byte_in contents None n = 0
 byte_in contents (Some p) n = slice_index (contents p) n
@@ -26,7 +26,7 @@ byte_in contents (Some p) n = slice_index (contents p) n
 unfoldable pub byte_of : (Place → List ℕ) → Inode → ℕ → ℕ
 byte_of contents i n = byte_in contents (pointer_at i (n / 512)) (n % 512)
 
--- what a function gives at so many numbers from the first one on, in order
+-- what a function gives at this many numbers from the first one on, in order
 unfoldable pub listed : (ℕ → ℕ) → ℕ → ℕ → List ℕ
 listed f first count = map f (range_with_len first count)
 
@@ -34,6 +34,6 @@ listed f first count = map f (range_with_len first count)
 abbrev pub bytes_of : (Place → List ℕ) → Inode → List ℕ
 bytes_of contents i = listed (byte_of contents i) 0 i.size
 
--- the version that an inode stands for: a dead one for none
+-- the version that an inode represents: a dead one for none
 abbrev pub meaning : (Place → List ℕ) → Inode → Version
 meaning contents i = if i.alive then Live (bytes_of contents i) i.attribute i.created i.changed else Absent

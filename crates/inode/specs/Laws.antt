@@ -32,7 +32,7 @@ HeldPointersLead = (held : Place → Option Stored) (object : ℕ) (i : Inode) �
 abbrev pub TouchedBlocksHaveAByte : Type 0
 TouchedBlocksHaveAByte = (offset len k : ℕ) → (is_touched offset len k ≡ true) ↔ HasByteIn offset len k
 
--- the bytes of the block behind a slot; as many zeros for a hole
+-- the bytes of the block that a slot refers to; as many zeros for a hole
 unfoldable pub slot_bytes : (Place → List ℕ) → Option Place → List ℕ
 slot_bytes contents None = zeros 512
 slot_bytes contents (Some p) = contents p
@@ -58,6 +58,6 @@ AListIsARange = (f : ℕ → ℕ) (first count : ℕ) (bytes : List ℕ) → len
 abbrev pub EqualRanges : Type 0
 EqualRanges = (f g : ℕ → ℕ) (first second count : ℕ) → ((n : ℕ) → n < count → f (first + n) ≡ g (second + n)) → listed f first count ≡ listed g second count
 
--- the bytes of an inode from an offset on, so many or as many as there are, are a range
+-- the bytes of an inode from an offset on, this many or as many as there are, are a range
 abbrev pub BytesFromAnOffset : Type 0
 BytesFromAnOffset = (contents : Place → List ℕ) (i : Inode) (offset len : ℕ) → listed (byte_of contents i) offset (min len (i.size - offset)) ≡ take len (drop offset (bytes_of contents i))

@@ -8,7 +8,7 @@ use Rattle.codec.specs.Checkpoint.{pointer_at}
 use Rattle.codec.specs.declared.inodes.Inode.{Inode}
 use Rattle.inode.specs.Contents.{byte_of}
 
--- An inode of OBJECT_BLOCKS pointers, within the limit, with holes at and past its size and zeros behind its last byte. So the
+-- An inode of OBJECT_BLOCKS pointers, within the limit, with holes at and past its size and zeros after its last byte. So the
 -- byte at a place is that of the object, or 0 past its end.
 pub record Tidy (contents : Place → List ℕ) (i : Inode) : Type 0 where
   pub count : length i.pointers ≡ OBJECT_BLOCKS
@@ -16,11 +16,11 @@ pub record Tidy (contents : Place → List ℕ) (i : Inode) : Type 0 where
   pub holes : (k : ℕ) → i.size ≤ 512 * k → pointer_at i k ≡ None
   pub zeros : (n : ℕ) → i.size ≤ n → byte_of contents i n ≡ 0
 
--- each pointer of the inode leads to a block
+-- each pointer of the inode refers to a block
 abbrev pub PointersLead : (Place → Option Stored) → Inode → Type 0
 PointersLead held i = (k : ℕ) (p : Place) → pointer_at i k ≡ Some p → IsSome (held p)
 
--- each pointer of the inode leads to a data block of the object
+-- each pointer of the inode refers to a data block of the object
 abbrev pub PointersHeld : (Place → Option Stored) → ℕ → Inode → Type 0
 PointersHeld held object i = (k : ℕ) (p : Place) → pointer_at i k ≡ Some p → IsSome (of_kind Data object held p)
 

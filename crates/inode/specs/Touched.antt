@@ -19,6 +19,6 @@ is_cut i size = nat_lt size i.size && (not (size % 512 == 0) && is_some (pointer
 abbrev pub cut_count : Inode → ℕ → ℕ
 cut_count i size = if is_cut i size then 1 else 0
 
--- some byte of a write of this length at an offset stands in the block of this index
+-- some byte of a write of this length at an offset is in the block of this index
 abbrev pub HasByteIn : ℕ → ℕ → ℕ → Type 0
 HasByteIn offset len k = (n : ℕ) × (offset ≤ n) × (n < offset + len) × (n / 512 ≡ k)

@@ -5,7 +5,8 @@ ghost use Rattle.inode.specs.Touched.{touched_count, cut_count};
 use codec::Inode;
 use s4_types::limits::BLOCK_BYTES;
 
-/// How many blocks a write of `len` bytes at an offset touches, and appends. None where it has no bytes.
+/// How many blocks a write of `len` bytes at an offset touches, and appends. None where it has no
+/// bytes.
 pub fn blocks_of_write(offset: u64, len: usize) -> usize
     requires { offset + len ≤ OBJECT_BYTES }
     ensures { result ≡ touched_count offset len }
@@ -17,7 +18,8 @@ pub fn blocks_of_write(offset: u64, len: usize) -> usize
     (offset + len - 1) / BLOCK_BYTES + 1 - offset / BLOCK_BYTES
 }
 
-/// How many blocks a truncation to `size` bytes appends: one where it cuts a block in two that isn't a hole.
+/// How many blocks a truncation to `size` bytes appends: one where it cuts a block in two that
+/// isn't a hole.
 pub fn blocks_of_truncate(inode: &Inode, size: u32) -> usize
     requires { inode.now.size ≤ OBJECT_BYTES }
     ensures { result ≡ cut_count inode.now size }

@@ -19,7 +19,7 @@ pub fn zero_block() -> Block
     [0; BLOCK_BYTES]
 }
 
-/// The bytes of the block behind a slot; zeros for a hole.
+/// The bytes of the block that a slot refers to; zeros for a hole.
 #[tactic(auto, using(crate::proofs::Bytes::bytes_of_slot, crate::proofs::Bytes::bytes_of_hole))]
 fn slot_bytes<B: Blocks>(table: &mut B, slot: Option<Ptr>) -> Block
     requires { (p : Place) → slot ≡ Some p → IsSome ((B.log table.old).held p) }
@@ -38,7 +38,8 @@ pub(crate) fn load<B: Blocks>(table: &mut B, inode: &Inode, index: usize) -> Blo
     requires index { index < OBJECT_BLOCKS }
     requires count { length inode.now.pointers ≡ OBJECT_BLOCKS }
     requires lead { PointersLead (B.log table.old).held inode.now }
-    ensures bytes { result ≡ block_of (byte_of (contents_of (B.log table.old).held) inode.now) index }
+    ensures bytes { result
+        ≡ block_of (byte_of (contents_of (B.log table.old).held) inode.now) index }
     ensures same { B.log table.new ≡ B.log table.old }
 {
     slot_bytes(table, inode.pointers[index])

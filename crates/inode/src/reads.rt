@@ -1,6 +1,8 @@
-ghost use Rattle.std.specs.Prelude.{◌≡◌, ◌+◌, ◌-◌, ◌<◌, ◌≤◌, ◌++◌, length, take, drop, Some, IsSome, IfOk, OnOk, IfErr};
+ghost use Rattle.std.specs.Prelude.{◌≡◌, ◌+◌, ◌-◌, ◌<◌, ◌≤◌, ◌++◌, length, take, drop, Some};
+ghost use Rattle.std.specs.Prelude.{IsSome, IfOk, OnOk, IfErr};
 ghost use Rattle.s4_types.specs.Pointer.{Place};
-ghost use Rattle.s4_types.specs.declared.limits.TheConstants.{BLOCK_BYTES, OBJECT_BLOCKS, OBJECT_BYTES};
+ghost use Rattle.s4_types.specs.declared.limits.TheConstants.{BLOCK_BYTES, OBJECT_BLOCKS};
+ghost use Rattle.s4_types.specs.declared.limits.TheConstants.{OBJECT_BYTES};
 ghost use Rattle.s4_types.specs.declared.refusals.Refusal.TheVariants.{NoMemory};
 ghost use Rattle.codec.specs.Checkpoint.{pointer_at};
 ghost use Rattle.inode.specs.Contents.{contents_of, byte_in, byte_of, bytes_of, listed};
@@ -12,7 +14,8 @@ use s4_types::limits::BLOCK_BYTES;
 use s4_types::{Ptr, Refusal};
 use std::alloc::Global;
 
-/// Adds bytes of the block behind a slot, from one place of it on and up to another; zeros for a hole.
+/// Adds bytes of the block that a slot refers to, from one place of it on and up to another; zeros
+/// for a hole.
 fn append_slot<B: Blocks>(
     table: &mut B,
     slot: Option<Ptr>,
@@ -22,7 +25,10 @@ fn append_slot<B: Blocks>(
 ) -> Result<(), Refusal>
     requires held { (p : Place) → slot ≡ Some p → IsSome ((B.log table.old).held p) }
     requires range { (from ≤ to) × (to ≤ BLOCK_BYTES) }
-    ensures bytes { OnOk result (bytes.new.items ≡ bytes.old.items ++ listed (byte_in (contents_of (B.log table.old).held) slot) from (to - from)) }
+    ensures bytes { OnOk result
+        (bytes.new.items
+        ≡ bytes.old.items
+        ++ listed (byte_in (contents_of (B.log table.old).held) slot) from (to - from)) }
     ensures err { IfErr result (λ refusal. refusal ≡ NoMemory) }
     ensures same { B.log table.new ≡ B.log table.old }
 {
@@ -44,7 +50,8 @@ fn slot_of(inode: &Inode, index: usize) -> Option<Ptr>
     inode.pointers[index]
 }
 
-/// Adds the bytes of an object from a place on, up to an end or to that of their block, and answers where they end.
+/// Adds the bytes of an object from a place on, up to an end or to that of their block, and answers
+/// where they end.
 fn read_piece<B: Blocks>(
     table: &mut B,
     inode: &Inode,
@@ -58,7 +65,10 @@ fn read_piece<B: Blocks>(
     requires lead { PointersLead (B.log table.old).held inode.now }
     ensures later { IfOk result (λ next. at < next) }
     ensures within { IfOk result (λ next. next ≤ end) }
-    ensures bytes { IfOk result (λ next. bytes.new.items ≡ bytes.old.items ++ listed (byte_of (contents_of (B.log table.old).held) inode.now) at (next - at)) }
+    ensures bytes { IfOk result
+        (λ next. bytes.new.items
+        ≡ bytes.old.items
+        ++ listed (byte_of (contents_of (B.log table.old).held) inode.now) at (next - at)) }
     ensures err { IfErr result (λ refusal. refusal ≡ NoMemory) }
     ensures same { B.log table.new ≡ B.log table.old }
 {
@@ -75,8 +85,9 @@ fn read_piece<B: Blocks>(
     Ok(next)
 }
 
-/// The bytes of an object from an offset on, `len` of them or as many as there are: none where the offset is at or
-/// past the size. Each block is loaded once, and memory is taken once. NoMemory where that is refused.
+/// The bytes of an object from an offset on, `len` of them or as many as there are: none where the
+/// offset is at or past the size. Each block is loaded once, and memory is taken once. NoMemory
+/// where that is refused.
 pub fn read<B: Blocks>(
     alloc: Global,
     table: &mut B,
@@ -87,7 +98,9 @@ pub fn read<B: Blocks>(
     requires size { inode.now.size ≤ OBJECT_BYTES }
     requires count { length inode.now.pointers ≡ OBJECT_BLOCKS }
     requires lead { PointersLead (B.log table.old).held inode.now }
-    ensures ok { IfOk result (λ bytes. bytes.items ≡ take len (drop offset (bytes_of (contents_of (B.log table.old).held) inode.now))) }
+    ensures ok { IfOk result
+        (λ bytes. bytes.items
+        ≡ take len (drop offset (bytes_of (contents_of (B.log table.old).held) inode.now))) }
     ensures err { IfErr result (λ refusal. refusal ≡ NoMemory) }
     ensures same { B.log table.new ≡ B.log table.old }
 {

@@ -29,7 +29,8 @@ pub fn created(attribute: Attribute, moment: Moment) -> Inode
     ensures changed { result.changed ≡ moment }
     ensures attribute { result.attribute ≡ attribute }
     ensures holes { (k : ℕ) → pointer_at result k ≡ None }
-    ensures meaning { (contents : Place → List ℕ) (object : ℕ) (before : Version) → meaning contents result ≡ effect (Create object attribute) moment before }
+    ensures meaning { (contents : Place → List ℕ) (object : ℕ) (before : Version)
+        → meaning contents result ≡ effect (Create object attribute) moment before }
     ensures tidy { (contents : Place → List ℕ) → Tidy contents result }
 {
     Inode {
@@ -46,7 +47,8 @@ pub fn created(attribute: Attribute, moment: Moment) -> Inode
 #[tactic(auto, using(crate::proofs::Standing::tidy_as_before), unfolding(crate::specs::Contents::byte_of))]
 pub fn deleted(inode: &Inode) -> Inode
     ensures inode { result ≡ record inode.now { alive = false } }
-    ensures meaning { (contents : Place → List ℕ) (object moment : ℕ) → meaning contents result ≡ effect (Delete object) moment (meaning contents inode.now) }
+    ensures meaning { (contents : Place → List ℕ) (object moment : ℕ)
+        → meaning contents result ≡ effect (Delete object) moment (meaning contents inode.now) }
     ensures tidy { (contents : Place → List ℕ) → Tidy contents inode.now → Tidy contents result }
 {
     let mut next = *inode;
@@ -58,7 +60,9 @@ pub fn deleted(inode: &Inode) -> Inode
 #[tactic(auto, using(crate::proofs::Standing::tidy_as_before, crate::proofs::Standing::with_attribute_means))]
 pub fn with_attribute(inode: &Inode, attribute: Attribute, moment: Moment) -> Inode
     ensures inode { result ≡ record inode.now { attribute = attribute; changed = moment } }
-    ensures meaning { (contents : Place → List ℕ) (object : ℕ) → meaning contents result ≡ effect (SetAttr object attribute) moment (meaning contents inode.now) }
+    ensures meaning { (contents : Place → List ℕ) (object : ℕ)
+        → meaning contents result
+        ≡ effect (SetAttr object attribute) moment (meaning contents inode.now) }
     ensures tidy { (contents : Place → List ℕ) → Tidy contents inode.now → Tidy contents result }
 {
     let mut next = *inode;

@@ -1,4 +1,5 @@
-ghost use Rattle.std.specs.Prelude.{◌≡◌, ℕ, true, ◌+◌, ◌*◌, ◌/◌, ◌<◌, ◌≤◌, nat_le, nat_lt, if◌then◌else◌, Some, None, length, slice_get, slice_index};
+ghost use Rattle.std.specs.Prelude.{◌≡◌, ℕ, true, ◌+◌, ◌*◌, ◌/◌, ◌<◌, ◌≤◌, nat_le, nat_lt};
+ghost use Rattle.std.specs.Prelude.{if◌then◌else◌, Some, None, length, slice_get, slice_index};
 ghost use Rattle.s4_types.specs.declared.limits.TheConstants.{OBJECT_BLOCKS, OBJECT_BYTES};
 ghost use Rattle.s4_types.specs.declared.changes.Change.TheVariants.{Truncate};
 ghost use Rattle.s4_model.specs.Effect.{effect};
@@ -21,7 +22,8 @@ use s4_types::{Moment, ObjectId, Ptr};
 fn clear_from(block: &mut Block, from: usize)
     requires { from ≤ 512 }
     ensures count { length block.new ≡ 512 }
-    ensures bytes { (n : ℕ) → n < 512 → slice_index block.new n ≡ (if nat_lt n from then slice_index block.old n else 0) }
+    ensures bytes { (n : ℕ) → n < 512
+        → slice_index block.new n ≡ (if nat_lt n from then slice_index block.old n else 0) }
 {
     block[from..].fill(0);
 }
@@ -34,7 +36,11 @@ fn cut_block<B: Blocks>(table: &mut B, object: ObjectId, inode: &Inode, size: u3
     requires count { length inode.now.pointers ≡ OBJECT_BLOCKS }
     requires lead { PointersLead (B.log table.old).held inode.now }
     requires room { 0 < length (B.log table.old).ahead }
-    ensures log { B.log table.new ≡ log_grown (B.log table.old) (data_block object (block_of (byte_cut (contents_of (B.log table.old).held) inode.now size) (size / 512))) }
+    ensures log { B.log table.new
+        ≡ log_grown (B.log table.old)
+        (data_block object
+        (block_of (byte_cut (contents_of (B.log table.old).held) inode.now size)
+        (size / 512))) }
     ensures place { slice_get (B.log table.old).ahead 0 ≡ Some result }
     ensures fresh { (B.log table.old).held result ≡ None }
 {
@@ -50,7 +56,8 @@ fn without_pointers_past(inode: &Inode, size: u32) -> Inode
     requires count { length inode.now.pointers ≡ OBJECT_BLOCKS }
     ensures count { length result.pointers ≡ OBJECT_BLOCKS }
     ensures rest { result ≡ record inode.now { pointers = result.pointers } }
-    ensures pointers { (k : ℕ) → pointer_at result k ≡ (if nat_le size (512 * k) then None else pointer_at inode.now k) }
+    ensures pointers { (k : ℕ)
+        → pointer_at result k ≡ (if nat_le size (512 * k) then None else pointer_at inode.now k) }
 {
     let first = (size as usize).div_ceil(BLOCK_BYTES);
     let mut next = *inode;
@@ -60,9 +67,10 @@ fn without_pointers_past(inode: &Inode, size: u32) -> Inode
     next
 }
 
-/// Cuts a live object to a size of at most `OBJECT_BYTES`, or lengthens it to that by zeros, and answers its next inode,
-/// changed at the moment. Pointers past the new end are holes. Where the size cuts a block in two that isn't a hole, it
-/// is appended anew with zeros past the size, as `blocks_of_truncate` counts it.
+/// Cuts a live object to a size of at most `OBJECT_BYTES`, or lengthens it to that by zeros, and
+/// answers its next inode, changed at the moment. Pointers past the new end are holes. Where the
+/// size cuts a block in two that isn't a hole, it is appended anew with zeros past the size, as
+/// `blocks_of_truncate` counts it.
 pub fn truncate<B: Blocks>(
     table: &mut B,
     object: ObjectId,
@@ -75,12 +83,17 @@ pub fn truncate<B: Blocks>(
     requires tidy { Tidy (contents_of (B.log table.old).held) inode.now }
     requires pointers { PointersHeld (B.log table.old).held object inode.now }
     requires room { cut_count inode.now size ≤ length (B.log table.old).ahead }
-    ensures meaning { meaning (contents_of (B.log table.new).held) result ≡ effect (Truncate object size) moment (meaning (contents_of (B.log table.old).held) inode.now) }
+    ensures meaning { meaning (contents_of (B.log table.new).held) result
+        ≡ effect (Truncate object size) moment
+        (meaning (contents_of (B.log table.old).held) inode.now) }
     ensures tidy { Tidy (contents_of (B.log table.new).held) result }
     ensures pointers { PointersHeld (B.log table.new).held object result }
     ensures inode { Truncated (B.log table.old).ahead moment size inode.now result }
-    ensures log { B.log table.new ≡ with_data object (blocks_cut (contents_of (B.log table.old).held) inode.now size) (B.log table.old) }
-    ensures growth { GrowsBy object (blocks_cut (contents_of (B.log table.old).held) inode.now size) (B.log table.old) (B.log table.new) }
+    ensures log { B.log table.new
+        ≡ with_data object (blocks_cut (contents_of (B.log table.old).held) inode.now size)
+        (B.log table.old) }
+    ensures growth { GrowsBy object (blocks_cut (contents_of (B.log table.old).held) inode.now size)
+        (B.log table.old) (B.log table.new) }
 {
     let mut next = without_pointers_past(inode, size);
     next.size = size;

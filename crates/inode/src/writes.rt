@@ -1,4 +1,5 @@
-ghost use Rattle.std.specs.Prelude.{◌≡◌, ℕ, ◌+◌, ◌-◌, ◌*◌, ◌/◌, ◌<◌, ◌≤◌, if◌then◌else◌, Some, None, length, slice_get};
+ghost use Rattle.std.specs.Prelude.{◌≡◌, ℕ, ◌+◌, ◌-◌, ◌*◌, ◌/◌, ◌<◌, ◌≤◌, if◌then◌else◌, Some};
+ghost use Rattle.std.specs.Prelude.{None, length, slice_get};
 ghost use Rattle.s4_types.specs.declared.limits.TheConstants.{OBJECT_BLOCKS, OBJECT_BYTES};
 ghost use Rattle.s4_types.specs.declared.changes.Change.TheVariants.{Write};
 ghost use Rattle.s4_model.specs.Effect.{effect};
@@ -7,7 +8,8 @@ ghost use Rattle.inode.specs.Contents.{meaning, contents_of};
 ghost use Rattle.inode.specs.Tidiness.{Tidy, PointersHeld, PointersLead};
 ghost use Rattle.inode.specs.Growth.{log_grown, data_block, with_data, GrowsBy};
 ghost use Rattle.inode.specs.Touched.{touched_count, is_touched};
-ghost use Rattle.inode.specs.Changed.{byte_written, block_of, blocks_written, size_written, Written};
+ghost use Rattle.inode.specs.Changed.{byte_written, block_of, blocks_written, size_written};
+ghost use Rattle.inode.specs.Changed.{Written};
 ghost use Rattle.inode.specs.private.Placing.{Placed};
 
 use crate::appends::append_data;
@@ -18,7 +20,8 @@ use codec::Inode;
 use s4_types::limits::BLOCK_BYTES;
 use s4_types::{Moment, ObjectId, Ptr};
 
-/// Puts the bytes of a write at an offset, as far as they stand in the block of an index, into that block.
+/// Puts the bytes of a write at an offset, as far as they are in the block of an index, into that
+/// block.
 fn place(block: &mut Block, index: usize, offset: usize, bytes: &[u8])
     requires index { index < OBJECT_BLOCKS }
     requires end { offset + length bytes.now ≤ OBJECT_BYTES }
@@ -34,7 +37,8 @@ fn place(block: &mut Block, index: usize, offset: usize, bytes: &[u8])
     block[from..to].copy_from_slice(&bytes[first..first + (to - from)]);
 }
 
-/// Appends the block of an index as a write leaves it: the bytes of the write that stand in it, and what was there.
+/// Appends the block of an index as a write leaves it: the bytes of the write that are in it, and
+/// what was there.
 #[tactic(auto, using(crate::proofs::Placing::placed_block, crate::proofs::Placing::covered_block))]
 fn write_block<B: Blocks>(
     table: &mut B,
@@ -52,7 +56,12 @@ fn write_block<B: Blocks>(
     requires count { length inode.now.pointers ≡ OBJECT_BLOCKS }
     requires lead { PointersLead (B.log table.old).held inode.now }
     requires room { 0 < length (B.log table.old).ahead }
-    ensures log { B.log table.new ≡ log_grown (B.log table.old) (data_block object (block_of (byte_written (contents_of (B.log table.old).held) inode.now offset bytes.now) index)) }
+    ensures log { B.log table.new
+        ≡ log_grown (B.log table.old)
+        (data_block object
+        (block_of
+        (byte_written (contents_of (B.log table.old).held) inode.now offset bytes.now)
+        index)) }
     ensures place { slice_get (B.log table.old).ahead 0 ≡ Some result }
     ensures fresh { (B.log table.old).held result ≡ None }
 {
@@ -67,7 +76,8 @@ fn write_block<B: Blocks>(
     append_data(table, object, &block)
 }
 
-/// Appends each block that a write touches, by ascending index, and answers the inode with pointers to them.
+/// Appends each block that a write touches, by ascending index, and answers the inode with pointers
+/// to them.
 fn write_blocks<B: Blocks>(
     table: &mut B,
     object: ObjectId,
@@ -80,11 +90,20 @@ fn write_blocks<B: Blocks>(
     requires count { length inode.now.pointers ≡ OBJECT_BLOCKS }
     requires lead { PointersLead (B.log table.old).held inode.now }
     requires room { touched_count offset (length bytes.now) ≤ length (B.log table.old).ahead }
-    ensures log { B.log table.new ≡ with_data object (blocks_written (contents_of (B.log table.old).held) inode.now offset bytes.now) (B.log table.old) }
-    ensures growth { GrowsBy object (blocks_written (contents_of (B.log table.old).held) inode.now offset bytes.now) (B.log table.old) (B.log table.new) }
+    ensures log { B.log table.new
+        ≡ with_data object
+        (blocks_written (contents_of (B.log table.old).held) inode.now offset bytes.now)
+        (B.log table.old) }
+    ensures growth { GrowsBy object
+        (blocks_written (contents_of (B.log table.old).held) inode.now offset bytes.now)
+        (B.log table.old) (B.log table.new) }
     ensures count { length result.pointers ≡ OBJECT_BLOCKS }
     ensures rest { result ≡ record inode.now { pointers = result.pointers } }
-    ensures pointers { (k : ℕ) → pointer_at result k ≡ (if is_touched offset (length bytes.now) k then slice_get (B.log table.old).ahead (k - offset / 512) else pointer_at inode.now k) }
+    ensures pointers { (k : ℕ)
+        → pointer_at result k
+        ≡ (if is_touched offset (length bytes.now) k
+        then slice_get (B.log table.old).ahead (k - offset / 512)
+        else pointer_at inode.now k) }
 {
     let first = offset / BLOCK_BYTES;
     let count = blocks_of_write(offset as u64, bytes.len());
@@ -107,9 +126,10 @@ fn size_after(size: u32, offset: usize, len: usize) -> u32
     size.max((offset + len) as u32)
 }
 
-/// Writes bytes at an offset of a live object, up to a size of at most `OBJECT_BYTES`, and answers its next inode, changed
-/// at the moment. Each block that has one of the bytes is appended anew, by ascending index, as `blocks_of_write` counts
-/// them; between the old end and the offset stand zeros. Without bytes nothing but the moment changes.
+/// Writes bytes at an offset of a live object, up to a size of at most `OBJECT_BYTES`, and answers
+/// its next inode, changed at the moment. Each block that has one of the bytes is appended anew, by
+/// ascending index, as `blocks_of_write` counts them; between the old end and the offset stand
+/// zeros. Without bytes nothing but the moment changes.
 pub fn write<B: Blocks>(
     table: &mut B,
     object: ObjectId,
@@ -123,12 +143,20 @@ pub fn write<B: Blocks>(
     requires tidy { Tidy (contents_of (B.log table.old).held) inode.now }
     requires pointers { PointersHeld (B.log table.old).held object inode.now }
     requires room { touched_count offset (length bytes.now) ≤ length (B.log table.old).ahead }
-    ensures meaning { meaning (contents_of (B.log table.new).held) result ≡ effect (Write object offset bytes.now) moment (meaning (contents_of (B.log table.old).held) inode.now) }
+    ensures meaning { meaning (contents_of (B.log table.new).held) result
+        ≡ effect (Write object offset bytes.now) moment
+        (meaning (contents_of (B.log table.old).held) inode.now) }
     ensures tidy { Tidy (contents_of (B.log table.new).held) result }
     ensures pointers { PointersHeld (B.log table.new).held object result }
-    ensures inode { Written (B.log table.old).ahead moment offset (length bytes.now) inode.now result }
-    ensures log { B.log table.new ≡ with_data object (blocks_written (contents_of (B.log table.old).held) inode.now offset bytes.now) (B.log table.old) }
-    ensures growth { GrowsBy object (blocks_written (contents_of (B.log table.old).held) inode.now offset bytes.now) (B.log table.old) (B.log table.new) }
+    ensures inode { Written (B.log table.old).ahead moment offset (length bytes.now) inode.now
+        result }
+    ensures log { B.log table.new
+        ≡ with_data object
+        (blocks_written (contents_of (B.log table.old).held) inode.now offset bytes.now)
+        (B.log table.old) }
+    ensures growth { GrowsBy object
+        (blocks_written (contents_of (B.log table.old).held) inode.now offset bytes.now)
+        (B.log table.old) (B.log table.new) }
 {
     let offset = offset as usize;
     let mut next = write_blocks(table, object, inode, offset, bytes);

@@ -24,7 +24,7 @@ module _ (cleans : ℕ → DriveFields → Result (Unit {0}) Refusal → DriveFi
   run_more [] (y ∷ answers) d mid later actors between after s x run goes stands = absurd run
   run_more (first ∷ steps) [] d mid later actors between after s x run goes stands = absurd run
 
-  -- a run goes on by one step, whose answer is behind the others
+  -- a run goes on by one step, whose answer is after the others
   pub run_on : (steps : List Step) (answers given : List Answer) (d mid later : DriveFields) (actors between after : List ActorFields) (s : Step) (x : Answer)
       → given ≡ answers ++ x ∷ []
       → Run cleans commits begins frames d actors steps answers mid between

@@ -32,7 +32,7 @@ answer_to (Err refusal) = answer.Refused refusal
 abbrev pub with_told : ActorFields → SessionFields → ActorFields
 with_told a session = record a { session = session }
 
--- Nothing is to be done for want of a plan: all is as it was.
+-- Nothing is to be done for lack of a plan: all is as it was.
 pub record IsIdle (a : ActorFields) (x : Answer) (b : ActorFields) : Type 0 where
   pub answer : x ≡ answer.Idle
   pub actor : b ≡ a
@@ -72,7 +72,7 @@ pub record Resolves (object offset len : ℕ) (at : Option ℕ) (now : ℕ) (d :
   pub after : FitsLedger later.ledger b.session.told
   pub actor : b ≡ record a { session = record a.session { told = caught_up later.ledger a.session.told }; plan = plan_after planned a.plan }
 
--- the answer to a fetch of a plan: the bytes that it names, or want of memory for them
+-- the answer to a fetch of a plan: the bytes that it names, or lack of memory for them
 abbrev pub IsFetched : PlanFields → Answer → Type 0
 IsFetched plan x = (x ≡ answer.Bytes (bytes_planned plan)) ⊎ (x ≡ answer.Refused NoMemory)
 
@@ -104,7 +104,7 @@ abbrev pub moving_after : Result Move Refusal → Moving → Moving
 moving_after (Ok move) older = Planned move
 moving_after (Err refusal) older = older
 
--- Why a move of an object isn't planned: NoObject exactly where the object has no row; else want of memory or of a pin.
+-- Why a move of an object isn't planned: NoObject exactly where the object has no row; else lack of memory or of a pin.
 abbrev pub IsUnplanned : DriveFields → ℕ → Refusal → Type 0
 IsUnplanned d object refusal = ((refusal ≡ NoObject) × (row_of d.store.rows object ≡ None)) ⊎ (((refusal ≡ NoMemory) ⊎ (refusal ≡ Busy)) × IsSome (row_of d.store.rows object))
 
@@ -130,7 +130,7 @@ CopiesBy (Copied move) a x b = IsIdle a x b
 abbrev pub Copies : ActorFields → Answer → ActorFields → Type 0
 Copies a x b = CopiesBy a.moving a x b
 
--- Why a move isn't put in place: Stale exactly where it is out of date, which is looked at first; else want of room or of memory.
+-- Why a move isn't put in place: Stale exactly where it is out of date, which is looked at first; else lack of room or of memory.
 abbrev pub IsUnmoved : DriveFields → Move → Refusal → Type 0
 IsUnmoved d move refusal = ((refusal ≡ Stale) × (IsCurrent d move → ⊥)) ⊎ (((refusal ≡ NoRoom) ⊎ (refusal ≡ NoMemory)) × IsCurrent d move)
 

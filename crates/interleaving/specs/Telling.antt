@@ -53,7 +53,7 @@ pub record NamesNothing (request : Request) (now : ℕ) (h : History) (r : Reade
   pub step : ModelStep h r.role request now (reply.Refused refusal) after
   pub same : s ≡ r
 
--- A fetch is answered with the bytes that are named, or for want of memory; they are named no more. It is idle where none are.
+-- A fetch is answered with the bytes that are named, or for lack of memory; they are named no more. It is idle where none are.
 abbrev pub GivesBy : Option (List ℕ) → Reader → Answer → Reader → Type 0
 GivesBy None r x s = (x ≡ answer.Idle) × (s ≡ r)
 GivesBy (Some bytes) r x s = ((x ≡ answer.Bytes bytes) ⊎ (x ≡ answer.Refused NoMemory)) × (s ≡ record r { named = None })

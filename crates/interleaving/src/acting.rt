@@ -1,5 +1,6 @@
 //! Steps of one actor.
-ghost use Rattle.interleaving.specs.Acting.{Requests, Resolves, Fetches, Meets, Plans, Copies, Puts, Acts};
+ghost use Rattle.interleaving.specs.Acting.{Requests, Resolves, Fetches, Meets, Plans, Copies};
+ghost use Rattle.interleaving.specs.Acting.{Puts, Acts};
 
 use crate::actors::{Actor, Carried};
 use crate::acts::Act;
@@ -29,7 +30,8 @@ impl<J: Naming, M: Moves<J>> Actor<J, M> {
         at: Option<Moment>,
         now: Moment,
     ) -> Answer
-        ensures { Resolves object offset length at now drive.old self.old result drive.new self.new }
+        ensures { Resolves object offset length at now drive.old self.old result drive.new
+            self.new }
     {
         match drive.resolve(&mut self.session, object, offset, length, at, now) {
             Ok(plan) => {

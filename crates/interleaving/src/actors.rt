@@ -18,8 +18,8 @@ pub(crate) enum Carried<P: Drop, Q: Drop> {
     Moved(Q),
 }
 
-/// An actor: a session, with at most one plan of a read and at most one move, which is planned or copied. Contracts see all
-/// three. Dropping it gives its session's seat back and ends its pins.
+/// An actor: a session, with at most one plan of a read and at most one move, which is planned or
+/// copied. Contracts see all three. Dropping it gives its session's seat back and ends its pins.
 #[derive(Drop)]
 pub struct Actor<J: Naming, M: Moves<J>> {
     pub(crate) session: Session<J>,

@@ -25,7 +25,8 @@ pub enum Act {
     Fetch,
     /// The actor's session sees all accepted changes.
     Meet,
-    /// A plan to move an object's blocks out of a frame, which takes the place of a move that the actor has.
+    /// A plan to move an object's blocks out of a frame, which takes the place of a move that the
+    /// actor has.
     Plan {
         frame: u16,
         object: ObjectId,

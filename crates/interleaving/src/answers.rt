@@ -15,7 +15,8 @@ pub enum Answer {
     Done,
     /// The step was refused.
     Refused(Refusal),
-    /// There is no such actor, or it has no plan of the kind that the step names. Nothing has changed.
+    /// There is no such actor, or it has no plan of the kind that the step names. Nothing has
+    /// changed.
     Idle,
 }
 

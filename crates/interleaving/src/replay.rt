@@ -71,24 +71,31 @@ fn take_step<J: Naming, C: Cleans<J>, M: Moves<J>>(
 
 /// Takes these steps over a drive, one after another, and gives their answers in order.
 ///
-/// Whatever the steps are, each is answered as its own call answers over the drive and the actors as the steps before left them;
-/// and after each of them every object's blocks decode, at each moment that can be read, to exactly the version that the
-/// history tells.
+/// Whatever the steps are, each is answered as its own call answers over the drive and the actors
+/// as the steps before left them; and after each of them every object's blocks decode, at each
+/// moment that can be read, to exactly the version that the history tells.
 ///
-/// NoMemory alone, where the memory for the steps' copies and their answers is refused. It is asked for before the first step:
-/// nothing has changed then.
+/// NoMemory alone, where the memory for the steps' copies and their answers is refused. It is asked
+/// for before the first step: nothing has changed then.
 pub fn run<J: Naming, C: Cleans<J>, M: Moves<J>>(
     alloc: Global,
     drive: &mut Drive<J>,
     actors: &mut [Actor<J, M>],
     steps: &[Step],
 ) -> Result<Vec<Answer>, Refusal>
-    ensures run { IfOk result (λ answers. Run C.cleans M.commits J.base J.frames drive.old actors.old steps.now answers.items drive.new actors.new) }
-    // The same, told by the history alone: requests and reads that are resolved are the model's steps, a fetch gives the bytes
-    // that its plan named when it was made, and all other steps leave the history.
-    ensures model { IfOk result (λ answers. Replays (history_of drive.old) (map reader_of actors.old) steps.now answers.items (history_of drive.new) (map reader_of actors.new)) }
+    ensures run { IfOk result
+        (λ answers. Run C.cleans M.commits J.base J.frames drive.old actors.old steps.now
+        answers.items drive.new actors.new) }
+    // The same, told by the history alone: requests and reads that are resolved are the model's
+    // steps, a fetch gives the bytes that its plan named when it was made, and all other steps
+    // leave the history.
+    ensures model { IfOk result
+        (λ answers. Replays (history_of drive.old) (map reader_of actors.old) steps.now
+        answers.items (history_of drive.new) (map reader_of actors.new)) }
     // Where all actors are clients, nothing was lost of the past but by age.
-    ensures past { OnOk result (All (λ actor. actor.session.role ≡ Client) actors.old → KeepsThePast (history_of drive.old) (history_of drive.new)) }
+    ensures past { OnOk result
+        (All (λ actor. actor.session.role ≡ Client) actors.old
+        → KeepsThePast (history_of drive.old) (history_of drive.new)) }
     ensures decodes { DecodesWhereVisible (store_of drive.new) (state_in drive.new) }
     ensures base { (history_of drive.new).base ≡ J.base }
     ensures refusal { IfErr result (λ e. e ≡ NoMemory) }

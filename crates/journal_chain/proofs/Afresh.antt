@@ -102,7 +102,7 @@ pub record Replaced (first later : Place → Option Stored) (o : ℕ) (after : C
   pub filled : after.filled ≡ filled_bytes (packed entries)
   pub others : OnlyJournalChanged o first later
 
--- all blocks of the new entries stand beside the old ones, which are to be dropped
+-- all blocks of the new entries are beside the old ones, which are to be dropped
 pub beside_old : (log log1 log2 : Log) (chain : ChainFields) (new : Option Place) (old entries : List EntryFields) (o : ℕ) (head : Option Place) (places : List (Option Place))
     → log1 ≡ log → Holds log.held chain old → o ≡ chain.object → head ≡ chain.head → places ≡ map Some (places_back log.held head)
     → ((stale : List Place) → Standing o (of_kind Journal o log1.held) [] stale → Finished log2.held o stale new entries)

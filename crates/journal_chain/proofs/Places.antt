@@ -1,4 +1,4 @@
--- One place or another, and how often a place stands among places.
+-- One place or another, and how often a place is among places.
 use Rattle.std.proofs.Common.{◌≡◌, ◌+◌, ◌≤◌, Bool, true, false, ◌==◌, ◌&&◌, List, [], ◌∷◌, refl, ap, ◌∙◌, subst, arith}
 use Rattle.std.proofs.lemmas.Bool.{eqb-true, eq-eqb, and_parts, and_from, both_ways, false_from_ne_true}
 use Rattle.s4_types.specs.Pointer.{Place}

@@ -20,7 +20,7 @@ breaks_begins filled size sizes h =
     let there : breaks (filled_with filled size) sizes ≡ breaks size sizes = ap (λ n. breaks n sizes) (filled-begins filled size h) in
     omega arith
 
--- as many blocks as are needed stand on those that are kept, and hold all entries past a count
+-- as many blocks as are needed are on those that are kept, and hold all entries past a count
 pub record Pushed (count needed : ℕ) (kept_blocks after : List (List EntryFields)) : Type 0 where
   pub length_is : length after ≡ needed + length kept_blocks
   pub kept_are : drop needed after ≡ kept_blocks

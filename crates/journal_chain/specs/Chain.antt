@@ -14,11 +14,11 @@ use Rattle.journal_chain.specs.Packing.{packed, joined, filled_bytes, AllFit}
 abbrev pub BlockView : Type 0
 BlockView = Place → Option (List ℕ)
 
--- the fields that these bytes spell, if they are a journal block of the object
+-- the fields that these bytes encode, if they are a journal block of the object
 unfoldable pub journal_of : ℕ → List ℕ → Option JournalFields
 journal_of o bytes = all_of journal_at bytes >>= λ j. kept (j.object == o) j
 
--- the fields that the object's journal block at a place spells, if there is one
+-- the fields that the object's journal block at a place encodes, if there is one
 abbrev pub journal_in : ℕ → BlockView → Place → Option JournalFields
 journal_in o view p = view p >>= journal_of o
 
@@ -31,12 +31,12 @@ pub record Link : Type 0 where
   pub place : Place
   pub entries : List EntryFields
 
--- the block at this place, and what is found behind it
+-- the block at this place, and what is found after it
 abbrev pub linked : Place → JournalFields → List Link → List Link
 linked p block older = record { place = p; entries = block.entries } ∷ older
 
 -- The journal blocks from a head on, newest first: each names the place of the one before, and the oldest a hole. None
--- where no journal block is at a place that is named, or where so many blocks don't reach the hole.
+-- where no journal block is at a place that is named, or where this many blocks don't reach the hole.
 unfoldable pub links_from : ℕ → (Place → Option JournalFields) → Option Place → Option (List Link)
 links_from fuel blocks None = Some []
 links_from zero blocks (Some p) = None
@@ -83,13 +83,13 @@ pub record ChainFields : Type 0 where
 abbrev pub entries_held : (Place → Option Stored) → ChainFields → List EntryFields
 entries_held held chain = unwrap_or (chain_entries held chain.object chain.head) []
 
--- how often a place stands among places
+-- how often a place is among places
 unfoldable pub times : Place → List Place → ℕ
 times p [] = 0
 times p (q ∷ places) = bit (same_place p q) + times p places
 
 -- A view of an object's journal is a chain of these entries: its blocks, from the head on, are the packing of the entries;
--- each block that is there stands in the chain once, and no other does; and the two counts of bytes are right.
+-- each block that is there is in the chain once, and no other is; and the two counts of bytes are right.
 pub record IsChain (view : BlockView) (chain : ChainFields) (entries : List EntryFields) : Type 0 where
   pub blocks : chain_blocks view chain.object chain.head ≡ Some (packed entries)
   pub walk : entries_in view chain.object chain.head ≡ Some entries

@@ -6,7 +6,7 @@ use Rattle.s4_types.specs.declared.limits.TheConstants.{JOURNAL_ENTRY_BYTES}
 use Rattle.codec.specs.Entry.{EntryFields, entry_length, entries_length}
 use Rattle.journal_chain.specs.Sizes.{fits}
 
--- One more entry: behind those of the newest block if it fits there, else the first of a new block.
+-- One more entry: after those of the newest block if it fits there, else the first of a new block.
 unfoldable pub packed_with : List (List EntryFields) → EntryFields → List (List EntryFields)
 packed_with [] entry = (entry ∷ []) ∷ []
 packed_with (newest ∷ older) entry =
@@ -42,7 +42,7 @@ pub record IsBlock (entries : List EntryFields) : Type 0 where
   pub some : 0 < length entries
   pub few : entries_length entries ≤ JOURNAL_ENTRY_BYTES
 
--- the first entry of a block doesn't fit behind the entries of the block before, if there is one
+-- the first entry of a block doesn't fit after the entries of the block before, if there is one
 abbrev pub IsBehind : List (List EntryFields) → List EntryFields → Type 0
 IsBehind [] block = Unit {0}
 IsBehind (previous ∷ older) block = JOURNAL_ENTRY_BYTES < entries_length previous + first_length block
@@ -58,13 +58,13 @@ AllFit entries = AllByRecursion (λ e. entry_length e ≤ JOURNAL_ENTRY_BYTES) e
 
 -- ---- a push
 
--- how many blocks hold an entry that stands behind the first `count` of all entries
+-- how many blocks hold an entry that comes after the first `count` of all entries
 unfoldable pub blocks_past : ℕ → List (List EntryFields) → ℕ
 blocks_past count [] = 0
 blocks_past count (newest ∷ older) =
     (if nat_lt (count - length (joined older)) (length newest) then 1 else 0) + blocks_past count older
 
--- The blocks that a push of these entries leaves as they are: all but the head, where the first entry fits behind its
+-- The blocks that a push of these entries leaves as they are: all but the head, where the first entry fits after its
 -- entries.
 unfoldable pub blocks_kept : List (List EntryFields) → List EntryFields → List (List EntryFields)
 blocks_kept blocks [] = blocks

@@ -21,12 +21,12 @@ head_of (newest ∷ older) = Some newest.place
 abbrev pub fields_of_block : ℕ → Link → List Link → JournalFields
 fields_of_block o newest older = record { object = o; previous = head_of older; entries = newest.entries }
 
--- each block stands at its place, and names the place of the one before
+-- each block is at its place, and names the place of the one before
 abbrev pub Stands : ℕ → BlockView → List Link → Type 0
 Stands o view [] = Unit {0}
 Stands o view (newest ∷ older) = (journal_in o view newest.place ≡ Some (fields_of_block o newest older)) × Stands o view older
 
--- These blocks stand as a chain; each journal block of the object is one of them or is at one of these stale places, and
+-- These blocks are as a chain; each journal block of the object is one of them or is at one of these stale places, and
 -- is there once.
 pub record Standing (o : ℕ) (view : BlockView) (links : List Link) (stale : List Place) : Type 0 where
   pub stands : Stands o view links

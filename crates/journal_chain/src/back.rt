@@ -42,7 +42,8 @@ impl EntriesBack {
     /// Goes on to the block before, where all entries of the one being read were given.
     fn turn<B: Blocks>(&mut self, table: &mut B)
         requires { IsSome (entries_left (B.log table.old).held self.old) }
-        ensures left { entries_left (B.log table.new).held self.new ≡ entries_left (B.log table.old).held self.old }
+        ensures left { entries_left (B.log table.new).held self.new
+            ≡ entries_left (B.log table.old).held self.old }
         ensures end { self.new.entries ≡ [] → left (B.log table.old).held self.old ≡ [] }
         ensures same { B.log table.new ≡ B.log table.old }
     {
@@ -60,7 +61,8 @@ impl EntriesBack {
     /// The newest entry that was not given. None where all were.
     pub fn next<B: Blocks>(&mut self, table: &mut B) -> Option<Entry>
         requires { IsSome (entries_left (B.log table.old).held self.old) }
-        ensures gives { left (B.log table.old).held self.old ≡ left (B.log table.new).held self.new ++ option_to_list result }
+        ensures gives { left (B.log table.old).held self.old
+            ≡ left (B.log table.new).held self.new ++ option_to_list result }
         ensures end { IfNone result (left (B.log table.old).held self.old ≡ []) }
         ensures reads { IsSome (entries_left (B.log table.new).held self.new) }
         ensures same { B.log table.new ≡ B.log table.old }

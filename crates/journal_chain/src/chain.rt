@@ -1,6 +1,8 @@
-ghost use Rattle.std.specs.Prelude.{◌≡◌, ℕ, ◌+◌, ◌≤◌, ◌<◌, ◌++◌, List, [], ◌∷◌, length, map, None, Some, OnOk, OnErr, IfErr, MatchResult, IsSome, Option};
+ghost use Rattle.std.specs.Prelude.{◌≡◌, ℕ, ◌+◌, ◌≤◌, ◌<◌, ◌++◌, List, [], ◌∷◌, length, map, None};
+ghost use Rattle.std.specs.Prelude.{Some, OnOk, OnErr, IfErr, MatchResult, IsSome, Option};
 ghost use Rattle.std.specs.Option.{option_to_list};
-ghost use Rattle.s4_types.specs.declared.limits.TheConstants.{CHAIN_ENTRY_BYTES, JOURNAL_ENTRY_BYTES};
+ghost use Rattle.s4_types.specs.declared.limits.TheConstants.{CHAIN_ENTRY_BYTES};
+ghost use Rattle.s4_types.specs.declared.limits.TheConstants.{JOURNAL_ENTRY_BYTES};
 ghost use Rattle.s4_types.specs.Pointer.{Place};
 ghost use Rattle.s4_types.specs.declared.refusals.Refusal.TheVariants.{NoMemory};
 ghost use Rattle.block_log.specs.declared.kinds.BlockKind.TheVariants.{Journal};
@@ -9,7 +11,8 @@ ghost use Rattle.block_log.specs.Taken.{TakesPlaces};
 ghost use Rattle.codec.specs.Entry.{entry_length, entries_length};
 ghost use Rattle.journal_chain.specs.Sizes.{blocks_needed, filled_with};
 ghost use Rattle.journal_chain.specs.Packing.{AllFit, filled_bytes, packed};
-ghost use Rattle.journal_chain.specs.Chain.{ChainFields, Holds, OnlyJournalChanged, chain_entries, chain_places, entries_held};
+ghost use Rattle.journal_chain.specs.Chain.{ChainFields, Holds, OnlyJournalChanged, chain_entries};
+ghost use Rattle.journal_chain.specs.Chain.{chain_places, entries_held};
 ghost use Rattle.journal_chain.specs.Back.{entries_left};
 ghost use Rattle.journal_chain.specs.Push.{HasRoom, pushed_blocks, rewrite_refusal, whole_blocks};
 ghost use Rattle.journal_chain.specs.Writing.{Standing, Finished, Unfinished, reopened};
@@ -44,7 +47,8 @@ pub struct Chain {
 impl Model for Chain {
     ghost use Rattle.std.specs.Prelude.{◌≤◌};
     ghost use Rattle.journal_chain.specs.Chain.{ChainFields};
-    ghost use Rattle.s4_types.specs.declared.limits.TheConstants.{JOURNAL_ENTRY_BYTES, CHAIN_ENTRY_BYTES as MOST_BYTES};
+    ghost use Rattle.s4_types.specs.declared.limits.TheConstants.{JOURNAL_ENTRY_BYTES};
+    ghost use Rattle.s4_types.specs.declared.limits.TheConstants.{CHAIN_ENTRY_BYTES as MOST_BYTES};
 
     ghost Value = { ChainFields };
 
@@ -69,8 +73,8 @@ impl Chain {
         }
     }
 
-    /// The chain that an object's row tells of: its newest block, the bytes of all its entries, and those of the newest
-    /// block's entries.
+    /// The chain that an object's row tells of: its newest block, the bytes of all its entries, and
+    /// those of the newest block's entries.
     pub const fn of(object: ObjectId, head: Option<Ptr>, bytes: u16, filled: u16) -> Self
         requires object { 1 ≤ object }
         requires limit { bytes ≤ CHAIN_ENTRY_BYTES }
@@ -127,14 +131,16 @@ impl Chain {
         }
     }
 
-    /// The block that takes the first entry of a push, with that entry: the head's entries are before it if it fits
-    /// there.
+    /// The block that takes the first entry of a push, with that entry: the head's entries are
+    /// before it if it fits there.
     fn begun<B: Blocks>(&self, table: &mut B, first: &Entry) -> JournalBytes
-        requires { Holds (B.log table.old).held self.now (entries_held (B.log table.old).held self.now) }
+        requires { Holds (B.log table.old).held self.now
+            (entries_held (B.log table.old).held self.now) }
         ensures unfinished { Unfinished (B.log table.new).held self.now.object (option_to_list (reopened self.now (entry_length first.now))) result
             (entries_held (B.log table.old).held self.now ++ first.now ∷ []) }
         ensures object { result.object ≡ self.now.object }
-        ensures filled { entries_length result.entries ≡ filled_with self.now.filled (entry_length first.now) }
+        ensures filled { entries_length result.entries
+            ≡ filled_with self.now.filled (entry_length first.now) }
         ensures same { B.log table.new ≡ B.log table.old }
     {
         match self.reopened(first.byte_count()) {
@@ -147,7 +153,8 @@ impl Chain {
         }
     }
 
-    /// The chain has another head, with so many bytes of entries, and so many bytes of entries more than before.
+    /// The chain has another head, with this many bytes of entries, and this many bytes of entries
+    /// more than before.
     fn set_head(&mut self, head: Ptr, bytes: usize, filled: usize)
         requires limit { self.old.bytes + bytes ≤ CHAIN_ENTRY_BYTES }
         requires one_block { filled ≤ JOURNAL_ENTRY_BYTES }
@@ -166,14 +173,19 @@ impl Chain {
         later: OtherEntries<'_>,
         bytes: usize,
     )
-        requires held { Holds (B.log table.old).held self.old (entries_held (B.log table.old).held self.old) }
+        requires held { Holds (B.log table.old).held self.old
+            (entries_held (B.log table.old).held self.old) }
         requires fit { AllFit (first.now ∷ later) }
         requires bytes { bytes ≡ entries_length (first.now ∷ later) }
         requires limit { self.old.bytes + bytes ≤ CHAIN_ENTRY_BYTES }
-        requires room { pushed_blocks self.old (first.now ∷ later) ≤ length (B.log table.old).ahead }
-        ensures holds { Holds (B.log table.new).held self.new (entries_held (B.log table.old).held self.old ++ first.now ∷ later.entry) }
-        ensures others { OnlyJournalChanged self.old.object (B.log table.old).held (B.log table.new).held }
-        ensures takes { TakesPlaces (pushed_blocks self.old (first.now ∷ later.entry)) (B.log table.old) (B.log table.new) }
+        requires room { pushed_blocks self.old (first.now ∷ later)
+            ≤ length (B.log table.old).ahead }
+        ensures holds { Holds (B.log table.new).held self.new
+            (entries_held (B.log table.old).held self.old ++ first.now ∷ later.entry) }
+        ensures others { OnlyJournalChanged self.old.object (B.log table.old).held
+            (B.log table.new).held }
+        ensures takes { TakesPlaces (pushed_blocks self.old (first.now ∷ later.entry))
+            (B.log table.old) (B.log table.new) }
         ensures named { (B.log table.new).named ≡ (B.log table.old).named }
         ensures object { self.new.object ≡ self.old.object }
     {
@@ -188,14 +200,18 @@ impl Chain {
         self.set_head(head, bytes, block.entry_bytes());
     }
 
-    /// Appends the entries of a change, which have so many bytes, and for which there is room.
+    /// Appends the entries of a change, which have this many bytes, and for which there is room.
     pub fn push<B: Blocks>(&mut self, table: &mut B, entries: &EntriesBetween<'_>, bytes: usize)
-        requires held { Holds (B.log table.old).held self.old (entries_held (B.log table.old).held self.old) }
+        requires held { Holds (B.log table.old).held self.old
+            (entries_held (B.log table.old).held self.old) }
         requires bytes { bytes ≡ entries_length entries.now }
         requires room { HasRoom self.old (B.log table.old).ahead entries.now }
-        ensures holds { Holds (B.log table.new).held self.new (entries_held (B.log table.old).held self.old ++ entries.now) }
-        ensures others { OnlyJournalChanged self.old.object (B.log table.old).held (B.log table.new).held }
-        ensures takes { TakesPlaces (pushed_blocks self.old entries.now) (B.log table.old) (B.log table.new) }
+        ensures holds { Holds (B.log table.new).held self.new
+            (entries_held (B.log table.old).held self.old ++ entries.now) }
+        ensures others { OnlyJournalChanged self.old.object (B.log table.old).held
+            (B.log table.new).held }
+        ensures takes { TakesPlaces (pushed_blocks self.old entries.now) (B.log table.old)
+            (B.log table.new) }
         ensures named { (B.log table.new).named ≡ (B.log table.old).named }
         ensures object { self.new.object ≡ self.old.object }
     {
@@ -213,11 +229,12 @@ impl Chain {
 
     /// All entries, the oldest first.
     ///
-    /// NoMemory alone, where the memory for them is refused: it is asked for once, for as many as the chain's bytes
-    /// could hold.
+    /// NoMemory alone, where the memory for them is refused: it is asked for once, for as many as
+    /// the chain's bytes could hold.
     pub fn entries<B: Blocks>(&self, alloc: Global, table: &mut B) -> Result<Vec<Entry>, Refusal>
         requires { IsSome (chain_entries (B.log table.old).held self.now.object self.now.head) }
-        ensures entries { MatchResult result (λ v. v.items ≡ entries_held (B.log table.old).held self.now) (λ e. e ≡ NoMemory) }
+        ensures entries { MatchResult result
+            (λ v. v.items ≡ entries_held (B.log table.old).held self.now) (λ e. e ≡ NoMemory) }
         ensures same { B.log table.new ≡ B.log table.old }
     {
         let mut entries = Vec::with_capacity(alloc, self.bytes() / SHORTEST_ENTRY_BYTES)?;
@@ -238,7 +255,12 @@ impl Chain {
         into: &mut Vec<Option<Ptr>>,
     ) -> Result<(), Refusal>
         requires { IsSome (chain_entries (B.log table.old).held self.now.object self.now.head) }
-        ensures added { OnOk result (into.new.items ≡ into.old.items ++ map Some (chain_places (of_kind Journal self.now.object (B.log table.old).held) self.now.object self.now.head)) }
+        ensures added { OnOk result
+            (into.new.items
+            ≡ into.old.items
+            ++ map Some
+            (chain_places (of_kind Journal self.now.object (B.log table.old).held)
+            self.now.object self.now.head)) }
         ensures refusal { IfErr result (λ e. e ≡ NoMemory) }
         ensures same { B.log table.new ≡ B.log table.old }
     {
@@ -247,7 +269,8 @@ impl Chain {
         Ok(())
     }
 
-    /// Writes all blocks of an object's chain, and answers the chain. What stands of an older one is not touched.
+    /// Writes all blocks of an object's chain, and answers the chain. What stands of an older one
+    /// is not touched.
     fn afresh<B: Blocks>(
         object: ObjectId,
         table: &mut B,
@@ -263,7 +286,8 @@ impl Chain {
         ensures filled { (stale : List Place) → Standing object (of_kind Journal object (B.log table.old).held) [] stale
             → result.filled ≡ filled_bytes (packed (first.now ∷ later.now)) }
         ensures others { OnlyJournalChanged object (B.log table.old).held (B.log table.new).held }
-        ensures takes { TakesPlaces (whole_blocks (first.now ∷ later.now)) (B.log table.old) (B.log table.new) }
+        ensures takes { TakesPlaces (whole_blocks (first.now ∷ later.now)) (B.log table.old)
+            (B.log table.new) }
         ensures named { (B.log table.new).named ≡ (B.log table.old).named }
         ensures object { result.object ≡ object }
         ensures bytes { result.bytes ≡ bytes }
@@ -279,14 +303,17 @@ impl Chain {
 
     /// Writes the chain afresh where there is room, and drops its old blocks.
     fn replace<B: Blocks>(&mut self, table: &mut B, first: &Entry, later: &[Entry], bytes: usize)
-        requires held { Holds (B.log table.old).held self.old (entries_held (B.log table.old).held self.old) }
+        requires held { Holds (B.log table.old).held self.old
+            (entries_held (B.log table.old).held self.old) }
         requires fit { AllFit (first.now ∷ later.now) }
         requires bytes { bytes ≡ entries_length (first.now ∷ later.now) }
         requires limit { bytes ≤ CHAIN_ENTRY_BYTES }
         requires room { whole_blocks (first.now ∷ later.now) ≤ length (B.log table.old).ahead }
         ensures holds { Holds (B.log table.new).held self.new (first.now ∷ later.now) }
-        ensures others { OnlyJournalChanged self.old.object (B.log table.old).held (B.log table.new).held }
-        ensures takes { TakesPlaces (whole_blocks (first.now ∷ later.now)) (B.log table.old) (B.log table.new) }
+        ensures others { OnlyJournalChanged self.old.object (B.log table.old).held
+            (B.log table.new).held }
+        ensures takes { TakesPlaces (whole_blocks (first.now ∷ later.now)) (B.log table.old)
+            (B.log table.new) }
         ensures named { (B.log table.new).named ≡ (B.log table.old).named }
         ensures object { self.new.object ≡ self.old.object }
     {
@@ -301,9 +328,11 @@ impl Chain {
 
     /// Drops all of the chain's blocks.
     fn clear<B: Blocks>(&mut self, table: &mut B)
-        requires { Holds (B.log table.old).held self.old (entries_held (B.log table.old).held self.old) }
+        requires { Holds (B.log table.old).held self.old
+            (entries_held (B.log table.old).held self.old) }
         ensures holds { Holds (B.log table.new).held self.new [] }
-        ensures others { OnlyJournalChanged self.old.object (B.log table.old).held (B.log table.new).held }
+        ensures others { OnlyJournalChanged self.old.object (B.log table.old).held
+            (B.log table.new).held }
         ensures takes { TakesPlaces 0 (B.log table.old) (B.log table.new) }
         ensures named { (B.log table.new).named ≡ (B.log table.old).named }
         ensures object { self.new.object ≡ self.old.object }
@@ -314,20 +343,27 @@ impl Chain {
         *self = Chain::empty(object);
     }
 
-    /// Writes the whole chain afresh with these entries, the oldest first, at most `CHAIN_ENTRY_BYTES` of them, and drops
-    /// its old blocks.
+    /// Writes the whole chain afresh with these entries, the oldest first, at most
+    /// `CHAIN_ENTRY_BYTES` of them, and drops its old blocks.
     ///
-    /// NoRoom exactly where fewer places are ahead than the new chain has blocks; then nothing has changed.
+    /// NoRoom exactly where fewer places are ahead than the new chain has blocks; then nothing has
+    /// changed.
     pub fn rewrite<B: Blocks>(&mut self, table: &mut B, entries: &[Entry]) -> Result<(), Refusal>
-        requires held { Holds (B.log table.old).held self.old (entries_held (B.log table.old).held self.old) }
+        requires held { Holds (B.log table.old).held self.old
+            (entries_held (B.log table.old).held self.old) }
         requires limit { entries_length entries.now ≤ CHAIN_ENTRY_BYTES }
         ensures holds { OnOk result (Holds (B.log table.new).held self.new entries.now) }
-        ensures others { OnlyJournalChanged self.old.object (B.log table.old).held (B.log table.new).held }
-        ensures takes { OnOk result (TakesPlaces (whole_blocks entries.now) (B.log table.old) (B.log table.new)) }
+        ensures others { OnlyJournalChanged self.old.object (B.log table.old).held
+            (B.log table.new).held }
+        ensures takes { OnOk result
+            (TakesPlaces (whole_blocks entries.now) (B.log table.old) (B.log table.new)) }
         ensures named { (B.log table.new).named ≡ (B.log table.old).named }
-        ensures answer { MatchResult result (λ _. rewrite_refusal (B.log table.old).ahead entries.now ≡ None) (λ e. rewrite_refusal (B.log table.old).ahead entries.now ≡ Some e) }
+        ensures answer { MatchResult result
+            (λ _. rewrite_refusal (B.log table.old).ahead entries.now ≡ None)
+            (λ e. rewrite_refusal (B.log table.old).ahead entries.now ≡ Some e) }
         ensures object { self.new.object ≡ self.old.object }
-        ensures unchanged { OnErr result ((B.log table.new ≡ B.log table.old) × (self.new ≡ self.old)) }
+        ensures unchanged { OnErr result
+            ((B.log table.new ≡ B.log table.old) × (self.new ≡ self.old)) }
     {
         chains_are_short();
         let bytes = bytes_of(entries);

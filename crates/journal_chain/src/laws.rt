@@ -6,15 +6,18 @@ ghost use Rattle.block_log.specs.Log.{Stored, of_kind};
 ghost use Rattle.codec.specs.Entry.{EntryFields};
 ghost use Rattle.journal_chain.specs.Chain.{ChainFields, Holds, OnlyJournalChanged, entries_held};
 
-/// A chain is a matter of its object's journal blocks alone: where those are the same, so is the chain.
+/// A chain is a matter of its object's journal blocks alone: where those are the same, so is the
+/// chain.
 pub fn a_chain_is_its_journal_blocks()
     ensures { (held later : Place → Option Stored) (chain : ChainFields) (entries : List EntryFields)
-        → of_kind Journal chain.object later ≡ of_kind Journal chain.object held → Holds held chain entries → Holds later chain entries }
+        → of_kind Journal chain.object later ≡ of_kind Journal chain.object held
+        → Holds held chain entries → Holds later chain entries }
 {}
 
 /// A chain that is held has the entries that are found from its head on.
 pub fn a_chain_has_its_entries()
-    ensures { (held : Place → Option Stored) (chain : ChainFields) (entries : List EntryFields) → Holds held chain entries → entries_held held chain ≡ entries }
+    ensures { (held : Place → Option Stored) (chain : ChainFields) (entries : List EntryFields)
+        → Holds held chain entries → entries_held held chain ≡ entries }
 {}
 
 /// Where no journal block of an object is held, its empty chain is.
@@ -26,10 +29,13 @@ pub fn an_empty_chain_is_held()
 /// Where one object's journal alone has changed, the chains of all others are held as before.
 pub fn other_chains_stay()
     ensures { (o : ℕ) (held later : Place → Option Stored) (chain : ChainFields) (entries : List EntryFields)
-        → OnlyJournalChanged o held later → (o == chain.object) ≡ false → Holds held chain entries → Holds later chain entries }
+        → OnlyJournalChanged o held later → (o == chain.object) ≡ false → Holds held chain entries
+        → Holds later chain entries }
 {}
 
 /// What changes one object's journal alone twice does so as a whole.
 pub fn changes_add_up()
-    ensures { (o : ℕ) (held between later : Place → Option Stored) → OnlyJournalChanged o held between → OnlyJournalChanged o between later → OnlyJournalChanged o held later }
+    ensures { (o : ℕ) (held between later : Place → Option Stored)
+        → OnlyJournalChanged o held between
+        → OnlyJournalChanged o between later → OnlyJournalChanged o held later }
 {}

@@ -36,11 +36,14 @@ pub(crate) fn places<B: Blocks>(table: &mut B, head: Option<Ptr>) -> Places
 
 fn drop_one<B: Blocks>(table: &mut B, place: Option<Ptr>)
     ensures finished { (o : ℕ) (stale : List Place) (head : Option Place) (entries : List EntryFields)
-        → Finished (B.log table.old).held o (option_to_list place ++ stale) head entries → Finished (B.log table.new).held o stale head entries }
+        → Finished (B.log table.old).held o (option_to_list place ++ stale) head entries
+        → Finished (B.log table.new).held o stale head entries }
     ensures others { (o : ℕ) (stale : List Place) (head : Option Place) (entries : List EntryFields)
-        → Finished (B.log table.old).held o (option_to_list place ++ stale) head entries → OnlyJournalChanged o (B.log table.old).held (B.log table.new).held }
+        → Finished (B.log table.old).held o (option_to_list place ++ stale) head entries
+        → OnlyJournalChanged o (B.log table.old).held (B.log table.new).held }
     ensures named { (o : ℕ) (stale : List Place) (head : Option Place) (entries : List EntryFields)
-        → Finished (B.log table.old).held o (option_to_list place ++ stale) head entries → (B.log table.new).named ≡ (B.log table.old).named }
+        → Finished (B.log table.old).held o (option_to_list place ++ stale) head entries
+        → (B.log table.new).named ≡ (B.log table.old).named }
     ensures takes { TakesPlaces 0 (B.log table.old) (B.log table.new) }
 {
     a_drop_takes_no_place();
@@ -54,11 +57,14 @@ fn drop_one<B: Blocks>(table: &mut B, place: Option<Ptr>)
 /// Drops the blocks at all of these places.
 pub(crate) fn drop_all<B: Blocks>(table: &mut B, places: &[Option<Ptr>])
     ensures finished { (o : ℕ) (head : Option Place) (entries : List EntryFields)
-        → Finished (B.log table.old).held o (flat_map option_to_list places.now) head entries → Finished (B.log table.new).held o [] head entries }
+        → Finished (B.log table.old).held o (flat_map option_to_list places.now) head entries
+        → Finished (B.log table.new).held o [] head entries }
     ensures others { (o : ℕ) (head : Option Place) (entries : List EntryFields)
-        → Finished (B.log table.old).held o (flat_map option_to_list places.now) head entries → OnlyJournalChanged o (B.log table.old).held (B.log table.new).held }
+        → Finished (B.log table.old).held o (flat_map option_to_list places.now) head entries
+        → OnlyJournalChanged o (B.log table.old).held (B.log table.new).held }
     ensures named { (o : ℕ) (head : Option Place) (entries : List EntryFields)
-        → Finished (B.log table.old).held o (flat_map option_to_list places.now) head entries → (B.log table.new).named ≡ (B.log table.old).named }
+        → Finished (B.log table.old).held o (flat_map option_to_list places.now) head entries
+        → (B.log table.new).named ≡ (B.log table.old).named }
     ensures takes { TakesPlaces 0 (B.log table.old) (B.log table.new) }
 {
     no_change_takes_no_place();

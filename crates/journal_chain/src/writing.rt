@@ -1,5 +1,6 @@
 //! Entries taken into the newest block, which is in memory, and blocks appended as they fill.
-ghost use Rattle.std.specs.Prelude.{◌≡◌, ℕ, ◌+◌, ◌≤◌, ◌<◌, ◌++◌, List, [], ◌∷◌, length, map, Option, Some, None};
+ghost use Rattle.std.specs.Prelude.{◌≡◌, ℕ, ◌+◌, ◌≤◌, ◌<◌, ◌++◌, List, [], ◌∷◌, length, map};
+ghost use Rattle.std.specs.Prelude.{Option, Some, None};
 ghost use Rattle.std.specs.Option.{option_to_list};
 ghost use Rattle.s4_types.specs.Pointer.{Place};
 ghost use Rattle.s4_types.specs.declared.limits.TheConstants.{CHAIN_ENTRIES};
@@ -52,19 +53,25 @@ pub(crate) fn first_block(object: ObjectId, first: &Entry) -> JournalBytes
     JournalBytes::new(object, None, first).unwrap()
 }
 
-/// Takes one entry more into the block, if it fits behind the others there; else the block is appended, and the entry
-/// is the first of the next.
+/// Takes one entry more into the block, if it fits after the others there; else the block is
+/// appended, and the entry is the first of the next.
 pub(crate) fn take<B: Blocks>(table: &mut B, block: &mut JournalBytes, entry: &Entry)
     requires object { 1 ≤ block.old.object }
-    requires room { breaks (entries_length block.old.entries) (entry_length entry.now ∷ []) ≤ length (B.log table.old).ahead }
+    requires room { breaks (entries_length block.old.entries) (entry_length entry.now ∷ [])
+        ≤ length (B.log table.old).ahead }
     ensures unfinished { (stale : List Place) (entries : List EntryFields)
         → Unfinished (B.log table.old).held block.old.object stale block.old entries
-        → Unfinished (B.log table.new).held block.old.object stale block.new (entries ++ entry.now ∷ []) }
-    ensures others { OnlyJournalChanged block.old.object (B.log table.old).held (B.log table.new).held }
-    ensures takes { TakesPlaces (breaks (entries_length block.old.entries) (entry_length entry.now ∷ [])) (B.log table.old) (B.log table.new) }
+        → Unfinished (B.log table.new).held block.old.object stale block.new
+        (entries ++ entry.now ∷ []) }
+    ensures others { OnlyJournalChanged block.old.object (B.log table.old).held
+        (B.log table.new).held }
+    ensures takes { TakesPlaces
+        (breaks (entries_length block.old.entries) (entry_length entry.now ∷ [])) (B.log table.old)
+        (B.log table.new) }
     ensures named { (B.log table.new).named ≡ (B.log table.old).named }
     ensures object { block.new.object ≡ block.old.object }
-    ensures filled { entries_length block.new.entries ≡ filled_with (entries_length block.old.entries) (entry_length entry.now) }
+    ensures filled { entries_length block.new.entries
+        ≡ filled_with (entries_length block.old.entries) (entry_length entry.now) }
 {
     no_change_takes_no_place();
     if block.fits(entry) {
@@ -78,12 +85,17 @@ pub(crate) fn take<B: Blocks>(table: &mut B, block: &mut JournalBytes, entry: &E
 /// Takes entries into the block, one after another, and appends each block that is full.
 pub(crate) fn take_all<B: Blocks>(table: &mut B, block: &mut JournalBytes, entries: &[Entry])
     requires object { 1 ≤ block.old.object }
-    requires room { breaks (entries_length block.old.entries) (map entry_length entries.now) ≤ length (B.log table.old).ahead }
+    requires room { breaks (entries_length block.old.entries) (map entry_length entries.now)
+        ≤ length (B.log table.old).ahead }
     ensures unfinished { (stale : List Place) (before : List EntryFields)
         → Unfinished (B.log table.old).held block.old.object stale block.old before
-        → Unfinished (B.log table.new).held block.old.object stale block.new (before ++ entries.now) }
-    ensures others { OnlyJournalChanged block.old.object (B.log table.old).held (B.log table.new).held }
-    ensures takes { TakesPlaces (breaks (entries_length block.old.entries) (map entry_length entries.now)) (B.log table.old) (B.log table.new) }
+        → Unfinished (B.log table.new).held block.old.object stale block.new
+        (before ++ entries.now) }
+    ensures others { OnlyJournalChanged block.old.object (B.log table.old).held
+        (B.log table.new).held }
+    ensures takes { TakesPlaces
+        (breaks (entries_length block.old.entries) (map entry_length entries.now)) (B.log table.old)
+        (B.log table.new) }
     ensures named { (B.log table.new).named ≡ (B.log table.old).named }
     ensures object { block.new.object ≡ block.old.object }
 {
@@ -94,19 +106,25 @@ pub(crate) fn take_all<B: Blocks>(table: &mut B, block: &mut JournalBytes, entri
     }
 }
 
-/// Takes the other entries of a change into the block, one after another as they are made, and appends each block that is full.
+/// Takes the other entries of a change into the block, one after another as they are made, and
+/// appends each block that is full.
 pub(crate) fn take_others<B: Blocks>(
     table: &mut B,
     block: &mut JournalBytes,
     others: OtherEntries<'_>,
 )
     requires object { 1 ≤ block.old.object }
-    requires room { breaks (entries_length block.old.entries) (map entry_length others) ≤ length (B.log table.old).ahead }
+    requires room { breaks (entries_length block.old.entries) (map entry_length others)
+        ≤ length (B.log table.old).ahead }
     ensures unfinished { (stale : List Place) (before : List EntryFields)
         → Unfinished (B.log table.old).held block.old.object stale block.old before
-        → Unfinished (B.log table.new).held block.old.object stale block.new (before ++ others.entry) }
-    ensures others { OnlyJournalChanged block.old.object (B.log table.old).held (B.log table.new).held }
-    ensures takes { TakesPlaces (breaks (entries_length block.old.entries) (map entry_length others.entry)) (B.log table.old) (B.log table.new) }
+        → Unfinished (B.log table.new).held block.old.object stale block.new
+        (before ++ others.entry) }
+    ensures others { OnlyJournalChanged block.old.object (B.log table.old).held
+        (B.log table.new).held }
+    ensures takes { TakesPlaces
+        (breaks (entries_length block.old.entries) (map entry_length others.entry))
+        (B.log table.old) (B.log table.new) }
     ensures named { (B.log table.new).named ≡ (B.log table.old).named }
     ensures object { block.new.object ≡ block.old.object }
 {
@@ -117,18 +135,21 @@ pub(crate) fn take_others<B: Blocks>(
     }
 }
 
-/// Appends the last block, and drops the one that it stands for, if any.
+/// Appends the last block, and drops the one that it represents, if any.
 pub(crate) fn finish<B: Blocks>(table: &mut B, block: &JournalBytes, stale: Option<Ptr>) -> Ptr
     requires object { 1 ≤ block.now.object }
     requires room { 0 < length (B.log table.old).ahead }
     ensures finished { (entries : List EntryFields)
-        → Unfinished (B.log table.old).held block.now.object (option_to_list stale) block.now entries
+        → Unfinished (B.log table.old).held block.now.object (option_to_list stale) block.now
+        entries
         → Finished (B.log table.new).held block.now.object [] (Some result) entries }
     ensures others { (entries : List EntryFields)
-        → Unfinished (B.log table.old).held block.now.object (option_to_list stale) block.now entries
+        → Unfinished (B.log table.old).held block.now.object (option_to_list stale) block.now
+        entries
         → OnlyJournalChanged block.now.object (B.log table.old).held (B.log table.new).held }
     ensures named { (entries : List EntryFields)
-        → Unfinished (B.log table.old).held block.now.object (option_to_list stale) block.now entries
+        → Unfinished (B.log table.old).held block.now.object (option_to_list stale) block.now
+        entries
         → (B.log table.new).named ≡ (B.log table.old).named }
     ensures takes { TakesPlaces 1 (B.log table.old) (B.log table.new) }
 {

@@ -77,14 +77,14 @@ hidden_is_unchanged rows spans shown i d lt outside =
       | inr none ↦ none
     ]
 
--- ---- lines in front of a row, behind it, and from it to another
+-- ---- lines in front of a row, after it, and from it to another
 
 old_behind : (rows : List TextRow) (a : ℕ) → drop (length (old_lines (take a rows))) (old_lines rows) ≡ old_lines (drop a rows)
 old_behind rows a =
     let n = length (old_lines (take a rows)) in
     ap (drop n) (ap old_lines (sym (take-append-drop a rows)) ∙ old_both (take a rows) (drop a rows)) ∙ drop-append_seam (old_lines (take a rows)) (old_lines (drop a rows))
 
--- rows behind one are those up to another and those behind it
+-- rows after one are those up to another and those after it
 cut : (rows : List TextRow) (a b : ℕ) → a ≤ b → take (b - a) (drop a rows) ++ drop b rows ≡ drop a rows
 cut rows a b le =
     let whole : a + (b - a) ≡ b = omega (arith, le) in

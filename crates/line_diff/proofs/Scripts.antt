@@ -20,7 +20,7 @@ parts lines front back = sym (take-append-drop front lines) ∙ ap (λ (l : List
 middle_count : (lines : List (List ℕ)) (front back : ℕ) → length (middle lines front back) ≡ length (drop front lines) - back
 middle_count lines front back = length-take-le (length (drop front lines) - back) (drop front lines) (omega arith)
 
--- where there are any, they begin behind the front
+-- where there are any, they begin after the front
 within_front : (lines : List (List ℕ)) (front back : ℕ) → 0 < length (middle lines front back) → front < length lines
 within_front lines front back some = omega (arith, some, middle_count lines front back, length-drop front lines)
 

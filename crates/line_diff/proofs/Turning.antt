@@ -75,7 +75,7 @@ turns_change old new =
 pub reached_none : (old new : List (List ℕ)) → IsReached old new (record { old = 0; new = 0 }) []
 reached_none old new = record { within_old = omega arith; within_new = omega arith; turns = record { before = refl; after = refl } }
 
--- the rows that remove and add what is in front of a match, and keep its line, reach behind it
+-- the rows that remove and add what is in front of a match, and keep its line, reach after it
 pub reached_more : (old new : List (List ℕ)) (at place : Place) (rows : List TextRow) (n : ℕ) → n ≡ 1 → IsReached old new at rows → IsNextMatch old new at place
     → IsReached old new (record { old = place.old + 1; new = place.new + 1 })
     ((rows ++ change_rows (take (place.old - at.old) (drop at.old old)) (take (place.new - at.new) (drop at.new new))) ++ map (row_with Kept) (take n (drop place.old old)))

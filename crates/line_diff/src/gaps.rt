@@ -52,7 +52,7 @@ pub(crate) fn push_gap(
     push_middle(alloc, matches, old, new, from, front)
 }
 
-// Adds places behind those keys that two lists begin with alike.
+// Adds places after those keys that two lists begin with alike.
 fn push_middle(
     alloc: Global,
     matches: &mut Vec<Place>,

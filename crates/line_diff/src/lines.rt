@@ -15,7 +15,9 @@ fn ended_line(alloc: Global, text: &str) -> Result<String, AllocError>
 
 // Adds what follows the last newline, if anything does.
 fn push_last(alloc: Global, lines: &mut Vec<String>, rest: &str) -> Result<(), AllocError>
-    ensures { OnOk result (map string_bytes lines.new.items ≡ map string_bytes lines.old.items ++ last_line rest.now) }
+    ensures { OnOk result
+        (map string_bytes lines.new.items
+        ≡ map string_bytes lines.old.items ++ last_line rest.now) }
 {
     if rest.is_empty() {
         return Ok(());

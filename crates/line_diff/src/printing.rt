@@ -1,9 +1,11 @@
 //! The text of a unified difference.
-ghost use Rattle.std.specs.Prelude.{◌≡◌, ◌++◌, ◌+◌, ◌<◌, ◌≤◌, ◌^◌, map, length, count_by, IfOk, OnOk, string_bytes};
+ghost use Rattle.std.specs.Prelude.{◌≡◌, ◌++◌, ◌+◌, ◌<◌, ◌≤◌, ◌^◌, map, length, count_by, IfOk};
+ghost use Rattle.std.specs.Prelude.{OnOk, string_bytes};
 ghost use Rattle.std.specs.List.{flat_map};
 ghost use Rattle.line_diff.specs.Lines.{lines_of};
 ghost use Rattle.line_diff.specs.Script.{row_of, is_old, is_new, old_lines, new_lines};
-ghost use Rattle.line_diff.specs.Unified.{sign_text, ends_line, remark_text, row_text, side_text, header_text, hunk_text, place_at, ShowsHunks, IsUnified};
+ghost use Rattle.line_diff.specs.Unified.{sign_text, ends_line, remark_text, row_text, side_text};
+ghost use Rattle.line_diff.specs.Unified.{header_text, hunk_text, place_at, ShowsHunks, IsUnified};
 
 use crate::lines::lines_of;
 use crate::places::Place;
@@ -35,7 +37,8 @@ fn remark_text() -> &'static str
 
 // Adds a row to a text.
 fn push_row(text: &mut String, row: &Row) -> Result<(), AllocError>
-    ensures { OnOk result (string_bytes text.new ≡ string_bytes text.old ++ row_text (row_of row.now)) }
+    ensures { OnOk result
+        (string_bytes text.new ≡ string_bytes text.old ++ row_text (row_of row.now)) }
 {
     text.push_str(sign_text(row.sign))?;
     text.push_str(row.line.as_str())?;
@@ -48,7 +51,8 @@ fn push_row(text: &mut String, row: &Row) -> Result<(), AllocError>
 
 // Adds rows to a text.
 fn push_rows(text: &mut String, rows: &[Row]) -> Result<(), AllocError>
-    ensures { OnOk result (string_bytes text.new ≡ string_bytes text.old ++ flat_map row_text (map row_of rows.now)) }
+    ensures { OnOk result
+        (string_bytes text.new ≡ string_bytes text.old ++ flat_map row_text (map row_of rows.now)) }
 {
     for row in rows {
         push_row(text, row)?;
@@ -152,7 +156,8 @@ fn push_hunk(
     requires within { span.last < length rows.now }
     requires from { from ≡ place_at (map row_of rows.now) span.first }
     requires to { to ≡ place_at (map row_of rows.now) (span.last + 1) }
-    ensures { OnOk result (string_bytes text.new ≡ string_bytes text.old ++ hunk_text (map row_of rows.now) span) }
+    ensures { OnOk result
+        (string_bytes text.new ≡ string_bytes text.old ++ hunk_text (map row_of rows.now) span) }
 {
     let header = header_text(alloc, from, to)?;
     text.push_str(header.as_str())?;
@@ -178,10 +183,11 @@ fn hunks_text(alloc: Global, rows: &[Row]) -> Result<String, AllocError>
 }
 
 /// The unified difference of two texts: hunks as `diff -u` prints them, each with its line of where
-/// it is and its rows, of which at most three in front of a change and behind it are kept ones.
+/// it is and its rows, of which at most three in front of a change and after it are kept ones.
 /// Nothing where the texts are the same.
 pub fn unified(alloc: Global, old: &str, new: &str) -> Result<String, AllocError>
-    ensures { IfOk result (λ text. IsUnified (lines_of old.now) (lines_of new.now) (string_bytes text)) }
+    ensures { IfOk result
+        (λ text. IsUnified (lines_of old.now) (lines_of new.now) (string_bytes text)) }
 {
     let old_lines = lines_of(alloc, old)?;
     let new_lines = lines_of(alloc, new)?;

@@ -1,5 +1,6 @@
 //! Rows that turn the lines of one text into those of another.
-ghost use Rattle.std.specs.Prelude.{◌≡◌, ◌++◌, ◌≤◌, map, length, take, drop, IfOk, OnOk, string_bytes};
+ghost use Rattle.std.specs.Prelude.{◌≡◌, ◌++◌, ◌≤◌, map, length, take, drop, IfOk, OnOk};
+ghost use Rattle.std.specs.Prelude.{string_bytes};
 ghost use Rattle.std.specs.Bool.{OnTrue};
 ghost use Rattle.line_diff.specs.Script.{row_of, row_with, IsScript, Turns};
 ghost use Rattle.line_diff.specs.private.Reaching.{change_rows, IsReached, IsNextMatch};
@@ -34,7 +35,9 @@ fn push_rows(
     sign: Sign,
     lines: &[String],
 ) -> Result<(), AllocError>
-    ensures { OnOk result (map row_of rows.new.items ≡ map row_of rows.old.items ++ map (row_with sign) (map string_bytes lines.now)) }
+    ensures { OnOk result
+        (map row_of rows.new.items
+        ≡ map row_of rows.old.items ++ map (row_with sign) (map string_bytes lines.now)) }
 {
     for line in lines {
         let line = String::from_str(alloc, line.as_str())?;
@@ -45,7 +48,8 @@ fn push_rows(
 
 // Rows that keep each line.
 fn kept_rows(alloc: Global, lines: &[String]) -> Result<Vec<Row>, AllocError>
-    ensures { IfOk result (λ rows. map row_of rows.items ≡ map (row_with Sign.Kept) (map string_bytes lines.now)) }
+    ensures { IfOk result
+        (λ rows. map row_of rows.items ≡ map (row_with Sign.Kept) (map string_bytes lines.now)) }
 {
     let mut rows = Vec::new(alloc);
     push_rows(alloc, &mut rows, Sign::Kept, lines)?;
@@ -59,7 +63,10 @@ fn push_change(
     old: &[String],
     new: &[String],
 ) -> Result<(), AllocError>
-    ensures { OnOk result (map row_of rows.new.items ≡ map row_of rows.old.items ++ change_rows (map string_bytes old.now) (map string_bytes new.now)) }
+    ensures { OnOk result
+        (map row_of rows.new.items
+        ≡ map row_of rows.old.items
+        ++ change_rows (map string_bytes old.now) (map string_bytes new.now)) }
 {
     push_rows(alloc, rows, Sign::Removed, old)?;
     push_rows(alloc, rows, Sign::Added, new)?;
@@ -67,7 +74,8 @@ fn push_change(
 }
 
 fn is_next_match(old: &[String], new: &[String], at: Place, place: Place) -> bool
-    ensures { OnTrue result (IsNextMatch (map string_bytes old.now) (map string_bytes new.now) at place) }
+    ensures { OnTrue result
+        (IsNextMatch (map string_bytes old.now) (map string_bytes new.now) at place) }
 {
     if place.old < at.old || place.new < at.new {
         return false;
@@ -89,8 +97,11 @@ fn push_match(
     at: Place,
     place: Place,
 ) -> Result<Place, AllocError>
-    requires { IsReached (map string_bytes old.now) (map string_bytes new.now) at (map row_of rows.old.items) }
-    ensures { IfOk result (λ reached. IsReached (map string_bytes old.now) (map string_bytes new.now) reached (map row_of rows.new.items)) }
+    requires { IsReached (map string_bytes old.now) (map string_bytes new.now) at
+        (map row_of rows.old.items) }
+    ensures { IfOk result
+        (λ reached. IsReached (map string_bytes old.now) (map string_bytes new.now) reached
+        (map row_of rows.new.items)) }
 {
     if !is_next_match(old, new, at, place) {
         return Ok(at);
@@ -116,7 +127,9 @@ fn rows_through(
     new: &[String],
     matches: &[Place],
 ) -> Result<Vec<Row>, AllocError>
-    ensures { IfOk result (λ rows. Turns (map string_bytes old.now) (map string_bytes new.now) (map row_of rows.items)) }
+    ensures { IfOk result
+        (λ rows. Turns (map string_bytes old.now) (map string_bytes new.now)
+        (map row_of rows.items)) }
 {
     let mut rows = Vec::new(alloc);
     let mut at = Place { old: 0, new: 0 };
@@ -130,23 +143,28 @@ fn rows_through(
 
 // Rows that turn some lines into others.
 fn changes_of(alloc: Global, old: &[String], new: &[String]) -> Result<Vec<Row>, AllocError>
-    ensures { IfOk result (λ rows. Turns (map string_bytes old.now) (map string_bytes new.now) (map row_of rows.items)) }
+    ensures { IfOk result
+        (λ rows. Turns (map string_bytes old.now) (map string_bytes new.now)
+        (map row_of rows.items)) }
 {
     let matches = matches_of(alloc, old, new)?;
     rows_through(alloc, old, new, matches.as_slice())
 }
 
-// Adds rows that keep each line behind others.
+// Adds rows that keep each line after others.
 fn with_kept(alloc: Global, mut rows: Vec<Row>, lines: &[String]) -> Result<Vec<Row>, AllocError>
-    ensures { IfOk result (λ whole. map row_of whole.items ≡ map row_of rows.items ++ map (row_with Sign.Kept) (map string_bytes lines.now)) }
+    ensures { IfOk result
+        (λ whole. map row_of whole.items
+        ≡ map row_of rows.items ++ map (row_with Sign.Kept) (map string_bytes lines.now)) }
 {
     push_rows(alloc, &mut rows, Sign::Kept, lines)?;
     Ok(rows)
 }
 
-// Adds rows behind others.
+// Adds rows after others.
 fn with_rows(mut rows: Vec<Row>, mut more: Vec<Row>) -> Result<Vec<Row>, AllocError>
-    ensures { IfOk result (λ whole. map row_of whole.items ≡ map row_of rows.items ++ map row_of more.items) }
+    ensures { IfOk result
+        (λ whole. map row_of whole.items ≡ map row_of rows.items ++ map row_of more.items) }
 {
     rows.append(&mut more)?;
     Ok(rows)
@@ -161,7 +179,7 @@ fn first_lines(lines: &[String], count: usize) -> &[String]
     first
 }
 
-// The lines behind the first ones.
+// The lines after the first ones.
 fn later_lines(lines: &[String], count: usize) -> &[String]
     requires { count ≤ length lines.now }
     ensures { map string_bytes result.now ≡ drop count (map string_bytes lines.now) }
@@ -176,7 +194,9 @@ pub(crate) fn script_of(
     old: &[String],
     new: &[String],
 ) -> Result<Vec<Row>, AllocError>
-    ensures { IfOk result (λ rows. IsScript (map string_bytes old.now) (map string_bytes new.now) (map row_of rows.items)) }
+    ensures { IfOk result
+        (λ rows. IsScript (map string_bytes old.now) (map string_bytes new.now)
+        (map row_of rows.items)) }
 {
     let front = common_front(old, new);
     let kept = first_lines(old, front);

@@ -7,7 +7,7 @@ ghost use Rattle.line_diff.specs.private.Finding.{IsFirstShown, IsHiddenFrom, Is
 
 use crate::script::{Row, Sign};
 
-/// How many rows are shown in front of a change and behind it.
+/// How many rows are shown in front of a change and after it.
 pub(crate) const CONTEXT_ROWS: usize = 3;
 
 /// Rows that are shown, one after the other: the first and the last of them.
@@ -72,7 +72,8 @@ fn last_shown(rows: &[Row], first: usize) -> usize
 /// The next rows that are shown, from a row on.
 pub(crate) fn next_span(rows: &[Row], from: usize) -> Option<RowSpan>
     ensures some { IfSome result (IsNextSpan (map row_of rows.now) from) }
-    ensures ordered { IfSome result (λ span. from ≤ span.first × span.first ≤ span.last × span.last < length rows.now) }
+    ensures ordered { IfSome result
+        (λ span. from ≤ span.first × span.first ≤ span.last × span.last < length rows.now) }
     ensures none { IfNone result (IsHiddenFrom (map row_of rows.now) from) }
 {
     let first = first_shown(rows, from)?;

@@ -13,7 +13,9 @@ fn is_same(one: &[u8], other: &[u8]) -> bool
 pub(crate) fn same_at(old: &[String], old_at: usize, new: &[String], new_at: usize) -> bool
     requires old { old_at < length old.now }
     requires new { new_at < length new.now }
-    ensures { MatchBool result (line_at (map string_bytes old.now) old_at ≡ line_at (map string_bytes new.now) new_at) (line_at (map string_bytes old.now) old_at ≢ line_at (map string_bytes new.now) new_at) }
+    ensures { MatchBool result
+        (line_at (map string_bytes old.now) old_at ≡ line_at (map string_bytes new.now) new_at)
+        (line_at (map string_bytes old.now) old_at ≢ line_at (map string_bytes new.now) new_at) }
 {
     is_same(old[old_at].as_bytes(), new[new_at].as_bytes())
 }

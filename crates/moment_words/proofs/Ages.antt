@@ -23,7 +23,7 @@ no_word text time number is none age (Moment moment) (inl h) = number moment h
 no_word text time number is none age (Moment moment) (inr h) = let e : None ≡ Some moment = sym none ∙ is ∙ h.1 in absurd cc
 no_word text time number is none age (Before n) h = age n h.2
 
--- the digits before a unit's letter are what stands before it
+-- the digits before a unit's letter are what is before it
 pub same_digits : (text digits others : List ℕ) (unit : AgeUnit) → text ≡ digits ++ letter_of unit ∷ [] → text ≡ others ++ letter_of unit ∷ [] → others ≡ digits
 same_digits text digits others unit is also = append_cancel_right others digits (letter_of unit ∷ []) (sym also ∙ is)
 

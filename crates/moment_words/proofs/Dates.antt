@@ -18,7 +18,7 @@ use Rattle.jiff_fmt.specs.Text.{pad2, pad4, fraction_part}
 use Rattle.moment_words.specs.Printed.{IsPrinted}
 use Rattle.moment_words.specs.Texts.{clock_text, date_text, dated_text, day_text, last_dated, month_from, month_of, year_from, year_of}
 
--- the year, and the day in it from 0, of the day before which there are so many
+-- the year, and the day in it from 0, of the day before which there are this many
 abbrev pub IsYearOf : ℕ → ℕ × ℕ → Type 0
 IsYearOf count r = (day_count (pos r.0) 1 1 + r.1 ≡ count) × (r.1 < days_in_year (pos r.0)) × (r.0 ≤ 9999)
 

@@ -44,7 +44,7 @@ micros_of Hour = 3_600_000_000
 micros_of Day = 86_400_000_000
 micros_of Week = 604_800_000_000
 
--- the text is a number and the letter of the unit, and together they last so many microseconds, which 64 bits hold
+-- the text is a number and the letter of the unit, and together they last this many microseconds, which 64 bits hold
 abbrev pub IsAgeIn : AgeUnit → List ℕ → ℕ → Type 0
 IsAgeIn unit text age =
     (digits : List ℕ) × (count : ℕ) × (text ≡ digits ++ letter_of unit ∷ []) × IsNumber digits count × (age ≡ count * micros_of unit) × (age < 2 ^ 64)

@@ -14,7 +14,7 @@ const NANOS: u128 = 1_000;
 pub enum MomentWord {
     /// The moment.
     Moment(u64),
-    /// So many microseconds before the clock.
+    /// This many microseconds before the clock.
     Before(u64),
 }
 

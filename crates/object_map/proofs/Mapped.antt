@@ -93,7 +93,7 @@ module _ {V : Type 0} where
   kept_below es m o n view number below =
       subst (AreBelow es) (sym number) (keys_below es o (subst (λ (v : MapOf V). AreBelow v.rows o) (sym view) below))
 
-  -- where something is kept behind all else, its row and its value stand behind
+  -- where something is kept after all else, its row and its value come after
   pub puts_behind : (es fs : List (ℕ × Kept V)) (o n : ℕ) (kept : Kept V) → n ≡ o → fs ≡ es ++ (n, kept) ∷ [] → PutsBehind (parts_of es) o kept.row kept.value (parts_of fs)
   puts_behind es fs o n kept number is =
       let same : fs ≡ es ++ (o, kept) ∷ [] = is ∙ ap (λ (k : ℕ). es ++ (k, kept) ∷ []) number in

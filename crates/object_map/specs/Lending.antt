@@ -6,7 +6,7 @@ use Rattle.object_map.specs.contracts.map.ObjectMap.{the_row}
 use Rattle.object_map.specs.Objects.{MapOf, Puts}
 use Rattle.object_map.specs.Rows.{row_of}
 
--- An object's row is this one, changed once more, and the value beside it is the last one behind r; all others are as they were.
+-- An object's row is this one, changed once more, and the value beside it is the last one after r; all others are as they were.
 -- Where r is none, nothing has changed.
 abbrev pub LendsChanged : (V : RattleType) → MutBor (MapOf V.Denot) → ℕ → Row → Option (MutBor V.Denot) → Fml
 LendsChanged V m o row r =

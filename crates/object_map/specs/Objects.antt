@@ -52,7 +52,7 @@ pub record Puts {V : Type 0} (m : MapOf V) (o : ℕ) (row : Row) (value : V) (n 
   pub rows : PutsAt m.rows o row n.rows
   pub values : PutsAt m.values o value n.values
 
--- an object's row stands behind all other rows, and its value behind all other values
+-- an object's row comes after all other rows, and its value after all other values
 pub record PutsBehind {V : Type 0} (m : MapOf V) (o : ℕ) (row : Row) (value : V) (n : MapOf V) : Type 0 where
   pub rows : n.rows ≡ m.rows ++ (o, row) ∷ []
   pub values : n.values ≡ m.values ++ (o, value) ∷ []

@@ -5,7 +5,7 @@ use Rattle.s4_types.specs.declared.limits.TheConstants.{SIDES}
 use Rattle.object_map.specs.declared.map.Row.{Row}
 use Rattle.object_map.specs.declared.sides.Side.{Side}
 
--- the older checkpoints with one more behind them: the first of SIDES goes for it
+-- the older checkpoints with one more after them: the first of SIDES goes for it
 abbrev pub sides_with : List Side → Side → List Side
 sides_with sides side = drop (length sides + 1 - SIDES) (sides ++ side ∷ [])
 

@@ -1,5 +1,8 @@
-ghost use Rattle.std.specs.Prelude.{◌≡◌, ℕ, ◌+◌, ◌<◌, ◌^◌, Some, None, IsSome, IfSome, IfNone, IfOk, IfErr, OnOk, OnErr, [], ◌∷◌, ◌++◌, length, option_copied, option_map};
-ghost use Rattle.object_map.specs.Objects.{value_of, without_value, PutsAt, IsNextAbove, IsKeptOf, AreBelow, Puts, PutsBehind, PutsRow, Removes};
+ghost use Rattle.std.specs.Prelude.{◌≡◌, ℕ, ◌+◌, ◌<◌, ◌^◌, Some, None, IsSome, IfSome, IfNone};
+ghost use Rattle.std.specs.Prelude.{IfOk, IfErr, OnOk, OnErr, [], ◌∷◌, ◌++◌, length, option_copied};
+ghost use Rattle.std.specs.Prelude.{option_map};
+ghost use Rattle.object_map.specs.Objects.{value_of, without_value, PutsAt, IsNextAbove, IsKeptOf};
+ghost use Rattle.object_map.specs.Objects.{AreBelow, Puts, PutsBehind, PutsRow, Removes};
 ghost use Rattle.object_map.specs.Rows.{row_of, fresh_row};
 ghost use Rattle.object_map.specs.Sides.{sides_after, side_gone, sides_named};
 ghost use Rattle.object_map.specs.Lending.{LendsChanged};
@@ -37,7 +40,8 @@ pub struct Row {
 }
 
 impl Row {
-    /// The row of an object that was just created: no checkpoint, no older ones, no journal, stamp 0.
+    /// The row of an object that was just created: no checkpoint, no older ones, no journal, stamp
+    /// 0.
     pub fn fresh(created: Moment) -> Row
         ensures { result ≡ fresh_row created }
     {
@@ -53,8 +57,9 @@ impl Row {
         }
     }
 
-    /// The row's newest checkpoint, if it has one, becomes one of the older ones, for another that will be named in its place.
-    /// Where that makes one too many, the first goes and is answered; so what went and what is kept are all, in order.
+    /// The row's newest checkpoint, if it has one, becomes one of the older ones, for another that
+    /// will be named in its place. Where that makes one too many, the first goes and is answered;
+    /// so what went and what is kept are all, in order.
     pub fn set_aside(&mut self) -> Option<Side>
         ensures row { self.new ≡ record self.old { sides = sides_after self.old } }
         ensures gone { result ≡ side_gone self.old.sides self.old.checkpoint }
@@ -73,7 +78,7 @@ impl Row {
 pub struct Kept<V: Drop> {
     /// Where its versions stand.
     pub row: Row,
-    /// What stands beside the row.
+    /// What is beside the row.
     pub value: V,
 }
 
@@ -95,7 +100,8 @@ impl<V: Drop> Model for ObjectMap<V> {
 fn put<V: Drop>(map: &mut BTreeMap<u64, V>, key: u64, value: V) -> Result<(), Refusal>
     requires fresh { value_of map.old.entries key ≡ None }
     ensures put { OnOk result (PutsAt map.old.entries key value map.new.entries) }
-    ensures behind { AreBelow map.old.entries key → OnOk result (map.new.entries ≡ map.old.entries ++ (key, value) ∷ []) }
+    ensures behind { AreBelow map.old.entries key
+        → OnOk result (map.new.entries ≡ map.old.entries ++ (key, value) ∷ []) }
     ensures refusal { IfErr result (λ e. e ≡ NoMemory) }
     ensures unchanged { OnErr result (map.new.entries ≡ map.old.entries) }
 {
@@ -139,7 +145,8 @@ fn replace_row<V: Drop>(map: &mut BTreeMap<u64, Kept<V>>, key: u64, row: &Row)
 
 // The value at a key goes, if there is one.
 fn take_out<V: Drop>(map: &mut BTreeMap<u64, V>, key: u64)
-    ensures { (q : ℕ) → value_of map.new.entries q ≡ without_value (value_of map.old.entries) key q }
+    ensures { (q : ℕ)
+        → value_of map.new.entries q ≡ without_value (value_of map.old.entries) key q }
 {
     let _ = map.remove(&key);
 }
@@ -172,12 +179,13 @@ impl<V: Drop> ObjectMap<V> {
         self.objects.get(&object.number())
     }
 
-    /// This row, with its own stamp, for an object that has none, and a value beside it. NoMemory, and nothing has changed, where
-    /// the map couldn't grow.
+    /// This row, with its own stamp, for an object that has none, and a value beside it. NoMemory,
+    /// and nothing has changed, where the map couldn't grow.
     pub fn insert(&mut self, object: ObjectId, row: &Row, value: V) -> Result<(), Refusal>
         requires fresh { row_of self.old.rows object ≡ None }
         ensures added { OnOk result (Puts self.old object row.now value self.new) }
-        ensures behind { AreBelow self.old.rows object → OnOk result (PutsBehind self.old object row.now value self.new) }
+        ensures behind { AreBelow self.old.rows object
+            → OnOk result (PutsBehind self.old object row.now value self.new) }
         ensures refusal { IfErr result (λ e. e ≡ NoMemory) }
         ensures unchanged { OnErr result (self.new ≡ self.old) }
     {
@@ -185,8 +193,8 @@ impl<V: Drop> ObjectMap<V> {
         put(&mut self.objects, object.number(), kept)
     }
 
-    /// A row for an object that has none, without journal and checkpoint and with stamp 0, and a value beside it. NoMemory, and
-    /// nothing has changed, where the map couldn't grow.
+    /// A row for an object that has none, without journal and checkpoint and with stamp 0, and a
+    /// value beside it. NoMemory, and nothing has changed, where the map couldn't grow.
     pub fn add(&mut self, object: ObjectId, created: Moment, value: V) -> Result<(), Refusal>
         requires fresh { row_of self.old.rows object ≡ None }
         ensures added { OnOk result (Puts self.old object (fresh_row created) value self.new) }
@@ -197,7 +205,8 @@ impl<V: Drop> ObjectMap<V> {
         self.insert(object, &row, value)
     }
 
-    /// An object's row becomes this one, but for the stamp, which is one above the old row's; and the value beside it this.
+    /// An object's row becomes this one, but for the stamp, which is one above the old row's; and
+    /// the value beside it this.
     pub fn change(&mut self, object: ObjectId, row: &Row, value: V)
         requires there { IfSome (row_of self.old.rows object) (λ old. old.stamp + 1 < 2 ^ 64) }
         requires some { IsSome (row_of self.old.rows object) }
@@ -206,8 +215,9 @@ impl<V: Drop> ObjectMap<V> {
         replace(&mut self.objects, object.number(), row, value);
     }
 
-    /// An object's row becomes this one, but for the stamp, which is one above the old row's; and the value beside it is lent, to be
-    /// changed in its place. None, and nothing has changed, where the object has no row.
+    /// An object's row becomes this one, but for the stamp, which is one above the old row's; and
+    /// the value beside it is lent, to be changed in its place. None, and nothing has changed,
+    /// where the object has no row.
     pub fn change_in_place(&mut self, object: ObjectId, row: &Row) -> Option<&mut V>
         requires there { IfSome (row_of self.old.rows object) (λ old. old.stamp + 1 < 2 ^ 64) }
         ensures* changed { sem 𝓛 (LendsChanged V.row self.entry object row.now result) }
@@ -219,7 +229,8 @@ impl<V: Drop> ObjectMap<V> {
         Some(&mut found.value)
     }
 
-    /// An object's row becomes this one, but for the stamp, which is one above the old row's; the value beside it stays.
+    /// An object's row becomes this one, but for the stamp, which is one above the old row's; the
+    /// value beside it stays.
     pub fn change_row(&mut self, object: ObjectId, row: &Row)
         requires there { IfSome (row_of self.old.rows object) (λ old. old.stamp + 1 < 2 ^ 64) }
         requires some { IsSome (row_of self.old.rows object) }

@@ -1,4 +1,5 @@
-ghost use Rattle.std.specs.Prelude.{◌≡◌, ◌+◌, ◌-◌, ◌<◌, ◌≤◌, ◌++◌, [], ◌∷◌, length, drop, replicate};
+ghost use Rattle.std.specs.Prelude.{◌≡◌, ◌+◌, ◌-◌, ◌<◌, ◌≤◌, ◌++◌, [], ◌∷◌, length, drop};
+ghost use Rattle.std.specs.Prelude.{replicate};
 ghost use Rattle.s4_types.specs.declared.limits.TheConstants.{SIDES};
 ghost use Rattle.object_map.specs.Sides.{sides_with, side_dropped};
 ghost use Rattle.object_map.specs.private.Padding.{no_side, padded_sides};
@@ -21,7 +22,7 @@ pub struct Side {
 #[derive(Clone, Copy, PartialEq, Eq)]
 pub struct Sides {
     count: u8,
-    // Blank behind those that are counted.
+    // Blank after those that are counted.
     kept: [Side; SIDES],
 }
 
@@ -59,7 +60,7 @@ fn blank_sides() -> [Side; SIDES]
     [side; SIDES]
 }
 
-/// The sides, and blank ones behind them.
+/// The sides, and blank ones after them.
 #[tactic(auto, using(crate::proofs::Padded::filled))]
 fn padded(sides: &[Side]) -> [Side; SIDES]
     requires { length sides.now ≤ SIDES }
@@ -70,7 +71,7 @@ fn padded(sides: &[Side]) -> [Side; SIDES]
     padded
 }
 
-/// The sides and this one behind them, and blank ones behind it.
+/// The sides and this one after them, and blank ones after it.
 #[tactic(auto, using(crate::proofs::Padded::padded_more))]
 fn padded_with(sides: &[Side], side: Side) -> [Side; SIDES]
     requires { length sides.now < SIDES }
@@ -121,8 +122,8 @@ impl Sides {
         &self.kept[..self.count as usize]
     }
 
-    /// Appends an older checkpoint. The first of `SIDES` goes for it, and is answered; of fewer none goes. So what went and what is
-    /// kept are all, in order.
+    /// Appends an older checkpoint. The first of `SIDES` goes for it, and is answered; of fewer
+    /// none goes. So what went and what is kept are all, in order.
     pub fn push(&mut self, side: Side) -> Option<Side>
         ensures sides { self.new ≡ sides_with self.old side }
         ensures dropped { result ≡ side_dropped self.old }

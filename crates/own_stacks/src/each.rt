@@ -24,8 +24,8 @@ pub fn for_each_mut_with_stack<R: Threads + Wait + Sync, T: Send, F: Fn(usize, &
     }
 }
 
-// The slice is the last parameter because the borrow checker doesn't cover a closure that reads a captured `&` after it lends a
-// captured `&mut`.
+// The slice is the last parameter because the borrow checker doesn't cover a closure that reads a
+// captured `&` after it lends a captured `&mut`.
 #[cycle(halves)]
 fn calls_from<R: Threads + Wait + Sync, T: Send, F: Fn(usize, &mut T) + Sync>(
     rt: &R,
@@ -69,11 +69,13 @@ fn both_halves<R: Threads + Wait + Sync, T: Send, F: Fn(usize, &mut T) + Sync>(
     ensures back { AcrossEach (ChangesAt F.Fn f.now) up right.old right.new }
 {
     let mut front = ||
-        requires { IsSync R.row × IsSync F.row × IsSend T.row × (0 < length left.now) × (base + length left.now < 2 ^ 64) × (AtEach (AcceptsAt F.Fn f.now) base left.now) }
+        requires { IsSync R.row × IsSync F.row × IsSend T.row × (0 < length left.now)
+            × (base + length left.now < 2 ^ 64) × (AtEach (AcceptsAt F.Fn f.now) base left.now) }
         ensures { AcrossEach (ChangesAt F.Fn f.entry.now) base left.entry.now left.exit.now }
     { calls_from(rt, f, stack_bytes, base, left) };
     let mut back = ||
-        requires { IsSync R.row × IsSync F.row × IsSend T.row × (0 < length right.now) × (up + length right.now < 2 ^ 64) × (AtEach (AcceptsAt F.Fn f.now) up right.now) }
+        requires { IsSync R.row × IsSync F.row × IsSend T.row × (0 < length right.now)
+            × (up + length right.now < 2 ^ 64) × (AtEach (AcceptsAt F.Fn f.now) up right.now) }
         ensures { AcrossEach (ChangesAt F.Fn f.entry.now) up right.entry.now right.exit.now }
     { calls_from(rt, f, stack_bytes, up, right) };
     join_mut_with_stack(rt, *stack_bytes, &mut front, &mut back);

@@ -28,12 +28,14 @@ impl<'a, F: FnMut() -> A, A> Task for Lent<'a, F> {
     }
 }
 
-// Does nothing. The use of a returned reference ties it, for the borrow checker, to the parameter that lent it.
+// Does nothing. The use of a returned reference ties it, for the borrow checker, to the parameter
+// that lent it.
 fn take_back<T>(x: &mut T)
     ensures { x.new ≡ x.old }
 {}
 
-/// As [`join_with_stack`], with closures that are lent, so that the caller knows what each leaves in what it captured.
+/// As [`join_with_stack`], with closures that are lent, so that the caller knows what each leaves
+/// in what it captured.
 pub(crate) fn join_mut_with_stack<
     R: Threads + Wait,
     F: FnMut() -> A + Send,
@@ -50,7 +52,8 @@ pub(crate) fn join_mut_with_stack<
     (a, b)
 }
 
-/// Calls f on a thread with a stack of that many bytes, or last where there is no such thread, and g on this one.
+/// Calls f on a thread with a stack of that many bytes, or last where there is no such thread, and
+/// g on this one.
 pub fn join_with_stack<
     R: Threads + Wait,
     F: FnOnce() -> A + Send + Drop,

@@ -1,4 +1,5 @@
-//! A closure that owns all that it uses, on a thread of a stack of its own. No scope is waited for, only the thread itself.
+//! A closure that owns all that it uses, on a thread of a stack of its own. No scope is waited for,
+//! only the thread itself.
 ghost use Rattle.std.specs.Prelude.{IfOk};
 
 use crate::task::{Called, Given, Task};
@@ -22,7 +23,8 @@ pub fn call_with_stack<
     run_apart(rt, stack_bytes, Called { f })
 }
 
-/// Calls f on a thread with a stack of that many bytes, or last where there is no such thread, and g on this one.
+/// Calls f on a thread with a stack of that many bytes, or last where there is no such thread, and
+/// g on this one.
 pub fn join_owned_with_stack<
     R: Threads,
     F: FnOnce() -> A + Send + Drop + 'static,

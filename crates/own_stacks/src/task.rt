@@ -2,8 +2,8 @@
 use std::snapshot::Snapshot;
 use std::thread::Promise;
 
-/// Work that is done once. A thread gets no closure that is itself a type parameter, but it may own a value of one that has the
-/// closure in it.
+/// Work that is done once. A thread gets no closure that is itself a type parameter, but it may own
+/// a value of one that has the closure in it.
 pub(crate) trait Task {
     type Output;
 

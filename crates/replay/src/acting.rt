@@ -14,13 +14,13 @@ pub(crate) fn frame_of(number: u64) -> u16 {
     u16::try_from(number).unwrap_or(u16::MAX)
 }
 
-/// The request that a command spells.
+/// The request that a command encodes.
 fn request_of(alloc: Global, asking: Asking, asked: &Asked<'_>) -> Result<Request, Refusal> {
     let bytes = Bytes::from_slice(alloc, asked.bytes)?;
     Ok(request_with(asking, asked, bytes))
 }
 
-/// The request that a command spells, with its bytes.
+/// The request that a command encodes, with its bytes.
 fn request_with(asking: Asking, asked: &Asked<'_>, bytes: Bytes) -> Request {
     let [number, second, _] = asked.numbers;
     let object = ObjectId::new(number);
@@ -40,7 +40,7 @@ fn request_with(asking: Asking, asked: &Asked<'_>, bytes: Bytes) -> Request {
     }
 }
 
-/// The request that a command spells, of those that have no bytes.
+/// The request that a command encodes, of those that have no bytes.
 fn request_without(asking: Asking, asked: &Asked<'_>) -> Request {
     let [number, second, third] = asked.numbers;
     let object = ObjectId::new(number);
@@ -68,7 +68,7 @@ fn request_without(asking: Asking, asked: &Asked<'_>) -> Request {
     }
 }
 
-/// The read that a command spells.
+/// The read that a command encodes.
 fn reading_of(asked: &Asked<'_>) -> Reading {
     let [number, offset, length] = asked.numbers;
     Reading {
@@ -99,7 +99,7 @@ fn resolve_of(reading: &Reading) -> Act {
     }
 }
 
-/// The act that a command spells, which is no request.
+/// The act that a command encodes, which is no request.
 fn act_of(acting: Acting, asked: &Asked<'_>) -> Act {
     match acting {
         Acting::Resolve => resolve_of(&reading_of(asked)),
@@ -114,7 +114,7 @@ fn act_of(acting: Acting, asked: &Asked<'_>) -> Act {
     }
 }
 
-/// The step of the drive that a command spells.
+/// The step of the drive that a command encodes.
 fn step_of(upkeep: Upkeep, asked: &Asked<'_>) -> Step {
     let number = asked.numbers[0];
     let object = ObjectId::new(number);
@@ -128,7 +128,7 @@ fn step_of(upkeep: Upkeep, asked: &Asked<'_>) -> Step {
     }
 }
 
-/// Whether an answer is a refusal for want of memory.
+/// Whether an answer is a refusal for lack of memory.
 fn lacks_memory(answer: &Answer) -> bool {
     matches!(
         answer,
@@ -136,7 +136,8 @@ fn lacks_memory(answer: &Answer) -> bool {
     )
 }
 
-/// Takes a step, and compares its answer with what the plain drive tells. NoMemory where it can be taken once more.
+/// Takes a step, and compares its answer with what the plain drive tells. NoMemory where it can be
+/// taken once more.
 pub(crate) fn take<D: Played>(
     stage: &mut Stage,
     drive: &mut D,
@@ -186,8 +187,8 @@ pub(crate) fn perform_asking<D: Played>(
     )
 }
 
-/// Somebody fetches, copies or commits. Where the drive refuses memory the plan is spent, so that this is told and not done once
-/// more.
+/// Somebody fetches, copies or commits. Where the drive refuses memory the plan is spent, so that
+/// this is told and not done once more.
 fn spend<D: Played>(
     stage: &mut Stage,
     drive: &mut D,
@@ -238,7 +239,8 @@ pub(crate) fn perform_upkeep<D: Played>(
     Ok(())
 }
 
-/// A full pass of the cleaner. Where memory is refused it is done once more, and counts what the first one left.
+/// A full pass of the cleaner. Where memory is refused it is done once more, and counts what the
+/// first one left.
 fn pass<D: Played>(stage: &mut Stage, drive: &mut D, text: &mut Text) -> Result<(), Refusal> {
     stage.is_spent = true;
     let report = match drive.pass() {

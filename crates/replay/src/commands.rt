@@ -139,8 +139,8 @@ pub(crate) enum Verb {
     Hold(Imaging),
 }
 
-/// How commands are spelled: `$` stands for a name, `#` for a number, `%` for bytes, `[at]` and `[now]` for such a word and a
-/// number, or for none.
+/// How commands are encoded: `$` represents a name, `#` for a number, `%` for bytes, `[at]` and
+/// `[now]` for such a word and a number, or for none.
 static COMMANDS: [(&str, Verb); 79] = [
     ("drive # window #", Verb::Begin(Beginning::Drive)),
     ("drive # window # alone", Verb::Begin(Beginning::Alone)),
@@ -229,7 +229,7 @@ static COMMANDS: [(&str, Verb); 79] = [
     ("$ Commit", Verb::Act(Acting::Commit)),
 ];
 
-/// A number as a word spells it: itself, or how far it is before or after the drive's clock.
+/// A number as a word encodes it: itself, or how far it is before or after the drive's clock.
 #[derive(Clone, Copy)]
 enum Number {
     Plain(u64),
@@ -248,7 +248,7 @@ impl Number {
     }
 }
 
-/// The number that a word spells.
+/// The number that a word encodes.
 fn number_of(word: &[u8]) -> Option<Number> {
     match word {
         [b'-', digits @ ..] => Some(Number::Before(count_of(digits)?)),
@@ -373,7 +373,7 @@ impl Given {
         Some(number)
     }
 
-    /// Takes what a part of a pattern stands for. Whether it is there.
+    /// Takes what a part of a pattern represents. Whether it is there.
     fn take(&mut self, part: &[u8], words: &[&[u8]]) -> bool {
         match part {
             [b'[', b'a', ..] => self.at = self.take_after("at", words),
@@ -412,7 +412,7 @@ fn fit(pattern: &str, words: &[&[u8]]) -> Option<Given> {
     Some(given)
 }
 
-/// The command that words spell, and what they give, if they spell one.
+/// The command that words give, and what they ask for, if they give one.
 fn find(words: &[&[u8]]) -> Option<(Verb, Given)> {
     for (pattern, verb) in &COMMANDS {
         if let Some(given) = fit(pattern, words) {
@@ -430,7 +430,7 @@ fn word_at<'a>(words: &[&'a [u8]], place: usize) -> &'a [u8] {
     }
 }
 
-/// The command that words spell, if they spell one.
+/// The command that words give, if they encode one.
 fn command_of<'a>(alloc: Global, words: &[&'a [u8]]) -> Result<Option<Command<'a>>, Refusal> {
     let Some((verb, given)) = find(words) else {
         return Ok(None);
@@ -457,7 +457,8 @@ pub(crate) struct Exchange<'a> {
     pub(crate) expected: Option<&'a [u8]>,
 }
 
-/// A line of a script: commands that are done in turn, so often, and the line as it stands before its last answer.
+/// A line of a script: commands that are done in turn, so often, and the line as it is before its
+/// last answer.
 #[derive(Drop)]
 pub(crate) struct Line<'a> {
     pub(crate) times: u64,
@@ -480,7 +481,7 @@ fn find_arrow(exchange: &[u8]) -> Option<usize> {
     None
 }
 
-/// What stands before the arrow, and the answer behind it, if there is one.
+/// What is before the arrow, and the answer after it, if there is one.
 fn cut_answer(exchange: &[u8]) -> (&[u8], Option<&[u8]>) {
     let Some(place) = find_arrow(exchange) else {
         return (exchange, None);
@@ -492,7 +493,7 @@ fn cut_answer(exchange: &[u8]) -> (&[u8], Option<&[u8]>) {
     }
 }
 
-/// How often a line's commands are done, and the words behind that.
+/// How often a line's commands are done, and the words after that.
 fn times_of<'a, 'b>(words: &'b [&'a [u8]]) -> (u64, &'b [&'a [u8]]) {
     let Some(count) = count_of(word_at(words, 0)) else {
         return (1, words);
@@ -503,7 +504,8 @@ fn times_of<'a, 'b>(words: &'b [&'a [u8]]) -> (u64, &'b [&'a [u8]]) {
     (count, words.get(2..).unwrap_or(&[]))
 }
 
-/// Puts what a part says behind other parts, and how often it says that they are done. None where it spells no command.
+/// Puts what a part says after other parts, and how often it says that they are done. None where it
+/// is no command.
 fn push_exchange<'a>(
     alloc: Global,
     exchanges: &mut Vec<Exchange<'a>>,
@@ -519,7 +521,7 @@ fn push_exchange<'a>(
     Ok(Some(times))
 }
 
-/// What a line says, if it spells commands. Only its first part can say how often.
+/// What a line says, if it has commands. Only its first part can say how often.
 pub(crate) fn line_of<'a>(alloc: Global, line: &'a [u8]) -> Result<Option<Line<'a>>, Refusal> {
     let mut exchanges = Vec::new(alloc);
     let mut times = 1;

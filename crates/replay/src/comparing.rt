@@ -1,4 +1,5 @@
-//! All that can be read, compared with what the plain drive tells, and what the drive counts with a count anew.
+//! All that can be read, compared with what the plain drive tells, and what the drive counts with a
+//! count anew.
 use crate::commands::Beside;
 use crate::counting::find_miscount;
 use crate::party::Played;
@@ -70,8 +71,8 @@ fn is_alike<D: Played>(
     Ok(true)
 }
 
-/// The first object, of those that were made and the next one, of which both drives don't tell the same at some moment that can
-/// be read or the ones next to those, and that moment.
+/// The first object, of those that were made and the next one, of which both drives don't tell the
+/// same at some moment that can be read or the ones next to those, and that moment.
 fn find_unlike_by<D: Played>(
     stage: &mut Stage,
     drive: &mut D,
@@ -89,7 +90,8 @@ fn find_unlike_by<D: Played>(
     Ok(None)
 }
 
-/// The same, by a session that comes for it and leaves; where there is no seat, by one that is there.
+/// The same, by a session that comes for it and leaves; where there is no seat, by one that is
+/// there.
 fn find_unlike<D: Played>(stage: &mut Stage, drive: &mut D) -> Result<Option<(u64, u64)>, Refusal> {
     let actor = stage.seats.len();
     if drive.come(Role::Admin).is_err() {

@@ -6,8 +6,8 @@ use crate::text::Text;
 use s4_types::Refusal;
 use s4_types::limits::PAYLOAD_BLOCKS;
 
-/// A number that the drive tells otherwise than it was found: how many places name a block, or, for block 0, how many blocks of
-/// the frame are held.
+/// A number that the drive tells otherwise than it was found: how many places name a block, or, for
+/// block 0, how many blocks of the frame are held.
 #[derive(Clone, Copy)]
 pub(crate) struct Miscount {
     frame: u64,
@@ -56,7 +56,8 @@ fn find_in_frame<D: Played>(drive: &mut D, frame: u64, counts: &[u32]) -> Option
     })
 }
 
-/// Counts anew how many places name each block, and gives the first number that the drive tells otherwise.
+/// Counts anew how many places name each block, and gives the first number that the drive tells
+/// otherwise.
 pub(crate) fn find_miscount<D: Played>(drive: &mut D) -> Result<Option<Miscount>, Refusal> {
     let counts = drive.recount()?;
     let mut frame = 0u64;

@@ -22,7 +22,7 @@ const WORD_BYTES: usize = 8;
 
 const CONTENTS_BYTES: usize = 8192;
 
-/// Where the digest of a summary begins, and where the blocks behind it do.
+/// Where the digest of a summary begins, and where the blocks after it do.
 const SUMMARY_DIGEST: usize = 480;
 
 const PAYLOAD: usize = 512;
@@ -113,8 +113,8 @@ fn turn_bit(image: &mut [u8], place: usize) -> bool {
     }
 }
 
-/// Why the image is none where the lowest bit of a byte is turned, and the digest made anew if that is asked for. None where it
-/// is one.
+/// Why the image is none where the lowest bit of a byte is turned, and the digest made anew if that
+/// is asked for. None where it is one.
 fn fault_with<R: Threads>(
     rt: &R,
     alloc: Global,
@@ -134,7 +134,7 @@ fn fault_with<R: Threads>(
     }
 }
 
-/// Tells what the image is once each of so many bytes is turned, if that is the same of all.
+/// Tells what the image is once each of this many bytes is turned, if that is the same of all.
 fn tell_turned<R: Threads>(
     rt: &R,
     alloc: Global,
@@ -164,12 +164,12 @@ fn tell_turned<R: Threads>(
     Ok(())
 }
 
-/// A place in an image; behind all where the number is greater than any.
+/// A place in an image; after all where the number is greater than any.
 fn place_of(number: u64) -> usize {
     usize::try_from(number).unwrap_or(usize::MAX)
 }
 
-/// So many zeros.
+/// This many zeros.
 fn zeros(alloc: Global, length: u64) -> Result<Vec<u8>, Refusal> {
     Ok(Vec::from_elem(alloc, 0, place_of(length))?)
 }
@@ -180,7 +180,7 @@ fn copy(alloc: Global, from: &[u8], to: &mut Vec<u8>) -> Result<(), Refusal> {
     Ok(())
 }
 
-/// Cuts so many bytes off.
+/// Cuts this many bytes off.
 fn cut(image: &mut Vec<u8>, count: u64) -> bool {
     match image.len().checked_sub(place_of(count)) {
         Some(length) => {
@@ -191,7 +191,8 @@ fn cut(image: &mut Vec<u8>, count: u64) -> bool {
     }
 }
 
-/// Does something with the image that is kept, which is told Done, or Idle where that isn't within it.
+/// Does something with the image that is kept, which is told Done, or Idle where that isn't within
+/// it.
 fn change_image(stage: &mut Stage, imaging: Imaging, asked: &Asked<'_>) -> Result<bool, Refusal> {
     let place = place_of(asked.numbers[0]);
     match imaging {

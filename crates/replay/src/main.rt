@@ -1,10 +1,13 @@
-//! Plays scripts of plain text over the proved drive, with the history cleaner and the segment copier, and the plain drive beside it:
-//! `replay [--print] [--recount] [--inodes N] [FILE..]`. With `--recount` what the drive counts is compared with a count anew after
-//! each step; with `--inodes N` a drive keeps the inodes of so many checkpoints at most, where its line doesn't say how many.
+//! Plays scripts of plain text over the proved drive, with the history cleaner and the segment
+//! copier, and the plain drive beside it: `replay [--print] [--recount] [--inodes N] [FILE..]`.
+//! With `--recount` what the drive counts is compared with a count anew after each step; with
+//! `--inodes N` a drive keeps the inodes of this many checkpoints at most, where its line doesn't
+//! say how many.
 //!
-//! Each step of a script is taken by `interleaving::run`, which is proved to keep every version; each line says what must be
-//! answered. What differs is printed, and then how many lines were played and how many of them differ. The status is 0 where none
-//! does, 1 where some do, and 2 where the words, a file or a line of a script are none.
+//! Each step of a script is taken by `interleaving::run`, which is proved to keep every version;
+//! each line says what must be answered. What differs is printed, and then how many lines were
+//! played and how many of them differ. The status is 0 where none does, 1 where some do, and 2
+//! where the words, a file or a line of a script are none.
 #![tactic(auto)]
 
 mod acting;
@@ -33,7 +36,7 @@ use words::count_of;
 enum Fault {
     NoMemory,
     NoOutput,
-    /// So many inodes can't be kept.
+    /// This many inodes can't be kept.
     NoInodes,
     /// The script of this number among the words can't be read.
     NoScript(usize),

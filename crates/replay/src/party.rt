@@ -1,4 +1,5 @@
-//! A drive with its sessions, its cleaner's rounds and a pile of plans, as scripts are played over it.
+//! A drive with its sessions, its cleaner's rounds and a pile of plans, as scripts are played over
+//! it.
 ghost use Rattle.std.specs.Prelude.{◌≡◌, ◌<◌, ◌≤◌};
 ghost use Rattle.s4_types.specs.Sizes.{IsFrameCount};
 ghost use Rattle.s4_model.specs.State.{new_base};
@@ -34,13 +35,13 @@ pub(crate) struct Reading {
     pub(crate) now: Moment,
 }
 
-/// A drive with its sessions, under any name; sessions are told by their places, from 0 on. No call has a clause, so that what
-/// calls them is proved without their contracts.
+/// A drive with its sessions, under any name; sessions are told by their places, from 0 on. No call
+/// has a clause, so that what calls them is proved without their contracts.
 pub(crate) trait Played {
-    /// A session comes, behind those that are there.
+    /// A session comes, after those that are there.
     fn come(&mut self, role: Role) -> Result<(), Refusal>;
 
-    /// A session leaves; those behind it move up.
+    /// A session leaves; those after it move up.
     fn leave(&mut self, place: usize);
 
     /// A session leaves beside another one.
@@ -298,7 +299,7 @@ impl<J: Naming> Played for Party<J> {
     }
 }
 
-/// Plays on over a drive, which ends behind it.
+/// Plays on over a drive, which ends after it.
 fn play_over<J: Naming, R: Threads>(
     rt: &R,
     alloc: Global,
@@ -335,7 +336,7 @@ fn play_opened<J: Naming, R: Threads>(
     play_over(rt, alloc, opened.named::<J>(), player)
 }
 
-/// A new drive. What is refused for want of memory is asked for once more.
+/// A new drive. What is refused for lack of memory is asked for once more.
 fn new_drive(alloc: Global, frames: usize, window: u64, inodes: usize) -> Result<NewDrive, Refusal>
     requires frames { IsFrameCount frames }
     requires some { 0 < inodes }
@@ -364,7 +365,7 @@ pub(crate) fn play_new<R: Threads>(
     play_made::<Brand, R>(rt, alloc, made, player)
 }
 
-/// The drive of an image. What is refused for want of memory is asked for once more.
+/// The drive of an image. What is refused for lack of memory is asked for once more.
 fn opened_drive<R: Threads>(rt: &R, alloc: Global, image: &[u8]) -> Result<OpenedDrive, Refusal> {
     match open(alloc, verify(rt, alloc, image)?) {
         Err(_) => open(alloc, verify(rt, alloc, image)?),

@@ -23,7 +23,7 @@ use std::str::from_utf8;
 use std::thread::Threads;
 use verifier::verify;
 
-/// What comes behind a drive: the script's end, a new drive, or the one of the image that is kept.
+/// What comes after a drive: the script's end, a new drive, or the one of the image that is kept.
 #[derive(Clone, Copy)]
 pub(crate) enum Start {
     End,
@@ -68,7 +68,8 @@ pub(crate) struct Player<'a> {
     report: Report,
 }
 
-/// Whether a drive can be made of so many frames, which keeps so many inodes of checkpoints at most.
+/// Whether a drive can be made of this many frames, which keeps this many inodes of checkpoints at
+/// most.
 fn can_be_made(frames: usize, inodes: usize) -> bool
     ensures frames { OnTrue result (IsFrameCount frames) }
     ensures some { OnTrue result (0 < inodes) }
@@ -161,7 +162,8 @@ fn is_expected(alloc: Global, told: &str, expected: &[u8]) -> Result<bool, Refus
     }
 }
 
-/// What a line is answered: its last answer, or the first that isn't right, with what is expected there.
+/// What a line is answered: its last answer, or the first that isn't right, with what is expected
+/// there.
 #[derive(Drop)]
 struct Outcome<'a> {
     told: String,
@@ -186,8 +188,8 @@ fn judged<'a>(
     })
 }
 
-/// What a part is answered, and whether that is right. Where it is done once more, what its line ends with may come the last time
-/// alone.
+/// What a part is answered, and whether that is right. Where it is done once more, what its line
+/// ends with may come the last time alone.
 fn do_exchange<'a, D: Played, R: Threads>(
     rt: &R,
     stage: &mut Stage,
@@ -253,7 +255,7 @@ impl<'a> Player<'a> {
         self.report.text.mark(": ");
     }
 
-    /// A line that spells no command ends its script.
+    /// A line that is no command ends its script.
     fn break_off(&mut self, line: &[u8]) -> Option<Start> {
         self.print_place();
         self.report.text.mark("no command: ");
@@ -297,7 +299,8 @@ impl<'a> Player<'a> {
         Ok(())
     }
 
-    /// The drive that a command begins; none where it is no such command, or is refused, which is told.
+    /// The drive that a command begins; none where it is no such command, or is refused, which is
+    /// told.
     fn start_of<R: Threads>(
         &mut self,
         rt: &R,
@@ -473,7 +476,8 @@ fn lines_of<'a>(alloc: Global, script: &'a str) -> Result<Vec<&'a [u8]>, Refusal
     Ok(lines)
 }
 
-/// Plays a script. Until it begins a drive, one of `FEWEST_FRAMES` and a window of 100 moments is there.
+/// Plays a script. Until it begins a drive, one of `FEWEST_FRAMES` and a window of 100 moments is
+/// there.
 pub(crate) fn play_script<R: Threads>(
     rt: &R,
     alloc: Global,

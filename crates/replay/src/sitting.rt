@@ -31,7 +31,7 @@ fn leave<D: Played>(stage: &mut Stage, drive: &mut D, name: &[u8]) -> bool {
     is_there
 }
 
-/// So many sessions come, named by a name and a number from 1 on.
+/// This many sessions come, named by a name and a number from 1 on.
 fn come_many<D: Played>(
     stage: &mut Stage,
     drive: &mut D,

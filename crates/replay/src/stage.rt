@@ -1,4 +1,5 @@
-//! What is beside the drive while a script is played: who sits at it, the plain drive, and an image.
+//! What is beside the drive while a script is played: who sits at it, the plain drive, and an
+//! image.
 use crate::text::Text;
 use interleaving::{Act, Answer, Step};
 use s4_model::PlainDrive;
@@ -32,9 +33,11 @@ pub(crate) struct Stage {
     pub(crate) is_spent: bool,
     /// Whether an answer comes of memory that the drive was refused, and passes where none is told.
     pub(crate) is_excused: bool,
-    /// Whether an answer counts a part of the work alone, as the rest was done before memory was refused, and passes whatever is told.
+    /// Whether an answer counts a part of the work alone, as the rest was done before memory was
+    /// refused, and passes whatever is told.
     pub(crate) is_partial: bool,
-    /// Whether a move was lost since memory was refused, so that nothing may be left to copy or commit.
+    /// Whether a move was lost since memory was refused, so that nothing may be left to copy or
+    /// commit.
     has_lost: bool,
     /// What is wrong beside the answer; nothing where all is right.
     pub(crate) remark: Text,
@@ -92,7 +95,7 @@ impl Stage {
         }
     }
 
-    /// Where somebody sits; behind all where nobody has that name.
+    /// Where somebody sits; after all where nobody has that name.
     pub(crate) fn place_of(&self, name: &[u8]) -> usize {
         let seats = self.seats.as_slice();
         for place in 0..seats.len() {
@@ -103,7 +106,7 @@ impl Stage {
         seats.len()
     }
 
-    /// Somebody sits down behind the others.
+    /// Somebody sits down after the others.
     pub(crate) fn sit(&mut self, name: &[u8], role: Role) -> Result<(), Refusal> {
         let name = Vec::from_slice(self.alloc, name)?;
         self.seats.push(Seat {
@@ -114,7 +117,7 @@ impl Stage {
         Ok(())
     }
 
-    /// Somebody goes; those behind move up.
+    /// Somebody goes; those after move up.
     pub(crate) fn rise(&mut self, place: usize) {
         if place < self.seats.len() {
             drop(self.seats.remove(place));
@@ -128,7 +131,8 @@ impl Stage {
         }
     }
 
-    /// The plain drive sees a moment of the server's clock, as the drive does that refuses a request.
+    /// The plain drive sees a moment of the server's clock, as the drive does that refuses a
+    /// request.
     pub(crate) fn see(&mut self, place: usize, now: Moment) -> Result<(), Refusal> {
         let object = ObjectId::new(1);
         self.reply(place, Request::GetAttr { object, at: None }, now)?;
@@ -147,8 +151,9 @@ impl Stage {
         }
     }
 
-    /// What the plain drive replies to a request; none where there is no plain drive. A read is asked once more where it wants
-    /// memory. NoMemory where a change wants memory, and what was asked can't be done once more then.
+    /// What the plain drive replies to a request; none where there is no plain drive. A read is
+    /// asked once more where it wants memory. NoMemory where a change wants memory, and what was
+    /// asked can't be done once more then.
     pub(crate) fn reply(
         &mut self,
         place: usize,
@@ -331,7 +336,7 @@ fn read_again(request: &Request) -> Option<Request> {
     }
 }
 
-/// Whether a request was refused for want of room or readers, as a plain drive never does.
+/// Whether a request was refused for lack of room or readers, as a plain drive never does.
 fn is_for_want(answer: &Answer) -> bool {
     matches!(
         answer,

@@ -3,7 +3,7 @@ use s4_types::{Ptr, Refusal};
 use std::alloc::Global;
 use std::fmt::Write;
 
-/// How many equal bytes are spelled as a run.
+/// How many equal bytes are encoded as a run.
 const LEAST_RUN: usize = 5;
 
 /// Bytes of most answers: room for them is taken before a step.
@@ -24,7 +24,8 @@ impl Text {
         }
     }
 
-    /// Words for which there is room, where they are few. It is asked for once more where it is refused.
+    /// Words for which there is room, where they are few. It is asked for once more where it is
+    /// refused.
     pub(crate) fn with_room(alloc: Global) -> Result<Self, Refusal> {
         let words = match String::with_capacity(alloc, ANSWER_BYTES) {
             Err(_) => String::with_capacity(alloc, ANSWER_BYTES)?,
@@ -48,7 +49,7 @@ impl Text {
         self.words.len() == 0
     }
 
-    /// Signs behind what was told, without a space.
+    /// Signs after what was told, without a space.
     pub(crate) fn mark(&mut self, signs: &str) {
         if self.words.push_str(signs).is_err() {
             self.is_cut = true;
@@ -66,7 +67,7 @@ impl Text {
         self.mark(word);
     }
 
-    /// A number behind what was told, without a space.
+    /// A number after what was told, without a space.
     pub(crate) fn digits(&mut self, number: u64) {
         if write!(self.words, "{number}").is_err() {
             self.is_cut = true;
@@ -93,7 +94,7 @@ impl Text {
         }
     }
 
-    /// The name of a refusal, behind `Refused` but for `Damaged`, which is told alone.
+    /// The name of a refusal, after `Refused` but for `Damaged`, which is told alone.
     pub(crate) fn refusal(&mut self, refusal: Refusal) {
         self.gap();
         if !matches!(refusal, Refusal::Damaged(_)) {
@@ -151,13 +152,13 @@ impl Text {
         self.joined_signs(signs);
     }
 
-    /// Bytes, as they are spelled.
+    /// Bytes, as they are encoded.
     pub(crate) fn bytes(&mut self, bytes: &[u8]) {
         self.gap();
         self.joined_bytes(bytes);
     }
 
-    /// Bytes behind what was told, without a space.
+    /// Bytes after what was told, without a space.
     pub(crate) fn joined_bytes(&mut self, bytes: &[u8]) {
         if bytes.is_empty() {
             self.mark("\"\"");
@@ -175,7 +176,7 @@ impl Text {
     }
 }
 
-/// Whether a byte is spelled as text.
+/// Whether a byte is encoded as text.
 pub(crate) fn is_text(byte: u8) -> bool {
     (b' '..=b'~').contains(&byte) && byte != b'"' && byte != b'\\'
 }
@@ -201,7 +202,7 @@ fn is_run(bytes: &[u8]) -> bool {
     }
 }
 
-/// How many of the first bytes are spelled as one piece.
+/// How many of the first bytes are encoded as one piece.
 fn piece_length(bytes: &[u8]) -> usize {
     if is_run(bytes) {
         return run_length(bytes);

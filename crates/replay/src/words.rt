@@ -3,7 +3,8 @@ use crate::text::{Text, is_text};
 use s4_types::Refusal;
 use std::alloc::Global;
 
-/// The parts of bytes between the separators that stand outside of quotes, but for those that are empty.
+/// The parts of bytes between the separators that stand outside of quotes, but for those that are
+/// empty.
 pub(crate) fn parts_of<'a>(
     alloc: Global,
     bytes: &'a [u8],
@@ -33,7 +34,7 @@ fn push_part<'a>(parts: &mut Vec<&'a [u8]>, part: Option<&'a [u8]>) -> Result<()
     Ok(())
 }
 
-/// The decimal number that a word spells.
+/// The decimal number that a word encodes.
 pub(crate) fn count_of(word: &[u8]) -> Option<u64> {
     if word.is_empty() {
         return None;
@@ -65,7 +66,7 @@ fn byte_of(high: u8, low: u8) -> Option<u8> {
     )
 }
 
-/// Puts the bytes of hex digits behind others. Whether they are ones.
+/// Puts the bytes of hex digits after others. Whether they are ones.
 fn put_hex(bytes: &mut Vec<u8>, part: &[u8]) -> Result<bool, Refusal> {
     for pair in part.chunks(2) {
         let [high, low] = pair else {
@@ -79,7 +80,8 @@ fn put_hex(bytes: &mut Vec<u8>, part: &[u8]) -> Result<bool, Refusal> {
     Ok(true)
 }
 
-/// Puts so many bytes behind others, each greater by one than the one before, and 0 behind the last.
+/// Puts this many bytes after others, each greater by one than the one before, and 0 after the
+/// last.
 fn put_ascending(bytes: &mut Vec<u8>, first: u8, last: u8, count: u64) -> Result<bool, Refusal> {
     let mut byte = first;
     for _ in 0..count {
@@ -89,7 +91,7 @@ fn put_ascending(bytes: &mut Vec<u8>, first: u8, last: u8, count: u64) -> Result
     Ok(true)
 }
 
-/// Puts a byte so often behind others.
+/// Puts a byte so often after others.
 fn put_times(bytes: &mut Vec<u8>, byte: u8, count: u64) -> Result<bool, Refusal> {
     for _ in 0..count {
         bytes.push(byte)?;
@@ -97,7 +99,7 @@ fn put_times(bytes: &mut Vec<u8>, byte: u8, count: u64) -> Result<bool, Refusal>
     Ok(true)
 }
 
-/// Puts the bytes between quotes behind others. Whether they are text.
+/// Puts the bytes between quotes after others. Whether they are text.
 fn put_text(bytes: &mut Vec<u8>, part: &[u8]) -> Result<bool, Refusal> {
     let [b'"', signs @ .., b'"'] = part else {
         return Ok(false);
@@ -111,7 +113,7 @@ fn put_text(bytes: &mut Vec<u8>, part: &[u8]) -> Result<bool, Refusal> {
     Ok(true)
 }
 
-/// Puts the bytes that a part spells behind others. Whether it spells any.
+/// Puts the bytes that a part encodes after others. Whether it encodes any.
 fn put_part(bytes: &mut Vec<u8>, part: &[u8]) -> Result<bool, Refusal> {
     match part {
         [b'"', ..] => put_text(bytes, part),
@@ -145,7 +147,7 @@ fn put_many(bytes: &mut Vec<u8>, byte: Option<u8>, count: &[u8]) -> Result<bool,
     }
 }
 
-/// The bytes that a word spells, if it spells any.
+/// The bytes that a word encodes, if it encodes any.
 pub(crate) fn bytes_of(alloc: Global, word: &[u8]) -> Result<Option<Vec<u8>>, Refusal> {
     let mut bytes = Vec::new(alloc);
     let parts = parts_of(alloc, word, b'+')?;
@@ -157,7 +159,7 @@ pub(crate) fn bytes_of(alloc: Global, word: &[u8]) -> Result<Option<Vec<u8>>, Re
     Ok(Some(bytes))
 }
 
-/// Words, in which bytes are spelled as they are told.
+/// Words, in which bytes are encoded as they are told.
 fn respelled(alloc: Global, words: &[u8]) -> Result<String, Refusal> {
     let mut text = Text::new(alloc);
     let words = parts_of(alloc, words, b' ')?;

@@ -3,7 +3,8 @@ ghost use Rattle.std.specs.Prelude.{◌≡◌, ◌<◌, IfErr, IfOk, MatchBool, 
 ghost use Rattle.s4_model.specs.Visible.{IsVisible};
 ghost use Rattle.drive.specs.Fields.{state_in, store_of};
 ghost use Rattle.s4_images.specs.Moments.{IsUnreadable, moment_said};
-ghost use Rattle.restore_orders.specs.Choosing.{AreAimedAt, AreAimsOf, AreAsked, AreChosen, AreGiven, HaveRows, objects_or};
+ghost use Rattle.restore_orders.specs.Choosing.{AreAimedAt, AreAimsOf, AreAsked, AreChosen};
+ghost use Rattle.restore_orders.specs.Choosing.{AreGiven, HaveRows, objects_or};
 
 use crate::orders::Order;
 use crate::restoring::failure_of;
@@ -17,11 +18,14 @@ use s4_types::{Moment, ObjectId, Refusal};
 use segment_word::Naming;
 use std::alloc::{AllocError, Global};
 
-/// The moment that a word says. An error where it can be read of no object: it is to come, expired, or hidden of all.
+/// The moment that a word says. An error where it can be read of no object: it is to come, expired,
+/// or hidden of all.
 pub fn readable<J: Naming>(drive: &Drive<J>, word: MomentWord) -> Result<Moment, Failure>
     ensures moment { IfOk result (λ at. at ≡ moment_said (state_in drive.now) word) }
-    ensures readable { OnOk result (IsVisible (state_in drive.now) 0 (moment_said (state_in drive.now) word)) }
-    ensures refused { IfErr result (IsUnreadable (state_in drive.now) 0 (moment_said (state_in drive.now) word)) }
+    ensures readable { OnOk result
+        (IsVisible (state_in drive.now) 0 (moment_said (state_in drive.now) word)) }
+    ensures refused { IfErr result
+        (IsUnreadable (state_in drive.now) 0 (moment_said (state_in drive.now) word)) }
 {
     moment_asked(drive, ObjectId::new(0), Some(word))
 }
@@ -34,7 +38,8 @@ pub(crate) fn chosen_by<J: Naming>(
     order: &Order<'_>,
     at: Moment,
 ) -> Result<Vec<ObjectPlan>, Failure>
-    ensures chosen { IfOk result (λ chosen. AreChosen (state_in drive.old) (store_of drive.old) order.now at chosen.items) }
+    ensures chosen { IfOk result
+        (λ chosen. AreChosen (state_in drive.old) (store_of drive.old) order.now at chosen.items) }
     ensures state { state_in drive.new ≡ state_in drive.old }
     ensures store { store_of drive.new ≡ store_of drive.old }
 {
@@ -57,7 +62,8 @@ pub fn aims_by<J: Naming>(
     order: &Order<'_>,
     at: Moment,
 ) -> Result<Vec<Aim>, Failure>
-    ensures aims { IfOk result (λ aims. AreAimedAt (state_in drive.old) (store_of drive.old) order.now at aims.items) }
+    ensures aims { IfOk result
+        (λ aims. AreAimedAt (state_in drive.old) (store_of drive.old) order.now at aims.items) }
     ensures state { state_in drive.new ≡ state_in drive.old }
     ensures store { store_of drive.new ≡ store_of drive.old }
 {
@@ -90,7 +96,9 @@ fn aims_of<J: Naming>(
     objects: &[ObjectId],
     at: Moment,
 ) -> Result<Vec<Aim>, history_restore::Failure>
-    ensures aims { IfOk result (λ aims. AreAimsOf (state_in drive.old) (store_of drive.old) at stand_ins.now objects.now aims.items) }
+    ensures aims { IfOk result
+        (λ aims. AreAimsOf (state_in drive.old) (store_of drive.old) at stand_ins.now objects.now
+        aims.items) }
     ensures state { state_in drive.new ≡ state_in drive.old }
     ensures store { store_of drive.new ≡ store_of drive.old }
 {
@@ -107,7 +115,8 @@ fn objects_by<J: Naming>(
     order: &Order<'_>,
     at: Moment,
 ) -> Result<Vec<ObjectId>, Failure>
-    ensures objects { IfOk result (λ objects. AreAsked (state_in drive.old) (store_of drive.old) order.now at objects.items) }
+    ensures objects { IfOk result
+        (λ objects. AreAsked (state_in drive.old) (store_of drive.old) order.now at objects.items) }
     ensures state { state_in drive.new ≡ state_in drive.old }
     ensures store { store_of drive.new ≡ store_of drive.old }
 {
@@ -159,7 +168,8 @@ fn check_objects<J: Naming>(drive: &Drive<J>, objects: &[ObjectId]) -> Result<()
 
 // Whether a number is above 0 and below the next one.
 fn was_given(number: u64, next: u64) -> bool
-    ensures { MatchBool result ((0 < number) × (number < next)) ((0 < number) × (number < next) → ⊥) }
+    ensures { MatchBool result ((0 < number) × (number < next))
+        ((0 < number) × (number < next) → ⊥) }
 {
     0 < number && number < next
 }

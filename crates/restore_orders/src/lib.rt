@@ -1,9 +1,11 @@
 //! A drive is restored by an order: what was asked for, with what was found to be needed for it.
 //!
-//! The layers above may rely on this: by an `Order` what it names is chosen of the drive as it is, room is made by its means, the window is
-//! widened where the moment would expire on the way, by as little as serves, versions are hidden where the order says so, and what was chosen is
-//! restored. The objects that are named, or all, are what they were then, every other one is what it was, the past stays, and the output has a
-//! line for each object that something was done to. The other functions are the steps of that, for trials.
+//! The layers above may rely on this: by an `Order` what it names is chosen of the drive as it is,
+//! room is made by its means, the window is widened where the moment would expire on the way, by as
+//! little as serves, versions are hidden where the order says so, and what was chosen is restored.
+//! The objects that are named, or all, are what they were then, every other one is what it was, the
+//! past stays, and the output has a line for each object that something was done to. The other
+//! functions are the steps of that, for trials.
 #![tactic(auto)]
 
 mod choosing;

@@ -3,7 +3,10 @@ ghost use Rattle.std.specs.Prelude.{◌≡◌, IfOk, false, string_bytes};
 ghost use Rattle.serde_json.specs.View.{view};
 ghost use Rattle.serde_json.specs.Written.{has_float};
 ghost use Rattle.history_text.specs.Json.{json_line};
-ghost use Rattle.restore_orders.specs.Lines.{done_data, hidden_data, hidden_json, hidden_line, hidden_text, planned_json, planned_line, planned_text, remade_data, restored_text, skipped_text, window_data, window_json, window_line, window_text};
+ghost use Rattle.restore_orders.specs.Lines.{done_data, hidden_data, hidden_json, hidden_line};
+ghost use Rattle.restore_orders.specs.Lines.{hidden_text, planned_json, planned_line, planned_text};
+ghost use Rattle.restore_orders.specs.Lines.{remade_data, restored_text, skipped_text, window_data};
+ghost use Rattle.restore_orders.specs.Lines.{window_json, window_line, window_text};
 
 use history_restore::{Plan, Restored};
 use s4_types::Span;

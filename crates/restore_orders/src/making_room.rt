@@ -1,7 +1,9 @@
-//! Moments are hidden where an object's journal has no room for what restores it, as few versions as serve.
+//! Moments are hidden where an object's journal has no room for what restores it, as few versions
+//! as serve.
 ghost use Rattle.std.specs.Prelude.{◌≡◌, ℕ, ◌+◌, ◌^◌, ◌<◌, None, IfOk, IfSome, IsTrue, OnOk};
 ghost use Rattle.drive.specs.Fields.{state_in, store_of};
-ghost use Rattle.restore_orders.specs.MakingRoom.{HasFewer, Hides, HidesAll, IsAimedAt, MakesRoom, RestoresWithRoom};
+ghost use Rattle.restore_orders.specs.MakingRoom.{HasFewer, Hides, HidesAll, IsAimedAt, MakesRoom};
+ghost use Rattle.restore_orders.specs.MakingRoom.{RestoresWithRoom};
 
 use crate::lines::hidden_text;
 use crate::restoring::restore;
@@ -16,7 +18,8 @@ use segment_word::Naming;
 use serving::Sink;
 use std::alloc::Global;
 
-/// Makes room in journals, and then restores objects of a drive under these numbers. Prints what is hidden, and what was done to each.
+/// Makes room in journals, and then restores objects of a drive under these numbers. Prints what is
+/// hidden, and what was done to each.
 pub(crate) fn restore_with_room<J: Naming, W: Sink>(
     alloc: Global,
     drive: &mut Drive<J>,
@@ -28,7 +31,9 @@ pub(crate) fn restore_with_room<J: Naming, W: Sink>(
     writer: &mut W,
 ) -> Result<(), Failure>
     requires writer { W.failures writer.old + 1 < 2 ^ 64 }
-    ensures restores { OnOk result (RestoresWithRoom drive.old drive.new at json aims.now full.now (W.passed writer.old) (W.passed writer.new)) }
+    ensures restores { OnOk result
+        (RestoresWithRoom drive.old drive.new at json aims.now full.now (W.passed writer.old)
+        (W.passed writer.new)) }
     ensures failures { OnOk result (W.failures writer.new ≡ W.failures writer.old) }
 {
     hide_all(alloc, drive, session, at, json, aims, full, writer)?;
@@ -47,7 +52,9 @@ fn hide_all<J: Naming, W: Sink>(
     writer: &mut W,
 ) -> Result<(), Failure>
     requires writer { W.failures writer.old + 1 < 2 ^ 64 }
-    ensures hides { OnOk result (HidesAll drive.old at json aims.now full.now drive.new (W.passed writer.old) (W.passed writer.new)) }
+    ensures hides { OnOk result
+        (HidesAll drive.old at json aims.now full.now drive.new (W.passed writer.old)
+        (W.passed writer.new)) }
     ensures failures { OnOk result (W.failures writer.new ≡ W.failures writer.old) }
 {
     match full {
@@ -71,7 +78,9 @@ fn hide<J: Naming, W: Sink>(
     writer: &mut W,
 ) -> Result<(), Failure>
     requires writer { W.failures writer.old + 1 < 2 ^ 64 }
-    ensures hides { OnOk result (Hides drive.old at json aims.now room.now drive.new (W.passed writer.old) (W.passed writer.new)) }
+    ensures hides { OnOk result
+        (Hides drive.old at json aims.now room.now drive.new (W.passed writer.old)
+        (W.passed writer.new)) }
     ensures failures { OnOk result (W.failures writer.new ≡ W.failures writer.old) }
 {
     if !is_aimed_at(aims, room.object) {
@@ -103,8 +112,9 @@ fn full(object: ObjectId) -> Failure {
     }
 }
 
-/// Cleans the journal of an object, hides that many of its newest versions, and cleans it again. Gives the moments that are hidden, if there are
-/// any; none at all where there are fewer versions after the moment, of which none is hidden then.
+/// Cleans the journal of an object, hides that many of its newest versions, and cleans it again.
+/// Gives the moments that are hidden, if there are any; none at all where there are fewer versions
+/// after the moment, of which none is hidden then.
 pub fn prepare<J: Naming>(
     alloc: Global,
     drive: &mut Drive<J>,
@@ -112,7 +122,8 @@ pub fn prepare<J: Naming>(
     at: u64,
     room: &Room,
 ) -> Result<Option<Option<Span>>, Failure>
-    ensures made { IfOk result (λ made. IfSome made (λ hidden. MakesRoom drive.old at room.now hidden drive.new)) }
+    ensures made { IfOk result
+        (λ made. IfSome made (λ hidden. MakesRoom drive.old at room.now hidden drive.new)) }
     ensures fewer { IfOk result (λ made. made ≡ None → HasFewer drive.old at room.now drive.new) }
 {
     let object = room.object;

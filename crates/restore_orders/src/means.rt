@@ -20,8 +20,8 @@ pub enum Means {
     Moves,
 }
 
-/// Makes room by these means. NoRoom where they cost more blocks than they free; then the drive isn't to be used any more, as with each
-/// refusal, which are those of `compact`.
+/// Makes room by these means. NoRoom where they cost more blocks than they free; then the drive
+/// isn't to be used any more, as with each refusal, which are those of `compact`.
 pub fn compact_for<J: Naming>(
     alloc: Global,
     drive: &mut Drive<J>,

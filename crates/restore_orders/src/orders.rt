@@ -73,7 +73,8 @@ impl DriveCommand for Order<'_> {
     }
 }
 
-// Restores a drive, and prints what was done. The moments of a failure are dates where the drive's clock counts microseconds of Unix time.
+// Restores a drive, and prints what was done. The moments of a failure are dates where the drive's
+// clock counts microseconds of Unix time.
 fn restore_in_style<J: Naming, W: Sink>(
     alloc: Global,
     drive: &mut Drive<J>,
@@ -81,7 +82,8 @@ fn restore_in_style<J: Naming, W: Sink>(
     writer: &mut W,
 ) -> Result<(), Failure>
     requires writer { W.failures writer.old + 1 < 2 ^ 64 }
-    ensures restores { OnOk result (RestoresBy drive.old drive.new order.now (W.passed writer.old) (W.passed writer.new)) }
+    ensures restores { OnOk result
+        (RestoresBy drive.old drive.new order.now (W.passed writer.old) (W.passed writer.new)) }
     ensures style { IfErr result (IsInStyle (styles.style_of (state_in drive.old).clock false)) }
 {
     let style = style_of(drive.clock().number(), false);
@@ -91,7 +93,8 @@ fn restore_in_style<J: Naming, W: Sink>(
     }
 }
 
-// Restores a drive, and prints what was done. What is restored is chosen of the drive as it is before room is made.
+// Restores a drive, and prints what was done. What is restored is chosen of the drive as it is
+// before room is made.
 fn restore_by<J: Naming, W: Sink>(
     alloc: Global,
     drive: &mut Drive<J>,
@@ -99,7 +102,8 @@ fn restore_by<J: Naming, W: Sink>(
     writer: &mut W,
 ) -> Result<(), Failure>
     requires writer { W.failures writer.old + 1 < 2 ^ 64 }
-    ensures restores { OnOk result (RestoresBy drive.old drive.new order.now (W.passed writer.old) (W.passed writer.new)) }
+    ensures restores { OnOk result
+        (RestoresBy drive.old drive.new order.now (W.passed writer.old) (W.passed writer.new)) }
 {
     let mut session = drive.session(Role::Admin)?;
     let at = readable(drive, order.at)?;

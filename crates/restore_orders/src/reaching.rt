@@ -16,8 +16,8 @@ use segment_word::Naming;
 use serving::Sink;
 use std::alloc::Global;
 
-/// Restores what was chosen by an order: the window is widened where the moment would expire on the way, and room is made in full journals
-/// before. Prints what was done.
+/// Restores what was chosen by an order: the window is widened where the moment would expire on the
+/// way, and room is made in full journals before. Prints what was done.
 pub(crate) fn restore_in_reach<J: Naming, W: Sink>(
     alloc: Global,
     drive: &mut Drive<J>,
@@ -28,7 +28,9 @@ pub(crate) fn restore_in_reach<J: Naming, W: Sink>(
     writer: &mut W,
 ) -> Result<(), Failure>
     requires writer { W.failures writer.old + 1 < 2 ^ 64 }
-    ensures restores { OnOk result (RestoresInReach drive.old drive.new order.now at chosen.now (W.passed writer.old) (W.passed writer.new)) }
+    ensures restores { OnOk result
+        (RestoresInReach drive.old drive.new order.now at chosen.now (W.passed writer.old)
+        (W.passed writer.new)) }
     ensures failures { OnOk result (W.failures writer.new ≡ W.failures writer.old) }
 {
     let changes = changes_ahead(chosen, order.full);
@@ -49,7 +51,8 @@ pub(crate) fn restore_in_reach<J: Naming, W: Sink>(
     )
 }
 
-/// How many changes are ahead: those of the plans, and one for each journal of which versions are hidden.
+/// How many changes are ahead: those of the plans, and one for each journal of which versions are
+/// hidden.
 pub fn changes_ahead(chosen: &[ObjectPlan], full: &[Room]) -> u64
     ensures { result ≡ changes_ahead chosen.now full.now }
 {
@@ -63,7 +66,8 @@ fn hiding_in(full: &[Room]) -> usize
     full.iter().filter(|room| room.count > 0).count()
 }
 
-// Keeps a moment in reach until that many changes are made, and prints what the window was and is where it had to be widened.
+// Keeps a moment in reach until that many changes are made, and prints what the window was and is
+// where it had to be widened.
 fn reach<J: Naming, W: Sink>(
     alloc: Global,
     drive: &mut Drive<J>,
@@ -74,7 +78,9 @@ fn reach<J: Naming, W: Sink>(
     writer: &mut W,
 ) -> Result<(), Failure>
     requires writer { W.failures writer.old + 1 < 2 ^ 64 }
-    ensures reaches { OnOk result (Reaches (state_in drive.old) (store_of drive.old) at changes json drive.new (W.passed writer.old) (W.passed writer.new)) }
+    ensures reaches { OnOk result
+        (Reaches (state_in drive.old) (store_of drive.old) at changes json drive.new
+        (W.passed writer.old) (W.passed writer.new)) }
     ensures failures { OnOk result (W.failures writer.new ≡ W.failures writer.old) }
 {
     let before = drive.window();

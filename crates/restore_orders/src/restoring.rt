@@ -27,7 +27,9 @@ pub(crate) fn restore<J: Naming, W: Sink>(
     writer: &mut W,
 ) -> Result<(), Failure>
     requires writer { W.failures writer.old + 1 < 2 ^ 64 }
-    ensures restores { OnOk result (RestoresDrive (state_in drive.old) (state_in drive.new) at json aims.now (W.passed writer.old) (W.passed writer.new)) }
+    ensures restores { OnOk result
+        (RestoresDrive (state_in drive.old) (state_in drive.new) at json aims.now
+        (W.passed writer.old) (W.passed writer.new)) }
     ensures failures { OnOk result (W.failures writer.new ≡ W.failures writer.old) }
 {
     let all = restored(alloc, drive, session, Moment::new(at), aims)?;
@@ -42,7 +44,8 @@ fn restored<J: Naming>(
     at: Moment,
     aims: &[Aim],
 ) -> Result<Vec<Restored>, Failure>
-    ensures restored { IfOk result (λ all. AreRestored (state_in drive.old) (state_in drive.new) at aims.now all.items) }
+    ensures restored { IfOk result
+        (λ all. AreRestored (state_in drive.old) (state_in drive.new) at aims.now all.items) }
 {
     match restore_these(alloc, drive, session, aims, at, Moment::new(0)) {
         Ok(all) => Ok(all),
@@ -50,7 +53,8 @@ fn restored<J: Naming>(
     }
 }
 
-/// The failure of an object that wasn't restored: where there is no room it names the number under which it was to be.
+/// The failure of an object that wasn't restored: where there is no room it names the number under
+/// which it was to be.
 pub fn failure_of<J: Naming>(
     drive: &Drive<J>,
     at: Moment,
@@ -78,7 +82,9 @@ fn write_restored<W: Sink>(
     writer: &mut W,
 ) -> Result<(), Failure>
     requires writer { W.failures writer.old + 1 < 2 ^ 64 }
-    ensures lines { OnOk result (Appends (W.passed writer.old) (W.passed writer.new) (flat_map (restored_text json) all.now)) }
+    ensures lines { OnOk result
+        (Appends (W.passed writer.old) (W.passed writer.new)
+        (flat_map (restored_text json) all.now)) }
     ensures failures { OnOk result (W.failures writer.new ≡ W.failures writer.old) }
 {
     for restored in all {
@@ -95,7 +101,8 @@ fn write_line<W: Sink>(
     writer: &mut W,
 ) -> Result<(), Failure>
     requires writer { W.failures writer.old + 1 < 2 ^ 64 }
-    ensures line { OnOk result (Appends (W.passed writer.old) (W.passed writer.new) (restored_text json restored.now)) }
+    ensures line { OnOk result
+        (Appends (W.passed writer.old) (W.passed writer.new) (restored_text json restored.now)) }
     ensures failures { OnOk result (W.failures writer.new ≡ W.failures writer.old) }
 {
     let line = match restored_text(alloc, json, restored) {
@@ -114,7 +121,9 @@ pub(crate) fn write_skipped<W: Sink>(
     writer: &mut W,
 ) -> Result<(), Failure>
     requires writer { W.failures writer.old + 1 < 2 ^ 64 }
-    ensures lines { OnOk result (Appends (W.passed writer.old) (W.passed writer.new) (flat_map (skipped_text json) skipped.now)) }
+    ensures lines { OnOk result
+        (Appends (W.passed writer.old) (W.passed writer.new)
+        (flat_map (skipped_text json) skipped.now)) }
 {
     for object in skipped {
         write_skipped_line(alloc, json, *object, writer)?;
@@ -129,7 +138,8 @@ fn write_skipped_line<W: Sink>(
     writer: &mut W,
 ) -> Result<(), Failure>
     requires writer { W.failures writer.old + 1 < 2 ^ 64 }
-    ensures line { OnOk result (Appends (W.passed writer.old) (W.passed writer.new) (skipped_text json object)) }
+    ensures line { OnOk result
+        (Appends (W.passed writer.old) (W.passed writer.new) (skipped_text json object)) }
     ensures failures { OnOk result (W.failures writer.new ≡ W.failures writer.old) }
 {
     let line = match skipped_text(alloc, json, object.number()) {

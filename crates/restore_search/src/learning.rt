@@ -1,6 +1,7 @@
 //! What a search learns from a trial.
 ghost use Rattle.std.specs.Prelude.{◌≡◌, [], false, filter, IfOk, OnOk};
-ghost use Rattle.restore_search.specs.Searching.{Begins, BeginsOne, IsFine, IsSettled, Learns, Leaves, LeavesRest, is_in, is_kept};
+ghost use Rattle.restore_search.specs.Searching.{Begins, BeginsOne, IsFine, IsSettled, Learns};
+ghost use Rattle.restore_search.specs.Searching.{Leaves, LeavesRest, is_in, is_kept};
 
 use crate::searches::{Hiding, Search};
 use crate::surveys::{Lack, Lacking, Survey};
@@ -8,9 +9,11 @@ use crate::turning::turn_all;
 use s4_types::ObjectId;
 use std::alloc::{AllocError, Global};
 
-/// Takes what a trial with [`rooms_tried`](crate::rooms_tried) shows of what is needed; whether anything was learnt, so that another trial is to be made.
-/// Nothing is left out before it is known how much has to be hidden, as that makes room for others. Versions are hidden only where `flush` is set.
-/// Where nothing was learnt, nothing is lacking, and what is found to be needed is what was tried.
+/// Takes what a trial with [`rooms_tried`](crate::rooms_tried) shows of what is needed; whether
+/// anything was learnt, so that another trial is to be made. Nothing is left out before it is known
+/// how much has to be hidden, as that makes room for others. Versions are hidden only where `flush`
+/// is set. Where nothing was learnt, nothing is lacking, and what is found to be needed is what was
+/// tried.
 ///
 /// An error where memory was refused; then the search isn't to be used any more.
 pub fn learn(
@@ -33,7 +36,8 @@ pub fn learn(
     Ok(true)
 }
 
-// What a trial shows of the room that was tried, and of journals that are full besides; whether there is something else to be tried.
+// What a trial shows of the room that was tried, and of journals that are full besides; whether
+// there is something else to be tried.
 fn go_on(
     search: &mut Search,
     alloc: Global,
@@ -41,7 +45,9 @@ fn go_on(
     flush: bool,
 ) -> Result<bool, AllocError>
     ensures learns { OnOk result (Learns flush search.old survey.now search.new) }
-    ensures settled { IfOk result (λ is_other. is_other ≡ false → survey.now.unmade.items ≡ [] → IsSettled search.old search.new) }
+    ensures settled { IfOk result
+        (λ is_other. is_other ≡ false → survey.now.unmade.items ≡ []
+        → IsSettled search.old search.new) }
 {
     let hidings = search.hidings.as_slice();
     let turned = turn_all(alloc, hidings, survey, flush, &mut search.lacking)?;
@@ -63,7 +69,8 @@ fn leave_rest(search: &mut Search, alloc: Global, survey: &Survey) -> Result<(),
     Ok(())
 }
 
-// Of each object whose journal is full it is found from now on how many versions have to be hidden, none to begin with; whether there is one.
+// Of each object whose journal is full it is found from now on how many versions have to be hidden,
+// none to begin with; whether there is one.
 fn begin_all(search: &mut Search, refused: &[Lacking], flush: bool) -> Result<bool, AllocError>
     ensures begins { OnOk result (Begins search.old refused.now search.new) }
     ensures none { IfOk result (λ is_begun. is_begun ≡ false → search.new ≡ search.old) }

@@ -21,7 +21,8 @@ pub struct Hiding {
 }
 
 impl Hiding {
-    /// Between these numbers the one in the middle is tried next; where the greater one isn't known a greater one, by doubling.
+    /// Between these numbers the one in the middle is tried next; where the greater one isn't known
+    /// a greater one, by doubling.
     pub(crate) fn between(object: ObjectId, least: usize, most: Option<usize>) -> Self
         ensures object { result.object ≡ object }
         ensures least { result.least ≡ least }

@@ -1,6 +1,7 @@
 //! What a trial shows of each object whose journal is full.
 ghost use Rattle.std.specs.Prelude.{◌≡◌, false, Bool, List, [], IfOk, IsTrue, OnOk};
-ghost use Rattle.restore_search.specs.Searching.{AreSettled, HasFull, IsSameTried, IsSettledOne, TakesTurn, Turns, TurnsOne};
+ghost use Rattle.restore_search.specs.Searching.{AreSettled, HasFull, IsSameTried, IsSettledOne};
+ghost use Rattle.restore_search.specs.Searching.{TakesTurn, Turns, TurnsOne};
 ghost use Rattle.restore_search.specs.declared.surveys.Lacking.{Lacking as Lacks};
 
 use crate::searches::Hiding;
@@ -33,8 +34,12 @@ pub(crate) fn turn_all(
     flush: bool,
     lacking: &mut Vec<Lacking>,
 ) -> Result<Turned, AllocError>
-    ensures turns { IfOk result (λ turned. Turns flush hidings.now survey.now lacking.old.items turned.kept.items lacking.new.items) }
-    ensures settled { IfOk result (λ turned. turned.is_other ≡ false → survey.now.unmade.items ≡ [] → AreSettled hidings.now lacking.old.items turned.kept.items lacking.new.items) }
+    ensures turns { IfOk result
+        (λ turned. Turns flush hidings.now survey.now lacking.old.items turned.kept.items
+        lacking.new.items) }
+    ensures settled { IfOk result
+        (λ turned. turned.is_other ≡ false → survey.now.unmade.items ≡ []
+        → AreSettled hidings.now lacking.old.items turned.kept.items lacking.new.items) }
 {
     let mut kept = Vec::new(alloc);
     let mut is_other = false;
@@ -46,14 +51,17 @@ pub(crate) fn turn_all(
     Ok(Turned { kept, is_other })
 }
 
-// Takes what a trial shows of one of these; whether another number is to be tried, or the object is left out.
+// Takes what a trial shows of one of these; whether another number is to be tried, or the object is
+// left out.
 fn turn_one(
     hiding: &Hiding,
     turn: Turn,
     kept: &mut Vec<Hiding>,
     lacking: &mut Vec<Lacking>,
 ) -> Result<bool, AllocError>
-    ensures takes { OnOk result (TakesTurn hiding.now.object turn kept.old.items lacking.old.items kept.new.items lacking.new.items) }
+    ensures takes { OnOk result
+        (TakesTurn hiding.now.object turn kept.old.items lacking.old.items kept.new.items
+        lacking.new.items) }
     ensures same { IfOk result (λ is_turned. is_turned ≡ false → IsSameTried hiding.now turn) }
 {
     match turn {

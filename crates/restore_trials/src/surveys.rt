@@ -1,4 +1,5 @@
-//! Trials to restore by an order, of which nothing is kept: each goes on after an object that can't be restored.
+//! Trials to restore by an order, of which nothing is kept: each goes on after an object that can't
+//! be restored.
 ghost use Rattle.std.specs.Prelude.{◌≡◌, ◌++◌, ◌∷◌, [], false, None, Option, IfErr, IfOk, OnOk};
 ghost use Rattle.std.specs.List.{AllByRecursion};
 ghost use Rattle.s4_types.specs.declared.spans.Span.{Span};
@@ -12,7 +13,8 @@ ghost use Rattle.s4_images.specs.Commands.{FailsOver, OverImage, OverOpened};
 ghost use Rattle.s4_images.specs.Failures.{IsInStyle};
 ghost use Rattle.restore_orders.specs.Choosing.{AreChosen};
 ghost use Rattle.restore_orders.specs.MakingRoom.{MakesRoom};
-ghost use Rattle.restore_trials.specs.Surveys.{AreMade, Finds, IsHiddenAlone, IsRefusedFrom, IsServedFrom, Serves};
+ghost use Rattle.restore_trials.specs.Surveys.{AreMade, Finds, IsHiddenAlone, IsRefusedFrom};
+ghost use Rattle.restore_trials.specs.Surveys.{IsServedFrom, Serves};
 
 use crate::trying::{lacking_of, push, try_all};
 use drive::{Drive, OpenedDrive, Session};
@@ -29,8 +31,9 @@ use std::marker::Brand;
 use std::thread::Threads;
 use verifier::open;
 
-/// What a trial over the image finds; none where room can't be made by the order's means. Where nothing is lacking, all that the order chooses
-/// was restored in it. Its failures have moments as dates where the image's are.
+/// What a trial over the image finds; none where room can't be made by the order's means. Where
+/// nothing is lacking, all that the order chooses was restored in it. Its failures have moments as
+/// dates where the image's are.
 pub fn survey_image<T: Threads, F: Files>(
     rt: &T,
     alloc: Global,
@@ -38,9 +41,13 @@ pub fn survey_image<T: Threads, F: Files>(
     image: &str,
     order: &Order<'_>,
 ) -> Result<Option<Survey>, Failure>
-    ensures finds { IfOk result (λ found. OverImage (F.contents files.now image.now) (λ d. Finds d order.now found)) }
-    ensures serves { IfOk result (λ found. OverImage (F.contents files.now image.now) (λ d. Serves d order.now found)) }
-    ensures style { IfErr result (FailsOver (F.contents files.now image.now) (λ d. IsInStyle (styles.style_of (state_in d).clock false))) }
+    ensures finds { IfOk result
+        (λ found. OverImage (F.contents files.now image.now) (λ d. Finds d order.now found)) }
+    ensures serves { IfOk result
+        (λ found. OverImage (F.contents files.now image.now) (λ d. Serves d order.now found)) }
+    ensures style { IfErr result
+        (FailsOver (F.contents files.now image.now)
+        (λ d. IsInStyle (styles.style_of (state_in d).clock false))) }
 {
     let image = read_image(rt, alloc, files, image)?;
     let opened = open(alloc, image)?;
@@ -58,7 +65,9 @@ fn survey_opened<J: Naming>(
     requires base { base_of (fields_of log_of opened.store) opened.timeline opened.next ≡ J.base }
     ensures finds { IfOk result (λ found. OverOpened opened (λ d. Finds d order.now found)) }
     ensures serves { IfOk result (λ found. OverOpened opened (λ d. Serves d order.now found)) }
-    ensures style { IfErr result (λ failure. OverOpened opened (λ d. IsInStyle (styles.style_of (state_in d).clock false) failure)) }
+    ensures style { IfErr result
+        (λ failure. OverOpened opened
+        (λ d. IsInStyle (styles.style_of (state_in d).clock false) failure)) }
 {
     let mut drive = opened.named::<J>();
     survey_in_style(alloc, &mut drive, order)
@@ -114,9 +123,13 @@ fn survey_cleared<J: Naming>(
     chosen: &[ObjectPlan],
     hidden: Vec<Lacking>,
 ) -> Result<Survey, Failure>
-    ensures refused { IfOk result (λ found. AllByRecursion (IsRefusedFrom drive.old order.now at chosen.now) found.refused.items) }
+    ensures refused { IfOk result
+        (λ found. AllByRecursion (IsRefusedFrom drive.old order.now at chosen.now)
+        found.refused.items) }
     ensures hidden { IfOk result (λ found. found.hidden ≡ hidden) }
-    ensures serves { IfOk result (λ found. found.refused.items ≡ [] → found.unmade.items ≡ [] → IsServedFrom drive.old order.now at chosen.now) }
+    ensures serves { IfOk result
+        (λ found. found.refused.items ≡ [] → found.unmade.items ≡ []
+        → IsServedFrom drive.old order.now at chosen.now) }
 {
     let changes = changes_ahead(chosen, order.full);
     let _widened = widen_window(drive, session, at, changes, Moment::new(0))?;
@@ -141,9 +154,14 @@ fn plans_found<J: Naming>(
     at: Moment,
     hidden: &mut Vec<Lacking>,
 ) -> Result<Vec<ObjectPlan>, Failure>
-    ensures planned { IfOk result (λ chosen. AllByRecursion (IsPlanned (state_in drive.old) at) chosen.items) }
-    ensures hidden { OnOk result (AllByRecursion (IsHiddenAlone (state_in drive.old) at) hidden.old.items → AllByRecursion (IsHiddenAlone (state_in drive.old) at) hidden.new.items) }
-    ensures chosen { IfOk result (λ chosen. hidden.new.items ≡ [] → AreChosen (state_in drive.old) (store_of drive.old) order.now at chosen.items) }
+    ensures planned { IfOk result
+        (λ chosen. AllByRecursion (IsPlanned (state_in drive.old) at) chosen.items) }
+    ensures hidden { OnOk result
+        (AllByRecursion (IsHiddenAlone (state_in drive.old) at) hidden.old.items
+        → AllByRecursion (IsHiddenAlone (state_in drive.old) at) hidden.new.items) }
+    ensures chosen { IfOk result
+        (λ chosen. hidden.new.items ≡ []
+        → AreChosen (state_in drive.old) (store_of drive.old) order.now at chosen.items) }
     ensures state { state_in drive.new ≡ state_in drive.old }
     ensures store { store_of drive.new ≡ store_of drive.old }
 {
@@ -164,9 +182,13 @@ fn plan_aims<J: Naming>(
     at: Moment,
     hidden: &mut Vec<Lacking>,
 ) -> Result<Vec<ObjectPlan>, Failure>
-    ensures planned { IfOk result (λ plans. AllByRecursion (IsPlanned (state_in drive.old) at) plans.items) }
-    ensures hidden { OnOk result (AllByRecursion (IsHiddenAlone (state_in drive.old) at) hidden.old.items → AllByRecursion (IsHiddenAlone (state_in drive.old) at) hidden.new.items) }
-    ensures all { IfOk result (λ plans. hidden.new.items ≡ [] → aims_planned plans.items ≡ aims.now) }
+    ensures planned { IfOk result
+        (λ plans. AllByRecursion (IsPlanned (state_in drive.old) at) plans.items) }
+    ensures hidden { OnOk result
+        (AllByRecursion (IsHiddenAlone (state_in drive.old) at) hidden.old.items
+        → AllByRecursion (IsHiddenAlone (state_in drive.old) at) hidden.new.items) }
+    ensures all { IfOk result
+        (λ plans. hidden.new.items ≡ [] → aims_planned plans.items ≡ aims.now) }
     ensures state { state_in drive.new ≡ state_in drive.old }
     ensures store { store_of drive.new ≡ store_of drive.old }
 {
@@ -187,9 +209,16 @@ fn plan_aim<J: Naming>(
     plans: &mut Vec<ObjectPlan>,
     hidden: &mut Vec<Lacking>,
 ) -> Result<(), Failure>
-    ensures planned { OnOk result (AllByRecursion (IsPlanned (state_in drive.old) at) plans.old.items → AllByRecursion (IsPlanned (state_in drive.old) at) plans.new.items) }
-    ensures hidden { OnOk result (AllByRecursion (IsHiddenAlone (state_in drive.old) at) hidden.old.items → AllByRecursion (IsHiddenAlone (state_in drive.old) at) hidden.new.items) }
-    ensures all { OnOk result (hidden.new.items ≡ [] → (hidden.old.items ≡ []) × (aims_planned plans.new.items ≡ aims_planned plans.old.items ++ aim.now ∷ [])) }
+    ensures planned { OnOk result
+        (AllByRecursion (IsPlanned (state_in drive.old) at) plans.old.items
+        → AllByRecursion (IsPlanned (state_in drive.old) at) plans.new.items) }
+    ensures hidden { OnOk result
+        (AllByRecursion (IsHiddenAlone (state_in drive.old) at) hidden.old.items
+        → AllByRecursion (IsHiddenAlone (state_in drive.old) at) hidden.new.items) }
+    ensures all { OnOk result
+        (hidden.new.items ≡ []
+        → (hidden.old.items ≡ [])
+        × (aims_planned plans.new.items ≡ aims_planned plans.old.items ++ aim.now ∷ [])) }
     ensures state { state_in drive.new ≡ state_in drive.old }
     ensures store { store_of drive.new ≡ store_of drive.old }
 {
@@ -208,7 +237,8 @@ fn make_rooms<J: Naming>(
     at: Moment,
     full: &[Room],
 ) -> Result<Vec<Lacking>, Failure>
-    ensures made { IfOk result (λ unmade. unmade.items ≡ [] → AreMade drive.old at full.now drive.new) }
+    ensures made { IfOk result
+        (λ unmade. unmade.items ≡ [] → AreMade drive.old at full.now drive.new) }
 {
     let mut unmade = Vec::new(alloc);
     for room in full {
@@ -228,7 +258,9 @@ fn make_room<J: Naming>(
     at: Moment,
     room: &Room,
 ) -> Result<Option<Lack>, Failure>
-    ensures made { IfOk result (λ lack. lack ≡ None → (hidden : Option Span) × MakesRoom drive.old at room.now hidden drive.new) }
+    ensures made { IfOk result
+        (λ lack. lack ≡ None
+        → (hidden : Option Span) × MakesRoom drive.old at room.now hidden drive.new) }
 {
     match prepare(alloc, drive, session, at.number(), room) {
         Ok(Some(_hidden)) => Ok(None),

@@ -45,8 +45,9 @@ struct Progress {
     wasted: usize,
 }
 
-/// Restores each of these that can be, one after the other. What certainly isn't comes last, so that it takes nothing from the others. Where
-/// nothing is listed as lacking, all of these were restored.
+/// Restores each of these that can be, one after the other. What certainly isn't comes last, so
+/// that it takes nothing from the others. Where nothing is listed as lacking, all of these were
+/// restored.
 pub(crate) fn try_all<J: Naming>(
     alloc: Global,
     drive: &mut Drive<J>,
@@ -55,7 +56,8 @@ pub(crate) fn try_all<J: Naming>(
     chosen: &[ObjectPlan],
     lacking: &mut Vec<Lacking>,
 ) -> Result<(), Failure>
-    ensures carries { OnOk result (Carries at drive.old lacking.old.items drive.new lacking.new.items) }
+    ensures carries { OnOk result
+        (Carries at drive.old lacking.old.items drive.new lacking.new.items) }
     ensures fine { OnOk result (lacking.new.items ≡ [] → RestoresAll at drive.old chosen.now) }
 {
     let mut progress = Progress {
@@ -78,8 +80,11 @@ fn try_deferred<J: Naming>(
     deferred: &[ObjectPlan],
     lacking: &mut Vec<Lacking>,
 ) -> Result<(), Failure>
-    ensures carries { OnOk result (Carries at drive.old lacking.old.items drive.new lacking.new.items) }
-    ensures fine { OnOk result (lacking.new.items ≡ [] → (lacking.old.items ≡ []) × RestoresAll at drive.old deferred.now) }
+    ensures carries { OnOk result
+        (Carries at drive.old lacking.old.items drive.new lacking.new.items) }
+    ensures fine { OnOk result
+        (lacking.new.items ≡ []
+        → (lacking.old.items ≡ []) × RestoresAll at drive.old deferred.now) }
 {
     for planned in deferred {
         let _is_restored = try_aim(alloc, drive, session, at, &planned.aim, true, lacking)?;
@@ -87,8 +92,8 @@ fn try_deferred<J: Naming>(
     Ok(())
 }
 
-// Restores one of these, or puts it off where it certainly can't be restored. Once blocks were wasted it isn't said of anything that it
-// lacks blocks, since it may have found them before.
+// Restores one of these, or puts it off where it certainly can't be restored. Once blocks were
+// wasted it isn't said of anything that it lacks blocks, since it may have found them before.
 fn try_planned<J: Naming>(
     alloc: Global,
     drive: &mut Drive<J>,
@@ -98,7 +103,8 @@ fn try_planned<J: Naming>(
     progress: &mut Progress,
     lacking: &mut Vec<Lacking>,
 ) -> Result<(), Failure>
-    ensures carries { OnOk result (Carries at drive.old lacking.old.items drive.new lacking.new.items) }
+    ensures carries { OnOk result
+        (Carries at drive.old lacking.old.items drive.new lacking.new.items) }
     ensures fine { OnOk result (lacking.new.items ≡ []
         → PassesFine drive.old at planned.now lacking.old.items progress.old.deferred.items progress.new.deferred.items progress.old.wasted progress.new.wasted drive.new) }
 {
@@ -115,7 +121,8 @@ fn try_planned<J: Naming>(
     Ok(())
 }
 
-// Whether an object is restored. Where it is refused for a full journal, or for a lack of blocks and that is sure, that is added.
+// Whether an object is restored. Where it is refused for a full journal, or for a lack of blocks
+// and that is sure, that is added.
 fn try_aim<J: Naming>(
     alloc: Global,
     drive: &mut Drive<J>,
@@ -125,8 +132,11 @@ fn try_aim<J: Naming>(
     is_sure: bool,
     lacking: &mut Vec<Lacking>,
 ) -> Result<bool, Failure>
-    ensures carries { OnOk result (Carries at drive.old lacking.old.items drive.new lacking.new.items) }
-    ensures fine { IfOk result (λ is_restored. lacking.new.items ≡ [] → TriesFine drive.old at aim.now lacking.old.items is_sure is_restored drive.new) }
+    ensures carries { OnOk result
+        (Carries at drive.old lacking.old.items drive.new lacking.new.items) }
+    ensures fine { IfOk result
+        (λ is_restored. lacking.new.items ≡ []
+        → TriesFine drive.old at aim.now lacking.old.items is_sure is_restored drive.new) }
 {
     let failure = match restore_object(alloc, drive, session, aim, at, Moment::new(0)) {
         Ok(_) => return Ok(true),
@@ -148,7 +158,8 @@ fn leave(lacking: &mut Vec<Lacking>, aim: &Aim, lack: Lack) -> Result<bool, Fail
     Ok(false)
 }
 
-// How many blocks a plan appends at least; of what is made anew, with an attribute of few bytes, exactly.
+// How many blocks a plan appends at least; of what is made anew, with an attribute of few bytes,
+// exactly.
 fn least_blocks(plan: &Plan) -> usize {
     match plan {
         Plan::Keep => 0,

@@ -34,7 +34,7 @@ pub record Laws : Type 0 where
   pub beginning : (i j : Inode) (entries : List EntryFields) → Run i entries j → i ≡ undone_all entries j
   pub done : (i : Inode) (entries : List EntryFields) (t : ℕ) → AllBy t entries → inode_after i entries t ≡ redone_all entries i
 
--- The inode that is current at a moment stands as a checkpoint at a place; these older ones are kept, and no block of another
+-- The inode that is current at a moment is as a checkpoint at a place; these older ones are kept, and no block of another
 -- checkpoint of the object is held; its journal is as it was.
 pub record Written (held later : Place → Option Stored) (o : ℕ) (row : Row) (p : Place) (i : Inode) (m : ℕ) (kept : List Side) : Type 0 where
   pub stands : IsRow held o row
@@ -116,7 +116,7 @@ written_row held later o row p i m kept laws w =
 
 -- ---- the one that stands
 
--- it stands in as many blocks as its inode takes
+-- it is in as many blocks as its inode takes
 pub kept_is : ((held : Place → Option Stored) (o : ℕ) (p : Place) (c : CheckpointFields) → checkpoint_held held o p ≡ Some c → length (checkpoint_places held o p) ≡ checkpoint_blocks c.inode)
     → (held : Place → Option Stored) (o : ℕ) (row : Row) (p : Place) (n : ℕ) → row.checkpoint ≡ Some p → IsRow held o row → n ≡ length (checkpoint_places held o p) → n ≡ kept_blocks (inode_kept held o row)
 kept_is law held o row p n names r count =

@@ -65,11 +65,11 @@ same_moment count m e f entries he hf h =
     let parts = and_parts (ltb count CHANGE_ENTRIES && continues e f) (grouped_behind (count + 1) f entries) whole in
     ((and_parts (ltb count CHANGE_ENTRIES) (continues e f) parts.0).1, parts.1)
 
--- the inode behind the first entry of a run is that entry redone
+-- the inode after the first entry of a run is that entry redone
 behind_one : End → (i k : Inode) (e : EntryFields) → Linked i e k → k ≡ redone e i
 behind_one end i k e linked = end i k (e ∷ []) (k, linked, refl)
 
--- each inode before one of the entries that stand behind another of their moment
+-- each inode before one of the entries that come after another of their moment
 within : End → (e : EntryFields) (count : ℕ) (entries : List EntryFields) (i j : Inode) (m n : ℕ) → Run i entries j → e.moment ≡ m → AllAt m entries → grouped_behind count e entries ≡ true → n < length entries → IsTurned m (inode_behind i entries n)
 within end e count [] i j m n r he at h lt = absurd (let no : ⊥ = omega (arith, lt) in no)
 within end e count (f ∷ entries) i j m zero r he at h lt =
@@ -93,11 +93,11 @@ all_taken zero (e ∷ entries) le = absurd (let no : ⊥ = omega (arith, le) in 
 all_taken (suc n) [] le = refl
 all_taken (suc n) (e ∷ entries) le = ap (λ es. e ∷ es) (all_taken n entries (omega (arith, le)))
 
--- behind all entries is the last inode
+-- after all entries is the last inode
 behind_all : End → (i j : Inode) (entries : List EntryFields) (n : ℕ) → Run i entries j → length entries ≤ n → inode_behind i entries n ≡ j
 behind_all end i j entries n r le = ap (λ (es : List EntryFields). redone_all es i) (all_taken n entries le) ∙ sym (end i j entries r)
 
--- each live inode behind some of the entries was changed at the moment
+-- each live inode after some of the entries was changed at the moment
 turned_behind : End → (i j : Inode) (m : ℕ) (new : List EntryFields) (n : ℕ) → Leading i j m new → 0 < n → (inode_behind i new n).alive ≡ true → (inode_behind i new n).changed ≡ m
 turned_behind end i j m new n p some alive = elim (cases_lt n (length new)) [
   | inl lt ↦ (turned_between end i j m new n p.run p.moments p.group some lt).1

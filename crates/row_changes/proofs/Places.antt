@@ -60,7 +60,7 @@ held_there o there seen none = both_ways false refl (sym (ap (λ x. is_some (see
 
 -- ---- a checkpoint was put, and the journal has changed
 
--- A checkpoint of the object was put, and then its journal alone has changed; the older one that this pointer leads to, if it
+-- A checkpoint of the object was put, and then its journal alone has changed; the older one that this pointer refers to, if it
 -- leads to one, was there.
 pub record Put (log between chained : Place → Option Stored) (o : ℕ) (p : Place) (older : Option Place) : Type 0 where
   pub laws : CheckpointLaws
@@ -164,7 +164,7 @@ new_alone log between chained after o p older s d only q there = elim (cases_Boo
   ]
 ]
 
--- each of its blocks stands at a place that was taken
+-- each of its blocks is at a place that was taken
 pub new_among : (n : ℕ) (log between after : Log) (o : ℕ) (p : Place) (older : Option Place) → Put log.held between.held between.held o p older → DropsCheckpoint between.held o older after.held → OnlyOlder log.held o older → TakesPlaces n log between
     → (q : Place) → IsSome (of_checkpoints o after.held q) → Contains (take n log.ahead) q
 new_among n log between after o p older s d only takes q there =

@@ -21,7 +21,7 @@ use Rattle.row_changes.proofs.Places.{alone_of_all, no_sides}
 abbrev pub with_journal : Row → Place → ℕ → Option Place → ℕ → ℕ → Row
 with_journal row p m head bytes filled = record { created = row.created; checkpoint = Some p; checkpoint_moment = m; head = head; journal_bytes = bytes; head_bytes = filled; sides = row.sides; stamp = row.stamp }
 
--- An inode stands as the checkpoint of a moment at a place, and no block of another checkpoint of the object is
+-- An inode is as the checkpoint of a moment at a place, and no block of another checkpoint of the object is
 -- held; a chain of entries that lead to the inode is held. The row names no older checkpoints.
 pub record Rewritten (later : Place → Option Stored) (o : ℕ) (row : Row) (p : Place) (i : Inode) (m : ℕ) (h : Option Place) (b f : ℕ) (entries : List EntryFields) : Type 0 where
   pub object : 1 ≤ o

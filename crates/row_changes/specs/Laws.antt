@@ -6,7 +6,7 @@ use Rattle.block_log.specs.Log.{Stored, of_kind}
 use Rattle.object_map.specs.Rows.{fresh_row}
 use Rattle.time_read.specs.Rows.{IsRow}
 
--- the row of an object that was just made stands where no journal block and no checkpoint of the object is held
+-- the row of an object that was just made is where no journal block and no checkpoint of the object is held
 abbrev pub AFreshRowStands : Type 0
 AFreshRowStands = (held : Place → Option Stored) (o created : ℕ) → 1 ≤ o → ((p : Place) → of_kind Journal o held p ≡ None) → ((p : Place) → of_kind Checkpoint o held p ≡ None)
     → IsRow held o (fresh_row created)

@@ -18,9 +18,9 @@ use s4_types::{Moment, ObjectId};
 use undo_redo::EntriesBetween;
 use undo_redo::laws::the_entries_between_two_inodes;
 
-/// Appends to an object's journal the entries that lead from its present inode to the next one, at a moment, and answers its
-/// row after that. The row of an object that is made at the moment is then in order, and one that was in order before the
-/// change of a live object stays so.
+/// Appends to an object's journal the entries that lead from its present inode to the next one, at
+/// a moment, and answers its row after that. The row of an object that is made at the moment is
+/// then in order, and one that was in order before the change of a live object stays so.
 ///
 /// The entries' bytes were counted before, and there is room for them in the journal and the table.
 pub fn record_change<B: Blocks>(
@@ -42,13 +42,22 @@ pub fn record_change<B: Blocks>(
     requires room { HasRoom (chain_of object row.now) (B.log table.old).ahead entries.now }
     ensures row { IsRow (B.log table.new).held object result }
     ensures latest { IsBy (B.log table.new).held object result moment }
-    ensures inode { (t : ℕ) → inode_of (B.log table.new).held object result t ≡ (if nat_le moment t then after.now else inode_of (B.log table.old).held object row.now t) }
-    ensures entries { entries_of (B.log table.new).held object result ≡ entries_of (B.log table.old).held object row.now ++ entries_between before.now after.now moment }
-    ensures made { row.now ≡ fresh_row moment → IsOrderly (B.log table.new).held object result moment }
-    ensures orderly { IsOrderly (B.log table.old).held object row.now (moment - 1) → before.now.alive ≡ true → IsOrderly (B.log table.new).held object result moment }
+    ensures inode { (t : ℕ)
+        → inode_of (B.log table.new).held object result t
+        ≡ (if nat_le moment t then after.now
+        else inode_of (B.log table.old).held object row.now t) }
+    ensures entries { entries_of (B.log table.new).held object result
+        ≡ entries_of (B.log table.old).held object row.now
+        ++ entries_between before.now after.now moment }
+    ensures made { row.now ≡ fresh_row moment
+        → IsOrderly (B.log table.new).held object result moment }
+    ensures orderly { IsOrderly (B.log table.old).held object row.now (moment - 1)
+        → before.now.alive ≡ true → IsOrderly (B.log table.new).held object result moment }
     ensures fields { result ≡ record row.now { head = result.head; journal_bytes = result.journal_bytes; head_bytes = result.head_bytes } }
     ensures others { OnlyJournalChanged object (B.log table.old).held (B.log table.new).held }
-    ensures takes { TakesPlaces (pushed_blocks (chain_of object row.now) (entries_between before.now after.now moment)) (B.log table.old) (B.log table.new) }
+    ensures takes { TakesPlaces
+        (pushed_blocks (chain_of object row.now) (entries_between before.now after.now moment))
+        (B.log table.old) (B.log table.new) }
     ensures named { (B.log table.new).named ≡ (B.log table.old).named }
 {
     later_entries_join_a_row();

@@ -1,4 +1,5 @@
-//! Laws of rows that change, for the layers above: each function does nothing, and its contract is the law.
+//! Laws of rows that change, for the layers above: each function does nothing, and its contract is
+//! the law.
 ghost use Rattle.std.specs.Prelude.{◌≡◌, ℕ, ◌≤◌, Option};
 ghost use Rattle.s4_types.specs.Pointer.{Place};
 ghost use Rattle.block_log.specs.declared.kinds.BlockKind.TheVariants.{Journal};
@@ -19,46 +20,55 @@ use undo_redo::laws::{
     runs_join_and_part, the_inode_at_a_moment, the_inode_at_a_moment_stands_in_the_run,
 };
 
-/// The row of an object that was just made stands where no journal block and no checkpoint of the object is held, tells of
-/// no moment yet, and the inode is blank at each.
+/// The row of an object that was just made is where no journal block and no checkpoint of the
+/// object is held, tells of no moment yet, and the inode is blank at each.
 pub fn a_fresh_row_stands()
     ensures row { AFreshRowStands }
-    ensures latest { (held : Place → Option Stored) (o created : ℕ) → IsBy held o (fresh_row created) 0 }
-    ensures inode { (held : Place → Option Stored) (o created t : ℕ) → inode_of held o (fresh_row created) t ≡ blank created }
+    ensures latest { (held : Place → Option Stored) (o created : ℕ)
+        → IsBy held o (fresh_row created) 0 }
+    ensures inode { (held : Place → Option Stored) (o created t : ℕ)
+        → inode_of held o (fresh_row created) t ≡ blank created }
 {
     an_empty_chain_is_held();
 }
 
-/// What is of a moment or an earlier one is so at each later moment too; and it is a matter of the object's journal
-/// blocks alone.
+/// What is of a moment or an earlier one is so at each later moment too; and it is a matter of the
+/// object's journal blocks alone.
 pub fn a_row_is_by_later_moments()
-    ensures later { (held : Place → Option Stored) (o : ℕ) (row : Row) (a b : ℕ) → a ≤ b → IsBy held o row a → IsBy held o row b }
-    ensures journal { (held later : Place → Option Stored) (o : ℕ) (row : Row) (t : ℕ) → of_kind Journal o later ≡ of_kind Journal o held → IsBy held o row t → IsBy later o row t }
+    ensures later { (held : Place → Option Stored) (o : ℕ) (row : Row) (a b : ℕ) → a ≤ b
+        → IsBy held o row a → IsBy held o row b }
+    ensures journal { (held later : Place → Option Stored) (o : ℕ) (row : Row) (t : ℕ)
+        → of_kind Journal o later ≡ of_kind Journal o held → IsBy held o row t
+        → IsBy later o row t }
 {}
 
 /// A row that is in order up to a moment tells of no later one.
 #[tactic(auto, using(crate::proofs::OrderKept::orderly_is_by))]
 pub fn an_orderly_row_is_by_its_moment()
-    ensures { (held : Place → Option Stored) (o : ℕ) (row : Row) (latest : ℕ) → IsRow held o row → IsOrderly held o row latest → IsBy held o row latest }
+    ensures { (held : Place → Option Stored) (o : ℕ) (row : Row) (latest : ℕ) → IsRow held o row
+        → IsOrderly held o row latest → IsBy held o row latest }
 {}
 
 /// From the moment on by which all is told, the inode stays.
 pub fn the_last_inode_stays()
-    ensures { (held : Place → Option Stored) (o : ℕ) (row : Row) (a t : ℕ) → IsBy held o row a → a ≤ t → inode_of held o row t ≡ inode_of held o row a }
+    ensures { (held : Place → Option Stored) (o : ℕ) (row : Row) (a t : ℕ) → IsBy held o row a
+        → a ≤ t → inode_of held o row t ≡ inode_of held o row a }
 {
     the_inode_at_a_moment();
 }
 
 /// At each moment the inode tells when the object was made.
 pub fn a_row_keeps_the_making()
-    ensures { (held : Place → Option Stored) (o : ℕ) (row : Row) (t : ℕ) → IsRow held o row → (inode_of held o row t).created ≡ row.created }
+    ensures { (held : Place → Option Stored) (o : ℕ) (row : Row) (t : ℕ) → IsRow held o row
+        → (inode_of held o row t).created ≡ row.created }
 {
     a_run_keeps_the_making();
     groups_join_and_part();
     the_inode_at_a_moment_stands_in_the_run();
 }
 
-/// Entries of a later moment that come behind those of a row make one run and one chain with them. `record_change` rests on this.
+/// Entries of a later moment that come after those of a row make one run and one chain with them.
+/// `record_change` rests on this.
 pub(crate) fn later_entries_join_a_row()
     ensures { LaterEntriesJoin }
 {

@@ -1,8 +1,11 @@
 //! An object's checkpoint and journal at other places, as of the moments that they have.
-ghost use Rattle.std.specs.Prelude.{◌≡◌, ℕ, ◌<◌, ◌≤◌, true, [], length, map, None, Some, IsSome, IfSome, IfOk, OnErr, MatchResult, MatchOption, is_some, option_copied, take};
+ghost use Rattle.std.specs.Prelude.{◌≡◌, ℕ, ◌<◌, ◌≤◌, true, [], length, map, None, Some, IsSome};
+ghost use Rattle.std.specs.Prelude.{IfSome, IfOk, OnErr, MatchResult, MatchOption, is_some};
+ghost use Rattle.std.specs.Prelude.{option_copied, take};
 ghost use Rattle.std.specs.List.{Contains};
 ghost use Rattle.s4_types.specs.Pointer.{Place};
-ghost use Rattle.s4_types.specs.declared.limits.TheConstants.{CHAIN_ENTRY_BYTES, CHECKPOINT_BLOCKS, JOURNAL_ENTRY_BYTES};
+ghost use Rattle.s4_types.specs.declared.limits.TheConstants.{CHAIN_ENTRY_BYTES, CHECKPOINT_BLOCKS};
+ghost use Rattle.s4_types.specs.declared.limits.TheConstants.{JOURNAL_ENTRY_BYTES};
 ghost use Rattle.s4_types.specs.declared.refusals.Refusal.TheVariants.{NoRoom};
 ghost use Rattle.block_log.specs.declared.kinds.BlockKind.TheVariants.{Journal};
 ghost use Rattle.block_log.specs.Log.{of_kind};
@@ -12,11 +15,15 @@ ghost use Rattle.codec.specs.Checkpoint.{checkpoint_rules};
 ghost use Rattle.undo_redo.specs.Runs.{inode_after};
 ghost use Rattle.journal_chain.specs.Chain.{Holds, OnlyJournalChanged};
 ghost use Rattle.journal_chain.specs.Push.{whole_blocks};
-ghost use Rattle.checkpoint.specs.Held.{checkpoint_held, checkpoint_places, checkpoint_blocks, of_checkpoints, places_named, is_one_of, OnlyCheckpointChanged};
-ghost use Rattle.time_read.specs.Rows.{IsRow, chain_of, entries_of, first_of, checkpoint_of, inode_of};
+ghost use Rattle.checkpoint.specs.Held.{checkpoint_held, checkpoint_places, checkpoint_blocks};
+ghost use Rattle.checkpoint.specs.Held.{of_checkpoints, places_named, is_one_of};
+ghost use Rattle.checkpoint.specs.Held.{OnlyCheckpointChanged};
+ghost use Rattle.time_read.specs.Rows.{IsRow, chain_of, entries_of, first_of, checkpoint_of};
+ghost use Rattle.time_read.specs.Rows.{inode_of};
 ghost use Rattle.time_read.specs.Orderly.{IsFromTo, IsOrderly, IsOrderlyChain, BeginsDead};
 ghost use Rattle.row_changes.specs.Rewritten.{OnlyMetadataChanged};
-ghost use Rattle.row_changes.specs.Moving.{CanTell, kept_blocks, inode_kept, checkpoint_at, checkpoint_with, first_with, moved_blocks, row_blocks};
+ghost use Rattle.row_changes.specs.Moving.{CanTell, kept_blocks, inode_kept, checkpoint_at};
+ghost use Rattle.row_changes.specs.Moving.{checkpoint_with, first_with, moved_blocks, row_blocks};
 
 use crate::checkpoints::put_ahead;
 use crate::rewrites::journal_blocks;
@@ -44,7 +51,8 @@ fn sizes_told<B: Blocks>(
     row: &Row,
 ) -> ArrayVec<usize, CHAIN_ENTRIES>
     requires { IsRow (B.log table.old).held object row.now }
-    ensures sizes { result.items ≡ map entry_length (entries_of (B.log table.old).held object row.now) }
+    ensures sizes { result.items
+        ≡ map entry_length (entries_of (B.log table.old).held object row.now) }
     ensures same { B.log table.new ≡ B.log table.old }
 {
     a_row_tells_a_chain();
@@ -70,7 +78,7 @@ fn kept_blocks(kept: Option<&Inode>) -> usize
     }
 }
 
-/// How many blocks the checkpoint of an object that has this row stands in, if it has one.
+/// How many blocks the checkpoint of an object that has this row is in, if it has one.
 fn standing_blocks<B: Blocks>(table: &mut B, object: ObjectId, row: &Row) -> usize
     requires { IsRow (B.log table.old).held object row.now }
     ensures blocks { result ≡ kept_blocks (inode_kept (B.log table.old).held object row.now) }
@@ -85,8 +93,8 @@ fn standing_blocks<B: Blocks>(table: &mut B, object: ObjectId, row: &Row) -> usi
     }
 }
 
-/// How many places it takes to write an object's checkpoint, if it has one, and its whole journal at other places: what
-/// `move_row` counts before anything is written. Takes no memory.
+/// How many places it takes to write an object's checkpoint, if it has one, and its whole journal
+/// at other places: what `move_row` counts before anything is written. Takes no memory.
 pub fn moved_blocks<B: Blocks>(table: &mut B, object: ObjectId, row: &Row) -> usize
     requires { IsRow (B.log table.old).held object row.now }
     ensures blocks { result ≡ row_blocks (B.log table.old).held object row.now }
@@ -97,15 +105,21 @@ pub fn moved_blocks<B: Blocks>(table: &mut B, object: ObjectId, row: &Row) -> us
     standing_blocks(table, object, row) + blocks_needed(0, sizes.as_slice())
 }
 
-/// Puts a checkpoint of this inode in place of the one that an object's row names, if it names one, where there is room.
+/// Puts a checkpoint of this inode in place of the one that an object's row names, if it names one,
+/// where there is room.
 fn put_anew<B: Blocks>(table: &mut B, object: ObjectId, row: &Row, inode: &Inode) -> Ptr
     requires row { IsRow (B.log table.old).held object row.now }
     requires sides { row.now.sides ≡ [] }
     requires rules { checkpoint_rules (checkpoint_at object row.now inode.now) ≡ true }
     requires room { checkpoint_blocks inode.now ≤ length (B.log table.old).ahead }
-    ensures told { checkpoint_held (B.log table.new).held object result ≡ Some (checkpoint_at object row.now inode.now) }
-    ensures only { (p : Place) → IsSome (of_checkpoints object (B.log table.new).held p) → is_one_of (checkpoint_places (B.log table.new).held object result) p ≡ true }
-    ensures places { (p : Place) → IsSome (of_checkpoints object (B.log table.new).held p) → Contains (take (checkpoint_blocks inode.now) (B.log table.old).ahead) p }
+    ensures told { checkpoint_held (B.log table.new).held object result
+        ≡ Some (checkpoint_at object row.now inode.now) }
+    ensures only { (p : Place)
+        → IsSome (of_checkpoints object (B.log table.new).held p)
+        → is_one_of (checkpoint_places (B.log table.new).held object result) p ≡ true }
+    ensures places { (p : Place)
+        → IsSome (of_checkpoints object (B.log table.new).held p)
+        → Contains (take (checkpoint_blocks inode.now) (B.log table.old).ahead) p }
     ensures others { OnlyCheckpointChanged object (B.log table.old).held (B.log table.new).held }
     ensures takes { TakesPlaces (checkpoint_blocks inode.now) (B.log table.old) (B.log table.new) }
     ensures named { (B.log table.new).named ≡ (B.log table.old).named }
@@ -118,8 +132,8 @@ fn put_anew<B: Blocks>(table: &mut B, object: ObjectId, row: &Row, inode: &Inode
     place
 }
 
-/// Puts a checkpoint of this inode, if there is one, in place of the one that an object's row names, where there is room, and
-/// answers where it stands.
+/// Puts a checkpoint of this inode, if there is one, in place of the one that an object's row
+/// names, where there is room, and answers where it stands.
 fn move_checkpoint<B: Blocks>(
     table: &mut B,
     object: ObjectId,
@@ -129,14 +143,20 @@ fn move_checkpoint<B: Blocks>(
     requires row { IsRow (B.log table.old).held object row.now }
     requires sides { row.now.sides ≡ [] }
     requires same { is_some (option_copied kept) ≡ is_some row.now.checkpoint }
-    requires rules { IfSome (option_copied kept) (λ i. checkpoint_rules (checkpoint_at object row.now i) ≡ true) }
+    requires rules { IfSome (option_copied kept)
+        (λ i. checkpoint_rules (checkpoint_at object row.now i) ≡ true) }
     requires room { kept_blocks (option_copied kept) ≤ length (B.log table.old).ahead }
     ensures told { checkpoint_of (B.log table.new).held object (record row.now { checkpoint = result }) ≡ checkpoint_with object row.now (option_copied kept.entry) }
     ensures some { is_some result ≡ is_some row.now.checkpoint }
-    ensures only { (p : Place) → IsSome (of_checkpoints object (B.log table.new).held p) → is_one_of (places_named (of_checkpoints object (B.log table.new).held) result) p ≡ true }
-    ensures places { (p : Place) → IsSome (of_checkpoints object (B.log table.new).held p) → Contains (take (kept_blocks (option_copied kept.entry)) (B.log table.old).ahead) p }
+    ensures only { (p : Place)
+        → IsSome (of_checkpoints object (B.log table.new).held p)
+        → is_one_of (places_named (of_checkpoints object (B.log table.new).held) result) p ≡ true }
+    ensures places { (p : Place)
+        → IsSome (of_checkpoints object (B.log table.new).held p)
+        → Contains (take (kept_blocks (option_copied kept.entry)) (B.log table.old).ahead) p }
     ensures others { OnlyCheckpointChanged object (B.log table.old).held (B.log table.new).held }
-    ensures takes { TakesPlaces (kept_blocks (option_copied kept.entry)) (B.log table.old) (B.log table.new) }
+    ensures takes { TakesPlaces (kept_blocks (option_copied kept.entry)) (B.log table.old)
+        (B.log table.new) }
     ensures named { (B.log table.new).named ≡ (B.log table.old).named }
 {
     no_change_takes_no_place();
@@ -149,7 +169,8 @@ fn drop_chain<B: Blocks>(table: &mut B, object: ObjectId, row: &Row) -> Chain
     requires object { 1 ≤ object }
     requires bytes { row.now.journal_bytes ≤ CHAIN_ENTRY_BYTES }
     requires one_block { row.now.head_bytes ≤ JOURNAL_ENTRY_BYTES }
-    requires held { Holds (B.log table.old).held (chain_of object row.now) (entries_of (B.log table.old).held object row.now) }
+    requires held { Holds (B.log table.old).held (chain_of object row.now)
+        (entries_of (B.log table.old).held object row.now) }
     ensures holds { Holds (B.log table.new).held result [] }
     ensures object { result.object ≡ object }
     ensures gone { (p : Place) → of_kind Journal object (B.log table.new).held p ≡ None }
@@ -164,8 +185,8 @@ fn drop_chain<B: Blocks>(table: &mut B, object: ObjectId, row: &Row) -> Chain
     chain
 }
 
-/// Drops all journal blocks of an object, and then writes its journal afresh where there is room, and answers its chain. So
-/// each journal block of it is at a place that was taken.
+/// Drops all journal blocks of an object, and then writes its journal afresh where there is room,
+/// and answers its chain. So each journal block of it is at a place that was taken.
 pub(crate) fn move_chain<B: Blocks>(
     table: &mut B,
     object: ObjectId,
@@ -175,12 +196,15 @@ pub(crate) fn move_chain<B: Blocks>(
     requires object { 1 ≤ object }
     requires bytes { row.now.journal_bytes ≤ CHAIN_ENTRY_BYTES }
     requires one_block { row.now.head_bytes ≤ JOURNAL_ENTRY_BYTES }
-    requires held { Holds (B.log table.old).held (chain_of object row.now) (entries_of (B.log table.old).held object row.now) }
+    requires held { Holds (B.log table.old).held (chain_of object row.now)
+        (entries_of (B.log table.old).held object row.now) }
     requires limit { entries_length entries.now ≤ CHAIN_ENTRY_BYTES }
     requires room { whole_blocks entries.now ≤ length (B.log table.old).ahead }
     ensures holds { Holds (B.log table.new).held result entries.now }
     ensures object { result.object ≡ object }
-    ensures places { (p : Place) → IsSome (of_kind Journal object (B.log table.new).held p) → Contains (take (whole_blocks entries.now) (B.log table.old).ahead) p }
+    ensures places { (p : Place)
+        → IsSome (of_kind Journal object (B.log table.new).held p)
+        → Contains (take (whole_blocks entries.now) (B.log table.old).ahead) p }
     ensures others { OnlyJournalChanged object (B.log table.old).held (B.log table.new).held }
     ensures takes { TakesPlaces (whole_blocks entries.now) (B.log table.old) (B.log table.new) }
     ensures named { (B.log table.new).named ≡ (B.log table.old).named }
@@ -195,15 +219,16 @@ pub(crate) fn move_chain<B: Blocks>(
     chain
 }
 
-/// Writes an object's checkpoint, if it has one, with this inode, and then its whole journal afresh with these entries, the
-/// oldest first, in place of what stood; and answers its row after that. The checkpoint keeps its moment, and none appears
-/// where there was none. No block of the old journal is held any more, and each of the new one is at a place that was
-/// taken for it.
+/// Writes an object's checkpoint, if it has one, with this inode, and then its whole journal afresh
+/// with these entries, the oldest first, in place of what stood; and answers its row after that.
+/// The checkpoint keeps its moment, and none appears where there was none. No block of the old
+/// journal is held any more, and each of the new one is at a place that was taken for it.
 ///
-/// At each moment the inode is then the one that the entries tell. A row whose new entries are in order is in order. The row
-/// names no older checkpoints.
+/// At each moment the inode is then the one that the entries tell. A row whose new entries are in
+/// order is in order. The row names no older checkpoints.
 ///
-/// NoRoom exactly where fewer places are ahead than the checkpoint and the entries take; then nothing has changed.
+/// NoRoom exactly where fewer places are ahead than the checkpoint and the entries take; then
+/// nothing has changed.
 pub fn move_row<B: Blocks>(
     table: &mut B,
     object: ObjectId,
@@ -215,12 +240,23 @@ pub fn move_row<B: Blocks>(
     requires sides { row.now.sides ≡ [] }
     requires tell { CanTell object row.now (option_copied kept) entries.now }
     ensures row { IfOk result (λ later. IsRow (B.log table.new).held object later) }
-    ensures entries { IfOk result (λ later. entries_of (B.log table.new).held object later ≡ entries.now) }
-    ensures checkpoint { IfOk result (λ later. checkpoint_of (B.log table.new).held object later ≡ checkpoint_with object row.now (option_copied kept.entry)) }
-    ensures first { IfOk result (λ later. first_of (B.log table.new).held object later ≡ first_with object row.now (option_copied kept.entry) entries.now) }
-    ensures inode { IfOk result (λ later. (t : ℕ) → inode_of (B.log table.new).held object later t ≡ inode_after (first_with object row.now (option_copied kept.entry) entries.now) entries.now t) }
+    ensures entries { IfOk result
+        (λ later. entries_of (B.log table.new).held object later ≡ entries.now) }
+    ensures checkpoint { IfOk result
+        (λ later. checkpoint_of (B.log table.new).held object later
+        ≡ checkpoint_with object row.now (option_copied kept.entry)) }
+    ensures first { IfOk result
+        (λ later. first_of (B.log table.new).held object later
+        ≡ first_with object row.now (option_copied kept.entry) entries.now) }
+    ensures inode { IfOk result
+        (λ later. (t : ℕ)
+        → inode_of (B.log table.new).held object later t
+        ≡ inode_after (first_with object row.now (option_copied kept.entry) entries.now)
+        entries.now t) }
     ensures orderly { IfOk result (λ later. (latest : ℕ) → IsOrderlyChain row.now.created latest (first_with object row.now (option_copied kept.entry) entries.now) entries.now
-        → IsFromTo 1 latest row.now.created → MatchOption row.now.checkpoint (BeginsDead entries.now) (λ p. IsFromTo row.now.created latest row.now.checkpoint_moment)
+        → IsFromTo 1 latest row.now.created
+        → MatchOption row.now.checkpoint (BeginsDead entries.now)
+        (λ p. IsFromTo row.now.created latest row.now.checkpoint_moment)
         → IsOrderly (B.log table.new).held object later latest) }
     ensures fields { IfOk result (λ later. later ≡ record row.now {
       checkpoint = later.checkpoint;
@@ -230,13 +266,27 @@ pub fn move_row<B: Blocks>(
     }) }
     ensures some { IfOk result (λ later. is_some later.checkpoint ≡ is_some row.now.checkpoint) }
     ensures others { OnlyMetadataChanged object (B.log table.old).held (B.log table.new).held }
-    ensures takes { IfOk result (λ _. TakesPlaces (moved_blocks (option_copied kept.entry) entries.now) (B.log table.old) (B.log table.new)) }
+    ensures takes { IfOk result
+        (λ _. TakesPlaces (moved_blocks (option_copied kept.entry) entries.now) (B.log table.old)
+        (B.log table.new)) }
     ensures named { (B.log table.new).named ≡ (B.log table.old).named }
-    ensures journal { IfOk result (λ _. (p : Place) → IsSome (of_kind Journal object (B.log table.new).held p) → Contains (take (moved_blocks (option_copied kept.entry) entries.now) (B.log table.old).ahead) p) }
-    ensures checkpoints { IfOk result (λ _. (p : Place) → IsSome (of_checkpoints object (B.log table.new).held p) → Contains (take (moved_blocks (option_copied kept.entry) entries.now) (B.log table.old).ahead) p) }
+    ensures journal { IfOk result
+        (λ _. (p : Place)
+        → IsSome (of_kind Journal object (B.log table.new).held p)
+        → Contains
+        (take (moved_blocks (option_copied kept.entry) entries.now) (B.log table.old).ahead)
+        p) }
+    ensures checkpoints { IfOk result
+        (λ _. (p : Place)
+        → IsSome (of_checkpoints object (B.log table.new).held p)
+        → Contains
+        (take (moved_blocks (option_copied kept.entry) entries.now) (B.log table.old).ahead)
+        p) }
     ensures answer { MatchResult result
         (λ _. moved_blocks (option_copied kept.entry) entries.now ≤ length (B.log table.old).ahead)
-        (λ e. (e ≡ NoRoom) × (length (B.log table.old).ahead < moved_blocks (option_copied kept.entry) entries.now)) }
+        (λ e. (e ≡ NoRoom)
+        × (length (B.log table.old).ahead
+        < moved_blocks (option_copied kept.entry) entries.now)) }
     ensures unchanged { OnErr result (B.log table.new ≡ B.log table.old) }
 {
     places_taken_add_up();

@@ -1,4 +1,4 @@
--- Readers that read what is spelled, all of it and nothing else: of single fields, and of fields one behind the other.
+-- Readers that read what is encoded, all of it and nothing else: of single fields, and of fields one after the other.
 use Rattle.std.proofs.Common.{◌≡◌, ℕ, zero, suc, ◌+◌, ◌^◌, ◌<◌, ◌≤◌, Bool, true, false, cond, ltb, List, [], ◌∷◌, ◌++◌, length, get_or, take, drop, Option, Some, None, refl, sym, ap, subst, ◌∙◌, arith, inl, inr}
 use Rattle.std.specs.Prelude.{IfSome}
 use Rattle.std.specs.Int.{Width, w32, w64, byte_len, from_be_bytes, to_be_bytes}
@@ -29,7 +29,7 @@ pub bind_some : {A B : Type 0} (o : Option A) (f : A → Option B) (y : B) → (
 bind_some (Some x) f y e = (x, refl, e)
 bind_some None f y e = absurd cc
 
--- behind a test that gives up
+-- after a test that gives up
 passed : {A : Type 0} (b : Bool) (x y : A) → cond b None (Some x) ≡ Some y → (b ≡ false) × (x ≡ y)
 passed true x y e = absurd cc
 passed false x y e = (refl, cc)
@@ -135,14 +135,14 @@ moment_again (Some n) rest h = rw (long_field.again n rest h) refl
 pub moment_field : IsField wire_moment_at at (λ m. IfSome m (λ t. t < 2 ^ 64))
 moment_field = record { takes = moment_takes; again = moment_again }
 
--- ---- fields one behind the other, to the end
+-- ---- fields one after the other, to the end
 
 -- reads exactly what says a value
 pub record Exact {R : Type 0} (read : List ℕ → Option R) (Says : List ℕ → R → Type 0) : Type 0 where
   pub found : (bytes : List ℕ) (r : R) → IsBytes bytes → read bytes ≡ Some r → Says bytes r
   pub again : (bytes : List ℕ) (r : R) → Says bytes r → read bytes ≡ Some r
 
--- a field, and what it says behind it
+-- a field, and what it says after it
 pub record Then {A R : Type 0} (write : A → List ℕ) (Fits : A → Type 0) (Says : A → List ℕ → R → Type 0) (bytes : List ℕ) (r : R) : Type 0 where
   pub value : A
   pub rest : List ℕ

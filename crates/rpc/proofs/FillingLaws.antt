@@ -43,7 +43,7 @@ partial_short held partial =
       | inr le ↦ let p = partial le in let w = wanted_whole held le p.0 in omega (arith, w, p.1)
     ]
 
--- bytes behind a length that was told leave it
+-- bytes after a length that was told leave it
 grown_told : (old taken new : List ℕ) → new ≡ old ++ taken → 4 ≤ length old → (length_told new ≡ length_told old) × (length old ≤ length new)
 grown_told old taken new grown le =
     (ap length_told grown ∙ told_on old taken le, let len : length new ≡ length old + length taken = ap length grown ∙ length-append old taken in omega (arith, len))
@@ -109,7 +109,7 @@ pub topped_up_whole : (old new piece left : List ℕ) → IsToppedUp old new pie
 topped_up_whole old new piece left t =
     ap (λ (x : List ℕ). old ++ x) t.parts ∙ sym (append_assoc old t.taken left) ∙ ap (λ (x : List ℕ). x ++ left) (sym t.grown)
 
--- nothing stands behind the frame
+-- nothing comes after the frame
 nothing_behind : (old new piece left body rest : List ℕ) → IsToppedUp old new piece left → BeginsWithFrame new body rest → rest ≡ []
 nothing_behind old new piece left body rest t begins =
     let told = frame_told new body rest begins in

@@ -1,4 +1,4 @@
--- A reply is read exactly where the body spells it.
+-- A reply is read exactly where the body encodes it.
 use Rattle.std.proofs.Common.{◌≡◌, ◌≢◌, ℕ, ◌≤◌, List, [], ◌∷◌, ◌++◌, length, Some, refl, sym, ◌∙◌}
 use Rattle.std.proofs.lemmas.Bool.{eqb-true}
 use Rattle.s4_types.specs.RefusalNumber.{number_of}
@@ -30,7 +30,7 @@ attr_exact : Exact attr_at (Then word IsWord (λ size. Then long IsLong (λ crea
 unfolding attr_at
 attr_exact = then_exact word_field (λ size. then_exact long_field (λ created. then_exact long_field (λ changed. last_exact (text_field ATTRIBUTE_BYTES) (Attr size created changed))))
 
--- ---- a reply that was read is spelled
+-- ---- a reply that was read is encoded
 
 refused_found : (rest : List ℕ) (r : Reply) → refused_at rest ≡ Some r → SpellsReply (0 ∷ rest) r
 unfolding refused_at

@@ -1,4 +1,4 @@
--- A request is read exactly where the body spells it.
+-- A request is read exactly where the body encodes it.
 use Rattle.std.proofs.Common.{◌≡◌, ℕ, ◌-◌, ◌^◌, ◌<◌, ◌≤◌, Bool, true, false, cond, List, [], ◌∷◌, ◌++◌, length, Option, Some, refl, arith}
 use Rattle.std.specs.Prelude.{IfSome}
 use Rattle.std.proofs.lemmas.Bool.{eqb-true}
@@ -67,7 +67,7 @@ flush_object_exact : Exact flush_object_at (Then long IsLong (λ object. Then lo
 unfolding flush_object_at
 flush_object_exact = then_exact long_field (λ object. then_exact long_field (λ first. last_exact long_field (FlushO object first)))
 
--- ---- a request that was read is spelled
+-- ---- a request that was read is encoded
 
 module _ (rest : List ℕ) (r : Request) (h : IsBytes rest) where
   create_found : create_at rest ≡ Some r → SpellsRequest (1 ∷ rest) r

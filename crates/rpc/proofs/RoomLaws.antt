@@ -1,4 +1,4 @@
--- One piece written behind another.
+-- One piece written after another.
 use Rattle.std.proofs.Common.{ℕ, List, ◌++◌, ap, ◌∙◌, append_assoc, arith, length-append}
 use Rattle.std.specs.Global.{Vec}
 use Rattle.rpc.specs.private.Room.{Appended}

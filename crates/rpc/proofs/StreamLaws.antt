@@ -61,14 +61,14 @@ module _ {T : Type 0} (spells : List ℕ → T → Type 0) where
       inl (body, behind ++ piece, frame_on stream body behind piece begins, is, reads_on behind rest piece items more end onward second)
   reads_on stream rest piece (item ∷ items) more end (inr (over, is, none, ended)) second = absurd cc
 
-  -- behind an oversized length nothing is read
+  -- after an oversized length nothing is read
   pub reads_ended : (stream piece : List ℕ) (items : List (Item T)) → ReadsItems spells stream items None → ReadsItems spells (stream ++ piece) items None
   reads_ended stream piece [] first = absurd first
   reads_ended stream piece (item ∷ items) (inl (body, behind, begins, is, onward)) =
       inl (body, behind ++ piece, frame_on stream body behind piece begins, is, reads_ended behind piece items onward)
   reads_ended stream piece (item ∷ items) (inr (over, is, none, ended)) = inr (oversized_on stream piece over, is, none, ended)
 
-  -- one more piece, whose items were put behind those before
+  -- one more piece, whose items were put after those before
   pub fed_on : (stream piece : List ℕ) (items more all : List (Item T)) (old new : Option (List ℕ)) → (old ≡ None → ⊥) → all ≡ items ++ more → ReadsItems spells stream items old → IfSome old (λ held. ReadsItems spells (held ++ piece) more new) → ReadsItems spells (stream ++ piece) all new
   fed_on stream piece items more all (Some held) new has joined first second = subst (λ (x : List (Item T)). ReadsItems spells (stream ++ piece) x new) (sym joined) (reads_on stream held piece items more new first second)
   fed_on stream piece items more all None new has joined first second = absurd (has refl)

@@ -1,4 +1,4 @@
--- The laws of the wire: no spelling begins another's, and a stream has one reading.
+-- The laws of the wire: no encoding begins another's, and a stream has one reading.
 use Rattle.std.proofs.Common.{◌≡◌, ℕ, ◌≤◌, List, ◌++◌, length, Option, Some, None, refl, arith}
 use Rattle.s4_types.specs.Sizes.{ReplyFits}
 use Rattle.s4_types.specs.declared.limits.TheConstants.{FRAME_BODY_BYTES}
@@ -42,7 +42,7 @@ reply_short (Created object moment) fits = omega arith
 reply_short (Data bytes) fits = omega arith
 reply_short (Attr size created changed attribute) fits = omega arith
 
--- what stands behind two frames is one
+-- what comes after two frames is one
 same_frames : (a x b y : List ℕ) → length a ≤ FRAME_BODY_BYTES → length b ≤ FRAME_BODY_BYTES → frame a ++ x ≡ frame b ++ y → (a ≡ b) × (x ≡ y)
 same_frames a x b y p q e = same_parts (frame a ++ x) a x b y (record { whole = refl; size = p }) (record { whole = e; size = q })
 

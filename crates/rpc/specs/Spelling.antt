@@ -1,4 +1,4 @@
--- How requests and replies are spelled: each value has one body. Numbers stand with their highest byte first.
+-- How requests and replies are encoded: each value has one body. Numbers stand with their highest byte first.
 use Rattle.std.specs.Prelude.{◌≡◌, ℕ, ◌+◌, ◌^◌, ◌<◌, ◌≤◌, List, [], ◌∷◌, ◌++◌, length, Option, Some, None, IfSome}
 use Rattle.std.specs.Int.{w32, w64, to_be_bytes}
 use Rattle.s4_types.specs.RefusalNumber.{number_of}
@@ -79,18 +79,18 @@ ReplyNumbers (Created object moment) = (object < 2 ^ 64) × (moment < 2 ^ 64)
 ReplyNumbers (Data bytes) = Unit {0}
 ReplyNumbers (Attr size created changed attribute) = (size < 2 ^ 32) × (created < 2 ^ 64) × (changed < 2 ^ 64)
 
--- the request has a spelling
+-- the request has an encoding
 abbrev pub IsSpelledRequest : Request → Type 0
 IsSpelledRequest request = RequestFits request × RequestNumbers request
 
--- the reply has a spelling
+-- the reply has an encoding
 abbrev pub IsSpelledReply : Reply → Type 0
 IsSpelledReply reply = ReplyFits reply × ReplyNumbers reply
 
--- the body spells this request
+-- the body encodes this request
 abbrev pub SpellsRequest : List ℕ → Request → Type 0
 SpellsRequest body request = IsSpelledRequest request × (body ≡ request_spelling request)
 
--- the body spells this reply
+-- the body encodes this reply
 abbrev pub SpellsReply : List ℕ → Reply → Type 0
 SpellsReply body reply = IsSpelledReply reply × (body ≡ reply_spelling reply)

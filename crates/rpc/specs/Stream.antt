@@ -1,4 +1,4 @@
--- What a stream of bytes says: frames, one behind the other, each with an item, and then an end.
+-- What a stream of bytes says: frames, one after the other, each with an item, and then an end.
 use Rattle.std.specs.Prelude.{◌≡◌, ℕ, ◌+◌, ◌<◌, ◌≤◌, ◌⊎◌, List, [], ◌∷◌, ◌++◌, length, take, Option, Some, None}
 use Rattle.std.specs.Int.{w32, to_be_bytes, from_be_bytes}
 use Rattle.s4_types.specs.declared.limits.TheConstants.{FRAME_BODY_BYTES}
@@ -27,7 +27,7 @@ pub record BeginsWithFrame (bytes body rest : List ℕ) : Type 0 where
   pub whole : bytes ≡ frame body ++ rest
   pub size : length body ≤ FRAME_BODY_BYTES
 
--- What a body says: the value that it spells, or a bad frame where it spells none. The empty body spells none.
+-- What a body says: the value that it encodes, or a bad frame where it encodes none. The empty body encodes none.
 abbrev pub IsItem : {T : Type 0} → (List ℕ → T → Type 0) → List ℕ → Item T → Type 0
 IsItem spells body (Whole value) = spells body value
 IsItem {T} spells body BadFrame = (value : T) → spells body value → ⊥
@@ -41,11 +41,11 @@ ReadsItems spells stream (item ∷ items) end =
     ((body : List ℕ) × (rest : List ℕ) × BeginsWithFrame stream body rest × IsItem spells body item × ReadsItems spells rest items end)
     ⊎ (IsOversized stream × (item ≡ BadFrame) × (items ≡ []) × (end ≡ None))
 
--- from so many items on, the bytes were read behind these, and this is left
+-- from this many items on, the bytes were read after these, and this is left
 abbrev pub AddsItems : {T : Type 0} → (List ℕ → T → Type 0) → List ℕ → List (Item T) → List (Item T) → Option (List ℕ) → Type 0
 AddsItems {T} spells bytes old new end = (more : List (Item T)) × (new ≡ old ++ more) × ReadsItems spells bytes more end
 
--- the frame at the front of the bytes was read as one item behind the old ones, and the rest is behind it
+-- the frame at the front of the bytes was read as one item after the old ones, and the rest is after it
 pub record AddsOne {T : Type 0} (spells : List ℕ → T → Type 0) (bytes : List ℕ) (old new : List (Item T)) (rest : List ℕ) : Type 0 where
   pub body : List ℕ
   pub item : Item T

@@ -1,6 +1,7 @@
 ghost use Rattle.std.specs.Prelude.{◌≡◌, ℕ, ◌<◌, List, length};
 ghost use Rattle.std.specs.Int.{w32, w64};
-ghost use Rattle.rpc.specs.private.Reading.{Gives, wire_number_at, wire_text_at, wire_moment_at, tail_at, ended_at};
+ghost use Rattle.rpc.specs.private.Reading.{Gives, wire_number_at, wire_text_at, wire_moment_at};
+ghost use Rattle.rpc.specs.private.Reading.{tail_at, ended_at};
 
 use crate::unread::Unread;
 use byteorder::{BigEndian, ByteOrder};
@@ -42,7 +43,7 @@ pub(crate) fn read_at(bytes: &[u8]) -> Result<(Option<u64>, &[u8]), Unread>
     }
 }
 
-/// A text of at most `limit` bytes behind the byte that tells its length.
+/// A text of at most `limit` bytes after the byte that tells its length.
 #[tactic(auto, unfolding(crate::specs::private::Reading::wire_text_at))]
 pub(crate) fn read_text(alloc: Global, limit: usize, bytes: &[u8]) -> Result<(Bytes, &[u8]), Unread>
     ensures { Gives (λ x. (x.0, x.1.now)) result (wire_text_at limit bytes.now) }

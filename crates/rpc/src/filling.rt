@@ -1,4 +1,5 @@
-ghost use Rattle.std.specs.Prelude.{◌≡◌, ◌⊎◌, ℕ, ◌+◌, ◌≤◌, ◌<◌, List, [], ◌∷◌, ◌++◌, length, take, drop, vec_capacity};
+ghost use Rattle.std.specs.Prelude.{◌≡◌, ◌⊎◌, ℕ, ◌+◌, ◌≤◌, ◌<◌, List, [], ◌∷◌, ◌++◌, length, take};
+ghost use Rattle.std.specs.Prelude.{drop, vec_capacity};
 ghost use Rattle.s4_types.specs.declared.limits.TheConstants.{FRAME_BODY_BYTES};
 ghost use Rattle.rpc.specs.Stream.{IsPartial};
 ghost use Rattle.rpc.specs.private.Filling.{wanted, HasFrameRoom, IsFilled, IsToppedUp};
@@ -20,7 +21,8 @@ fn wanted_length(held: &[u8]) -> usize
     if told > FRAME_BODY_BYTES { 4 } else { 4 + told }
 }
 
-/// Moves bytes of the piece behind the held ones until these have the wanted length, and gives the rest.
+/// Moves bytes of the piece after the held ones until these have the wanted length, and gives the
+/// rest.
 fn fill<'a>(held: &mut Vec<u8>, piece: &'a [u8]) -> &'a [u8]
     requires room { HasFrameRoom held.old }
     requires short { length held.old.items ≤ wanted held.old.items }
@@ -34,8 +36,8 @@ fn fill<'a>(held: &mut Vec<u8>, piece: &'a [u8]) -> &'a [u8]
     left
 }
 
-/// Moves bytes of the piece behind the held ones until these are a whole frame, or have told an oversized
-/// length, and gives the rest. Twice, since the first bytes tell how many more there are.
+/// Moves bytes of the piece after the held ones until these are a whole frame, or have told an
+/// oversized length, and gives the rest. Twice, since the first bytes tell how many more there are.
 pub(crate) fn top_up<'a>(held: &mut Vec<u8>, piece: &'a [u8]) -> &'a [u8]
     requires room { HasFrameRoom held.old }
     requires partial { IsPartial held.old.items }

@@ -10,18 +10,19 @@ use std::alloc::Global;
 /// What a frame of a stream says.
 #[derive(Drop, PartialEq, Eq)]
 pub enum Item<T> {
-    /// The value that the body spells.
+    /// The value that the body encodes.
     Whole(T),
-    /// A frame whose body spells nothing, is empty, or is longer than a body may be.
+    /// A frame whose body encodes nothing, is empty, or is longer than a body may be.
     BadFrame,
 }
 
-/// What the body of a frame may spell: a stream has requests alone, or replies alone.
+/// What the body of a frame may encode: a stream has requests alone, or replies alone.
 pub trait Message: Drop {
-    /// The body spells this value.
+    /// The body encodes this value.
     ghost spells: { List ℕ → Self → Type 0 };
 
-    /// The value whose spelling the body is. BadFrame where it is the spelling of none, and NoMemory.
+    /// The value whose encoding the body is. BadFrame where it is the encoding of none, and
+    /// NoMemory.
     fn decode(alloc: Global, body: &[u8]) -> Result<Self, Refusal>
         ensures found { IfOk result (λ value. spells body.now value) }
         ensures bad { IsErrOf result BadFrame → (value : Self) → spells body.now value → ⊥ }

@@ -1,4 +1,6 @@
-ghost use Rattle.std.specs.Prelude.{◌≡◌, ◌⊎◌, ◌↔◌, ℕ, ◌+◌, ◌≤◌, ◌<◌, List, [], ◌∷◌, ◌++◌, length, Option, Some, None, IfOk, IfErr, OnOk, OnErr, IfSome, IsTrue, if◌then◌else◌};
+ghost use Rattle.std.specs.Prelude.{◌≡◌, ◌⊎◌, ◌↔◌, ℕ, ◌+◌, ◌≤◌, ◌<◌, List, [], ◌∷◌, ◌++◌, length};
+ghost use Rattle.std.specs.Prelude.{Option, Some, None, IfOk, IfErr, OnOk, OnErr, IfSome, IsTrue};
+ghost use Rattle.std.specs.Prelude.{if◌then◌else◌};
 ghost use Rattle.std.specs.List.{flat_map};
 ghost use Rattle.std.specs.Result.{IsErrOf};
 ghost use Rattle.s4_types.specs.declared.limits.TheConstants.{FRAME_BODY_BYTES};
@@ -15,8 +17,8 @@ use s4_types::limits::FRAME_BODY_BYTES;
 use std::alloc::Global;
 use std::marker::Model;
 
-/// Adds the items of a piece, before which nothing is held, and holds what is behind them. False where an
-/// oversized length came. An error leaves what is held as it was.
+/// Adds the items of a piece, before which nothing is held, and holds what comes after them. False
+/// where an oversized length came. An error leaves what is held as it was.
 fn read_rest<T: Message>(
     alloc: Global,
     held: &mut Vec<u8>,
@@ -24,7 +26,9 @@ fn read_rest<T: Message>(
     piece: &[u8],
 ) -> Result<bool, Refusal>
     requires { HasFrameRoom held.old }
-    ensures read { IfOk result (λ goes_on. AddsItems T.spells piece.now items.old.items items.new.items (if goes_on then Some held.new.items else None)) }
+    ensures read { IfOk result
+        (λ goes_on. AddsItems T.spells piece.now items.old.items items.new.items
+        (if goes_on then Some held.new.items else None)) }
     ensures partial { IfOk result (λ goes_on. IsTrue goes_on → IsPartial held.new.items) }
     ensures kept { OnErr result (held.new.items ≡ held.old.items) }
     ensures memory { IfErr result (λ refusal. refusal ≡ NoMemory) }
@@ -40,8 +44,9 @@ fn read_rest<T: Message>(
     }
 }
 
-/// Adds the items that the held bytes and the piece behind them make, and holds what is behind those. False
-/// where an oversized length came. After an error bytes of the piece may stand behind those that were held.
+/// Adds the items that the held bytes and the piece after them make, and holds what comes after
+/// those. False where an oversized length came. After an error bytes of the piece may come after
+/// those that were held.
 fn read_piece<T: Message>(
     alloc: Global,
     held: &mut Vec<u8>,
@@ -50,7 +55,9 @@ fn read_piece<T: Message>(
 ) -> Result<bool, Refusal>
     requires room { HasFrameRoom held.old }
     requires partial { IsPartial held.old.items }
-    ensures read { IfOk result (λ goes_on. AddsItems T.spells (held.old.items ++ piece.now) items.old.items items.new.items (if goes_on then Some held.new.items else None)) }
+    ensures read { IfOk result
+        (λ goes_on. AddsItems T.spells (held.old.items ++ piece.now) items.old.items items.new.items
+        (if goes_on then Some held.new.items else None)) }
     ensures partial { IfOk result (λ goes_on. IsTrue goes_on → IsPartial held.new.items) }
     ensures grown { OnErr result (IsGrown held.old.items held.new.items) }
     ensures memory { IfErr result (λ refusal. refusal ≡ NoMemory) }
@@ -67,8 +74,9 @@ fn read_piece<T: Message>(
     }
 }
 
-/// Takes a stream apart, however it comes in pieces. Contracts see the bytes of the frame that isn't whole yet, or
-/// None where an oversized length came. It holds at most one frame, in memory that is taken once.
+/// Takes a stream apart, however it comes in pieces. Contracts see the bytes of the frame that
+/// isn't whole yet, or None where an oversized length came. It holds at most one frame, in memory
+/// that is taken once.
 #[derive(Drop)]
 pub struct FrameReader {
     alloc: Global,
@@ -85,7 +93,8 @@ impl Model for FrameReader {
 }
 
 impl FrameReader {
-    /// At the beginning of a stream. Takes the memory of the longest frame; the only error is NoMemory.
+    /// At the beginning of a stream. Takes the memory of the longest frame; the only error is
+    /// NoMemory.
     pub fn new(alloc: Global) -> Result<Self, Refusal>
         ensures start { IfOk result (λ reader. reader ≡ Some []) }
         ensures memory { IfErr result (λ refusal. refusal ≡ NoMemory) }
@@ -98,16 +107,19 @@ impl FrameReader {
         })
     }
 
-    /// Takes the next piece of the stream, and gives the items that are whole now, in order. A length of 0
-    /// is a bad frame, and the stream goes on; so is one above `FRAME_BODY_BYTES`, behind which nothing is read any more:
-    /// from then on the answer is BadFrame, whatever comes. NoMemory takes nothing: the same piece may be fed
-    /// again.
+    /// Takes the next piece of the stream, and gives the items that are whole now, in order. A
+    /// length of 0 is a bad frame, and the stream goes on; so is one above `FRAME_BODY_BYTES`,
+    /// after which nothing is read any more: from then on the answer is BadFrame, whatever comes.
+    /// NoMemory takes nothing: the same piece may be fed again.
     pub fn feed<T: Message>(&mut self, piece: &[u8]) -> Result<Vec<Item<T>>, Refusal>
         // The held bytes and the piece are these items and what is held now.
-        ensures items { IfOk result (λ items. IfSome self.old (λ held. ReadsItems T.spells (held ++ piece.now) items.items self.new)) }
+        ensures items { IfOk result
+            (λ items. IfSome self.old
+            (λ held. ReadsItems T.spells (held ++ piece.now) items.items self.new)) }
         // It fails where it had failed.
         ensures failed { self.old ≡ None → IsErrOf result BadFrame }
-        ensures refused { IfErr result (λ refusal. (refusal ≡ NoMemory) ⊎ ((refusal ≡ BadFrame) × (self.old ≡ None))) }
+        ensures refused { IfErr result
+            (λ refusal. (refusal ≡ NoMemory) ⊎ ((refusal ≡ BadFrame) × (self.old ≡ None))) }
         ensures kept { OnErr result (self.new ≡ self.old) }
         // It holds less than one frame.
         ensures partial { IfSome self.new IsPartial }
@@ -148,13 +160,16 @@ impl FrameReader {
     }
 }
 
-/// Adds the items of the next piece; behind an oversized length there are none.
+/// Adds the items of the next piece; after an oversized length there are none.
 fn read_on<T: Message>(
     reader: &mut FrameReader,
     items: &mut Vec<Item<T>>,
     piece: &[u8],
 ) -> Result<(), Refusal>
-    ensures read { OnOk result ((stream : List ℕ) → ReadsItems T.spells stream items.old.items reader.old → ReadsItems T.spells (stream ++ piece.now) items.new.items reader.new) }
+    ensures read { OnOk result
+        ((stream : List ℕ)
+        → ReadsItems T.spells stream items.old.items reader.old
+        → ReadsItems T.spells (stream ++ piece.now) items.new.items reader.new) }
     ensures memory { IfErr result (λ refusal. refusal ≡ NoMemory) }
 {
     if reader.has_failed() {
@@ -165,14 +180,15 @@ fn read_on<T: Message>(
     Ok(())
 }
 
-/// The items of a stream that comes in these pieces, and the reader behind the last of them. The only error
-/// is NoMemory.
+/// The items of a stream that comes in these pieces, and the reader after the last of them. The
+/// only error is NoMemory.
 pub fn read_all<T: Message>(
     alloc: Global,
     pieces: &[Vec<u8>],
 ) -> Result<(Vec<Item<T>>, FrameReader), Refusal>
     // They are the items of the pieces joined, however these were cut.
-    ensures items { IfOk result (λ x. ReadsItems T.spells (flat_map (λ piece. piece.items) pieces.now) x.0.items x.1) }
+    ensures items { IfOk result
+        (λ x. ReadsItems T.spells (flat_map (λ piece. piece.items) pieces.now) x.0.items x.1) }
     ensures memory { IfErr result (λ refusal. refusal ≡ NoMemory) }
 {
     let mut reader = FrameReader::new(alloc)?;

@@ -3,7 +3,9 @@ ghost use Rattle.std.specs.Result.{IsErrOf};
 ghost use Rattle.rpc.specs.Spelling.{SpellsReply};
 ghost use Rattle.s4_types.specs.declared.replies.Reply.{Reply as Answered};
 ghost use Rattle.s4_types.specs.declared.refusals.Refusal.TheVariants.{NoMemory, BadFrame};
-ghost use Rattle.rpc.specs.private.Reading.{Gives, refusal_of_code, refused_at, changed_at, created_at, data_at, behind_changed, attr_at, wire_reply_at};
+ghost use Rattle.rpc.specs.private.Reading.{Gives, refusal_of_code, refused_at, changed_at};
+ghost use Rattle.rpc.specs.private.Reading.{created_at, data_at, behind_changed, attr_at};
+ghost use Rattle.rpc.specs.private.Reading.{wire_reply_at};
 
 use crate::fields::{read_end, read_long, read_tail, read_text, read_word};
 use crate::unread::Unread;
@@ -57,7 +59,7 @@ fn data_of(alloc: Global, bytes: &[u8]) -> Result<Reply, Unread>
     Ok(Reply::Data(read_tail(alloc, READ_BYTES as usize, bytes)?))
 }
 
-// What stands behind the moments of a reply with attributes.
+// What comes after the moments of a reply with attributes.
 fn read_behind_changed(
     alloc: Global,
     size: u32,
@@ -111,12 +113,14 @@ fn reply_of(alloc: Global, body: &[u8]) -> Result<Reply, Unread>
     }
 }
 
-/// The reply whose spelling the body is. BadFrame where the body is the spelling of no reply, and NoMemory.
+/// The reply whose encoding the body is. BadFrame where the body is the encoding of no reply, and
+/// NoMemory.
 pub fn decode_reply(alloc: Global, body: &[u8]) -> Result<Reply, Refusal>
-    // What is read is spelled so.
+    // What is read is encoded so.
     ensures found { IfOk result (λ reply. SpellsReply body.now reply) }
-    // What is spelled so is read, unless memory runs out.
-    ensures only { (reply : Answered) → SpellsReply body.now reply → (result ≡ Ok reply) ⊎ (result ≡ Err NoMemory) }
+    // What is encoded so is read, unless memory runs out.
+    ensures only { (reply : Answered) → SpellsReply body.now reply
+        → (result ≡ Ok reply) ⊎ (result ≡ Err NoMemory) }
     ensures bad { IsErrOf result BadFrame → (reply : Answered) → SpellsReply body.now reply → ⊥ }
     ensures refused { IfErr result (λ refusal. (refusal ≡ BadFrame) ⊎ (refusal ≡ NoMemory)) }
 {

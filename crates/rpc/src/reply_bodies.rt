@@ -35,9 +35,11 @@ fn put_data(out: &mut Vec<u8>, bytes: &Bytes)
 }
 
 fn put_attr(out: &mut Vec<u8>, size: u32, created: Moment, changed: Moment, attribute: &Bytes)
-    requires room { HasRoom out.old (length (reply_spelling (Reply.Attr size created changed attribute.now))) }
+    requires room { HasRoom out.old
+        (length (reply_spelling (Reply.Attr size created changed attribute.now))) }
     requires fits { ReplyFits (Reply.Attr size created changed attribute.now) }
-    ensures bytes { Appended out.old out.new (reply_spelling (Reply.Attr size created changed attribute.now)) }
+    ensures bytes { Appended out.old out.new
+        (reply_spelling (Reply.Attr size created changed attribute.now)) }
     ensures range { ReplyNumbers (Reply.Attr size created changed attribute.now) }
 {
     put(out, &[4]);

@@ -27,7 +27,8 @@ fn put_delete(out: &mut Vec<u8>, object: ObjectId)
 
 fn put_read(out: &mut Vec<u8>, object: ObjectId, offset: u64, count: u32, at: Option<Moment>)
     requires { HasRoom out.old (length (request_spelling (Request.Read object offset count at))) }
-    ensures bytes { Appended out.old out.new (request_spelling (Request.Read object offset count at)) }
+    ensures bytes { Appended out.old out.new
+        (request_spelling (Request.Read object offset count at)) }
     ensures range { RequestNumbers (Request.Read object offset count at) }
 {
     put(out, &[3]);
@@ -39,7 +40,8 @@ fn put_read(out: &mut Vec<u8>, object: ObjectId, offset: u64, count: u32, at: Op
 
 fn put_write(out: &mut Vec<u8>, object: ObjectId, offset: u64, bytes: &Bytes)
     requires { HasRoom out.old (length (request_spelling (Request.Write object offset bytes.now))) }
-    ensures bytes { Appended out.old out.new (request_spelling (Request.Write object offset bytes.now)) }
+    ensures bytes { Appended out.old out.new
+        (request_spelling (Request.Write object offset bytes.now)) }
     ensures range { RequestNumbers (Request.Write object offset bytes.now) }
 {
     put(out, &[4]);
@@ -79,9 +81,11 @@ fn put_get_attr(out: &mut Vec<u8>, object: ObjectId, at: Option<Moment>)
 }
 
 fn put_set_attr(out: &mut Vec<u8>, object: ObjectId, attribute: &Bytes)
-    requires room { HasRoom out.old (length (request_spelling (Request.SetAttr object attribute.now))) }
+    requires room { HasRoom out.old
+        (length (request_spelling (Request.SetAttr object attribute.now))) }
     requires short { length attribute.now < 256 }
-    ensures bytes { Appended out.old out.new (request_spelling (Request.SetAttr object attribute.now)) }
+    ensures bytes { Appended out.old out.new
+        (request_spelling (Request.SetAttr object attribute.now)) }
     ensures range { RequestNumbers (Request.SetAttr object attribute.now) }
 {
     put(out, &[8]);

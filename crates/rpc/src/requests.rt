@@ -3,7 +3,10 @@ ghost use Rattle.std.specs.Result.{IsErrOf};
 ghost use Rattle.rpc.specs.Spelling.{SpellsRequest};
 ghost use Rattle.s4_types.specs.declared.requests.Request.{Request as Asked};
 ghost use Rattle.s4_types.specs.declared.refusals.Refusal.TheVariants.{NoMemory, BadFrame};
-ghost use Rattle.rpc.specs.private.Reading.{Gives, create_at, delete_at, behind_offset, read_at, write_at, append_at, truncate_at, get_attr_at, set_attr_at, set_window_at, flush_at, flush_object_at, request_at};
+ghost use Rattle.rpc.specs.private.Reading.{Gives, create_at, delete_at, behind_offset, read_at};
+ghost use Rattle.rpc.specs.private.Reading.{write_at, append_at, truncate_at, get_attr_at};
+ghost use Rattle.rpc.specs.private.Reading.{set_attr_at, set_window_at, flush_at, flush_object_at};
+ghost use Rattle.rpc.specs.private.Reading.{request_at};
 
 use crate::fields::{read_at, read_end, read_long, read_tail, read_text, read_word};
 use crate::unread::Unread;
@@ -40,7 +43,7 @@ fn delete_of(bytes: &[u8]) -> Result<Request, Unread>
     })
 }
 
-// What stands behind the offset of a read.
+// What comes after the offset of a read.
 fn read_behind_offset(object: ObjectId, offset: u64, bytes: &[u8]) -> Result<Request, Unread>
     ensures { Gives (λ x. x) result (behind_offset object offset bytes.now) }
 {
@@ -190,13 +193,14 @@ fn request_of(alloc: Global, body: &[u8]) -> Result<Request, Unread>
     }
 }
 
-/// The request whose spelling the body is. BadFrame where the body is the spelling of no request, and
-/// NoMemory.
+/// The request whose encoding the body is. BadFrame where the body is the encoding of no request,
+/// and NoMemory.
 pub fn decode_request(alloc: Global, body: &[u8]) -> Result<Request, Refusal>
-    // What is read is spelled so.
+    // What is read is encoded so.
     ensures found { IfOk result (λ request. SpellsRequest body.now request) }
-    // What is spelled so is read, unless memory runs out.
-    ensures only { (request : Asked) → SpellsRequest body.now request → (result ≡ Ok request) ⊎ (result ≡ Err NoMemory) }
+    // What is encoded so is read, unless memory runs out.
+    ensures only { (request : Asked)
+        → SpellsRequest body.now request → (result ≡ Ok request) ⊎ (result ≡ Err NoMemory) }
     ensures bad { IsErrOf result BadFrame → (request : Asked) → SpellsRequest body.now request → ⊥ }
     ensures refused { IfErr result (λ refusal. (refusal ≡ BadFrame) ⊎ (refusal ≡ NoMemory)) }
 {

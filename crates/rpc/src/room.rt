@@ -4,7 +4,7 @@ ghost use Rattle.rpc.specs.Spelling.{long, word, wire_text, at};
 
 use s4_types::{Bytes, Moment, ObjectId};
 
-/// Writes bytes behind those that stand there, into room that was taken before.
+/// Writes bytes after those that are there, into room that was taken before.
 pub(crate) fn put(out: &mut Vec<u8>, bytes: &[u8])
     requires { HasRoom out.old (length bytes.now) }
     ensures { Appended out.old out.new bytes.now }

@@ -8,7 +8,7 @@ use std::alloc::{AllocError, AllocFailed};
 pub enum Unread {
     /// A growth of memory was refused.
     Memory,
-    /// The bytes spell nothing.
+    /// The bytes encode nothing.
     Misspelled,
 }
 

@@ -48,7 +48,7 @@ IsUndone files files' Done = ((path : List ℕ) → Keeps (files path) (files' p
 abbrev pub unknown : List ℕ → Option (List ℕ)
 unknown path = None
 
--- The words spell no command, where they are words that the line's rules take.
+-- The words give no command, where they are words that the line's rules take.
 abbrev pub IsUsage : List Text → Type 0
 IsUsage words = takes line words ≡ true → SpellsNone (subcommand_of line words)
 
@@ -58,7 +58,7 @@ pub record IsAskedFor (words : List Text) : Type 0 where
   pub among : IsAmong kind (fault_of line words)
   pub asked : is_asked_for kind ≡ true
 
--- The words spell a command, which is done; or they spell none, and ask for help or the version.
+-- The words give a command, which is done; or they give none, and ask for help or the version.
 abbrev pub IsDone : List Text → (files files' : List ℕ → Option (List ℕ)) → (Exported : DriveFields → ExportAsked → Type 0) → (Salvaged : Option (List ℕ) → SalvageAsked → (output output' : Option (List ℕ)) → Type 0) → (output output' : Option (List ℕ)) → Type 0
 IsDone words files files' Exported Salvaged output output' = ((c : Command) × Spells (subcommand_of line words) c × IsDoneOver files files' Exported Salvaged output output' c) ⊎ IsAskedFor words
 
@@ -67,6 +67,6 @@ abbrev pub DiffersOver : (files : List ℕ → Option (List ℕ)) → (output ou
 DiffersOver files output output' (command.Diff diff) = OverImage (files diff.image.now) (λ d. Compares d diff Differs output output')
 DiffersOver files output output' _ = ⊤
 
--- The words spell a command, and status 1 says this of it; or they spell none.
+-- The words give a command, and status 1 says this of it; or they give none.
 abbrev pub IsDiffering : List Text → (files : List ℕ → Option (List ℕ)) → (output output' : Option (List ℕ)) → Type 0
 IsDiffering words files output output' = ((c : Command) × Spells (subcommand_of line words) c × DiffersOver files output output' c) ⊎ IsUsage words

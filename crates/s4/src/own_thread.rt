@@ -1,5 +1,5 @@
-//! What the program's line asks for, on a thread of its own, so that its stack is had before anything
-//! is read.
+//! What the program's line asks for, on a thread of its own, so that its stack is had before
+//! anything is read.
 ghost use Rattle.std.specs.Prelude.{◌+◌, ◌^◌, ◌<◌, ◌≤◌, IfOk};
 
 use crate::performing::perform;
@@ -15,8 +15,8 @@ use std::thread::Threads;
 /// keeps there included.
 const STACK_BYTES: usize = 1 << 20;
 
-/// Does what the words ask for over the system's files, as `perform` does, on a thread with a stack of
-/// its own, and answers the program's status.
+/// Does what the words ask for over the system's files, as `perform` does, on a thread with a stack
+/// of its own, and answers the program's status.
 ///
 /// AllocError where the system has no such thread or stack: nothing was read or written then.
 pub fn perform_apart<

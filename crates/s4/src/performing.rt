@@ -30,9 +30,11 @@ const FAILED: u8 = 1;
 /// The status of a line of words that gave no command, and of a comparison that failed.
 const TROUBLE: u8 = 2;
 
-/// Does what the words ask for, the program's name first among them, and answers the program's status: 0 where it is done, or where help
-/// or the version was asked for and printed; 1 with a line on `errors` where it failed, or without one where `diff` printed what differs or
-/// `salvage` that something is lost; 2 with lines there where the words gave no command, or where `diff` failed.
+/// Does what the words ask for, the program's name first among them, and answers the program's
+/// status: 0 where it is done, or where help or the version was asked for and printed; 1 with a
+/// line on `errors` where it failed, or without one where `diff` printed what differs or `salvage`
+/// that something is lost; 2 with lines there where the words gave no command, or where `diff`
+/// failed.
 #[tactic(auto, using(s4_images::proofs::Kept::untouched))]
 pub fn perform<T: Threads, F: Files, D: Folders + Screens, S: AsStr, W: Sink, E: Write>(
     rt: &T,
@@ -45,9 +47,20 @@ pub fn perform<T: Threads, F: Files, D: Folders + Screens, S: AsStr, W: Sink, E:
 ) -> u8
     requires writer { W.failures writer.old + 1 < 2 ^ 64 }
     ensures status { result ≤ 2 }
-    ensures done { result ≡ 0 → IsDone (map S.text words.now) (F.contents files.old) (F.contents files.new) (Exported D.Opened.path D.Opened.files) (SalvagesFile D.Opened.path D.Opened.files Verdict.Fine) (W.passed writer.old) (W.passed writer.new) }
-    ensures kept { result ≢ 0 → IsUndone (F.contents files.old) (F.contents files.new) (IsDone (map S.text words.now) (F.contents files.old) (F.contents files.new) (Exported D.Opened.path D.Opened.files) (SalvagesFile D.Opened.path D.Opened.files Verdict.Fine) (W.passed writer.old) (W.passed writer.new)) }
-    ensures differs { result ≡ 1 → IsDiffering (map S.text words.now) (F.contents files.old) (W.passed writer.old) (W.passed writer.new) }
+    ensures done { result ≡ 0
+        → IsDone (map S.text words.now) (F.contents files.old) (F.contents files.new)
+        (Exported D.Opened.path D.Opened.files)
+        (SalvagesFile D.Opened.path D.Opened.files Verdict.Fine) (W.passed writer.old)
+        (W.passed writer.new) }
+    ensures kept { result ≢ 0
+        → IsUndone (F.contents files.old) (F.contents files.new)
+        (IsDone (map S.text words.now) (F.contents files.old) (F.contents files.new)
+        (Exported D.Opened.path D.Opened.files)
+        (SalvagesFile D.Opened.path D.Opened.files Verdict.Fine) (W.passed writer.old)
+        (W.passed writer.new)) }
+    ensures differs { result ≡ 1
+        → IsDiffering (map S.text words.now) (F.contents files.old) (W.passed writer.old)
+        (W.passed writer.new) }
 {
     match command_of(alloc, words) {
         Ok(command) => perform_command(rt, alloc, files, folders, &command, writer, errors),
@@ -70,9 +83,20 @@ fn perform_command<T: Threads, F: Files, D: Folders + Screens, W: Sink, E: Write
 ) -> u8
     requires writer { W.failures writer.old + 1 < 2 ^ 64 }
     ensures status { result ≤ 2 }
-    ensures done { result ≡ 0 → IsDoneOver (F.contents files.old) (F.contents files.new) (Exported D.Opened.path D.Opened.files) (SalvagesFile D.Opened.path D.Opened.files Verdict.Fine) (W.passed writer.old) (W.passed writer.new) command.now }
-    ensures kept { result ≢ 0 → IsUndone (F.contents files.old) (F.contents files.new) (IsDoneOver (F.contents files.old) (F.contents files.new) (Exported D.Opened.path D.Opened.files) (SalvagesFile D.Opened.path D.Opened.files Verdict.Fine) (W.passed writer.old) (W.passed writer.new) command.now) }
-    ensures differs { result ≡ 1 → DiffersOver (F.contents files.old) (W.passed writer.old) (W.passed writer.new) command.now }
+    ensures done { result ≡ 0
+        → IsDoneOver (F.contents files.old) (F.contents files.new)
+        (Exported D.Opened.path D.Opened.files)
+        (SalvagesFile D.Opened.path D.Opened.files Verdict.Fine) (W.passed writer.old)
+        (W.passed writer.new) command.now }
+    ensures kept { result ≢ 0
+        → IsUndone (F.contents files.old) (F.contents files.new)
+        (IsDoneOver (F.contents files.old) (F.contents files.new)
+        (Exported D.Opened.path D.Opened.files)
+        (SalvagesFile D.Opened.path D.Opened.files Verdict.Fine) (W.passed writer.old)
+        (W.passed writer.new) command.now) }
+    ensures differs { result ≡ 1
+        → DiffersOver (F.contents files.old) (W.passed writer.old) (W.passed writer.new)
+        command.now }
 {
     match command {
         Command::List(list) => show_over(rt, alloc, files, &Listing(list), writer, errors),
@@ -123,7 +147,9 @@ fn show_over<T: Threads, F: Files, C: DriveCommand + ImageCommand, W: Sink, E: W
 ) -> u8
     requires writer { W.failures writer.old + 1 < 2 ^ 64 }
     ensures status { result ≤ 1 }
-    ensures done { result ≡ 0 → OverImage (F.contents files.now (C.file command.now)) (λ d. C.shows command.now d Verdict.Fine (W.passed writer.old) (W.passed writer.new)) }
+    ensures done { result ≡ 0
+        → OverImage (F.contents files.now (C.file command.now))
+        (λ d. C.shows command.now d Verdict.Fine (W.passed writer.old) (W.passed writer.new)) }
 {
     let found = show_image(rt, alloc, files, command, writer);
     shown(found, command.image(), errors)

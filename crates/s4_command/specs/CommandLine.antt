@@ -1,4 +1,4 @@
--- The program's command line in clap's own words, and which command the matches of a line spell.
+-- The program's command line in clap's own words, and which command the matches of a line encode.
 use Rattle.std.specs.Prelude.{◌≡◌, ◌↔◌, ◌⊎◌, ℕ, Bool, false, List, [], Option, Some, None, true, codes, option_map, unwrap_or}
 use Rattle.std.specs.Borrow.{Bor}
 use Rattle.std.specs.List.{AllZip}
@@ -43,11 +43,11 @@ needed_value_rule name =
 abbrev pub values_rule : Text → Rule
 values_rule name = record (new_rule name) { long = Some name; action = Some Append; value_names = 1 }
 
--- a word that stands for itself, and has to be given
+-- a word that represents itself, and has to be given
 abbrev pub needed_rule : Text → Rule
 needed_rule name = record (new_rule name) { action = Some Set; value_names = 1; required = true }
 
--- a word that stands for itself, which is given or not
+-- a word that represents itself, which is given or not
 abbrev pub optional_rule : Text → Rule
 optional_rule name = record (new_rule name) { action = Some Set; value_names = 1 }
 
@@ -314,7 +314,7 @@ pub record SpellsReport (rows : List Row) (report : ReportAsked) : Type 0 where
   pub image : first_of (codes "image") rows ≡ Some report.image.now
   pub since : IsMomentAsked (codes "since") rows report.since
 
--- The name and the matches of a subcommand spell the command.
+-- The name and the matches of a subcommand encode the command.
 abbrev pub Spells : Option (Text × List Row) → Command → Type 0
 Spells None c = ⊥
 Spells (Some named) (command.List list) = (named.0 ≡ codes "list") × SpellsList named.1 list
@@ -329,7 +329,7 @@ Spells (Some named) (command.Compact compact) = (named.0 ≡ codes "compact") ×
 Spells (Some named) (command.Salvage salvage) = (named.0 ≡ codes "salvage") × SpellsSalvage named.1 salvage
 Spells (Some named) (command.Report report) = (named.0 ≡ codes "report") × SpellsReport named.1 report
 
--- They spell none.
+-- They encode none.
 abbrev pub SpellsNone : Option (Text × List Row) → Type 0
 SpellsNone named = (c : Command) → Spells named c → ⊥
 

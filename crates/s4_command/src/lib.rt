@@ -2,7 +2,7 @@
 //!
 //! The layer above may rely on this: a command that `command_of` gives has the numbers, moments and
 //! texts of the matches that `clap` states for the words; a line is refused only where `clap`
-//! refuses it, or its matches spell no command. Help and the version come as such, and a refusal of
+//! refuses it, or its matches give no command. Help and the version come as such, and a refusal of
 //! memory is one of its own. What a command does is said elsewhere.
 #![tactic(auto)]
 
@@ -74,7 +74,7 @@ pub enum NoCommand<'a> {
     /// Help or the version was asked for: this is its text.
     #[error("{0}")]
     Asked(clap::Error),
-    /// The words spell no command: this says why.
+    /// The words give no command: this says why.
     #[error("{0}")]
     Refused(clap::Error),
     /// The word for this is no number.
@@ -106,7 +106,7 @@ pub enum NoCommand<'a> {
         one: &'static str,
         other: &'static str,
     },
-    /// The words spell no command.
+    /// The words give no command.
     #[error("the words spell no command; try --help")]
     Unspelled,
     /// A growth of memory was refused.
@@ -125,7 +125,7 @@ impl From<AllocError> for NoCommand<'_> {
     }
 }
 
-/// The command that the words spell, the program's name first among them. At `help`, `--help` and
+/// The command that the words give, the program's name first among them. At `help`, `--help` and
 /// `--version` it is `Asked`, with the text.
 pub fn command_of<'a, S: AsStr>(alloc: Global, words: &'a [S]) -> Result<Command<'a>, NoCommand<'a>>
     ensures spelled { IfOk result (Spells (subcommand_of line (map S.text words.entry.now))) }

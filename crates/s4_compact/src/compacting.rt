@@ -45,8 +45,8 @@ pub fn compact_image<T: Threads, F: Files, W: Sink>(
     compact_by(rt, alloc, files, asked, best_way(&found), &found, writer)
 }
 
-// Compacts the drive of an image this way, saves it there, and prints what that came to. NoRoom where
-// another way's trial left more room.
+// Compacts the drive of an image this way, saves it there, and prints what that came to. NoRoom
+// where another way's trial left more room.
 fn compact_by<T: Threads, F: Files, W: Sink>(
     rt: &T,
     alloc: Global,

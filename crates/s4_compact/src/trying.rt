@@ -18,8 +18,8 @@ use std::marker::Brand;
 use std::thread::Threads;
 use verifier::open;
 
-/// How much room each way leaves, as its trial found; none where a step of it leaves less than there
-/// was before.
+/// How much room each way leaves, as its trial found; none where a step of it leaves less than
+/// there was before.
 #[derive(Clone, Copy)]
 pub struct Found {
     pub cleaned: Option<usize>,

@@ -39,8 +39,8 @@ impl Folders for HostRuntime {
     }
 }
 
-/// Writes the objects that an image's drive has at a moment into the folder at a path. The folder is made once it is known that the
-/// image is one, and that the moment can be read.
+/// Writes the objects that an image's drive has at a moment into the folder at a path. The folder
+/// is made once it is known that the image is one, and that the moment can be read.
 pub fn export_image<T: Threads, F: Files, D: Folders>(
     rt: &T,
     alloc: Global,
@@ -48,7 +48,9 @@ pub fn export_image<T: Threads, F: Files, D: Folders>(
     folders: &D,
     asked: &ExportAsked<'_>,
 ) -> Result<(), Failure>
-    ensures exports { OnOk result (OverImage (F.contents files.now asked.now.image.now) (λ drive. Exported D.Opened.path D.Opened.files drive asked.now)) }
+    ensures exports { OnOk result
+        (OverImage (F.contents files.now asked.now.image.now)
+        (λ drive. Exported D.Opened.path D.Opened.files drive asked.now)) }
 {
     let image = read_image(rt, alloc, files, asked.image)?;
     let opened = open(alloc, image)?;
@@ -65,7 +67,8 @@ fn export_opened<J: Naming, D: Folders>(
     requires accepts { opened.accepts ≡ J.accepts }
     requires frames { opened.store.table.seat.table ≡ J.frames }
     requires base { base_of (fields_of log_of opened.store) opened.timeline opened.next ≡ J.base }
-    ensures exports { OnOk result (OverOpened opened (λ drive. Exported D.Opened.path D.Opened.files drive asked.now)) }
+    ensures exports { OnOk result
+        (OverOpened opened (λ drive. Exported D.Opened.path D.Opened.files drive asked.now)) }
 {
     let mut drive = opened.named::<J>();
     export_drive(alloc, &mut drive, folders, asked)
@@ -97,7 +100,9 @@ fn export_into<J: Naming, D: Folder>(
     folder: &mut D,
     at: Moment,
 ) -> Result<(), Failure>
-    ensures exports { OnOk result (Exports (state_in drive.old) (store_of drive.old) at (D.files folder.old) (D.files folder.new)) }
+    ensures exports { OnOk result
+        (Exports (state_in drive.old) (store_of drive.old) at (D.files folder.old)
+        (D.files folder.new)) }
     ensures path { D.path folder.new ≡ D.path folder.old }
 {
     let mut session = drive.session(Role::Client)?;

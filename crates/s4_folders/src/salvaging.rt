@@ -1,7 +1,9 @@
 //! `salvage`: what a damaged image still has of its objects, as files in a folder.
 ghost use Rattle.std.specs.Prelude.{◌≡◌, ◌+◌, ◌^◌, ◌<◌, IfOk, OnOk, string_bytes};
 ghost use Rattle.std.specs.Io.KnownBytes.{Appends};
-ghost use Rattle.s4_folders.specs.Salvaging.{SalvagesFile, SalvagesInto, counts_text, damage_count, lost_text, given_text, given_words, verdict_of, written_text};
+ghost use Rattle.s4_folders.specs.Salvaging.{SalvagesFile, SalvagesInto, counts_text, damage_count};
+ghost use Rattle.s4_folders.specs.Salvaging.{lost_text, given_text, given_words, verdict_of};
+ghost use Rattle.s4_folders.specs.Salvaging.{written_text};
 
 use crate::exporting::Folders;
 use history_export::Folder;
@@ -15,9 +17,9 @@ use serving::Sink;
 use std::alloc::{AllocError, Global};
 use std::thread::Threads;
 
-/// Writes what the image in a file still has of its objects into the folder at a path, and prints how much that is. The folder is made
-/// once it is known that the file has something of an image. `Fine` where nothing is lost: the file is an image, and each live object was
-/// written whole.
+/// Writes what the image in a file still has of its objects into the folder at a path, and prints
+/// how much that is. The folder is made once it is known that the file has something of an image.
+/// `Fine` where nothing is lost: the file is an image, and each live object was written whole.
 pub fn salvage_image<T: Threads, F: Files, D: Folders, W: Sink>(
     rt: &T,
     alloc: Global,
@@ -27,7 +29,10 @@ pub fn salvage_image<T: Threads, F: Files, D: Folders, W: Sink>(
     writer: &mut W,
 ) -> Result<Verdict, Failure>
     requires writer { W.failures writer.old + 1 < 2 ^ 64 }
-    ensures salvages { IfOk result (λ verdict. SalvagesFile D.Opened.path D.Opened.files verdict (F.contents files.now asked.now.image.now) asked.now (W.passed writer.old) (W.passed writer.new)) }
+    ensures salvages { IfOk result
+        (λ verdict. SalvagesFile D.Opened.path D.Opened.files verdict
+        (F.contents files.now asked.now.image.now) asked.now (W.passed writer.old)
+        (W.passed writer.new)) }
 {
     what_is_whole_is_all();
     let bytes = read_bytes(alloc, files, asked.image)?;
@@ -48,7 +53,9 @@ fn salvage_into<D: Folder, W: Sink>(
     writer: &mut W,
 ) -> Result<Verdict, Failure>
     requires writer { W.failures writer.old + 1 < 2 ^ 64 }
-    ensures salvages { IfOk result (λ verdict. SalvagesInto image.now json verdict (D.files folder.old) (D.files folder.new) (W.passed writer.old) (W.passed writer.new)) }
+    ensures salvages { IfOk result
+        (λ verdict. SalvagesInto image.now json verdict (D.files folder.old) (D.files folder.new)
+        (W.passed writer.old) (W.passed writer.new)) }
     ensures path { D.path folder.new ≡ D.path folder.old }
 {
     match give_out(alloc, image, folder) {
@@ -78,7 +85,8 @@ fn write_given<W: Sink>(
     writer: &mut W,
 ) -> Result<(), Failure>
     requires writer { W.failures writer.old + 1 < 2 ^ 64 }
-    ensures text { OnOk result (Appends (W.passed writer.old) (W.passed writer.new) (given_words json given.now)) }
+    ensures text { OnOk result
+        (Appends (W.passed writer.old) (W.passed writer.new) (given_words json given.now)) }
 {
     let text = match given_words(alloc, given, json) {
         Ok(text) => text,

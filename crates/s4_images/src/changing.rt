@@ -19,7 +19,8 @@ use verifier::{open, save};
 
 /// What changes a drive, and prints what it did.
 pub trait DriveChange {
-    // What the drive is once the change is made, and what the output has behind it: by the drive before and after it, and the output.
+    // What the drive is once the change is made, and what the output has after it: by the drive
+    // before and after it, and the output.
     ghost changes: { Self → DriveFields → DriveFields → Option (List ℕ) → Option (List ℕ) → Type 0 };
 
     /// Makes the change. Where it fails, the drive may be changed in part: it isn't saved then.
@@ -33,9 +34,10 @@ pub trait DriveChange {
         ensures changes { OnOk result (changes self.now drive.old drive.new (W.passed writer.old) (W.passed writer.new)) };
 }
 
-/// Changes the drive that the image in a file tells, and saves it in that file. Where anything fails all files are as they were. That it can be
-/// replaced is known before the change: another program that serves it, a file that can't be made beside it, or a disk without room for
-/// the longest image is a failure then.
+/// Changes the drive that the image in a file tells, and saves it in that file. Where anything
+/// fails all files are as they were. That it can be replaced is known before the change: another
+/// program that serves it, a file that can't be made beside it, or a disk without room for the
+/// longest image is a failure then.
 #[tactic(auto, using(crate::proofs::Kept::untouched))]
 pub fn change_image<T: Threads, F: Files, C: DriveChange, W: Sink>(
     rt: &T,
@@ -46,10 +48,15 @@ pub fn change_image<T: Threads, F: Files, C: DriveChange, W: Sink>(
     writer: &mut W,
 ) -> Result<Placed, Failure>
     requires writer { W.failures writer.old + 1 < 2 ^ 64 }
-    ensures changed { OnOk result (ChangesImage (F.contents files.old image.now) (F.contents files.new image.now) (λ drive later. C.changes change.now drive later (W.passed writer.old) (W.passed writer.new))) }
-    ensures kept { OnErr result ((path : List ℕ) → Keeps (F.contents files.old path) (F.contents files.new path)) }
+    ensures changed { OnOk result
+        (ChangesImage (F.contents files.old image.now) (F.contents files.new image.now)
+        (λ drive later. C.changes change.now drive later (W.passed writer.old)
+        (W.passed writer.new))) }
+    ensures kept { OnErr result
+        ((path : List ℕ) → Keeps (F.contents files.old path) (F.contents files.new path)) }
 {
-    // The claim comes first, so that nobody replaces what is read; what can't be read is the first failure all the same.
+    // The claim comes first, so that nobody replaces what is read; what can't be read is the first
+    // failure all the same.
     let claim = files.claim(alloc, image);
     let read = read_image(rt, alloc, files, image)?;
     let claim = match claim {
@@ -76,8 +83,14 @@ fn change_opened<'a, J: Naming, F: Files, C: DriveChange, W: Sink>(
     requires base { base_of (fields_of log_of opened.store) opened.timeline opened.next ≡ J.base }
     requires writer { W.failures writer.old + 1 < 2 ^ 64 }
     requires claimed { F.leads place.claim place.path.now }
-    ensures changed { OnOk result (SavesOpened opened (F.contents files.new place.entry.path.now) (λ drive later. C.changes change.now drive later (W.passed writer.old) (W.passed writer.new))) }
-    ensures kept { OnErr result ((path : List ℕ) → F.is_beside place.entry.beside path ≡ false → Keeps (F.contents files.old path) (F.contents files.new path)) }
+    ensures changed { OnOk result
+        (SavesOpened opened (F.contents files.new place.entry.path.now)
+        (λ drive later. C.changes change.now drive later (W.passed writer.old)
+        (W.passed writer.new))) }
+    ensures kept { OnErr result
+        ((path : List ℕ)
+        → F.is_beside place.entry.beside path ≡ false
+        → Keeps (F.contents files.old path) (F.contents files.new path)) }
 {
     match changed_bytes::<J, C, W>(alloc, opened, change, writer) {
         Ok(bytes) => {
@@ -102,7 +115,10 @@ fn changed_bytes<J: Naming, C: DriveChange, W: Sink>(
     requires frames { opened.store.table.seat.table ≡ J.frames }
     requires base { base_of (fields_of log_of opened.store) opened.timeline opened.next ≡ J.base }
     requires writer { W.failures writer.old + 1 < 2 ^ 64 }
-    ensures changed { IfOk result (λ bytes. ChangesOpened opened bytes.items (λ drive later. C.changes change.now drive later (W.passed writer.old) (W.passed writer.new))) }
+    ensures changed { IfOk result
+        (λ bytes. ChangesOpened opened bytes.items
+        (λ drive later. C.changes change.now drive later (W.passed writer.old)
+        (W.passed writer.new))) }
 {
     let mut drive = opened.named::<J>();
     change.make(alloc, &mut drive, writer)?;

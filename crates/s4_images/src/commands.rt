@@ -29,7 +29,8 @@ pub enum Verdict {
 
 /// What prints something of a drive.
 pub trait DriveCommand {
-    // What was found over a drive once the command is done, and what the output has behind it then: by the output before and after.
+    // What was found over a drive once the command is done, and what the output has after it then:
+    // by the output before and after.
     ghost shows: { Self → DriveFields → Found → Option (List ℕ) → Option (List ℕ) → Type 0 };
 
     // What holds of a failure, by the drive before.
@@ -43,7 +44,9 @@ pub trait DriveCommand {
         writer: &mut W,
     ) -> Result<Verdict, Failure>
         requires writer { W.failures writer.old + 1 < 2 ^ 64 }
-        ensures shows { IfOk result (λ verdict. shows self.now drive.old verdict (W.passed writer.old) (W.passed writer.new)) }
+        ensures shows { IfOk result
+            (λ verdict. shows self.now drive.old verdict (W.passed writer.old)
+            (W.passed writer.new)) }
         ensures fails { IfErr result (fails self.now drive.old) };
 }
 
@@ -57,8 +60,12 @@ pub fn over_image<T: Threads, F: Files, C: DriveCommand, W: Sink>(
     writer: &mut W,
 ) -> Result<Verdict, Failure>
     requires writer { W.failures writer.old + 1 < 2 ^ 64 }
-    ensures shows { IfOk result (λ verdict. OverImage (F.contents files.now image.now) (λ drive. C.shows command.now drive verdict (W.passed writer.old) (W.passed writer.new))) }
-    ensures fails { IfErr result (FailsOver (F.contents files.now image.now) (C.fails command.now)) }
+    ensures shows { IfOk result
+        (λ verdict. OverImage (F.contents files.now image.now)
+        (λ drive. C.shows command.now drive verdict (W.passed writer.old)
+        (W.passed writer.new))) }
+    ensures fails { IfErr result
+        (FailsOver (F.contents files.now image.now) (C.fails command.now)) }
 {
     let image = read_image(rt, alloc, files, image)?;
     let opened = open(alloc, image)?;
@@ -76,8 +83,12 @@ fn over_opened<J: Naming, C: DriveCommand, W: Sink>(
     requires frames { opened.store.table.seat.table ≡ J.frames }
     requires base { base_of (fields_of log_of opened.store) opened.timeline opened.next ≡ J.base }
     requires writer { W.failures writer.old + 1 < 2 ^ 64 }
-    ensures shows { IfOk result (λ verdict. OverOpened opened (λ drive. C.shows command.now drive verdict (W.passed writer.old) (W.passed writer.new))) }
-    ensures fails { IfErr result (λ failure. OverOpened opened (λ drive. C.fails command.now drive failure)) }
+    ensures shows { IfOk result
+        (λ verdict. OverOpened opened
+        (λ drive. C.shows command.now drive verdict (W.passed writer.old)
+        (W.passed writer.new))) }
+    ensures fails { IfErr result
+        (λ failure. OverOpened opened (λ drive. C.fails command.now drive failure)) }
 {
     let mut drive = opened.named::<J>();
     command.perform(alloc, &mut drive, writer)

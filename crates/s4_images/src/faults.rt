@@ -1,7 +1,8 @@
 //! Why a command failed.
 ghost use Rattle.std.specs.Prelude.{◌≡◌};
 ghost use Rattle.moment_words.specs.declared.printing.MomentStyle.TheVariants.{Number};
-ghost use Rattle.s4_images.specs.Failures.{HasNoMoments, IsInStyle, in_style, is_of_folder, restyled, shown_by};
+ghost use Rattle.s4_images.specs.Failures.{HasNoMoments, IsInStyle, in_style, is_of_folder};
+ghost use Rattle.s4_images.specs.Failures.{restyled, shown_by};
 
 use history_export::{ExportError, ExportedFile};
 use image_commands::{Fault, Obstacle};
@@ -9,8 +10,8 @@ use moment_words::{MomentStyle, ShownMoment};
 use s4_types::{Moment, Refusal};
 use thiserror::Error;
 
-/// Why a command over an image failed. Each prints what is wrong and what can be done, on one line. Its moments are numbers until
-/// `in_style` makes them what the command prints.
+/// Why a command over an image failed. Each prints what is wrong and what can be done, on one line.
+/// Its moments are numbers until `in_style` makes them what the command prints.
 #[derive(Debug, Drop, Error)]
 pub enum Failure {
     /// The file can't be read, and why.

@@ -4,7 +4,8 @@ ghost use Rattle.object_map.specs.Rows.{row_of};
 ghost use Rattle.s4_model.specs.Visible.{IsVisible};
 ghost use Rattle.drive.specs.Fields.{state_in, store_of};
 ghost use Rattle.history_view.specs.Names.{IsNameRefusal, IsOnlyNamed};
-ghost use Rattle.s4_images.specs.Moments.{IsNamedInEither, IsObjectAsked, IsObjectInEither, IsUnreadable, TellsUnreadable};
+ghost use Rattle.s4_images.specs.Moments.{IsNamedInEither, IsObjectAsked, IsObjectInEither};
+ghost use Rattle.s4_images.specs.Moments.{IsUnreadable, TellsUnreadable};
 ghost use Rattle.s4_images.specs.Moments.{moment_asked, moment_said};
 
 use crate::faults::{Failure, as_number};
@@ -31,16 +32,18 @@ pub fn moment_or_clock<J: Naming>(drive: &Drive<J>, at: Option<MomentWord>) -> M
     }
 }
 
-/// The moment that is asked for, the clock's where none is. An error where that moment of the object can't be read; of object 0 where it
-/// can't be read of any.
+/// The moment that is asked for, the clock's where none is. An error where that moment of the
+/// object can't be read; of object 0 where it can't be read of any.
 pub fn moment_asked<J: Naming>(
     drive: &Drive<J>,
     object: ObjectId,
     at: Option<MomentWord>,
 ) -> Result<Moment, Failure>
     ensures moment { IfOk result (λ moment. moment ≡ moment_asked (state_in drive.now) at) }
-    ensures readable { OnOk result (IsVisible (state_in drive.now) object (moment_asked (state_in drive.now) at)) }
-    ensures refused { IfErr result (IsUnreadable (state_in drive.now) object (moment_asked (state_in drive.now) at)) }
+    ensures readable { OnOk result
+        (IsVisible (state_in drive.now) object (moment_asked (state_in drive.now) at)) }
+    ensures refused { IfErr result
+        (IsUnreadable (state_in drive.now) object (moment_asked (state_in drive.now) at)) }
 {
     let moment = moment_or_clock(drive, at);
     if is_visible(drive, object, moment) {
@@ -49,7 +52,8 @@ pub fn moment_asked<J: Naming>(
     Err(unreadable(drive, object, moment))
 }
 
-/// The failure of a moment that can't be read: it is to come, or hidden or expired, and then the failure has the first one that can be.
+/// The failure of a moment that can't be read: it is to come, or hidden or expired, and then the
+/// failure has the first one that can be.
 pub fn unreadable<J: Naming>(drive: &Drive<J>, object: ObjectId, moment: Moment) -> Failure
     ensures { TellsUnreadable (state_in drive.now) object moment result }
 {
@@ -79,16 +83,20 @@ pub fn check_object<J: Naming>(drive: &Drive<J>, object: Option<u64>) -> Result<
     }
 }
 
-/// The object that is asked for at a moment: by its number, or else by its attribute then. None where neither is given.
+/// The object that is asked for at a moment: by its number, or else by its attribute then. None
+/// where neither is given.
 ///
-/// An error where no object has the number, where the moment can't be read, or where not exactly one object has the attribute then.
+/// An error where no object has the number, where the moment can't be read, or where not exactly
+/// one object has the attribute then.
 pub fn object_asked<J: Naming>(
     drive: &mut Drive<J>,
     object: Option<u64>,
     name: Option<&str>,
     at: Moment,
 ) -> Result<Option<ObjectId>, Failure>
-    ensures asked { IfOk result (IsObjectAsked (state_in drive.old) (store_of drive.old) object (option_map (λ text. text.now) name.entry) at) }
+    ensures asked { IfOk result
+        (IsObjectAsked (state_in drive.old) (store_of drive.old) object
+        (option_map (λ text. text.now) name.entry) at) }
     ensures ledger { drive.new.ledger ≡ drive.old.ledger }
     ensures store { store_of drive.new ≡ store_of drive.old }
 {
@@ -105,11 +113,11 @@ pub fn object_asked<J: Naming>(
     }
 }
 
-/// The object that is asked for of two moments: by its number, or else by its attribute at the first of them, or where none has it then,
-/// at the second. None where neither is given.
+/// The object that is asked for of two moments: by its number, or else by its attribute at the
+/// first of them, or where none has it then, at the second. None where neither is given.
 ///
-/// An error where no object has the number, where a moment can't be read at which the attribute is looked for, or where none has it at
-/// either, or several at one.
+/// An error where no object has the number, where a moment can't be read at which the attribute is
+/// looked for, or where none has it at either, or several at one.
 pub fn object_in_either<J: Naming>(
     drive: &mut Drive<J>,
     object: Option<u64>,
@@ -117,7 +125,9 @@ pub fn object_in_either<J: Naming>(
     first: Moment,
     second: Moment,
 ) -> Result<Option<ObjectId>, Failure>
-    ensures asked { IfOk result (IsObjectInEither (state_in drive.old) (store_of drive.old) object (option_map (λ text. text.now) name.entry) first second) }
+    ensures asked { IfOk result
+        (IsObjectInEither (state_in drive.old) (store_of drive.old) object
+        (option_map (λ text. text.now) name.entry) first second) }
     ensures ledger { drive.new.ledger ≡ drive.old.ledger }
     ensures store { store_of drive.new ≡ store_of drive.old }
 {
@@ -141,7 +151,8 @@ fn named_in_either<J: Naming>(
     first: Moment,
     second: Moment,
 ) -> Result<ObjectId, Failure>
-    ensures named { IfOk result (IsNamedInEither (state_in drive.old) (store_of drive.old) name.now first second) }
+    ensures named { IfOk result
+        (IsNamedInEither (state_in drive.old) (store_of drive.old) name.now first second) }
     ensures ledger { drive.new.ledger ≡ drive.old.ledger }
     ensures store { store_of drive.new ≡ store_of drive.old }
 {
@@ -159,7 +170,8 @@ fn named_at_last<J: Naming>(
     first: Moment,
     second: Moment,
 ) -> Result<ObjectId, Failure>
-    ensures named { IfOk result (IsOnlyNamed (state_in drive.old) (store_of drive.old) name.now second) }
+    ensures named { IfOk result
+        (IsOnlyNamed (state_in drive.old) (store_of drive.old) name.now second) }
     ensures ledger { drive.new.ledger ≡ drive.old.ledger }
     ensures store { store_of drive.new ≡ store_of drive.old }
 {
@@ -179,8 +191,11 @@ fn named_at<J: Naming>(
     name: &str,
     at: Moment,
 ) -> Result<Result<ObjectId, NameRefusal>, Failure>
-    ensures named { IfOk result (λ found. IfOk found (IsOnlyNamed (state_in drive.old) (store_of drive.old) name.now at)) }
-    ensures refused { IfOk result (λ found. IfErr found (IsNameRefusal (state_in drive.old) (store_of drive.old) name.now at)) }
+    ensures named { IfOk result
+        (λ found. IfOk found (IsOnlyNamed (state_in drive.old) (store_of drive.old) name.now at)) }
+    ensures refused { IfOk result
+        (λ found. IfErr found
+        (IsNameRefusal (state_in drive.old) (store_of drive.old) name.now at)) }
     ensures ledger { drive.new.ledger ≡ drive.old.ledger }
     ensures store { store_of drive.new ≡ store_of drive.old }
 {

@@ -32,8 +32,9 @@ pub trait ImageCommand: Copy {
         ensures { result ≡ as_numbers self.now };
 }
 
-/// Performs a command over the drive that its image tells. The moments of a failure are printed as the other lines of the command print
-/// theirs: as dates where the drive's clock counts microseconds of Unix time, unless numbers are asked for.
+/// Performs a command over the drive that its image tells. The moments of a failure are printed as
+/// the other lines of the command print theirs: as dates where the drive's clock counts
+/// microseconds of Unix time, unless numbers are asked for.
 pub fn show_image<T: Threads, F: Files, C: DriveCommand + ImageCommand, W: Sink>(
     rt: &T,
     alloc: Global,
@@ -42,8 +43,14 @@ pub fn show_image<T: Threads, F: Files, C: DriveCommand + ImageCommand, W: Sink>
     writer: &mut W,
 ) -> Result<Verdict, Failure>
     requires writer { W.failures writer.old + 1 < 2 ^ 64 }
-    ensures shows { IfOk result (λ verdict. OverImage (F.contents files.now (C.file command.now)) (λ drive. C.shows command.now drive verdict (W.passed writer.old) (W.passed writer.new))) }
-    ensures style { IfErr result (FailsOver (F.contents files.now (C.file command.now)) (λ drive. IsInStyle (styles.style_of (state_in drive).clock (C.as_numbers command.now)))) }
+    ensures shows { IfOk result
+        (λ verdict. OverImage (F.contents files.now (C.file command.now))
+        (λ drive. C.shows command.now drive verdict (W.passed writer.old)
+        (W.passed writer.new))) }
+    ensures style { IfErr result
+        (FailsOver (F.contents files.now (C.file command.now))
+        (λ drive. IsInStyle
+        (styles.style_of (state_in drive).clock (C.as_numbers command.now)))) }
 {
     over_image(
         rt,
@@ -76,7 +83,8 @@ impl<C: DriveCommand + ImageCommand> DriveCommand for Styled<'_, C> {
     }
 }
 
-// Performs a command over a drive. The moments of a failure are in the style of the drive's clock before.
+// Performs a command over a drive. The moments of a failure are in the style of the drive's clock
+// before.
 fn perform_in_style<J: Naming, C: DriveCommand + ImageCommand, W: Sink>(
     alloc: Global,
     drive: &mut Drive<J>,
@@ -84,8 +92,11 @@ fn perform_in_style<J: Naming, C: DriveCommand + ImageCommand, W: Sink>(
     writer: &mut W,
 ) -> Result<Verdict, Failure>
     requires writer { W.failures writer.old + 1 < 2 ^ 64 }
-    ensures shows { IfOk result (λ verdict. C.shows command.now drive.old verdict (W.passed writer.old) (W.passed writer.new)) }
-    ensures style { IfErr result (IsInStyle (styles.style_of (state_in drive.old).clock (C.as_numbers command.now))) }
+    ensures shows { IfOk result
+        (λ verdict. C.shows command.now drive.old verdict (W.passed writer.old)
+        (W.passed writer.new)) }
+    ensures style { IfErr result
+        (IsInStyle (styles.style_of (state_in drive.old).clock (C.as_numbers command.now))) }
 {
     let style = style_of(drive.clock().number(), command.has_numbers());
     match command.perform(alloc, drive, writer) {

@@ -84,7 +84,7 @@ below-one : (x : ℕ) (p : ℕ → Bool) (n : ℕ) → x < n → p x ≡ true �
 below-one x p zero lt here = absurd (omega arith)
 below-one x p (suc n) lt here = below-step x p n here (λ lt. below-one x p n lt here) (lt_or_last x n lt)
 
--- no number stands twice
+-- no number is twice
 abbrev pub IsWithoutRepeats : List ℕ → Type 0
 IsWithoutRepeats [] = Unit {0}
 IsWithoutRepeats (x ∷ xs) = (has xs x ≡ false) × IsWithoutRepeats xs

@@ -80,7 +80,7 @@ told_number h role asks now (Refused refusal) after step = untold_outcome h role
 told_number h role asks now (Data bytes) after step = untold_outcome h role asks now (Data bytes) after refl (outcome_of step)
 told_number h role asks now (Attr size made moved value) after step = untold_outcome h role asks now (Attr size made moved value) after refl (outcome_of step)
 
--- the numbers are those from next on, and next is behind them
+-- the numbers are those from next on, and next is after them
 abbrev pub AreNext : ℕ → ℕ → List ℕ → Type 0
 AreNext next next_after numbers = (numbers ≡ range_with_len next (length numbers)) × (next_after ≡ next + length numbers)
 

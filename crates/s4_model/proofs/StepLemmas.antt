@@ -66,7 +66,7 @@ may_refuse : (first : Option Refusal) (request : Request) (given : Refusal) → 
 may_refuse first request given (inl h) = AsFirst h
 may_refuse first request given (inr h) = ForMemory h.0 h.1
 
--- a response is a step of each history that the state stands for
+-- a response is a step of each history that the state represents
 step_of_state : (h : History) (role : Role) (request : Request) (now : ℕ) (reply : Reply) (after : State) → Responds (state_of h) role request now reply after → (next : History) × Step h role request now reply next × (state_of next ≡ after)
 step_of_state h role request now reply after (Refusing r is a e) =
     let P : State → Type 0 = λ k. RefusesPlainly (first_refusal k role request) request r in

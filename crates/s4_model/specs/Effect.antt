@@ -9,7 +9,7 @@ use Rattle.s4_types.specs.declared.versions.Version.TheVariants.{Absent, Live}
 abbrev pub resized : ℕ → List ℕ → List ℕ
 resized size content = take size content ++ replicate (size - length content) 0
 
--- Bytes placed at an offset, with zeros between the old end and the offset, and what lay behind them as it
+-- Bytes placed at an offset, with zeros between the old end and the offset, and what lay after them as it
 -- was. No bytes change nothing.
 abbrev pub written : ℕ → List ℕ → List ℕ → List ℕ
 written offset [] content = content

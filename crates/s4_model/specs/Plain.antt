@@ -46,7 +46,7 @@ pub record IsTakeable (s : State) (change : Change) : Type 0 where
   pub clock : s.clock < last_number
   pub next : HasNext s.next change
 
--- a refusal that the plain drive may answer: the first that applies, or want of memory in its place
+-- a refusal that the plain drive may answer: the first that applies, or lack of memory in its place
 abbrev pub RefusesPlainly : Option Refusal → Request → Refusal → Type 0
 RefusesPlainly first request given = (first ≡ Some given) ⊎ ((given ≡ NoMemory) × MayWantMemory first request)
 
@@ -61,7 +61,7 @@ Judges s role request judged =
 abbrev pub live_refusal : State → ℕ → Option Refusal
 live_refusal s o = if is_absent (present s o) then Some NoObject else (if s.clock == last_number then Some ClockEnd else None)
 
--- no refusal for want of room or of a seat, and none that isn't a request's
+-- no refusal for lack of room or of a seat, and none that isn't a request's
 abbrev pub IsPlainRefusal : Refusal → Type 0
 IsPlainRefusal NoSpace = ⊥
 IsPlainRefusal ChainFull = ⊥
@@ -77,7 +77,7 @@ abbrev pub IsPlainReply : Reply → Type 0
 IsPlainReply (Refused refusal) = IsPlainRefusal refusal
 IsPlainReply _ = Unit {0}
 
--- an error that is want of memory, or this refusal
+-- an error that is lack of memory, or this refusal
 abbrev pub IsRefusedBy : Option Refusal → Refusal → Type 0
 IsRefusedBy first refusal = (refusal ≡ NoMemory) ⊎ (first ≡ Some refusal)
 

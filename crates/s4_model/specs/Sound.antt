@@ -18,7 +18,7 @@ Ascends low (a ∷ changes) high = (low < a.moment) × Ascends a.moment changes 
 abbrev pub EndsBefore : ℕ → Span → Type 0
 EndsBefore t span = span.last < t
 
--- whether a span is of all objects, which stand under 0, or of one whose number is below next
+-- whether a span is of all objects, which are under 0, or of one whose number is below next
 abbrev pub IsOfGiven : ℕ → Span → Type 0
 IsOfGiven next span = span.object < next
 

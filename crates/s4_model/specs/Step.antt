@@ -73,7 +73,7 @@ reply_to_read s (Read object offset len at) = data_of (version_of s object (aske
 reply_to_read s (GetAttr object at) = attributes_of (version_of s object (asked s at))
 reply_to_read s _ = None
 
--- where want of memory may be answered in place of what applies first
+-- where lack of memory may be answered in place of what applies first
 abbrev pub MayWantMemory : Option Refusal → Request → Type 0
 MayWantMemory None request = Unit {0}
 MayWantMemory (Some NoObject) request = Unit {0}
@@ -89,7 +89,7 @@ IsLeftOpen NoSpace = Unit {0}
 IsLeftOpen Busy = Unit {0}
 IsLeftOpen _ = ⊥
 
--- The refusals that may be answered: the first that applies; want of memory where that may stand in its
+-- The refusals that may be answered: the first that applies; lack of memory where that may be in its
 -- place; what is left open, where none applies.
 pub data MayRefuse (first : Option Refusal) (request : Request) (given : Refusal) : Type 0 where
   AsFirst : first ≡ Some given → MayRefuse first request given

@@ -7,7 +7,7 @@ use Rattle.s4_types.specs.declared.changes.Change.{Change}
 use Rattle.s4_types.specs.declared.changes.Change.TheVariants.{Flush, FlushO}
 use Rattle.s4_model.specs.State.{State}
 
--- The span that a change hides: a Flush of all objects, which stand under number 0. No FlushO of object 0 is
+-- The span that a change hides: a Flush of all objects, which are under number 0. No FlushO of object 0 is
 -- ever accepted.
 abbrev pub span_by : Change → Option Span
 span_by (Flush first last) = Some (record { object = 0; first = first; last = last })

@@ -63,7 +63,8 @@ fn after_write(
     new_bytes: &[u8],
     moment: Moment,
 ) -> Result<Version, Refusal>
-    ensures ok { IfOk result (λ after. after ≡ effect (Change.Write 0 offset new_bytes.now) moment version) }
+    ensures ok { IfOk result
+        (λ after. after ≡ effect (Change.Write 0 offset new_bytes.now) moment version) }
     ensures err { IfErr result (λ refusal. refusal ≡ NoMemory) }
 {
     match version {
@@ -115,7 +116,8 @@ fn after_set_attr(
     new_attribute: &Bytes,
     moment: Moment,
 ) -> Result<Version, Refusal>
-    ensures ok { IfOk result (λ after. after ≡ effect (Change.SetAttr 0 new_attribute.now) moment version) }
+    ensures ok { IfOk result
+        (λ after. after ≡ effect (Change.SetAttr 0 new_attribute.now) moment version) }
     ensures err { IfErr result (λ refusal. refusal ≡ NoMemory) }
 {
     match version {

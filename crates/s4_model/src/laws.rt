@@ -3,25 +3,41 @@ ghost use Rattle.s4_types.specs.History.{History, Seen, Took};
 ghost use Rattle.s4_types.specs.declared.changes.Accepted.{Accepted};
 ghost use Rattle.s4_model.specs.Promise.{ClientsKeepThePast};
 ghost use Rattle.s4_model.specs.State.{state_of, grown, seen, took};
-ghost use Rattle.s4_model.specs.Laws.{ANewDriveIsSound, EveryStepKeepsSoundness, ExchangesKeepSoundness, NobodyWithAClientsRightsCanErase, AChangeActsAtItsMoment, TheClockNeverFalls, TheFloorNeverFalls, NoWindowLowersTheFloor, AnAcceptedMomentIsLater, AcceptedMomentsAscend, ThePresentClockIsVisible, AFlushHidesItsSpan, AFlushOfAnObjectHidesItsSpan, ACreateIsGivenTheNextNumber, ObjectNumbersAscend, ADeadObjectStaysAbsent, EachRequestHasAStep, StepsAgreeButForWant, AMomentIsToldOfAChangeAlone, TheAbsentStayAbsent, RunsAreMaximal, ListsHaveMaximalRuns, ListsHideAlike, NoListIsLeftOut, ClientsLeaveThePast, ClientsMoveTheFloorByTheWindow, AnAcceptedChangeKeepsTheLimits, ANewDriveKeepsTheRunLimits, EveryStepKeepsTheRunLimits, ExchangesKeepTheRunLimits};
+ghost use Rattle.s4_model.specs.Laws.{ANewDriveIsSound, EveryStepKeepsSoundness};
+ghost use Rattle.s4_model.specs.Laws.{ExchangesKeepSoundness, NobodyWithAClientsRightsCanErase};
+ghost use Rattle.s4_model.specs.Laws.{AChangeActsAtItsMoment, TheClockNeverFalls};
+ghost use Rattle.s4_model.specs.Laws.{TheFloorNeverFalls, NoWindowLowersTheFloor};
+ghost use Rattle.s4_model.specs.Laws.{AnAcceptedMomentIsLater, AcceptedMomentsAscend};
+ghost use Rattle.s4_model.specs.Laws.{ThePresentClockIsVisible, AFlushHidesItsSpan};
+ghost use Rattle.s4_model.specs.Laws.{AFlushOfAnObjectHidesItsSpan, ACreateIsGivenTheNextNumber};
+ghost use Rattle.s4_model.specs.Laws.{ObjectNumbersAscend, ADeadObjectStaysAbsent};
+ghost use Rattle.s4_model.specs.Laws.{EachRequestHasAStep, StepsAgreeButForWant};
+ghost use Rattle.s4_model.specs.Laws.{AMomentIsToldOfAChangeAlone, TheAbsentStayAbsent};
+ghost use Rattle.s4_model.specs.Laws.{RunsAreMaximal, ListsHaveMaximalRuns, ListsHideAlike};
+ghost use Rattle.s4_model.specs.Laws.{NoListIsLeftOut, ClientsLeaveThePast};
+ghost use Rattle.s4_model.specs.Laws.{ClientsMoveTheFloorByTheWindow};
+ghost use Rattle.s4_model.specs.Laws.{AnAcceptedChangeKeepsTheLimits, ANewDriveKeepsTheRunLimits};
+ghost use Rattle.s4_model.specs.Laws.{EveryStepKeepsTheRunLimits, ExchangesKeepTheRunLimits};
 
-/// The state of a history goes on record by record: a moment seen moves clock and floor alone, an accepted
-/// change adds itself to the changes and moves the four numbers.
+/// The state of a history goes on record by record: a moment seen moves clock and floor alone, an
+/// accepted change adds itself to the changes and moves the four numbers.
 pub fn the_state_goes_on_record_by_record()
-    ensures by_moments { (h : History) (now : ℕ) → state_of (grown h (Seen now)) ≡ seen (state_of h) now }
-    ensures by_changes { (h : History) (a : Accepted) → state_of (grown h (Took a)) ≡ took (state_of h) a }
+    ensures by_moments { (h : History) (now : ℕ)
+        → state_of (grown h (Seen now)) ≡ seen (state_of h) now }
+    ensures by_changes { (h : History) (a : Accepted)
+        → state_of (grown h (Took a)) ≡ took (state_of h) a }
 {}
 
-/// A new drive's history is sound, and every step leaves it so: the floor isn't above the clock, moments
-/// ascend, spans end before the clock.
+/// A new drive's history is sound, and every step leaves it so: the floor isn't above the clock,
+/// moments ascend, spans end before the clock.
 pub fn every_history_is_sound()
     ensures new { ANewDriveIsSound }
     ensures steps { EveryStepKeepsSoundness }
     ensures exchanges { ExchangesKeepSoundness }
 {}
 
-/// Whatever clients ask: each version that could be read before, and whose moment is still at or above the
-/// floor, can still be read and is the same.
+/// Whatever clients ask: each version that could be read before, and whose moment is still at or
+/// above the floor, can still be read and is the same.
 pub fn nobody_with_a_clients_rights_can_erase()
     ensures visible { NobodyWithAClientsRightsCanErase }
     ensures past { ClientsLeaveThePast }
@@ -35,16 +51,16 @@ pub fn clients_keep_the_past()
     nobody_with_a_clients_rights_can_erase();
 }
 
-/// An accepted change leaves the versions of earlier moments, acts on its object's present version, and
-/// leaves those of other objects.
+/// An accepted change leaves the versions of earlier moments, acts on its object's present version,
+/// and leaves those of other objects.
 pub fn a_change_acts_at_its_moment()
     ensures told { AMomentIsToldOfAChangeAlone }
     ensures acts { AChangeActsAtItsMoment }
     ensures limits { AnAcceptedChangeKeepsTheLimits }
 {}
 
-/// The clock and the floor never fall, whatever window is set; accepted moments ascend strictly; the
-/// present clock can be read.
+/// The clock and the floor never fall, whatever window is set; accepted moments ascend strictly;
+/// the present clock can be read.
 pub fn clock_and_floor_never_fall()
     ensures clock { TheClockNeverFalls }
     ensures floor { TheFloorNeverFalls }
@@ -54,7 +70,8 @@ pub fn clock_and_floor_never_fall()
     ensures present { ThePresentClockIsVisible }
 {}
 
-/// An accepted Flush hides its span, of all objects or of its own, and leaves every version as it was.
+/// An accepted Flush hides its span, of all objects or of its own, and leaves every version as it
+/// was.
 pub fn a_flush_hides_exactly_its_span()
     ensures of_all { AFlushHidesItsSpan }
     ensures of_one { AFlushOfAnObjectHidesItsSpan }
@@ -68,14 +85,15 @@ pub fn object_numbers_are_given_once()
     ensures dead { ADeadObjectStaysAbsent }
 {}
 
-/// Each request has a step, and two steps of one request agree but for the refusals that a drive may choose.
+/// Each request has a step, and two steps of one request agree but for the refusals that a drive
+/// may choose.
 pub fn a_step_is_total_and_single_valued()
     ensures total { EachRequestHasAStep }
     ensures single { StepsAgreeButForWant }
 {}
 
-/// The runs of hidden moments are the maximal ones: ascending and apart, each hidden moment in exactly one.
-/// From the floor on the lists of runs hide what the spans hide.
+/// The runs of hidden moments are the maximal ones: ascending and apart, each hidden moment in
+/// exactly one. From the floor on the lists of runs hide what the spans hide.
 pub fn runs_are_the_maximal_ones()
     ensures maximal { RunsAreMaximal }
     ensures lists { ListsHaveMaximalRuns }
@@ -83,8 +101,9 @@ pub fn runs_are_the_maximal_ones()
     ensures all { NoListIsLeftOut }
 {}
 
-/// A new drive has no runs of hidden moments, and no step leaves more of them than a list, or all lists
-/// together, may have: what is accepted adds none too many, and what falls below the floor only takes some away.
+/// A new drive has no runs of hidden moments, and no step leaves more of them than a list, or all
+/// lists together, may have: what is accepted adds none too many, and what falls below the floor
+/// only takes some away.
 pub fn runs_keep_their_limits()
     ensures new { ANewDriveKeepsTheRunLimits }
     ensures steps { EveryStepKeepsTheRunLimits }

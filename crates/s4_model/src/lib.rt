@@ -1,10 +1,11 @@
-//! What the drive means: versions of objects, the history of a drive, which moments can be read, and what
-//! each request may be answered. `docs/DEFINITIONS.md` goes through the files of `specs/` in reading order.
+//! What the drive means: versions of objects, the history of a drive, which moments can be read,
+//! and what each request may be answered. `docs/DEFINITIONS.md` goes through the files of `specs/`
+//! in reading order.
 //!
-//! The layers above may rely on the definitions, on the laws in [`laws`], and on [`PlainDrive`], a slow and
-//! plain drive whose every answer is the step of the definitions. It keeps a list of accepted changes and
-//! serves as the reference for tests. Nothing here speaks of blocks, pointers, frames or threads, nor of
-//! the time that a call takes.
+//! The layers above may rely on the definitions, on the laws in [`laws`], and on [`PlainDrive`], a
+//! slow and plain drive whose every answer is the step of the definitions. It keeps a list of
+//! accepted changes and serves as the reference for tests. Nothing here speaks of blocks, pointers,
+//! frames or threads, nor of the time that a call takes.
 #![tactic(auto)]
 
 mod effects;

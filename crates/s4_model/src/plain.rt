@@ -22,8 +22,8 @@ use std::marker::Model;
 
 /// A drive that keeps a list of accepted changes and computes every answer from it.
 ///
-/// Contracts see the state that its history has come to. It has as much space as there is memory, so it
-/// never answers that a chain or the drive is full, or busy.
+/// Contracts see the state that its history has come to. It has as much space as there is memory,
+/// so it never answers that a chain or the drive is full, or busy.
 #[derive(Drop)]
 pub struct PlainDrive {
     alloc: Global,
@@ -71,14 +71,15 @@ impl PlainDrive {
         }
     }
 
-    /// What a request of a role is answered at a moment `now` of the server's clock, and all that it changes.
+    /// What a request of a role is answered at a moment `now` of the server's clock, and all that
+    /// it changes.
     ///
-    /// A change is stamped with the greater of `now` and the clock plus one; a refused change, a Read and a
-    /// GetAttr move the clock to `now` if that is later. `NoMemory` comes only where a growth was really
-    /// refused, and leaves all but clock and floor as it was. Each call goes through all changes so far, and a
-    /// flush through the spans of every list.
+    /// A change is stamped with the greater of `now` and the clock plus one; a refused change, a
+    /// Read and a GetAttr move the clock to `now` if that is later. `NoMemory` comes only where a
+    /// growth was really refused, and leaves all but clock and floor as it was. Each call goes
+    /// through all changes so far, and a flush through the spans of every list.
     pub fn request(&mut self, role: Role, request: Request, now: Moment) -> Reply
-        // The history goes on by a step, whichever history the drive stands for.
+        // The history goes on by a step, whichever history the drive represents.
         ensures step { (h : History) → state_of h ≡ self.old →
             (after : History) × Step h role request now result after × (state_of after ≡ self.new) }
         ensures fits { ReplyFits result }

@@ -7,8 +7,8 @@ use crate::effects;
 use s4_types::{Accepted, Moment, ObjectId, Refusal, Version};
 use std::alloc::Global;
 
-/// What a version of the object becomes by one more accepted change, if that is one of the object's and not
-/// after the moment.
+/// What a version of the object becomes by one more accepted change, if that is one of the object's
+/// and not after the moment.
 fn version_with(
     alloc: Global,
     version: Version,
@@ -16,7 +16,8 @@ fn version_with(
     object: ObjectId,
     at: Moment,
 ) -> Result<Version, Refusal>
-    ensures ok { IfOk result (λ after. after ≡ version_after version (accepted.now ∷ []) object at) }
+    ensures ok { IfOk result
+        (λ after. after ≡ version_after version (accepted.now ∷ []) object at) }
     ensures err { IfErr result (λ refusal. refusal ≡ NoMemory) }
 {
     if effects::is_change_of(object, &accepted.change) && accepted.moment <= at {
@@ -25,8 +26,8 @@ fn version_with(
     Ok(version)
 }
 
-/// The version that an object has at a moment by these accepted changes alone, from no version on: the
-/// definition, computed plainly, in time linear in the changes and their bytes.
+/// The version that an object has at a moment by these accepted changes alone, from no version on:
+/// the definition, computed plainly, in time linear in the changes and their bytes.
 ///
 /// `NoMemory` where memory for the version was refused.
 pub fn version_at(

@@ -65,7 +65,8 @@ fn run_count(alloc: Global, floor: Moment, spans: &[Span], list: ObjectId) -> Re
     Ok(firsts.len())
 }
 
-/// Whether all lists together, of all objects and of those below `next`, have more runs than they may.
+/// Whether all lists together, of all objects and of those below `next`, have more runs than they
+/// may.
 fn are_too_many(
     alloc: Global,
     floor: Moment,

@@ -38,7 +38,7 @@ listed_on s store t deleted json style last row a b c before next wrote = record
   wrote = subst (Appends a c) (sym (flat_more (line_of_listed json style) before.rows row)) (Appends-trans a b c (flat_map (line_of_listed json style) before.rows) (line_of_listed json style row) before.wrote wrote);
 }
 
--- all are, where nothing is listed behind the last
+-- all are, where nothing is listed after the last
 pub all_listed : (s : State) (store : StoreFields) (t : ℕ) (deleted json : Bool) (style : MomentStyle) (last : ℕ) (a b : Option (List ℕ)) → ListedTo s store t deleted json style last a b → ((o : ℕ) → last < o → IsPassed s store deleted t o)
     → ListsRows s store t deleted json style a b
 all_listed s store t deleted json style last a b before none = record {
@@ -74,7 +74,7 @@ counted_on s store last live all more row before next is = record {
   are_all = ap (λ n. n + 1) before.are_all ∙ sym (length-append before.rows (row ∷ []));
 }
 
--- all are counted, where nothing is listed behind the last
+-- all are counted, where nothing is listed after the last
 pub all_counted : (s : State) (store : StoreFields) (last live all : ℕ) → CountedTo s store last live all → ((o : ℕ) → last < o → IsPassed s store true s.clock o) → CountsObjects s store live (all - live)
 all_counted s store last live all before none = record {
   rows = before.rows;

@@ -24,13 +24,13 @@ head_of_list json style = if json then [] else list_head style
 abbrev pub line_of_listed : Bool → MomentStyle → Listed → List ℕ
 line_of_listed json style row = if json then json_line (listed_data style row) else listed_line style row
 
--- The output has a line behind it for each object that is listed at a moment, by ascending number.
+-- The output has a line after it for each object that is listed at a moment, by ascending number.
 pub record ListsRows (s : State) (store : StoreFields) (t : ℕ) (deleted json : Bool) (style : MomentStyle) (output output' : Option (List ℕ)) : Type 0 where
   pub rows : List Listed
   pub listed : AreListedFrom s store deleted t 0 rows
   pub wrote : Appends output output' (flat_map (line_of_listed json style) rows)
 
--- The output has a list behind it: the line of each object that is listed at the moment asked for, by ascending number. That moment can be
+-- The output has a list after it: the line of each object that is listed at the moment asked for, by ascending number. That moment can be
 -- read, but of objects of which alone it is hidden.
 pub record ListsObjects (s : State) (store : StoreFields) (at : Option MomentWord) (deleted json : Bool) (style : MomentStyle) (output output' : Option (List ℕ)) : Type 0 where
   pub readable : IsVisible s 0 (moment_asked s at)

@@ -17,7 +17,7 @@ use Rattle.moment_words.specs.declared.printing.MomentStyle.{MomentStyle}
 use Rattle.moment_words.specs.Texts.{style_of}
 use Rattle.s4_command.specs.declared.whole.InfoAsked.{InfoAsked}
 
--- So many objects are live at the clock, and so many were deleted by then.
+-- This many objects are live at the clock, and this many were deleted by then.
 pub record CountsObjects (s : State) (store : StoreFields) (live deleted : ℕ) : Type 0 where
   pub rows : List Listed
   pub listed : AreListedFrom s store true s.clock 0 rows
@@ -37,7 +37,7 @@ abbrev pub objects_hidden : ℕ → List Span → ℕ
 objects_hidden before [] = 0
 objects_hidden before (run ∷ runs) = (if run.object == before then 0 else 1) + objects_hidden run.object runs
 
--- So many runs of moments are hidden of all objects, and of so many objects some are alone.
+-- This many runs of moments are hidden of all objects, and of this many objects some are alone.
 pub record CountsHidden (s : State) (hidden objects : ℕ) : Type 0 where
   pub runs : List Span
   pub are : AreHidden s runs

@@ -5,7 +5,8 @@ ghost use Rattle.drive.specs.Fields.{state_in, store_of};
 ghost use Rattle.serde_json.specs.View.{view};
 ghost use Rattle.serde_json.specs.Written.{has_float};
 ghost use Rattle.history_text.specs.Json.{json_line};
-ghost use Rattle.s4_reading.specs.Checking.{Checks, ChecksVersions, counts_data, counts_text, printed_report};
+ghost use Rattle.s4_reading.specs.Checking.{Checks, ChecksVersions, counts_data, counts_text};
+ghost use Rattle.s4_reading.specs.Checking.{printed_report};
 
 use crate::watching::Meter;
 use drive::Drive;
@@ -20,8 +21,8 @@ use serde_json::{Value, json};
 use serving::Sink;
 use std::alloc::{AllocError, Global};
 
-/// `check`: reads every version of a drive that can be read, shows on the meter how far that has come, and prints how many these are and
-/// their digest.
+/// `check`: reads every version of a drive that can be read, shows on the meter how far that has
+/// come, and prints how many these are and their digest.
 #[derive(Clone, Copy)]
 pub struct Checking<'a, M: Meter> {
     pub asked: &'a CheckAsked<'a>,
@@ -67,7 +68,9 @@ fn check<J: Naming, M: Meter, W: Sink>(
     writer: &mut W,
 ) -> Result<(), Failure>
     requires writer { W.failures writer.old + 1 < 2 ^ 64 }
-    ensures checks { OnOk result (ChecksVersions (state_in drive.old) (store_of drive.old) json (W.passed writer.old) (W.passed writer.new)) }
+    ensures checks { OnOk result
+        (ChecksVersions (state_in drive.old) (store_of drive.old) json (W.passed writer.old)
+        (W.passed writer.new)) }
 {
     let mut session = drive.session(Role::Client)?;
     let checked = check_all(alloc, drive, &mut session, meter);
@@ -86,7 +89,8 @@ fn write_report<W: Sink>(
     writer: &mut W,
 ) -> Result<(), Failure>
     requires writer { W.failures writer.old + 1 < 2 ^ 64 }
-    ensures text { OnOk result (Appends (W.passed writer.old) (W.passed writer.new) (printed_report json report.now)) }
+    ensures text { OnOk result
+        (Appends (W.passed writer.old) (W.passed writer.new) (printed_report json report.now)) }
 {
     let text = match printed_report(alloc, report, json) {
         Ok(text) => text,

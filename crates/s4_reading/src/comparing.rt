@@ -2,7 +2,8 @@
 ghost use Rattle.std.specs.Prelude.{◌≡◌, ◌+◌, ◌^◌, ◌<◌, IfOk};
 ghost use Rattle.drive.specs.Fields.{state_in};
 ghost use Rattle.history_diff.specs.Diffing.{TellsDifferences};
-ghost use Rattle.s4_reading.specs.Comparing.{Compares, comparison_asked, detail_asked, differs_by, moment_given};
+ghost use Rattle.s4_reading.specs.Comparing.{Compares, comparison_asked, detail_asked, differs_by};
+ghost use Rattle.s4_reading.specs.Comparing.{moment_given};
 
 use drive::Drive;
 use history_diff::{Detail, DiffFault, Stop, write_differences};
@@ -56,7 +57,9 @@ fn diff<J: Naming, W: Sink>(
     writer: &mut W,
 ) -> Result<Verdict, Failure>
     requires writer { W.failures writer.old + 1 < 2 ^ 64 }
-    ensures compares { IfOk result (λ verdict. Compares drive.old asked.now verdict (W.passed writer.old) (W.passed writer.new)) }
+    ensures compares { IfOk result
+        (λ verdict. Compares drive.old asked.now verdict (W.passed writer.old)
+        (W.passed writer.new)) }
 {
     let (first, second) = (
         moment_said(drive, asked.from),
@@ -75,7 +78,10 @@ fn write_compared<J: Naming, W: Sink>(
     writer: &mut W,
 ) -> Result<Verdict, Failure>
     requires writer { W.failures writer.old + 1 < 2 ^ 64 }
-    ensures told { IfOk result (λ verdict. TellsDifferences (state_in drive.old) (comparison_asked (state_in drive.old) asked.now object) (differs_by verdict) (W.passed writer.old) (W.passed writer.new)) }
+    ensures told { IfOk result
+        (λ verdict. TellsDifferences (state_in drive.old)
+        (comparison_asked (state_in drive.old) asked.now object) (differs_by verdict)
+        (W.passed writer.old) (W.passed writer.new)) }
 {
     let comparison = comparison_asked(drive, asked, object);
     match write_differences(alloc, drive, &comparison, writer) {

@@ -1,12 +1,15 @@
-//! The commands of `s4` that print something of the drive of an image, and change nothing: `list`, `log`, `cat`, `info`, `diff` and `check`.
+//! The commands of `s4` that print something of the drive of an image, and change nothing: `list`,
+//! `log`, `cat`, `info`, `diff` and `check`.
 //!
 //! Each is a type that names what is asked for, and `s4_images::show_image` performs it.
 //!
-//! The layer above may rely on this: each of them writes, over the drive that it is given, exactly what its definition in specs/ says for
-//! what is asked. `Listing` writes the line of each object that is listed at a moment, `Logging` a line for each entry of the journals
-//! between two moments, `Reading` the bytes of an object at a moment, `Numbering` the numbers of the drive, `Comparing` what differs between
-//! two moments, with the verdict whether anything does, and `Checking` how many versions can be read, all of which were. What a check shows
-//! meanwhile on its `Meter` isn't proved.
+//! The layer above may rely on this: each of them writes, over the drive that it is given, exactly
+//! what its definition in specs/ says for what is asked. `Listing` writes the line of each object
+//! that is listed at a moment, `Logging` a line for each entry of the journals between two moments,
+//! `Reading` the bytes of an object at a moment, `Numbering` the numbers of the drive, `Comparing`
+//! what differs between two moments, with the verdict whether anything does, and `Checking` how
+//! many versions can be read, all of which were. What a check shows meanwhile on its `Meter` isn't
+//! proved.
 #![tactic(auto)]
 
 mod checking;

@@ -4,7 +4,8 @@ ghost use Rattle.std.specs.List.{flat_map};
 ghost use Rattle.std.specs.Io.KnownBytes.{Appends};
 ghost use Rattle.drive.specs.Fields.{state_in, store_of};
 ghost use Rattle.moment_words.specs.Texts as styles;
-ghost use Rattle.s4_reading.specs.Listing.{Lists, ListsObjects, ListsRows, head_of_list, line_of_listed};
+ghost use Rattle.s4_reading.specs.Listing.{Lists, ListsObjects, ListsRows, head_of_list};
+ghost use Rattle.s4_reading.specs.Listing.{line_of_listed};
 
 use drive::Drive;
 use history_text::{list_head, listed_json, listed_line};
@@ -58,7 +59,10 @@ fn list<J: Naming, W: Sink>(
     writer: &mut W,
 ) -> Result<(), Failure>
     requires writer { W.failures writer.old + 1 < 2 ^ 64 }
-    ensures list { OnOk result (ListsObjects (state_in drive.old) (store_of drive.old) asked.now.at asked.now.deleted asked.now.json (styles.style_of (state_in drive.old).clock asked.now.moments) (W.passed writer.old) (W.passed writer.new)) }
+    ensures list { OnOk result
+        (ListsObjects (state_in drive.old) (store_of drive.old) asked.now.at asked.now.deleted
+        asked.now.json (styles.style_of (state_in drive.old).clock asked.now.moments)
+        (W.passed writer.old) (W.passed writer.new)) }
 {
     let moment = match moment_asked(drive, ObjectId::new(0), asked.at) {
         Ok(moment) => moment,
@@ -94,7 +98,9 @@ fn write_rows<J: Naming, W: Sink>(
     writer: &mut W,
 ) -> Result<(), Failure>
     requires writer { W.failures writer.old + 1 < 2 ^ 64 }
-    ensures rows { OnOk result (ListsRows (state_in drive.old) (store_of drive.old) moment deleted json style (W.passed writer.old) (W.passed writer.new)) }
+    ensures rows { OnOk result
+        (ListsRows (state_in drive.old) (store_of drive.old) moment deleted json style
+        (W.passed writer.old) (W.passed writer.new)) }
 {
     let mut last = ObjectId::new(0);
     while let Some(row) = next_listed(drive, last, moment, deleted) {
@@ -113,7 +119,8 @@ fn write_row<W: Sink>(
     writer: &mut W,
 ) -> Result<(), Failure>
     requires writer { W.failures writer.old + 1 < 2 ^ 64 }
-    ensures line { OnOk result (Appends (W.passed writer.old) (W.passed writer.new) (line_of_listed json style row.now)) }
+    ensures line { OnOk result
+        (Appends (W.passed writer.old) (W.passed writer.new) (line_of_listed json style row.now)) }
     ensures failures { OnOk result (W.failures writer.new ≡ W.failures writer.old) }
 {
     let line = match line_of_listed(alloc, row, json, style) {

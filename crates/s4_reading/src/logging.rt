@@ -1,10 +1,13 @@
 //! `log`: what was changed, and when.
-ghost use Rattle.std.specs.Prelude.{◌≡◌, ◌+◌, ◌^◌, ◌<◌, IfNone, IfOk, IfSome, OnOk, option_map, string_bytes};
+ghost use Rattle.std.specs.Prelude.{◌≡◌, ◌+◌, ◌^◌, ◌<◌, IfNone, IfOk, IfSome, OnOk, option_map};
+ghost use Rattle.std.specs.Prelude.{string_bytes};
 ghost use Rattle.std.specs.List.{flat_map};
 ghost use Rattle.std.specs.Io.KnownBytes.{Appends};
 ghost use Rattle.drive.specs.Fields.{state_in, store_of};
 ghost use Rattle.s4_images.specs.Moments.{moment_said};
-ghost use Rattle.s4_reading.specs.Logging.{Logs, LogsDrive, PrintsLog, PrintsStats, IsQuery, kind_asked, first_asked, last_asked, head_of_log, line_of_row, head_of_stats, line_of_stat};
+ghost use Rattle.s4_reading.specs.Logging.{Logs, LogsDrive, PrintsLog, PrintsStats, IsQuery};
+ghost use Rattle.s4_reading.specs.Logging.{kind_asked, first_asked, last_asked, head_of_log};
+ghost use Rattle.s4_reading.specs.Logging.{line_of_row, head_of_stats, line_of_stat};
 
 use drive::Drive;
 use history_text::{log_head, log_json, log_line, stat_head, stat_json, stat_line};
@@ -18,7 +21,8 @@ use segment_word::Naming;
 use serving::Sink;
 use std::alloc::{AllocError, Global};
 
-/// `log`: prints what was changed in a drive between two moments, and when; or with `--stat` what that comes to, object by object.
+/// `log`: prints what was changed in a drive between two moments, and when; or with `--stat` what
+/// that comes to, object by object.
 #[derive(Clone, Copy)]
 pub struct Logging<'a>(pub &'a LogAsked<'a>);
 
@@ -58,7 +62,9 @@ fn log<J: Naming, W: Sink>(
     writer: &mut W,
 ) -> Result<(), Failure>
     requires writer { W.failures writer.old + 1 < 2 ^ 64 }
-    ensures log { OnOk result (LogsDrive (state_in drive.old) (store_of drive.old) asked.now (W.passed writer.old) (W.passed writer.new)) }
+    ensures log { OnOk result
+        (LogsDrive (state_in drive.old) (store_of drive.old) asked.now (W.passed writer.old)
+        (W.passed writer.new)) }
 {
     let style = style_of(drive.clock().number(), asked.moments);
     let query = query_of(drive, asked)?;
@@ -140,7 +146,9 @@ fn write_log<J: Naming, W: Sink>(
     writer: &mut W,
 ) -> Result<(), Failure>
     requires writer { W.failures writer.old + 1 < 2 ^ 64 }
-    ensures log { OnOk result (PrintsLog (state_in drive.old) (store_of drive.old) query.now style json (W.passed writer.old) (W.passed writer.new)) }
+    ensures log { OnOk result
+        (PrintsLog (state_in drive.old) (store_of drive.old) query.now style json
+        (W.passed writer.old) (W.passed writer.new)) }
 {
     let rows = log_rows(alloc, drive, query)?;
     write_out(writer, head_of_log(json, style).as_bytes())?;
@@ -157,7 +165,9 @@ fn write_rows<W: Sink>(
     writer: &mut W,
 ) -> Result<(), Failure>
     requires writer { W.failures writer.old + 1 < 2 ^ 64 }
-    ensures lines { OnOk result (Appends (W.passed writer.old) (W.passed writer.new) (flat_map (line_of_row json style) rows.now)) }
+    ensures lines { OnOk result
+        (Appends (W.passed writer.old) (W.passed writer.new)
+        (flat_map (line_of_row json style) rows.now)) }
 {
     for row in rows {
         write_row(alloc, row, style, json, writer)?;
@@ -174,7 +184,8 @@ fn write_row<W: Sink>(
     writer: &mut W,
 ) -> Result<(), Failure>
     requires writer { W.failures writer.old + 1 < 2 ^ 64 }
-    ensures line { OnOk result (Appends (W.passed writer.old) (W.passed writer.new) (line_of_row json style row.now)) }
+    ensures line { OnOk result
+        (Appends (W.passed writer.old) (W.passed writer.new) (line_of_row json style row.now)) }
     ensures failures { OnOk result (W.failures writer.new ≡ W.failures writer.old) }
 {
     let line = match line_of_row(alloc, row, style, json) {
@@ -215,7 +226,9 @@ fn write_stats<J: Naming, W: Sink>(
     writer: &mut W,
 ) -> Result<(), Failure>
     requires writer { W.failures writer.old + 1 < 2 ^ 64 }
-    ensures stats { OnOk result (PrintsStats (state_in drive.old) (store_of drive.old) query.now style json (W.passed writer.old) (W.passed writer.new)) }
+    ensures stats { OnOk result
+        (PrintsStats (state_in drive.old) (store_of drive.old) query.now style json
+        (W.passed writer.old) (W.passed writer.new)) }
 {
     let stats = log_stats(alloc, drive, query)?;
     write_out(writer, head_of_stats(json, style).as_bytes())?;
@@ -232,7 +245,9 @@ fn write_each<W: Sink>(
     writer: &mut W,
 ) -> Result<(), Failure>
     requires writer { W.failures writer.old + 1 < 2 ^ 64 }
-    ensures lines { OnOk result (Appends (W.passed writer.old) (W.passed writer.new) (flat_map (line_of_stat json style) stats.now)) }
+    ensures lines { OnOk result
+        (Appends (W.passed writer.old) (W.passed writer.new)
+        (flat_map (line_of_stat json style) stats.now)) }
 {
     for stat in stats {
         write_stat(alloc, stat, style, json, writer)?;
@@ -249,7 +264,8 @@ fn write_stat<W: Sink>(
     writer: &mut W,
 ) -> Result<(), Failure>
     requires writer { W.failures writer.old + 1 < 2 ^ 64 }
-    ensures line { OnOk result (Appends (W.passed writer.old) (W.passed writer.new) (line_of_stat json style stat.now)) }
+    ensures line { OnOk result
+        (Appends (W.passed writer.old) (W.passed writer.new) (line_of_stat json style stat.now)) }
     ensures failures { OnOk result (W.failures writer.new ≡ W.failures writer.old) }
 {
     let line = match line_of_stat(alloc, stat, style, json) {

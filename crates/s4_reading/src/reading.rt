@@ -60,7 +60,8 @@ fn cat<J: Naming, W: Sink>(
     writer: &mut W,
 ) -> Result<(), Failure>
     requires writer { W.failures writer.old + 1 < 2 ^ 64 }
-    ensures gives { OnOk result (Gives drive.old asked.now (W.passed writer.old) (W.passed writer.new)) }
+    ensures gives { OnOk result
+        (Gives drive.old asked.now (W.passed writer.old) (W.passed writer.new)) }
 {
     let at = moment_or_clock(drive, asked.at);
     match object_asked(drive, asked.object, asked.name, at)? {
@@ -78,7 +79,10 @@ fn write_object<J: Naming, W: Sink>(
     writer: &mut W,
 ) -> Result<(), Failure>
     requires writer { W.failures writer.old + 1 < 2 ^ 64 }
-    ensures version { OnOk result (GivesVersion (version_of (state_in drive.old) object (moment_asked (state_in drive.old) at)) (W.passed writer.old) (W.passed writer.new)) }
+    ensures version { OnOk result
+        (GivesVersion
+        (version_of (state_in drive.old) object (moment_asked (state_in drive.old) at))
+        (W.passed writer.old) (W.passed writer.new)) }
 {
     let moment = match moment_asked(drive, object, at) {
         Ok(moment) => moment,

@@ -1,9 +1,12 @@
 //! `info`: the numbers of an image.
-ghost use Rattle.std.specs.Prelude.{◌≡◌, ◌+◌, ◌^◌, ◌<◌, if◌then◌else◌, IfOk, OnOk, string_bytes, length, count_by};
+ghost use Rattle.std.specs.Prelude.{◌≡◌, ◌+◌, ◌^◌, ◌<◌, if◌then◌else◌, IfOk, OnOk, string_bytes};
+ghost use Rattle.std.specs.Prelude.{length, count_by};
 ghost use Rattle.std.specs.Io.KnownBytes.{Appends};
 ghost use Rattle.drive.specs.Fields.{state_in, store_of};
 ghost use Rattle.moment_words.specs.Texts as styles;
-ghost use Rattle.s4_reading.specs.Telling.{CountsHidden, CountsObjects, Informs, IsNumbersOf, TellsNumbers, is_free_frame, is_of_all, objects_hidden, text_of_numbers};
+ghost use Rattle.s4_reading.specs.Telling.{CountsHidden, CountsObjects, Informs, IsNumbersOf};
+ghost use Rattle.s4_reading.specs.Telling.{TellsNumbers, is_free_frame, is_of_all, objects_hidden};
+ghost use Rattle.s4_reading.specs.Telling.{text_of_numbers};
 
 use drive::Drive;
 use history_text::{DriveNumbers, numbers_json, numbers_lines};
@@ -58,7 +61,10 @@ fn info<J: Naming, W: Sink>(
     writer: &mut W,
 ) -> Result<(), Failure>
     requires writer { W.failures writer.old + 1 < 2 ^ 64 }
-    ensures numbers { OnOk result (TellsNumbers (state_in drive.old) (store_of drive.old) drive.old.store.table.seat.frames asked.now.json (styles.style_of (state_in drive.old).clock asked.now.moments) (W.passed writer.old) (W.passed writer.new)) }
+    ensures numbers { OnOk result
+        (TellsNumbers (state_in drive.old) (store_of drive.old) drive.old.store.table.seat.frames
+        asked.now.json (styles.style_of (state_in drive.old).clock asked.now.moments)
+        (W.passed writer.old) (W.passed writer.new)) }
 {
     let style = style_of(drive.clock().number(), asked.moments);
     let numbers = numbers_of(drive)?;
@@ -68,7 +74,8 @@ fn info<J: Naming, W: Sink>(
 
 // The numbers of a drive.
 fn numbers_of<J: Naming>(drive: &mut Drive<J>) -> Result<DriveNumbers, Failure>
-    ensures { IfOk result (IsNumbersOf (state_in drive.old) (store_of drive.old) drive.old.store.table.seat.frames) }
+    ensures { IfOk result
+        (IsNumbersOf (state_in drive.old) (store_of drive.old) drive.old.store.table.seat.frames) }
 {
     let frames = drive.frame_count();
     let free = count_free(drive, frames);
@@ -175,7 +182,9 @@ fn write_numbers<W: Sink>(
     writer: &mut W,
 ) -> Result<(), Failure>
     requires writer { W.failures writer.old + 1 < 2 ^ 64 }
-    ensures { OnOk result (Appends (W.passed writer.old) (W.passed writer.new) (text_of_numbers json style numbers.now)) }
+    ensures { OnOk result
+        (Appends (W.passed writer.old) (W.passed writer.new)
+        (text_of_numbers json style numbers.now)) }
 {
     let text = match text_of_numbers(alloc, numbers, json, style) {
         Ok(text) => text,

@@ -54,7 +54,7 @@ impl Progress for TerminalMeter {
 impl Meter for TerminalMeter {
     fn end(&mut self) {
         if self.is_shown {
-            // To the line's beginning, and nothing behind it.
+            // To the line's beginning, and nothing after it.
             let _ = write!(self.errors, "\r\x1b[K");
         }
     }

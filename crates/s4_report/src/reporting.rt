@@ -54,7 +54,8 @@ fn report<J: Naming, W: Sink>(
     writer: &mut W,
 ) -> Result<(), Failure>
     requires writer { W.failures writer.old + 1 < 2 ^ 64 }
-    ensures page { OnOk result (ReportsDrive drive.old asked.now (W.passed writer.old) (W.passed writer.new)) }
+    ensures page { OnOk result
+        (ReportsDrive drive.old asked.now (W.passed writer.old) (W.passed writer.new)) }
 {
     let since = since_asked(drive, asked.since);
     match write_report(alloc, drive, since, writer) {

@@ -1,5 +1,6 @@
 //! `restore` over the image in a file.
-ghost use Rattle.std.specs.Prelude.{◌≡◌, ℕ, ◌+◌, ◌^◌, ◌<◌, false, true, List, IfErr, IfOk, OnErr, OnOk};
+ghost use Rattle.std.specs.Prelude.{◌≡◌, ℕ, ◌+◌, ◌^◌, ◌<◌, false, true, List, IfErr, IfOk, OnErr};
+ghost use Rattle.std.specs.Prelude.{OnOk};
 ghost use Rattle.std.specs.Io.KnownBytes.{Keeps};
 ghost use Rattle.drive.specs.Fields.{state_in};
 ghost use Rattle.image_commands.specs.declared.files.Placed.TheVariants.{Lasting};
@@ -19,8 +20,8 @@ use serving::Sink;
 use std::alloc::Global;
 use std::thread::Threads;
 
-/// Prints what [`restore_image`] does, and leaves the image as it is; or fails as that does. The moments of a failure are dates where the
-/// drive's clock counts microseconds of Unix time.
+/// Prints what [`restore_image`] does, and leaves the image as it is; or fails as that does. The
+/// moments of a failure are dates where the drive's clock counts microseconds of Unix time.
 pub fn dry_run_image<T: Threads, F: Files, W: Sink>(
     rt: &T,
     alloc: Global,
@@ -31,21 +32,28 @@ pub fn dry_run_image<T: Threads, F: Files, W: Sink>(
 ) -> Result<Verdict, Failure>
     requires writer { W.failures writer.old + 1 < 2 ^ 64 }
     ensures verdict { IfOk result (λ verdict. verdict ≡ Fine) }
-    ensures style { IfErr result (FailsOver (F.contents files.now asked.now.image.now) (λ d. IsInStyle (styles.style_of (state_in d).clock false))) }
-    ensures would_restore { OnOk result (WouldRestoreImage (F.contents files.now asked.now.image.now) asked.now stand_ins.now (W.passed writer.old) (W.passed writer.new)) }
+    ensures style { IfErr result
+        (FailsOver (F.contents files.now asked.now.image.now)
+        (λ d. IsInStyle (styles.style_of (state_in d).clock false))) }
+    ensures would_restore { OnOk result
+        (WouldRestoreImage (F.contents files.now asked.now.image.now) asked.now stand_ins.now
+        (W.passed writer.old) (W.passed writer.new)) }
 {
     let made = prepare_image(rt, alloc, files, asked, stand_ins)?;
     let order = order_of(files, asked, stand_ins, &made);
     over_image(rt, alloc, files, asked.image, &order, writer)
 }
 
-/// Restores the drive of an image, saves it there, and prints what was done to each object. What an earlier restore made anew is compared and
-/// turned back under the number that it got, where it is among these stand-ins and there. What is needed for that is found before, by trials
-/// that aren't saved: by which means room is made, if it has to be, and where that is asked for how many versions are hidden of objects whose
-/// journals are full, as few as serve, and what is left out. The window is widened where the moment would expire on the way.
+/// Restores the drive of an image, saves it there, and prints what was done to each object. What an
+/// earlier restore made anew is compared and turned back under the number that it got, where it is
+/// among these stand-ins and there. What is needed for that is found before, by trials that aren't
+/// saved: by which means room is made, if it has to be, and where that is asked for how many
+/// versions are hidden of objects whose journals are full, as few as serve, and what is left out.
+/// The window is widened where the moment would expire on the way.
 ///
-/// An error where the moment can't be read, where an object that is named has no row, where a stand-in's number was never given, or where
-/// something can't be restored and isn't to be left out: then it names all of that. Where anything fails all files are as they were.
+/// An error where the moment can't be read, where an object that is named has no row, where a
+/// stand-in's number was never given, or where something can't be restored and isn't to be left
+/// out: then it names all of that. Where anything fails all files are as they were.
 #[tactic(auto, using(s4_images::proofs::Kept::untouched))]
 pub fn restore_image<T: Threads, F: Files, W: Sink>(
     rt: &T,
@@ -56,8 +64,12 @@ pub fn restore_image<T: Threads, F: Files, W: Sink>(
     writer: &mut W,
 ) -> Result<Placed, Failure>
     requires writer { W.failures writer.old + 1 < 2 ^ 64 }
-    ensures restores { OnOk result (RestoresImage (F.contents files.old asked.now.image.now) (F.contents files.new asked.now.image.now) asked.now stand_ins.now (W.passed writer.old) (W.passed writer.new)) }
-    ensures kept { OnErr result ((path : List ℕ) → Keeps (F.contents files.old path) (F.contents files.new path)) }
+    ensures restores { OnOk result
+        (RestoresImage (F.contents files.old asked.now.image.now)
+        (F.contents files.new asked.now.image.now) asked.now stand_ins.now (W.passed writer.old)
+        (W.passed writer.new)) }
+    ensures kept { OnErr result
+        ((path : List ℕ) → Keeps (F.contents files.old path) (F.contents files.new path)) }
 {
     let made = prepare_image(rt, alloc, files, asked, stand_ins)?;
     let order = order_of(files, asked, stand_ins, &made);
@@ -73,8 +85,9 @@ pub enum RestoreFailure {
     OfImage(Failure),
 }
 
-/// Does what is asked for, by the stand-ins that the map has which is named: as [`dry_run_image`] where nothing is to be changed, else as
-/// [`restore_image`]. Where it fails all files are as they were.
+/// Does what is asked for, by the stand-ins that the map has which is named: as [`dry_run_image`]
+/// where nothing is to be changed, else as [`restore_image`]. Where it fails all files are as they
+/// were.
 #[tactic(auto, using(s4_images::proofs::Kept::untouched))]
 pub fn perform_restore<T: Threads, F: Files, W: Sink>(
     rt: &T,
@@ -85,8 +98,11 @@ pub fn perform_restore<T: Threads, F: Files, W: Sink>(
 ) -> Result<Placed, RestoreFailure>
     requires writer { W.failures writer.old + 1 < 2 ^ 64 }
     ensures dry { IfOk result (λ placed. asked.now.dry_run ≡ true → placed ≡ Lasting) }
-    ensures performs { OnOk result (PerformsRestore (F.contents files.old) (F.contents files.new) asked.now (W.passed writer.old) (W.passed writer.new)) }
-    ensures kept { OnErr result ((path : List ℕ) → Keeps (F.contents files.old path) (F.contents files.new path)) }
+    ensures performs { OnOk result
+        (PerformsRestore (F.contents files.old) (F.contents files.new) asked.now
+        (W.passed writer.old) (W.passed writer.new)) }
+    ensures kept { OnErr result
+        ((path : List ℕ) → Keeps (F.contents files.old path) (F.contents files.new path)) }
 {
     let stand_ins = match read_map(alloc, files, asked.map) {
         Ok(stand_ins) => stand_ins,

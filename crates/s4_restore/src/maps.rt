@@ -1,9 +1,12 @@
 //! What an earlier restore printed of objects that it made anew: which numbers are their stand-ins.
-ghost use Rattle.std.specs.Prelude.{◌≡◌, ◌≢◌, ◌++◌, ◌∷◌, [], false, codes, string_bytes, IfOk, IsTrue, OnOk};
+ghost use Rattle.std.specs.Prelude.{◌≡◌, ◌≢◌, ◌++◌, ◌∷◌, [], false, codes, string_bytes, IfOk};
+ghost use Rattle.std.specs.Prelude.{IsTrue, OnOk};
 ghost use Rattle.serde_json.specs.View.{view};
 ghost use Rattle.history_restore.specs.Aims.{has_stand_in};
 ghost use Rattle.restore_orders.specs.Lines.{remade_data};
-ghost use Rattle.s4_restore.specs.Maps.{AreApart, AreSaid, IsMapIn, IsMapOf, IsMapText, IsSaidBy, Takes, anew_json, anew_line, is_given_to, last_said, lines_of};
+ghost use Rattle.s4_restore.specs.Maps.{AreApart, AreSaid, IsMapIn, IsMapOf, IsMapText, IsSaidBy};
+ghost use Rattle.s4_restore.specs.Maps.{Takes, anew_json, anew_line, is_given_to, last_said};
+ghost use Rattle.s4_restore.specs.Maps.{lines_of};
 
 use history_restore::StandIn;
 use image_commands::{Fault, Files, read_bytes};
@@ -13,7 +16,8 @@ use std::alloc::{AllocError, Global};
 use std::str;
 use thiserror::Error;
 
-/// Why what an earlier restore printed can't be taken. Each prints what is wrong and what can be done, on one line.
+/// Why what an earlier restore printed can't be taken. Each prints what is wrong and what can be
+/// done, on one line.
 #[derive(Debug, Drop, Error)]
 pub enum MapFault {
     /// The file can't be read, or is longer than any restore's output.
@@ -22,7 +26,8 @@ pub enum MapFault {
     /// The file is no text in UTF-8.
     #[error("is no text; give a file that has what an earlier restore printed")]
     NoText,
-    /// A line, counted from 1 on, is of an object that was made anew, and isn't as a restore prints it.
+    /// A line, counted from 1 on, is of an object that was made anew, and isn't as a restore prints
+    /// it.
     #[error("line {line} is not as a restore prints it of an object that was made anew")]
     BadLine {
         line: u64,
@@ -50,14 +55,15 @@ impl From<AllocError> for MapFault {
     }
 }
 
-/// The stand-ins that the file has which is named, those of none where none is named. Of each object the last line counts; lines that
-/// aren't of objects that were made anew are passed over.
+/// The stand-ins that the file has which is named, those of none where none is named. Of each
+/// object the last line counts; lines that aren't of objects that were made anew are passed over.
 pub fn read_map<F: Files>(
     alloc: Global,
     files: &F,
     path: Option<&str>,
 ) -> Result<Vec<StandIn>, MapFault>
-    ensures map { IfOk result (λ stand_ins. IsMapIn (F.contents files.now) path.entry stand_ins.items) }
+    ensures map { IfOk result
+        (λ stand_ins. IsMapIn (F.contents files.now) path.entry stand_ins.items) }
 {
     match path {
         None => Ok(Vec::new(alloc)),
@@ -66,7 +72,8 @@ pub fn read_map<F: Files>(
 }
 
 fn map_in<F: Files>(alloc: Global, files: &F, path: &str) -> Result<Vec<StandIn>, MapFault>
-    ensures map { IfOk result (λ stand_ins. IsMapOf (F.contents files.now path.now) stand_ins.items) }
+    ensures map { IfOk result
+        (λ stand_ins. IsMapOf (F.contents files.now path.now) stand_ins.items) }
 {
     let bytes = match read_bytes(alloc, files, path) {
         Ok(bytes) => bytes,
@@ -179,8 +186,8 @@ fn is_json_of(alloc: Global, line: &str, object: u64, number: u64) -> Result<boo
     Ok(printed.as_str() == line)
 }
 
-// The first two numbers in a line. What is made of them is compared with the line: so it doesn't matter what they are where there are none,
-// or where one is too great.
+// The first two numbers in a line. What is made of them is compared with the line: so it doesn't
+// matter what they are where there are none, or where one is too great.
 fn numbers_in(line: &str) -> (u64, u64) {
     let (mut first, mut second) = (0, 0);
     let mut runs: u8 = 0;

@@ -37,7 +37,9 @@ pub(crate) fn order_of<'a, F: Files>(
     stand_ins: &'a [StandIn],
     made: &'a Preparation,
 ) -> Order<'a>
-    ensures { IsPrepared (F.contents _files.now asked.now.image.now) asked.now stand_ins.now made.now.means made.now.full.items made.now.skipped.items → IsOrderOf (F.contents _files.now asked.now.image.now) asked.now stand_ins.now result }
+    ensures { IsPrepared (F.contents _files.now asked.now.image.now) asked.now stand_ins.now
+        made.now.means made.now.full.items made.now.skipped.items
+        → IsOrderOf (F.contents _files.now asked.now.image.now) asked.now stand_ins.now result }
 {
     order_with(
         asked,
@@ -74,7 +76,8 @@ pub(crate) fn order_with<'a>(
     }
 }
 
-/// What is needed to restore the drive of an image. A failure where an object can't be restored, with all such objects.
+/// What is needed to restore the drive of an image. A failure where an object can't be restored,
+/// with all such objects.
 pub(crate) fn prepare_image<T: Threads, F: Files>(
     rt: &T,
     alloc: Global,
@@ -82,8 +85,12 @@ pub(crate) fn prepare_image<T: Threads, F: Files>(
     asked: &RestoreAsked<'_>,
     stand_ins: &[StandIn],
 ) -> Result<Preparation, Failure>
-    ensures prepared { IfOk result (λ made. IsPrepared (F.contents files.now asked.now.image.now) asked.now stand_ins.now made.means made.full.items made.skipped.items) }
-    ensures style { IfErr result (FailsOver (F.contents files.now asked.now.image.now) (λ d. IsInStyle (styles.style_of (state_in d).clock false))) }
+    ensures prepared { IfOk result
+        (λ made. IsPrepared (F.contents files.now asked.now.image.now) asked.now stand_ins.now
+        made.means made.full.items made.skipped.items) }
+    ensures style { IfErr result
+        (FailsOver (F.contents files.now asked.now.image.now)
+        (λ d. IsInStyle (styles.style_of (state_in d).clock false))) }
 {
     let findings = find_needed(rt, alloc, files, asked, stand_ins)?;
     if is_allowed(asked.skip, findings.lacking.as_slice()) {
@@ -108,7 +115,9 @@ fn is_allowed(skip: bool, lacking: &[Lacking]) -> bool
 
 // What is needed where objects that can't be restored are left as they are.
 fn prepared(alloc: Global, findings: Findings) -> Result<Preparation, Failure>
-    ensures made { IfOk result (λ made. (made.means ≡ findings.means) × (made.full ≡ findings.full) × (made.skipped.items ≡ numbers_of findings.lacking.items)) }
+    ensures made { IfOk result
+        (λ made. (made.means ≡ findings.means) × (made.full ≡ findings.full)
+        × (made.skipped.items ≡ numbers_of findings.lacking.items)) }
     ensures style { IfErr result HasNoMoments }
 {
     let Ok(skipped) = numbers_of(alloc, findings.lacking.as_slice()) else {
@@ -121,7 +130,8 @@ fn prepared(alloc: Global, findings: Findings) -> Result<Preparation, Failure>
     })
 }
 
-// Finds what is needed to restore all objects that can be restored. First nothing is hidden or skipped.
+// Finds what is needed to restore all objects that can be restored. First nothing is hidden or
+// skipped.
 fn find_needed<T: Threads, F: Files>(
     rt: &T,
     alloc: Global,
@@ -129,8 +139,11 @@ fn find_needed<T: Threads, F: Files>(
     asked: &RestoreAsked<'_>,
     stand_ins: &[StandIn],
 ) -> Result<Findings, Failure>
-    ensures found { IfOk result (IsFound (F.contents files.now asked.now.image.now) asked.now stand_ins.now) }
-    ensures style { IfErr result (FailsOver (F.contents files.now asked.now.image.now) (λ d. IsInStyle (styles.style_of (state_in d).clock false))) }
+    ensures found { IfOk result
+        (IsFound (F.contents files.now asked.now.image.now) asked.now stand_ins.now) }
+    ensures style { IfErr result
+        (FailsOver (F.contents files.now asked.now.image.now)
+        (λ d. IsInStyle (styles.style_of (state_in d).clock false))) }
 {
     if let Some(found) = found_plainly(rt, alloc, files, asked, stand_ins, Means::Nothing)? {
         return Ok(found);
@@ -152,8 +165,12 @@ fn found_leaving<T: Threads, F: Files>(
     asked: &RestoreAsked<'_>,
     stand_ins: &[StandIn],
 ) -> Result<Findings, Failure>
-    ensures found { IfOk result (λ found. IsFoundBy (F.contents files.now asked.now.image.now) asked.now stand_ins.now found.means found) }
-    ensures style { IfErr result (FailsOver (F.contents files.now asked.now.image.now) (λ d. IsInStyle (styles.style_of (state_in d).clock false))) }
+    ensures found { IfOk result
+        (λ found. IsFoundBy (F.contents files.now asked.now.image.now) asked.now stand_ins.now
+        found.means found) }
+    ensures style { IfErr result
+        (FailsOver (F.contents files.now asked.now.image.now)
+        (λ d. IsInStyle (styles.style_of (state_in d).clock false))) }
 {
     let cleaned = found_by(rt, alloc, files, asked, stand_ins, Means::Cleaning)?;
     if serves_all(&cleaned) {

@@ -1,11 +1,14 @@
-//! How many versions have to be hidden, and what has to be left out, by trials over an image that keep nothing.
-ghost use Rattle.std.specs.Prelude.{◌≡◌, false, map, IfErr, IfOk, IfSome, IsPermutation, MatchBool, MatchOption};
+//! How many versions have to be hidden, and what has to be left out, by trials over an image that
+//! keep nothing.
+ghost use Rattle.std.specs.Prelude.{◌≡◌, false, map, IfErr, IfOk, IfSome, IsPermutation, MatchBool};
+ghost use Rattle.std.specs.Prelude.{MatchOption};
 ghost use Rattle.drive.specs.Fields.{state_in};
 ghost use Rattle.moment_words.specs.Texts as styles;
 ghost use Rattle.s4_images.specs.Commands.{FailsOver};
 ghost use Rattle.s4_images.specs.Failures.{HasNoMoments, IsInStyle};
 ghost use Rattle.restore_search.specs.Searching.{IsFine, numbers_of, room_found, room_tried};
-ghost use Rattle.s4_restore.specs.Searching.{DoesNotServe, IsFoundBy, IsPlain, IsServed, LacksNothing, Shows};
+ghost use Rattle.s4_restore.specs.Searching.{DoesNotServe, IsFoundBy, IsPlain, IsServed};
+ghost use Rattle.s4_restore.specs.Searching.{LacksNothing, Shows};
 
 use crate::preparing::order_with;
 use history_restore::StandIn;
@@ -32,7 +35,8 @@ pub struct Findings {
     pub lacking: Vec<Lacking>,
 }
 
-/// What is needed where room is made by these means and nothing is hidden or left out; none where something can't be restored then.
+/// What is needed where room is made by these means and nothing is hidden or left out; none where
+/// something can't be restored then.
 pub(crate) fn found_plainly<T: Threads, F: Files>(
     rt: &T,
     alloc: Global,
@@ -41,8 +45,13 @@ pub(crate) fn found_plainly<T: Threads, F: Files>(
     stand_ins: &[StandIn],
     means: Means,
 ) -> Result<Option<Findings>, Failure>
-    ensures found { IfOk result (λ found. MatchOption found (DoesNotServe (F.contents files.now asked.now.image.now) asked.now stand_ins.now means) (IsPlain (F.contents files.now asked.now.image.now) asked.now stand_ins.now means)) }
-    ensures style { IfErr result (FailsOver (F.contents files.now asked.now.image.now) (λ d. IsInStyle (styles.style_of (state_in d).clock false))) }
+    ensures found { IfOk result
+        (λ found. MatchOption found
+        (DoesNotServe (F.contents files.now asked.now.image.now) asked.now stand_ins.now means)
+        (IsPlain (F.contents files.now asked.now.image.now) asked.now stand_ins.now means)) }
+    ensures style { IfErr result
+        (FailsOver (F.contents files.now asked.now.image.now)
+        (λ d. IsInStyle (styles.style_of (state_in d).clock false))) }
 {
     let order = order_with(asked, stand_ins, means, &[], &[]);
     let Some(survey) = survey_image(rt, alloc, files, asked.image, &order)? else {
@@ -69,8 +78,9 @@ fn lacks_nothing(survey: &Survey) -> bool
     survey.hidden.is_empty() && survey.refused.is_empty()
 }
 
-/// What is needed where room is made by these means, found trial by trial: the last of them finds that all else is restored. None where
-/// no room can be made by these means, or where the trials weren't enough.
+/// What is needed where room is made by these means, found trial by trial: the last of them finds
+/// that all else is restored. None where no room can be made by these means, or where the trials
+/// weren't enough.
 pub(crate) fn found_by<T: Threads, F: Files>(
     rt: &T,
     alloc: Global,
@@ -79,8 +89,12 @@ pub(crate) fn found_by<T: Threads, F: Files>(
     stand_ins: &[StandIn],
     means: Means,
 ) -> Result<Option<Findings>, Failure>
-    ensures found { IfOk result (λ found. IfSome found (IsFoundBy (F.contents files.now asked.now.image.now) asked.now stand_ins.now means)) }
-    ensures style { IfErr result (FailsOver (F.contents files.now asked.now.image.now) (λ d. IsInStyle (styles.style_of (state_in d).clock false))) }
+    ensures found { IfOk result
+        (λ found. IfSome found
+        (IsFoundBy (F.contents files.now asked.now.image.now) asked.now stand_ins.now means)) }
+    ensures style { IfErr result
+        (FailsOver (F.contents files.now asked.now.image.now)
+        (λ d. IsInStyle (styles.style_of (state_in d).clock false))) }
 {
     let mut search = Search::new(alloc);
     for _ in 0..MOST_SURVEYS {
@@ -103,8 +117,10 @@ pub(crate) fn found_by<T: Threads, F: Files>(
 // What was found, where no more is to be learnt.
 fn findings_of(alloc: Global, means: Means, search: Search) -> Result<Findings, Failure>
     ensures means { IfOk result (λ findings. findings.means ≡ means) }
-    ensures full { IfOk result (λ findings. findings.full.items ≡ map room_found search.hidings.items) }
-    ensures lacking { IfOk result (λ findings. IsPermutation search.lacking.items findings.lacking.items) }
+    ensures full { IfOk result
+        (λ findings. findings.full.items ≡ map room_found search.hidings.items) }
+    ensures lacking { IfOk result
+        (λ findings. IsPermutation search.lacking.items findings.lacking.items) }
     ensures style { IfErr result HasNoMoments }
 {
     let Search { hidings, lacking } = search;
@@ -131,10 +147,15 @@ fn survey_with<T: Threads, F: Files>(
     means: Means,
     search: &Search,
 ) -> Result<Option<Survey>, Failure>
-    ensures shows { IfOk result (λ found. IfSome found (Shows (F.contents files.now asked.now.image.now) asked.now stand_ins.now means search.now.hidings.items)) }
+    ensures shows { IfOk result
+        (λ found. IfSome found
+        (Shows (F.contents files.now asked.now.image.now) asked.now stand_ins.now means
+        search.now.hidings.items)) }
     ensures serves { IfOk result (λ found. IfSome found (λ survey. IsFine survey
         → IsServed (F.contents files.now asked.now.image.now) asked.now stand_ins.now means (map room_tried search.now.hidings.items) (numbers_of search.now.lacking.items))) }
-    ensures style { IfErr result (FailsOver (F.contents files.now asked.now.image.now) (λ d. IsInStyle (styles.style_of (state_in d).clock false))) }
+    ensures style { IfErr result
+        (FailsOver (F.contents files.now asked.now.image.now)
+        (λ d. IsInStyle (styles.style_of (state_in d).clock false))) }
 {
     let Ok(full) = rooms_tried(alloc, search.hidings.as_slice()) else {
         return Err(Failure::from(Refusal::NoMemory));

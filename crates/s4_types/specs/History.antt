@@ -1,4 +1,4 @@
--- The history that a drive stands for: what it began with, and what came since.
+-- The history that a drive represents: what it began with, and what came since.
 use Rattle.std.specs.Prelude.{ℕ, List, [], ◌∷◌}
 use Rattle.s4_types.specs.declared.changes.Accepted.{Accepted}
 use Rattle.s4_types.specs.declared.spans.Span.{Span}

@@ -1,4 +1,4 @@
--- The sizes of a reply that has a spelling on the wire, and of a drive.
+-- The sizes of a reply that has an encoding on the wire, and of a drive.
 use Rattle.std.specs.Prelude.{ℕ, ◌≢◌, ◌≤◌, length}
 use Rattle.s4_types.specs.RefusalNumber.{number_of}
 use Rattle.s4_types.specs.declared.limits.TheConstants.{READ_BYTES, ATTRIBUTE_BYTES, FEWEST_FRAMES, MOST_FRAMES}
@@ -14,6 +14,6 @@ ReplyFits (Created object moment) = Unit {0}
 ReplyFits (Data bytes) = length bytes ≤ READ_BYTES
 ReplyFits (Attr size created changed attribute) = length attribute ≤ ATTRIBUTE_BYTES
 
--- a drive can have so many frames
+-- a drive can have this many frames
 abbrev pub IsFrameCount : ℕ → Type 0
 IsFrameCount frames = (FEWEST_FRAMES ≤ frames) × (frames ≤ MOST_FRAMES)

@@ -6,8 +6,8 @@ ghost use Rattle.std.specs.Cmp.Rules.{comparing};
 use std::alloc::{AllocError, Global};
 use std::marker::Model;
 
-/// A list of bytes that owns its memory. Contracts see the list alone, so that two are equal where their
-/// bytes are.
+/// A list of bytes that owns its memory. Contracts see the list alone, so that two are equal where
+/// their bytes are.
 #[derive(Drop)]
 pub struct Bytes {
     items: Vec<u8>,

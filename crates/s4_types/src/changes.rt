@@ -1,7 +1,7 @@
 use crate::byte_list::Bytes;
 use crate::moments::{Moment, ObjectId};
 
-/// A change of the drive, as it stands in a history. An accepted Append is the write that it came to.
+/// A change of the drive, as it is in a history. An accepted Append is the write that it came to.
 #[derive(Drop, PartialEq, Eq)]
 pub enum Change {
     /// The object becomes live and empty, with this attribute.
@@ -46,7 +46,8 @@ pub enum Change {
     },
 }
 
-/// An accepted change: its number, counted from 1, the moment that it was stamped with, and the change.
+/// An accepted change: its number, counted from 1, the moment that it was stamped with, and the
+/// change.
 #[derive(Drop, PartialEq, Eq)]
 pub struct Accepted {
     pub number: u64,

@@ -1,10 +1,10 @@
-//! The words that every crate of the drive shares: moments and object numbers, requests, replies and
-//! refusals, changes and versions, pointers, and the limits.
+//! The words that every crate of the drive shares: moments and object numbers, requests, replies
+//! and refusals, changes and versions, pointers, and the limits.
 //!
-//! The layers above may rely on this: contracts see a moment or an object as its number, bytes as a list
-//! of numbers and a pointer as a record of three numbers, so that values of these types are equal where
-//! they read the same. `specs/History.antt` has the history that a drive stands for. What the requests
-//! mean stands in `s4_model`.
+//! The layers above may rely on this: contracts see a moment or an object as its number, bytes as a
+//! list of numbers and a pointer as a record of three numbers, so that values of these types are
+//! equal where they read the same. `specs/History.antt` has the history that a drive represents.
+//! What the requests mean is in `s4_model`.
 #![tactic(auto)]
 
 mod byte_list;

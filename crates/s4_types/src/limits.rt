@@ -3,16 +3,18 @@
 /// Bytes in a block. All records of the log are blocks.
 pub const BLOCK_BYTES: usize = 512;
 
-/// Bytes of a pointer's spelling: frame, block, a zero and generation.
+/// Bytes of a pointer's encoding: frame, block, a zero and generation.
 pub const POINTER_BYTES: usize = 8;
 
 /// Bytes of a checkpoint block in front of its pointers.
 pub const CHECKPOINT_HEAD_BYTES: usize = 104;
 
-/// Pointers of a checkpoint block. With the bytes in front of them they leave 24 bytes over, which are zeros.
+/// Pointers of a checkpoint block. With the bytes in front of them they leave 24 bytes over, which
+/// are zeros.
 pub const CHECKPOINT_POINTERS: usize = 48;
 
-/// Blocks of the largest object, and the pointers of each inode: as many as one checkpoint block holds.
+/// Blocks of the largest object, and the pointers of each inode: as many as one checkpoint block
+/// holds.
 pub const OBJECT_BLOCKS: usize = 48;
 
 /// Blocks of the longest checkpoint: one for each `CHECKPOINT_POINTERS` of the largest object.
@@ -27,7 +29,8 @@ pub const READ_BYTES: u64 = 24_576;
 /// Bytes of the longest attribute. Chosen, so that two of them fit a journal entry.
 pub const ATTRIBUTE_BYTES: usize = 64;
 
-/// Bytes of the longest pair of attributes in a journal entry: each stands behind a byte with its length.
+/// Bytes of the longest pair of attributes in a journal entry: each comes after a byte with its
+/// length.
 pub const ATTRIBUTE_PAIR_BYTES: usize = 2 * (1 + ATTRIBUTE_BYTES);
 
 /// Bytes of a pointer's index in a journal entry.
@@ -70,8 +73,8 @@ pub const CHAIN_ENTRY_BYTES: usize = 24 * JOURNAL_ENTRY_BYTES;
 /// Entries of a chain at most: as many of the shortest as it has bytes for.
 pub const CHAIN_ENTRIES: usize = CHAIN_ENTRY_BYTES / SHORTEST_ENTRY_BYTES;
 
-/// Journal blocks of a chain: of two neighbours the entries have more than `JOURNAL_ENTRY_BYTES` together, so one block
-/// more, which makes pairs of all, would have more than `CHAIN_ENTRY_BYTES`.
+/// Journal blocks of a chain: of two neighbours the entries have more than `JOURNAL_ENTRY_BYTES`
+/// together, so one block more, which makes pairs of all, would have more than `CHAIN_ENTRY_BYTES`.
 pub const CHAIN_BLOCKS: usize = 2 * (CHAIN_ENTRY_BYTES / JOURNAL_ENTRY_BYTES) - 1;
 
 /// Older checkpoints that are kept of an object at most, beside its newest one. Chosen.
@@ -89,13 +92,13 @@ pub const FRAME_BLOCKS: usize = 16;
 /// Payload blocks of a frame.
 pub const PAYLOAD_BLOCKS: usize = FRAME_BLOCKS - 1;
 
-/// Frames whose payload is kept back for cleaner and copier: as few as have room for a rewrite, which takes at most a
-/// checkpoint and a chain.
+/// Frames whose payload is kept back for cleaner and copier: as few as have room for a rewrite,
+/// which takes at most a checkpoint and a chain.
 pub const RESERVE_FRAMES: usize = (CHECKPOINT_BLOCKS + CHAIN_BLOCKS + PAYLOAD_BLOCKS - 1)
     / PAYLOAD_BLOCKS;
 
-/// Blocks kept back for cleaner and copier. A move takes up to a frame's data blocks more than a rewrite, and waits until
-/// there is room beyond the reserve.
+/// Blocks kept back for cleaner and copier. A move takes up to a frame's data blocks more than a
+/// rewrite, and waits until there is room beyond the reserve.
 pub const RESERVE_BLOCKS: usize = RESERVE_FRAMES * PAYLOAD_BLOCKS;
 
 /// Blocks that a move takes at most: the data blocks of a frame, a checkpoint and a chain.
@@ -113,7 +116,8 @@ pub const MOST_FRAMES: usize = 1024;
 /// Seats of a table, beside the drive's own: for pins in one, for sessions in the other. Chosen.
 pub const SEATS: usize = 64;
 
-/// Readers that a frame's word counts at most: 2^20, far below the 2^30 that the word's field holds.
+/// Readers that a frame's word counts at most: 2^20, far below the 2^30 that the word's field
+/// holds.
 pub const MOST_READERS: u64 = 1_048_576;
 
 /// Tries of one pin before it gives up. Chosen, so that a pin always returns.

@@ -5,8 +5,8 @@ use std::marker::Model;
 
 /// Where a block lies: a payload block of a frame, at one generation of that frame.
 ///
-/// Contracts see the record of the three numbers. A pointer to a hole is no pointer: what may be a hole is
-/// an `Option<Ptr>`.
+/// Contracts see the record of the three numbers. A pointer to a hole is no pointer: what may be a
+/// hole is an `Option<Ptr>`.
 #[derive(Clone, Copy, PartialEq, Eq, Hash)]
 pub struct Ptr {
     frame: u16,
@@ -25,8 +25,8 @@ impl Model for Ptr {
 }
 
 impl Ptr {
-    /// The pointer to a block, from 1 to 15, of a frame at a generation from 1 to 2^32 - 2. None where a
-    /// number is out of its range.
+    /// The pointer to a block, from 1 to 15, of a frame at a generation from 1 to 2^32 - 2. None
+    /// where a number is out of its range.
     pub fn new(frame: u16, block: u8, generation: u32) -> Option<Self>
         ensures place { IsSome result ↔ IsPlace (record { frame = frame; block = block; generation = generation }) }
         ensures value { IfSome result (λ p. p ≡ record { frame = frame; block = block; generation = generation }) }

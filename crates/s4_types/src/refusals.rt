@@ -55,9 +55,10 @@ pub enum Refusal {
     ChainFull,
     /// An attribute longer than the limit.
     BadAttr,
-    /// No seat, or no place in a frame's reader field, was to be had, or each try of a pin found the word changed.
+    /// No seat, or no place in a frame's reader field, was to be had, or each try of a pin found
+    /// the word changed.
     Busy,
-    /// Bytes that spell no request.
+    /// Bytes that encode no request.
     BadFrame,
     /// Bytes that are no image.
     Damaged(Cause),
@@ -108,8 +109,8 @@ impl Refusal {
         }
     }
 
-    /// The refusal that the number alone names. None for 16, whose cause no number tells, and for numbers
-    /// that no refusal has.
+    /// The refusal that the number alone names. None for 16, whose cause no number tells, and for
+    /// numbers that no refusal has.
     pub fn from_number(number: u8) -> Option<Self>
         ensures found { IfSome result (λ refusal. HasWireNumber refusal number) }
         ensures only { (refusal : Refused) → HasWireNumber refusal number → result ≡ Some refusal }

@@ -13,7 +13,8 @@ pub enum Reply {
     Created(ObjectId, Moment),
     /// The bytes that were read.
     Data(Bytes),
-    /// An object's size in bytes, the moments at which it was made and last changed, and its attribute.
+    /// An object's size in bytes, the moments at which it was made and last changed, and its
+    /// attribute.
     Attr {
         size: u32,
         created: Moment,

@@ -1,6 +1,7 @@
 use crate::moments::{Moment, ObjectId};
 
-/// A span of hidden moments, both ends in it: of one object, or of all objects under the object number 0.
+/// A span of hidden moments, both ends in it: of one object, or of all objects under the object
+/// number 0.
 #[derive(Clone, Copy, PartialEq, Eq)]
 pub struct Span {
     pub object: ObjectId,

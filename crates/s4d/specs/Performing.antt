@@ -32,7 +32,7 @@ unknown path = None
 abbrev pub any_writer : List ℕ → Option (List ℕ) → Type 0
 any_writer = HoldsAt (λ (writer : Output) path. ⊤) (λ writer. None)
 
--- The words spell no command, where they are words that the line's rules take.
+-- The words give no command, where they are words that the line's rules take.
 abbrev pub IsUsage : List Text → Type 0
 IsUsage words = takes line words ≡ true → SpellsNone (subcommand_of line words)
 
@@ -42,7 +42,7 @@ status_of undone.Usage = 2
 status_of _ = 1
 
 -- A command other than a session of a new drive is done, by the bytes that a writer of a file holds, by what is known of files before and
--- after, and by what the output has then: there is the image of a new drive of so many frames with this window; the line of an image is
+-- after, and by what the output has then: there is the image of a new drive of this many frames with this window; the line of an image is
 -- written; an image was read, a drive that began with it served each session to the end of its input, and what it is saved as is there;
 -- the bytes of an object at a moment are written.
 abbrev pub IsDoneOver : (opens : List ℕ → Option (List ℕ) → Type 0) → (files files' : List ℕ → Option (List ℕ)) → (output output' : Option (List ℕ)) → Command → Type 0
@@ -52,7 +52,7 @@ IsDoneOver opens files files' output output' (command.Verify verify) = TellsImag
 IsDoneOver opens files files' output output' (command.Run run) = RunsImage opens run files files' (files' run.image.now) true
 IsDoneOver opens files files' output output' (command.At at) = GivesObject (files at.image.now) at.object at.moment output output'
 
--- The words spell a session; it read the input, wrote the output, and came to the end of the input. Or they spell another command, which
+-- The words give a session; it read the input, wrote the output, and came to the end of the input. Or they give another command, which
 -- is done.
 abbrev pub IsDone : List Text → (opens : List ℕ → Option (List ℕ) → Type 0) → (files files' : List ℕ → Option (List ℕ)) → (input output input' output' : Option (List ℕ)) → Type 0
 IsDone words opens files files' input output input' output' =
@@ -101,7 +101,7 @@ module _ (opens : List ℕ → Option (List ℕ) → Type 0) (files files' : Lis
   SaysUndoneOf (command.Run run) why = SaysRunUndone opens files files' run why
   SaysUndoneOf (command.At at) why = SaysNotGiven files failures failures' at why
 
-  -- Why a line of words isn't done: the words spell no command; memory was short for them; or they spell one that isn't done.
+  -- Why a line of words isn't done: the words give no command; memory was short for them; or they encode one that isn't done.
   abbrev pub SaysUndone : List Text → Undone → Type 0
   SaysUndone words why = ((why ≡ undone.Usage) × IsUsage words) ⊎ ((why ≡ undone.NoMemory)
       ⊎ ((c : Command) × Spells (subcommand_of line words) c × SaysUndoneOf c why))

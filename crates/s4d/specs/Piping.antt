@@ -20,7 +20,7 @@ pub record Attended : Type 0 where
   pub session : SessionFields
 
 -- The request is answered by a step of the model on the drive's history. The reply is a refusal exactly where the checks, a
--- full chain or want of room refuse it, but for want of memory; an accepted change appends exactly its blocks, and changes its
+-- full chain or lack of room refuse it, but for lack of memory; an accepted change appends exactly its blocks, and changes its
 -- object's row alone. The session keeps its role, and was told of all accepted changes.
 pub record Steps (old : Attended) (request : Request) (now : ℕ) (reply : Reply) (new : Attended) : Type 0 where
   pub step : Step (history_of old.drive) old.session.role request now reply (history_of new.drive)

@@ -40,7 +40,7 @@ pub record AnswersBeside (base : Base) (clock : ClockFields) (old : Counted) (re
   pub step : StepsBeside base old.session request (moment_at clock count) reply new.session
   pub counted : new.requests ≡ old.requests + 1
 
--- A session of a role is served until this end: its requests are answered in order, so many of them, and so many changes of it are
+-- A session of a role is served until this end: its requests are answered in order, this many of them, and this many changes of it are
 -- accepted; and the accepted changes that it has seen at the end begin those of the history that is left.
 pub record IsServedBeside (base : Base) (left : History) (clock : ClockFields) (role : Role) (end : ServeEnd) (requests changes : ℕ) (input output input' output' : Option (List ℕ)) : Type 0 where
   pub first : Session

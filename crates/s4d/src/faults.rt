@@ -7,7 +7,8 @@ use thiserror::Error;
 /// Why `run` has not left what it is to leave. Each prints its line.
 #[derive(Debug, Drop, PartialEq, Eq, Error)]
 pub enum RunFault<'a> {
-    /// No session was served. Each file that was there has its bytes, but for what was left beside the image and is no image.
+    /// No session was served. Each file that was there has its bytes, but for what was left beside
+    /// the image and is no image.
     #[error("{0}")]
     Unserved(Fault<'a>),
     /// The sessions were served, and their outputs are written. The image is as it was.
@@ -18,7 +19,7 @@ pub enum RunFault<'a> {
 /// Why a line of words isn't done. Each but the last prints its line.
 #[derive(Debug, Drop, Error)]
 pub enum Undone<'a> {
-    /// The words spell no command.
+    /// The words give no command.
     #[error("usage")]
     Usage,
     /// Memory was short for the words.
@@ -39,7 +40,8 @@ pub enum Undone<'a> {
     /// The image of this path is there, and may not be where the machine fails.
     #[error("cannot write {0}: {cause}", cause = Obstacle::NotLasting)]
     Unlasting(&'a str),
-    /// Not all sessions came to the end of their inputs, with their replies in their files. Each that didn't has had its line.
+    /// Not all sessions came to the end of their inputs, with their replies in their files. Each
+    /// that didn't has had its line.
     #[error("sessions failed")]
     Unended,
 }

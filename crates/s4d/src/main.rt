@@ -1,11 +1,13 @@
-//! The program `s4d`: a self-securing object drive behind a pipe, or in a file.
+//! The program `s4d`: a self-securing object drive on a pipe, or in a file.
 //!
-//! `perform` does what a line of words asks for, over any files, reader and writers, and `main` calls it with the
-//! system's files and the standard streams, on a thread whose stack is had before anything is read. What the session of `pipe`
-//! reads, answers and writes is proved, and what the status says of it. So is, over any files that say what they hold, that `verify`
-//! writes the line of the image in its file and `at` what that has of an object, that `new` leaves the image of a new drive, and that
-//! `run` attends each session of a drive that begins with its image and leaves there what such a drive is saved as. That the system's
-//! files read and write as such files do is tested, and so are the texts on standard error.
+//! `perform` does what a line of words asks for, over any files, reader and writers, and `main`
+//! calls it with the system's files and the standard streams, on a thread whose stack is had before
+//! anything is read. What the session of `pipe` reads, answers and writes is proved, and what the
+//! status says of it. So is, over any files that say what they hold, that `verify` writes the line
+//! of the image in its file and `at` what that has of an object, that `new` leaves the image of a
+//! new drive, and that `run` attends each session of a drive that begins with its image and leaves
+//! there what such a drive is saved as. That the system's files read and write as such files do is
+//! tested, and so are the texts on standard error.
 #![tactic(auto)]
 
 ghost use Rattle.std.specs.Prelude.{◌≡◌, ◌≢◌, ◌+◌, ◌^◌, ◌<◌, ◌≤◌, ℕ, List, Option, map};
@@ -58,10 +60,12 @@ fn exit_of<
     requires writer { W.failures writer + 1 < 2 ^ 64 }
     ensures status { exit_status result ≤ 2 }
     ensures done { exit_status result ≡ 0 → (input output : Option (List ℕ))
-        × IsDone (map S.text words.items) any_writer unknown unknown (R.remaining reader) (W.passed writer) input output }
+        × IsDone (map S.text words.items) any_writer unknown unknown (R.remaining reader)
+        (W.passed writer) input output }
     ensures usage { exit_status result ≡ 2 → IsUsage (map S.text words.items) }
     ensures undone { exit_status result ≢ 0 → (input output : Option (List ℕ)) × (failures : ℕ)
-        × IsUndone any_writer unknown unknown (R.remaining reader) (W.passed writer) input output (W.failures writer) failures (map S.text words.items) (exit_status result) }
+        × IsUndone any_writer unknown unknown (R.remaining reader) (W.passed writer) input output
+        (W.failures writer) failures (map S.text words.items) (exit_status result) }
 {
     match perform_apart(threads, *rt, words, reader, writer, rt.stderr()) {
         Ok(run) => ExitCode::from(run.status),
@@ -69,7 +73,7 @@ fn exit_of<
     }
 }
 
-// Says why the line couldn't be had: for want of memory, or as words that are no text.
+// Says why the line couldn't be had: for lack of memory, or as words that are no text.
 fn tell(rt: &HostRuntime, why: io::ErrorKind) -> u8
     ensures memory { why ≡ OutOfMemory → result ≡ 1 }
     ensures text { why ≢ OutOfMemory → result ≡ 2 }

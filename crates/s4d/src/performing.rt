@@ -1,8 +1,11 @@
 //! What a line of words asks for, and the status of the program.
-ghost use Rattle.std.specs.Prelude.{◌≡◌, ◌≢◌, ◌⊎◌, ◌+◌, ◌^◌, ◌<◌, ◌≤◌, map, true, vec_len, IfErr, OnOk};
+ghost use Rattle.std.specs.Prelude.{◌≡◌, ◌≢◌, ◌⊎◌, ◌+◌, ◌^◌, ◌<◌, ◌≤◌, map, true, vec_len, IfErr};
+ghost use Rattle.std.specs.Prelude.{OnOk};
 ghost use Rattle.s4_types.specs.Sizes.{IsFrameCount};
 ghost use Rattle.s4d.specs.Opening.{HoldsAt};
-ghost use Rattle.s4d.specs.Performing.{IsDone, IsUndone, IsUsage, SaysNotGiven, SaysNotNew, SaysNotVerified, SaysRunUndone, SaysUndone, SaysUnpiped, status_of};
+ghost use Rattle.s4d.specs.Performing.{IsDone, IsUndone, IsUsage, SaysNotGiven, SaysNotNew};
+ghost use Rattle.s4d.specs.Performing.{SaysNotVerified, SaysRunUndone, SaysUndone, SaysUnpiped};
+ghost use Rattle.s4d.specs.Performing.{status_of};
 ghost use Rattle.image_commands.specs.Making.{HasNew};
 ghost use Rattle.image_commands.specs.ReadingPast.{GivesObject};
 ghost use Rattle.image_commands.specs.Verifying.{TellsImage};
@@ -29,11 +32,12 @@ const DONE: u8 = 0;
 /// The status of what failed.
 const FAILED: u8 = 1;
 
-/// The status of a line of words that spells no command.
+/// The status of a line of words that give no command.
 const USAGE: u8 = 2;
 
-/// Does what the words ask for, the program's name first among them, and answers the program's status: 0 where
-/// it is done, 1 with a line on `errors` where it failed, 2 with a line where the words spell no command.
+/// Does what the words ask for, the program's name first among them, and answers the program's
+/// status: 0 where it is done, 1 with a line on `errors` where it failed, 2 with a line where the
+/// words give no command.
 ///
 /// `run` has a line for each session that failed, and writes the image all the same.
 pub fn perform<T: Threads + Wait + Clock + Sync, F: Files, S: AsStr, R: Source, W: Sink, E: Write>(
@@ -119,7 +123,9 @@ fn perform_session<'a, R: Source, W: Sink>(
     ensures done { OnOk result (Pipes pipe ServeEnd.Ended
         (R.remaining reader.old) (W.passed writer.old)
         (R.remaining reader.new) (W.passed writer.new)) }
-    ensures undone { IfErr result (SaysUnpiped (R.remaining reader.old) (W.passed writer.old) (R.remaining reader.new) (W.passed writer.new) pipe) }
+    ensures undone { IfErr result
+        (SaysUnpiped (R.remaining reader.old) (W.passed writer.old) (R.remaining reader.new)
+        (W.passed writer.new) pipe) }
 {
     match serve_pipe(alloc, pipe, reader, writer) {
         Ok(ServeEnd::Ended) => Ok(()),
@@ -131,8 +137,10 @@ fn perform_session<'a, R: Source, W: Sink>(
 // Writes the image of a new drive.
 fn perform_new<'a, F: Files>(alloc: Global, files: &mut F, new: New<'a>) -> Result<(), Undone<'a>>
     requires frames { IsFrameCount new.frames }
-    ensures done { OnOk result (HasNew new.entry.frames new.entry.window (F.contents files.new new.entry.image.now)) }
-    ensures undone { IfErr result (SaysNotNew (F.contents files.old) (F.contents files.new) new.entry) }
+    ensures done { OnOk result
+        (HasNew new.entry.frames new.entry.window (F.contents files.new new.entry.image.now)) }
+    ensures undone { IfErr result
+        (SaysNotNew (F.contents files.old) (F.contents files.new) new.entry) }
 {
     match make_file(alloc, files, new) {
         Ok(Placed::Lasting) => Ok(()),
@@ -150,8 +158,12 @@ fn perform_verify<'a, T: Threads, F: Files, W: Sink>(
     writer: &mut W,
 ) -> Result<(), Undone<'a>>
     requires writer { W.failures writer.old + 1 < 2 ^ 64 }
-    ensures done { OnOk result (TellsImage (F.contents files.now asked.entry.image.now) (W.passed writer.old) (W.passed writer.new)) }
-    ensures undone { IfErr result (SaysNotVerified (F.contents files.now) (W.failures writer.old) (W.failures writer.new) asked.entry) }
+    ensures done { OnOk result
+        (TellsImage (F.contents files.now asked.entry.image.now) (W.passed writer.old)
+        (W.passed writer.new)) }
+    ensures undone { IfErr result
+        (SaysNotVerified (F.contents files.now) (W.failures writer.old) (W.failures writer.new)
+        asked.entry) }
 {
     match verify_file(rt, alloc, files, asked, writer) {
         Ok(()) => Ok(()),
@@ -168,8 +180,12 @@ fn perform_at<'a, T: Threads, F: Files, W: Sink>(
     writer: &mut W,
 ) -> Result<(), Undone<'a>>
     requires writer { W.failures writer.old + 1 < 2 ^ 64 }
-    ensures done { OnOk result (GivesObject (F.contents files.now asked.entry.image.now) asked.entry.object asked.entry.moment (W.passed writer.old) (W.passed writer.new)) }
-    ensures undone { IfErr result (SaysNotGiven (F.contents files.now) (W.failures writer.old) (W.failures writer.new) asked.entry) }
+    ensures done { OnOk result
+        (GivesObject (F.contents files.now asked.entry.image.now) asked.entry.object
+        asked.entry.moment (W.passed writer.old) (W.passed writer.new)) }
+    ensures undone { IfErr result
+        (SaysNotGiven (F.contents files.now) (W.failures writer.old) (W.failures writer.new)
+        asked.entry) }
 {
     match write_object(rt, alloc, files, asked, writer) {
         Ok(()) => Ok(()),
@@ -186,8 +202,12 @@ fn perform_run<'a, T: Threads + Wait + Clock + Sync, F: Files, E: Write>(
     errors: &mut E,
 ) -> Result<(), Undone<'a>>
     requires sessions { vec_len run.sessions ≤ 16 }
-    ensures done { OnOk result (RunsImage (HoldsAt F.writes F.Writer.contents) run.entry (F.contents files.old) (F.contents files.new) (F.contents files.new run.entry.image.now) true) }
-    ensures undone { IfErr result (SaysRunUndone (HoldsAt F.writes F.Writer.contents) (F.contents files.old) (F.contents files.new) run.entry) }
+    ensures done { OnOk result
+        (RunsImage (HoldsAt F.writes F.Writer.contents) run.entry (F.contents files.old)
+        (F.contents files.new) (F.contents files.new run.entry.image.now) true) }
+    ensures undone { IfErr result
+        (SaysRunUndone (HoldsAt F.writes F.Writer.contents) (F.contents files.old)
+        (F.contents files.new) run.entry) }
 {
     let image = run.image;
     match run_file(rt, alloc, files, run, errors) {
@@ -240,7 +260,7 @@ pub fn fail<E: Write, D: Display + Drop>(errors: &mut E, why: D) -> u8
     FAILED
 }
 
-/// Says that the words spell no command.
+/// Says that the words give no command.
 pub fn refuse<E: Write>(errors: &mut E) -> u8
     ensures { result ≡ 2 }
 {

@@ -68,8 +68,10 @@ pub fn serve_pipe<R: Source, W: Sink>(
     ensures session { IfOk result (λ end. Pipes pipe end
         (R.remaining reader.old) (W.passed writer.old)
         (R.remaining reader.new) (W.passed writer.new)) }
-    ensures reading { IfOk result (λ end. R.failures reader.new ≡ R.failures reader.old + reading_failures end) }
-    ensures writing { IfOk result (λ end. W.failures writer.new ≡ W.failures writer.old + writing_failures end) }
+    ensures reading { IfOk result
+        (λ end. R.failures reader.new ≡ R.failures reader.old + reading_failures end) }
+    ensures writing { IfOk result
+        (λ end. W.failures writer.new ≡ W.failures writer.old + writing_failures end) }
     ensures refused { IfErr result (λ e. (e ≡ NoMemory) ⊎ (e ≡ Busy)) }
     ensures unasked { OnErr result ((reader.new ≡ reader.old) × (writer.new ≡ writer.old)) }
 {
@@ -95,8 +97,10 @@ fn serve_named<J: Naming, R: Source, W: Sink>(
     ensures session { IfOk result (λ end. Pipes pipe end
         (R.remaining reader.old) (W.passed writer.old)
         (R.remaining reader.new) (W.passed writer.new)) }
-    ensures reading { IfOk result (λ end. R.failures reader.new ≡ R.failures reader.old + reading_failures end) }
-    ensures writing { IfOk result (λ end. W.failures writer.new ≡ W.failures writer.old + writing_failures end) }
+    ensures reading { IfOk result
+        (λ end. R.failures reader.new ≡ R.failures reader.old + reading_failures end) }
+    ensures writing { IfOk result
+        (λ end. W.failures writer.new ≡ W.failures writer.old + writing_failures end) }
     ensures refused { IfErr result (λ e. e ≡ Busy) }
     ensures unasked { OnErr result ((reader.new ≡ reader.old) × (writer.new ≡ writer.old)) }
 {

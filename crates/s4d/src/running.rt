@@ -1,5 +1,7 @@
 //! `run`: sessions of a drive that an image is read from, and its image written anew.
-ghost use Rattle.std.specs.Prelude.{◌≡◌, ◌≢◌, ℕ, ◌+◌, ◌^◌, ◌<◌, ◌≤◌, All, AllPairs, Bool, List, MatchResult, Option, Some, length, slice_index_or, vec_len, true, false, IfErr, IfOk, IsTrue, OnErr, OnOk, ◌↔◌};
+ghost use Rattle.std.specs.Prelude.{◌≡◌, ◌≢◌, ℕ, ◌+◌, ◌^◌, ◌<◌, ◌≤◌, All, AllPairs, Bool, List};
+ghost use Rattle.std.specs.Prelude.{MatchResult, Option, Some, length, slice_index_or, vec_len};
+ghost use Rattle.std.specs.Prelude.{true, false, IfErr, IfOk, IsTrue, OnErr, OnOk, ◌↔◌};
 ghost use Rattle.std.specs.Io.KnownBytes.{Keeps};
 ghost use Rattle.s4_types.specs.declared.refusals.Refusal.TheVariants.{NoMemory};
 ghost use Rattle.segment_table.specs.Room.{log_of};
@@ -13,7 +15,8 @@ ghost use Rattle.image_commands.specs.Leaving.{IsBeside, IsKeptOrLeft};
 ghost use Rattle.s4d_command.specs.declared.sessions.RunSession.{RunSession as Session};
 ghost use Rattle.s4d.specs.Opening.{HoldsAt};
 ghost use Rattle.s4d.specs.Promised.{KeepsItsPromise};
-ghost use Rattle.s4d.specs.Running.{IsSavedIn, IsUnasked, IsUnserved, IsUnwritten, LeavesDrive, RunsImage, RunsSessions, SaysNotRun, SaysUnrun, SaysUnserved};
+ghost use Rattle.s4d.specs.Running.{IsSavedIn, IsUnasked, IsUnserved, IsUnwritten, LeavesDrive};
+ghost use Rattle.s4d.specs.Running.{RunsImage, RunsSessions, SaysNotRun, SaysUnrun, SaysUnserved};
 
 use crate::faults::RunFault;
 use crate::session_files::{are_apart, finish_all, open_clients};
@@ -52,7 +55,8 @@ struct Manner {
 /// A run that is over, and its image in its place.
 #[derive(Clone, Copy)]
 pub struct Ran {
-    /// Whether each session ended at the end of its input, and the path of its output led to its replies then.
+    /// Whether each session ended at the end of its input, and the path of its output led to its
+    /// replies then.
     pub is_ended: bool,
     pub placed: Placed,
 }
@@ -71,14 +75,16 @@ struct Begun<'a, F: Files> {
     blanks: Blanks,
 }
 
-/// Serves the sessions of a drive that an image is read from, and writes its image anew. Says whether each session ended at the
-/// end of its input and its output's path led to its replies then; each other one has a line on `errors`.
+/// Serves the sessions of a drive that an image is read from, and writes its image anew. Says
+/// whether each session ended at the end of its input and its output's path led to its replies
+/// then; each other one has a line on `errors`.
 ///
-/// Where the image or a file fails, no session is served, and each file that was there has its bytes; an output that wasn't there may be
-/// left, empty. That the image can be replaced is known before: another program that
-/// serves it, a file that can't be made beside it, or a disk without room for the longest image is a fault then. So is a session that
-/// is to write over the image, over what a session reads or another one writes, or that is to use a file beside the image; and then no
-/// output is made. What was left beside the image and is none itself is removed.
+/// Where the image or a file fails, no session is served, and each file that was there has its
+/// bytes; an output that wasn't there may be left, empty. That the image can be replaced is known
+/// before: another program that serves it, a file that can't be made beside it, or a disk without
+/// room for the longest image is a fault then. So is a session that is to write over the image,
+/// over what a session reads or another one writes, or that is to use a file beside the image; and
+/// then no output is made. What was left beside the image and is none itself is removed.
 pub fn run_file<'a, T: Threads + Wait + Clock + Sync, F: Files, E: Write>(
     rt: &T,
     alloc: Global,
@@ -87,22 +93,33 @@ pub fn run_file<'a, T: Threads + Wait + Clock + Sync, F: Files, E: Write>(
     errors: &mut E,
 ) -> Result<Ran, RunFault<'a>>
     requires sessions { vec_len asked.sessions ≤ 16 }
-    ensures image { IfOk result (λ ran. RunsImage (HoldsAt F.writes F.Writer.contents) asked.entry (F.contents files.old) (F.contents files.new) (F.contents files.new asked.entry.image.now) ran.is_ended) }
+    ensures image { IfOk result
+        (λ ran. RunsImage (HoldsAt F.writes F.Writer.contents) asked.entry (F.contents files.old)
+        (F.contents files.new) (F.contents files.new asked.entry.image.now) ran.is_ended) }
     // The same in the words of the model.
-    ensures promise { IfOk result (λ ran. KeepsItsPromise (HoldsAt F.writes F.Writer.contents) asked.entry (F.contents files.old) (F.contents files.new) ran.is_ended) }
-    ensures apart { OnOk result (All (λ written. All (λ read. F.apart read.input.now written.output.now) asked.entry.sessions.items) asked.entry.sessions.items) }
+    ensures promise { IfOk result
+        (λ ran. KeepsItsPromise (HoldsAt F.writes F.Writer.contents) asked.entry
+        (F.contents files.old) (F.contents files.new) ran.is_ended) }
+    ensures apart { OnOk result
+        (All
+        (λ written. All (λ read. F.apart read.input.now written.output.now)
+        asked.entry.sessions.items) asked.entry.sessions.items) }
     // What no session writes stays, but for what was left beside the image and is no image.
     ensures others { OnOk result ((path : List ℕ) → F.apart asked.entry.image.now path → IsUnwritten F.apart asked.entry.sessions.items path
         → IsKeptOrLeft (IsBeside F.leads F.reserves asked.entry.image.now path) (F.contents files.old path) (F.contents files.new path)) }
-    // So does the image, where the sessions weren't served or not saved; and in the first case each output.
+    // So does the image, where the sessions weren't served or not saved; and in the first case each
+    // output.
     ensures unsaved { OnErr result ((path : List ℕ) → IsUnwritten F.apart asked.entry.sessions.items path
         → IsKeptOrLeft (IsBeside F.leads F.reserves asked.entry.image.now path) (F.contents files.old path) (F.contents files.new path)) }
     ensures unserved { IfErr result (λ fault. IsUnserved fault → (path : List ℕ)
         → IsKeptOrLeft (IsBeside F.leads F.reserves asked.entry.image.now path) (F.contents files.old path) (F.contents files.new path)) }
-    ensures fault { IfErr result (SaysNotRun (HoldsAt F.writes F.Writer.contents) asked.entry (F.contents files.old) (F.contents files.new)) }
+    ensures fault { IfErr result
+        (SaysNotRun (HoldsAt F.writes F.Writer.contents) asked.entry (F.contents files.old)
+        (F.contents files.new)) }
 {
     what_is_saved_goes_on();
-    // The claim comes first, so that nobody replaces what is read; what can't be read is the first fault all the same.
+    // The claim comes first, so that nobody replaces what is read; what can't be read is the first
+    // fault all the same.
     let claim = files.claim(alloc, asked.image);
     let image = match read_image(rt, alloc, files, asked.image) {
         Ok(image) => image,
@@ -146,7 +163,8 @@ fn run_begun<'a, J: Running + Send + Sync, T: Threads + Wait + Clock + Sync, F: 
 ) -> Result<Ran, RunFault<'a>>
     requires accepts { begun.opened.accepts ≡ J.accepts }
     requires frames { begun.opened.store.table.seat.table ≡ J.frames }
-    requires base { base_of (fields_of log_of begun.opened.store) begun.opened.timeline begun.opened.next ≡ J.base }
+    requires base { base_of (fields_of log_of begun.opened.store) begun.opened.timeline
+        begun.opened.next ≡ J.base }
     requires sessions { length sessions.now ≤ 16 }
     requires unasked { (d : _) → IsUnasked J.base d → J.begins d }
     requires begins { (d : _) → J.begins d → IsUnasked J.base d }
@@ -159,7 +177,9 @@ fn run_begun<'a, J: Running + Send + Sync, T: Threads + Wait + Clock + Sync, F: 
     ensures left { IfOk result (λ ran. LeavesDrive J.base
         (RunsSessions J.base (record { start = begun.entry.manner.start; tick = begun.entry.manner.tick }) begun.entry.manner.upkeep (HoldsAt F.writes F.Writer.contents) (F.contents files.old) (F.contents files.new) sessions.now ran.is_ended)
         (IsSavedIn (F.contents files.new begun.entry.path.now))) }
-    ensures apart { OnOk result (All (λ written. All (λ read. F.apart read.input.now written.output.now) sessions.now) sessions.now) }
+    ensures apart { OnOk result
+        (All (λ written. All (λ read. F.apart read.input.now written.output.now) sessions.now)
+        sessions.now) }
     ensures others { OnOk result ((path : List ℕ) → F.apart begun.entry.path.now path → IsUnwritten F.apart sessions.now path
         → IsKeptOrLeft (IsBeside F.leads F.reserves begun.entry.path.now path) (F.contents files.old path) (F.contents files.new path)) }
     ensures unsaved { OnErr result ((path : List ℕ) → IsUnwritten F.apart sessions.now path
@@ -198,7 +218,8 @@ fn run_begun<'a, J: Running + Send + Sync, T: Threads + Wait + Clock + Sync, F: 
     put_saved(files, place, saved, are_ended & are_there)
 }
 
-// Puts what was saved in its place, and says that the sessions ended so. Nothing is put there where it wasn't saved.
+// Puts what was saved in its place, and says that the sessions ended so. Nothing is put there where
+// it wasn't saved.
 fn put_saved<'a, F: Files>(
     files: &mut F,
     place: Place<'a, F>,
@@ -207,11 +228,26 @@ fn put_saved<'a, F: Files>(
 ) -> Result<Ran, RunFault<'a>>
     requires claimed { F.leads place.claim place.path.now }
     requires refusal { IfErr saved (λ e. e ≡ NoMemory) }
-    ensures saved { IfOk result (λ ran. (ran.is_ended ≡ is_ended) × MatchResult saved (λ bytes. AreKnown (F.contents files.new place.entry.path.now) bytes.items) (λ _. ⊥)) }
-    ensures elsewhere { OnOk result ((other : List ℕ) → F.apart place.entry.path.now other → F.is_beside place.entry.beside other ≡ false → Keeps (F.contents files.old other) (F.contents files.new other)) }
-    ensures others { OnErr result ((other : List ℕ) → F.is_beside place.entry.beside other ≡ false → Keeps (F.contents files.old other) (F.contents files.new other)) }
+    ensures saved { IfOk result
+        (λ ran. (ran.is_ended ≡ is_ended)
+        × MatchResult saved
+        (λ bytes. AreKnown (F.contents files.new place.entry.path.now) bytes.items)
+        (λ _. ⊥)) }
+    ensures elsewhere { OnOk result
+        ((other : List ℕ)
+        → F.apart place.entry.path.now other
+        → F.is_beside place.entry.beside other ≡ false
+        → Keeps (F.contents files.old other) (F.contents files.new other)) }
+    ensures others { OnErr result
+        ((other : List ℕ)
+        → F.is_beside place.entry.beside other ≡ false
+        → Keeps (F.contents files.old other) (F.contents files.new other)) }
     ensures unsaved { IfErr result (λ fault. IsUnserved fault → ⊥) }
-    ensures fault { IfErr result (λ fault. (known : Option (List ℕ)) (sessions : List Session) → SaysUnrun known place.entry.path.now sessions (λ has. MatchResult saved (λ bytes. AreKnown has bytes.items) (λ _. ⊥)) (F.contents files.new) fault) }
+    ensures fault { IfErr result
+        (λ fault. (known : Option (List ℕ)) (sessions : List Session)
+        → SaysUnrun known place.entry.path.now sessions
+        (λ has. MatchResult saved (λ bytes. AreKnown has bytes.items) (λ _. ⊥))
+        (F.contents files.new) fault) }
 {
     let bytes = match saved {
         Ok(bytes) => bytes,
@@ -226,7 +262,8 @@ fn put_saved<'a, F: Files>(
     }
 }
 
-// Makes the file beside an image, once what was left there is removed. Not so where a session is to use the image or such a file.
+// Makes the file beside an image, once what was left there is removed. Not so where a session is to
+// use the image or such a file.
 fn place_apart<'a, T: Threads, F: Files>(
     rt: &T,
     alloc: Global,
@@ -239,16 +276,26 @@ fn place_apart<'a, T: Threads, F: Files>(
     requires claimed { F.leads claim path.now }
     ensures path { IfOk result (λ place. place.path.now ≡ path.now) }
     ensures claimed { IfOk result (λ place. F.leads place.claim place.path.now) }
-    ensures apart { OnOk result (All (λ written. All (λ read. F.apart read.input.now written.output.now) sessions.now) sessions.now) }
-    ensures written { OnOk result (AllPairs (λ first second. F.apart first.output.now second.output.now) sessions.now) }
+    ensures apart { OnOk result
+        (All (λ written. All (λ read. F.apart read.input.now written.output.now) sessions.now)
+        sessions.now) }
+    ensures written { OnOk result
+        (AllPairs (λ first second. F.apart first.output.now second.output.now) sessions.now) }
     ensures image { OnOk result (All (λ s. F.apart path.now s.output.now) sessions.now) }
-    ensures beside { IfOk result (λ place. All (λ s. F.is_beside place.beside s.output.now ≡ false) sessions.now) }
-    ensures inputs { OnOk result (All (λ s. Keeps (F.contents files.old s.input.now) (F.contents files.new s.input.now)) sessions.now) }
-    // What was left beside the image and is no image is removed, and nothing else is known of it in the place of what was made.
-    ensures kept { (other : List ℕ) → IsKeptOrLeft (IsBeside F.leads F.reserves path.now other) (F.contents files.old other) (F.contents files.new other) }
+    ensures beside { IfOk result
+        (λ place. All (λ s. F.is_beside place.beside s.output.now ≡ false) sessions.now) }
+    ensures inputs { OnOk result
+        (All (λ s. Keeps (F.contents files.old s.input.now) (F.contents files.new s.input.now))
+        sessions.now) }
+    // What was left beside the image and is no image is removed, and nothing else is known of it in
+    // the place of what was made.
+    ensures kept { (other : List ℕ)
+        → IsKeptOrLeft (IsBeside F.leads F.reserves path.now other) (F.contents files.old other)
+        (F.contents files.new other) }
     ensures anew { IfOk result (λ place. (other : List ℕ) → F.is_beside place.beside other ≡ true
         → (known : Option (List ℕ)) → IsKeptOrLeft (IsBeside F.leads F.reserves path.now other) (F.contents files.old other) known) }
-    ensures fault { IfErr result (λ fault. (known : Option (List ℕ)) → SaysUnserved known path.now sessions.now fault) }
+    ensures fault { IfErr result
+        (λ fault. (known : Option (List ℕ)) → SaysUnserved known path.now sessions.now fault) }
 {
     match are_apart(files, &claim, path, sessions) {
         Ok(()) => {}
@@ -284,11 +331,13 @@ fn serve_named<
     requires readers { All (λ c. S.failures c.reader + 1 < 2 ^ 64) clients.items }
     requires writers { All (λ c. W.failures c.writer + 1 < 2 ^ 64) clients.items }
     ensures count { vec_len result.0 ≡ vec_len clients }
-    // A drive with this base is left, and bytes that are answered are what it is saved as. It is what the sessions' requests have made of
-    // the one that was opened, and nobody else's. Its history begins with all that a session had seen, and has the session's own changes
-    // at their numbers; or there was no seat for the session.
+    // A drive with this base is left, and bytes that are answered are what it is saved as. It is
+    // what the sessions' requests have made of the one that was opened, and nobody else's. Its
+    // history begins with all that a session had seen, and has the session's own changes at their
+    // numbers; or there was no seat for the session.
     ensures left { LeavesDrive J.base
-        (AreServed S.remaining W.passed S.failures W.failures J.base J.begins J.clock J.has_upkeep clients.items result.0.items)
+        (AreServed S.remaining W.passed S.failures W.failures J.base J.begins J.clock J.has_upkeep
+        clients.items result.0.items)
         (λ drive. IfOk result.1 (λ bytes. SpellsSaved drive bytes.items)) }
     ensures refusal { IfErr result.1 (λ e. e ≡ NoMemory) }
 {
@@ -298,7 +347,8 @@ fn serve_named<
     (served, saved)
 }
 
-// Serves the sessions of a drive, and then saves it. Gives the drive that they leave, and what that is saved as.
+// Serves the sessions of a drive, and then saves it. Gives the drive that they leave, and what that
+// is saved as.
 fn serve_and_save<
     J: Running + Send + Sync,
     T: Threads + Wait + Clock + Sync,
@@ -321,7 +371,8 @@ fn serve_and_save<
     requires readers { All (λ c. S.failures c.reader + 1 < 2 ^ 64) clients.items }
     requires writers { All (λ c. W.failures c.writer + 1 < 2 ^ 64) clients.items }
     ensures count { vec_len result.0 ≡ vec_len clients }
-    ensures served { AreServed S.remaining W.passed S.failures W.failures J.base J.begins J.clock J.has_upkeep clients.items result.0.items result.1 }
+    ensures served { AreServed S.remaining W.passed S.failures W.failures J.base J.begins J.clock
+        J.has_upkeep clients.items result.0.items result.1 }
     // What is saved is the drive as the sessions left it.
     ensures saved { IfOk result.2 (λ bytes. SpellsSaved result.1 bytes.items) }
     ensures refusal { IfErr result.2 (λ e. e ≡ NoMemory) }
@@ -357,7 +408,8 @@ fn serve_all<
     ensures count { vec_len result ≡ vec_len clients }
     // Each session was answered by steps of the shared drive, or the drive had no seat for it.
     ensures attended { (i : ℕ) (d : _) → i < vec_len clients
-        → IsAttendedClient S.remaining W.passed S.failures W.failures J.base J.clock (slice_index_or clients.items i d) (slice_index_or result.items i d) }
+        → IsAttendedClient S.remaining W.passed S.failures W.failures J.base J.clock
+        (slice_index_or clients.items i d) (slice_index_or result.items i d) }
 {
     if upkeep {
         let (served, _) = run_with_upkeep(rt, alloc, drive, &Open, clients);
@@ -368,13 +420,16 @@ fn serve_all<
     served
 }
 
-// Writes a line for each session that didn't come to the end of its input, and says whether there is none.
+// Writes a line for each session that didn't come to the end of its input, and says whether there
+// is none.
 fn tell_sessions<J: Running, S: Source, W: Sink, E: Write>(
     errors: &mut E,
     served: &[Client<J, S, W>],
 ) -> bool
-    requires over { (i : ℕ) (d : _) → i < length served.now → (slice_index_or served.now i d).outcome ≢ Outcome.Waiting }
-    ensures ended { IsTrue result ↔ All (λ c. c.outcome ≡ Outcome.Served ServeEnd.Ended) served.now }
+    requires over { (i : ℕ) (d : _) → i < length served.now
+        → (slice_index_or served.now i d).outcome ≢ Outcome.Waiting }
+    ensures ended { IsTrue result
+        ↔ All (λ c. c.outcome ≡ Outcome.Served ServeEnd.Ended) served.now }
 {
     let mut is_ended = true;
     for (place, client) in served.iter().enumerate() {

@@ -1,5 +1,7 @@
-//! The files of sessions: which they may be, how they are opened, and what is looked at once all is written.
-ghost use Rattle.std.specs.Prelude.{◌≡◌, ℕ, ◌+◌, ◌^◌, ◌<◌, All, AllPairs, List, [], length, vec_len, false, IfErr, IfOk, IsFalse, IsTrue, OnErr, OnOk};
+//! The files of sessions: which they may be, how they are opened, and what is looked at once all is
+//! written.
+ghost use Rattle.std.specs.Prelude.{◌≡◌, ℕ, ◌+◌, ◌^◌, ◌<◌, All, AllPairs, List, [], length};
+ghost use Rattle.std.specs.Prelude.{vec_len, false, IfErr, IfOk, IsFalse, IsTrue, OnErr, OnOk};
 ghost use Rattle.std.specs.Io.KnownBytes.{Keeps};
 ghost use Rattle.std.specs.List.{AllZip};
 ghost use Rattle.image_commands.specs.Files.{AreKnown};
@@ -29,19 +31,25 @@ struct OpenedSession<'a, F: Files> {
     opened: F::Opened,
 }
 
-/// Whether no session is to write over the image, over what a session reads, or over what another one writes, and none is to use a file
-/// beside the image: where one did, what was there would be lost. The first file that isn't so is a fault.
+/// Whether no session is to write over the image, over what a session reads, or over what another
+/// one writes, and none is to use a file beside the image: where one did, what was there would be
+/// lost. The first file that isn't so is a fault.
 pub fn are_apart<'a, F: Files>(
     files: &F,
     claim: &F::Claim,
     image: &str,
     sessions: &[RunSession<'a>],
 ) -> Result<(), Fault<'a>>
-    ensures apart { OnOk result (All (λ written. All (λ read. F.apart read.input.now written.output.now) sessions.now) sessions.now) }
-    ensures written { OnOk result (AllPairs (λ first second. F.apart first.output.now second.output.now) sessions.now) }
+    ensures apart { OnOk result
+        (All (λ written. All (λ read. F.apart read.input.now written.output.now) sessions.now)
+        sessions.now) }
+    ensures written { OnOk result
+        (AllPairs (λ first second. F.apart first.output.now second.output.now) sessions.now) }
     ensures image { OnOk result (All (λ s. F.apart image.now s.output.now) sessions.now) }
-    ensures inputs { OnOk result (All (λ s. F.reserves claim.now s.input.now ≡ false) sessions.now) }
-    ensures outputs { OnOk result (All (λ s. F.reserves claim.now s.output.now ≡ false) sessions.now) }
+    ensures inputs { OnOk result
+        (All (λ s. F.reserves claim.now s.input.now ≡ false) sessions.now) }
+    ensures outputs { OnOk result
+        (All (λ s. F.reserves claim.now s.output.now ≡ false) sessions.now) }
     ensures fault { IfErr result (SaysUnopened sessions.now) }
 {
     for (number, session) in sessions.iter().enumerate() {
@@ -62,8 +70,10 @@ fn is_apart<'a, F: Files>(
     earlier: &[RunSession<'a>],
     session: RunSession<'a>,
 ) -> Result<(), Fault<'a>>
-    ensures apart { OnOk result (All (λ read. F.apart read.input.now session.entry.output.now) sessions.now) }
-    ensures written { OnOk result (All (λ s. F.apart s.output.now session.entry.output.now) earlier.now) }
+    ensures apart { OnOk result
+        (All (λ read. F.apart read.input.now session.entry.output.now) sessions.now) }
+    ensures written { OnOk result
+        (All (λ s. F.apart s.output.now session.entry.output.now) earlier.now) }
     ensures image { OnOk result (F.apart image.now session.entry.output.now) }
     ensures input { OnOk result (F.reserves claim.now session.entry.input.now ≡ false) }
     ensures output { OnOk result (F.reserves claim.now session.entry.output.now ≡ false) }
@@ -81,7 +91,8 @@ fn is_apart<'a, F: Files>(
     }
 }
 
-// Whether an output is the image, a file beside it, one that a session reads, or one that an earlier session writes.
+// Whether an output is the image, a file beside it, one that a session reads, or one that an
+// earlier session writes.
 fn is_taken<F: Files>(
     files: &F,
     claim: &F::Claim,
@@ -91,8 +102,10 @@ fn is_taken<F: Files>(
     output: &str,
 ) -> io::Result<bool>
     ensures image { IfOk result (λ is. IsFalse is → F.apart image.now output.now) }
-    ensures apart { IfOk result (λ is. IsFalse is → All (λ read. F.apart read.input.now output.now) sessions.now) }
-    ensures written { IfOk result (λ is. IsFalse is → All (λ s. F.apart s.output.now output.now) earlier.now) }
+    ensures apart { IfOk result
+        (λ is. IsFalse is → All (λ read. F.apart read.input.now output.now) sessions.now) }
+    ensures written { IfOk result
+        (λ is. IsFalse is → All (λ s. F.apart s.output.now output.now) earlier.now) }
     ensures reserved { IfOk result (λ is. IsFalse is → F.reserves claim.now output.now ≡ false) }
 {
     if files.are_same(image, output)? || files.is_reserved(claim, output)? {
@@ -106,7 +119,8 @@ fn is_taken<F: Files>(
 
 // Whether an output is one of the files that sessions read.
 fn is_one_read<F: Files>(files: &F, sessions: &[RunSession<'_>], output: &str) -> io::Result<bool>
-    ensures apart { IfOk result (λ is. IsFalse is → All (λ read. F.apart read.input.now output.now) sessions.now) }
+    ensures apart { IfOk result
+        (λ is. IsFalse is → All (λ read. F.apart read.input.now output.now) sessions.now) }
 {
     for session in sessions {
         if files.are_same(session.input, output)? {
@@ -122,7 +136,8 @@ fn is_one_written<F: Files>(
     sessions: &[RunSession<'_>],
     output: &str,
 ) -> io::Result<bool>
-    ensures apart { IfOk result (λ is. IsFalse is → All (λ s. F.apart s.output.now output.now) sessions.now) }
+    ensures apart { IfOk result
+        (λ is. IsFalse is → All (λ s. F.apart s.output.now output.now) sessions.now) }
 {
     for session in sessions {
         if files.are_same(session.output, output)? {
@@ -132,7 +147,8 @@ fn is_one_written<F: Files>(
     Ok(false)
 }
 
-/// Opens the files of each session in turn, and then empties those that are to be written. Where one can't be opened none is emptied.
+/// Opens the files of each session in turn, and then empties those that are to be written. Where
+/// one can't be opened none is emptied.
 pub fn open_clients<'a, J: Running, F: Files>(
     alloc: Global,
     files: &mut F,
@@ -141,10 +157,16 @@ pub fn open_clients<'a, J: Running, F: Files>(
     ensures count { IfOk result (λ clients. vec_len clients ≡ length sessions.now) }
     ensures asked { IfOk result (λ clients. AllZip (λ s c. (c.role ≡ s.role)
         × HasFiles (HoldsAt F.writes F.Writer.contents) (F.contents files.old) s (F.Reader.remaining c.reader.reader) (F.Writer.contents c.writer.writer)) sessions.now clients.items) }
-    ensures readers { IfOk result (λ clients. All (λ c. c.reader.failures + 1 < 2 ^ 64) clients.items) }
-    ensures writers { IfOk result (λ clients. All (λ c. c.writer.failures + 1 < 2 ^ 64) clients.items) }
-    ensures others { OnOk result ((other : List ℕ) → All (λ s. F.apart other s.output.now) sessions.now → Keeps (F.contents files.old other) (F.contents files.new other)) }
-    ensures kept { OnErr result ((other : List ℕ) → Keeps (F.contents files.old other) (F.contents files.new other)) }
+    ensures readers { IfOk result
+        (λ clients. All (λ c. c.reader.failures + 1 < 2 ^ 64) clients.items) }
+    ensures writers { IfOk result
+        (λ clients. All (λ c. c.writer.failures + 1 < 2 ^ 64) clients.items) }
+    ensures others { OnOk result
+        ((other : List ℕ)
+        → All (λ s. F.apart other s.output.now) sessions.now
+        → Keeps (F.contents files.old other) (F.contents files.new other)) }
+    ensures kept { OnErr result
+        ((other : List ℕ) → Keeps (F.contents files.old other) (F.contents files.new other)) }
     ensures fault { IfErr result (SaysUnopened sessions.now) }
 {
     let opened = match open_all(alloc, files, sessions) {
@@ -163,8 +185,14 @@ fn open_all<'a, F: Files>(
     files: &mut F,
     sessions: &[RunSession<'a>],
 ) -> Result<Vec<OpenedSession<'a, F>>, Fault<'a>>
-    ensures opened { IfOk result (λ opened. AllZip (λ s o. (o.session ≡ s) × F.opens o.opened s.output.now × Keeps (F.contents files.old s.input.now) (F.Reader.remaining o.reader)) sessions.now opened.items) }
-    ensures kept { (other : List ℕ) → Keeps (F.contents files.old other) (F.contents files.new other) }
+    ensures opened { IfOk result
+        (λ opened. AllZip
+        (λ s o. (o.session ≡ s)
+        × F.opens o.opened s.output.now
+        × Keeps (F.contents files.old s.input.now) (F.Reader.remaining o.reader))
+        sessions.now opened.items) }
+    ensures kept { (other : List ℕ)
+        → Keeps (F.contents files.old other) (F.contents files.new other) }
     ensures fault { IfErr result (SaysUnopened sessions.now) }
 {
     let mut all = Vec::new(alloc);
@@ -188,8 +216,10 @@ fn open_one<'a, F: Files>(
 ) -> Result<OpenedSession<'a, F>, Fault<'a>>
     ensures session { IfOk result (λ o. o.session ≡ session.entry) }
     ensures opened { IfOk result (λ o. F.opens o.opened session.entry.output.now) }
-    ensures read { IfOk result (λ o. F.Reader.remaining o.reader ≡ F.contents files.old session.entry.input.now) }
-    ensures kept { (other : List ℕ) → Keeps (F.contents files.old other) (F.contents files.new other) }
+    ensures read { IfOk result
+        (λ o. F.Reader.remaining o.reader ≡ F.contents files.old session.entry.input.now) }
+    ensures kept { (other : List ℕ)
+        → Keeps (F.contents files.old other) (F.contents files.new other) }
     ensures fault { IfErr result (SaysSessionUnopened session.entry) }
 {
     let reader = match files.open(session.input) {
@@ -215,10 +245,16 @@ fn clients_of<'a, J: Running, F: Files>(
     requires opened { All (λ o. F.opens o.opened o.session.output.now) sessions.items }
     ensures asked { IfOk result (λ clients. AllZip (λ o c. (c.role ≡ o.session.role) × (F.Reader.remaining c.reader.reader ≡ F.Reader.remaining o.reader)
         × AreKnown (F.Writer.contents c.writer.writer) [] × F.writes c.writer.writer o.session.output.now) sessions.entry.items clients.items) }
-    ensures readers { IfOk result (λ clients. All (λ c. c.reader.failures + 1 < 2 ^ 64) clients.items) }
-    ensures writers { IfOk result (λ clients. All (λ c. c.writer.failures + 1 < 2 ^ 64) clients.items) }
-    ensures others { OnOk result ((other : List ℕ) → All (λ o. F.apart other o.session.output.now) sessions.entry.items → Keeps (F.contents files.old other) (F.contents files.new other)) }
-    ensures kept { OnErr result ((other : List ℕ) → Keeps (F.contents files.old other) (F.contents files.new other)) }
+    ensures readers { IfOk result
+        (λ clients. All (λ c. c.reader.failures + 1 < 2 ^ 64) clients.items) }
+    ensures writers { IfOk result
+        (λ clients. All (λ c. c.writer.failures + 1 < 2 ^ 64) clients.items) }
+    ensures others { OnOk result
+        ((other : List ℕ)
+        → All (λ o. F.apart other o.session.output.now) sessions.entry.items
+        → Keeps (F.contents files.old other) (F.contents files.new other)) }
+    ensures kept { OnErr result
+        ((other : List ℕ) → Keeps (F.contents files.old other) (F.contents files.new other)) }
 {
     // All room is had before the first is emptied.
     let mut clients = Vec::with_capacity(alloc, sessions.len())?;
@@ -239,10 +275,13 @@ fn client_of<'a, J: Running, F: Files>(
 ) -> FileClient<J, F>
     requires opened { F.opens session.opened session.session.output.now }
     ensures role { result.role ≡ session.entry.session.role }
-    ensures read { F.Reader.remaining result.reader.reader ≡ F.Reader.remaining session.entry.reader }
+    ensures read { F.Reader.remaining result.reader.reader
+        ≡ F.Reader.remaining session.entry.reader }
     ensures empty { AreKnown (F.Writer.contents result.writer.writer) [] }
     ensures writes { F.writes result.writer.writer session.entry.session.output.now }
-    ensures others { (other : List ℕ) → F.apart other session.entry.session.output.now → Keeps (F.contents files.old other) (F.contents files.new other) }
+    ensures others { (other : List ℕ)
+        → F.apart other session.entry.session.output.now
+        → Keeps (F.contents files.old other) (F.contents files.new other) }
     ensures reader { result.reader.failures + 1 < 2 ^ 64 }
     ensures writer { result.writer.failures + 1 < 2 ^ 64 }
 {
@@ -262,8 +301,8 @@ fn client_of<'a, J: Running, F: Files>(
     }
 }
 
-/// Whether the path of each output still leads to what its session wrote, once all is written: the file has that then. Each one that
-/// doesn't has a line.
+/// Whether the path of each output still refers to what its session wrote, once all is written: the
+/// file has that then. Each one that doesn't has a line.
 pub fn finish_all<J: Running, F: Files, E: Write>(
     errors: &mut E,
     files: &mut F,
@@ -271,9 +310,15 @@ pub fn finish_all<J: Running, F: Files, E: Write>(
     served: &[FileClient<J, F>],
 ) -> bool
     requires count { length served.now ≡ length sessions.now }
-    requires apart { AllPairs (λ first second. F.apart first.output.now second.output.now) sessions.now }
-    ensures left { IsTrue result → AllZip (λ s c. Keeps (F.Writer.contents c.writer.writer) (F.contents files.new s.output.now)) sessions.now served.now }
-    ensures others { (other : List ℕ) → All (λ s. F.apart other s.output.now) sessions.now → Keeps (F.contents files.old other) (F.contents files.new other) }
+    requires apart { AllPairs (λ first second. F.apart first.output.now second.output.now)
+        sessions.now }
+    ensures left { IsTrue result
+        → AllZip
+        (λ s c. Keeps (F.Writer.contents c.writer.writer) (F.contents files.new s.output.now))
+        sessions.now served.now }
+    ensures others { (other : List ℕ)
+        → All (λ s. F.apart other s.output.now) sessions.now
+        → Keeps (F.contents files.old other) (F.contents files.new other) }
 {
     let mut are_there = true;
     for (number, session) in sessions.iter().enumerate() {
@@ -287,15 +332,17 @@ pub fn finish_all<J: Running, F: Files, E: Write>(
     are_there
 }
 
-// Whether a path still leads to what was written. Where it doesn't, there is a line.
+// Whether a path still refers to what was written. Where it doesn't, there is a line.
 fn finish_one<F: Files, E: Write>(
     errors: &mut E,
     files: &mut F,
     path: &str,
     writer: &F::Writer,
 ) -> bool
-    ensures written { IsTrue result → Keeps (F.Writer.contents writer.now) (F.contents files.new path.now) }
-    ensures others { (other : List ℕ) → F.apart other path.now → Keeps (F.contents files.old other) (F.contents files.new other) }
+    ensures written { IsTrue result
+        → Keeps (F.Writer.contents writer.now) (F.contents files.new path.now) }
+    ensures others { (other : List ℕ) → F.apart other path.now
+        → Keeps (F.contents files.old other) (F.contents files.new other) }
 {
     if files.finish(path, writer) {
         return true;

@@ -1,4 +1,5 @@
-//! What the program's line asks for, on a thread of its own, so that its stack is had before anything is read.
+//! What the program's line asks for, on a thread of its own, so that its stack is had before
+//! anything is read.
 ghost use Rattle.std.specs.Prelude.{◌≡◌, ◌≢◌, ◌+◌, ◌^◌, ◌<◌, ◌≤◌, map, IfOk};
 ghost use Rattle.s4d.specs.Performing.{IsDone, IsUndone, IsUsage, any_writer, unknown};
 
@@ -69,7 +70,8 @@ pub fn perform_apart<
             ensures undone { result.status ≢ 0 → IsUndone any_writer unknown unknown
                 (R.remaining reader) (W.passed writer)
                 (R.remaining result.reader) (W.passed result.writer)
-                (W.failures writer) (W.failures result.writer) (map S.text words.items) result.status }
+                (W.failures writer) (W.failures result.writer) (map S.text words.items)
+                result.status }
         { run(own, files, words, reader, writer, errors) },
     )
 }

@@ -59,7 +59,7 @@ module _ {X : Type 0} {Y : Type 0} (view : X → Y) where
 pub other_letter : (text a b : Text) → text ≡ a → text ≡ b → (get_or a 0 0 ≡ get_or b 0 0 → ⊥) → ⊥
 other_letter text a b is also differ = differ (ap (λ (t : Text). get_or t 0 0) (sym is ∙ also))
 
--- the matches of `run` that spell no sessions spell no command
+-- the matches of `run` that give no sessions give no command
 pub no_run : (name : Text) (rows : List Row) → name ≡ codes "run" → ((run : Run) → SpellsRun rows run → ⊥) → SpellsNone (Some (name, rows))
 no_run name rows is never (command.Pipe pipe) h = other_letter name (codes "run") (codes "pipe") is h.0 (λ e. let no_way : 114 ≡ 112 = e in absurd (omega arith))
 no_run name rows is never (command.New new) h = other_letter name (codes "run") (codes "new") is h.0 (λ e. let no_way : 114 ≡ 110 = e in absurd (omega arith))

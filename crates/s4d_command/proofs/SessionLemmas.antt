@@ -72,7 +72,7 @@ pub cut_some : (text : Text) (r : Option (Bor Text × Bor Text)) → IsSplit tex
 cut_some text None split = tt
 cut_some text (Some x) split = cut_here text x.0.now x.1.now split.0 split.1 split.2
 
--- a word whose rest is not cut spells no session
+-- a word whose rest is not cut gives no session
 pub uncut_rest : (word front back : Text) → IsCut word front back → ((input output : Text) → IsCut back input output → ⊥)
     → (session : RunSession) → SpellsSession word session → ⊥
 uncut_rest word front back whole never session h =
@@ -100,7 +100,7 @@ sessions_more words i d sessions session lt each here =
     push (t ∷ ts) [] e = absurd e
     push (t ∷ ts) (s ∷ ss) e = (e.0, push ts ss e.1)
 
--- a word that spells no session
+-- a word that gives no session
 pub no_sessions : (words : List (Bor Text)) (i : ℕ) (d : Bor Text) → i < length words
     → ((session : RunSession) → SpellsSession (get_or words i d).now session → ⊥) → (sessions : List RunSession) → SpellsSessions (texts words) sessions → ⊥
 no_sessions words i d lt never sessions h = go words i lt never sessions h.each
@@ -111,7 +111,7 @@ no_sessions words i d lt never sessions h = go words i lt never sessions h.each
     go (w ∷ ws) zero lt no_one (s ∷ ss) e = no_one s e.0
     go (w ∷ ws) (suc k) lt no_one (s ∷ ss) e = go ws k (omega arith) no_one ss e.1
 
--- there are as many sessions as words that spell them
+-- there are as many sessions as words that give them
 pub as_many : (words : List (Bor Text)) (sessions : List RunSession) → AllZip SpellsSession (texts words) sessions → length sessions ≡ length words
 as_many words sessions each =
     let mapped : length (texts words) ≡ length words = simp length-map in AllZip-long SpellsSession (texts words) sessions each ∙ mapped

@@ -1,4 +1,4 @@
--- The program's command line in clap's own words, and which command the matches of a line spell.
+-- The program's command line in clap's own words, and which command the matches of a line encode.
 use Rattle.std.specs.Prelude.{◌≡◌, ◌≢◌, ◌≤◌, ◌<◌, ◌^◌, ◌↔◌, ℕ, List, [], ◌∷◌, ◌++◌, Option, Some, None, Result, IfOk, true, false, codes, All, length}
 use Rattle.std.specs.List.{AllZip}
 use Rattle.std.specs.Fmt.{decimal}
@@ -21,12 +21,12 @@ use Rattle.s4d_command.specs.declared.At.{At}
 use Rattle.s4d_command.specs.declared.sessions.RunSession.{RunSession}
 use Rattle.s4d_command.specs.declared.sessions.TheConstants.{MOST_SESSIONS}
 
--- `--name VALUE`, with the value that stands where it isn't given
+-- `--name VALUE`, with the value that is where it isn't given
 abbrev pub option_rule : Text → Text → Rule
 option_rule name default =
     record (new_rule name) { long = Some name; action = Some Set; defaults = default ∷ [] }
 
--- a word that stands for itself
+-- a word that represents itself
 abbrev pub operand_rule : Text → Rule
 operand_rule name = record (new_rule name) { action = Some Set }
 
@@ -34,7 +34,7 @@ operand_rule name = record (new_rule name) { action = Some Set }
 abbrev pub flag_rule : Text → Rule
 flag_rule name = record (new_rule name) { long = Some name; action = Some SetTrue }
 
--- words that stand for themselves, as many as come
+-- words that represent themselves, as many as come
 abbrev pub list_rule : Text → Rule
 list_rule name = record (new_rule name) { action = Some Append }
 
@@ -134,7 +134,7 @@ pub record SpellsSession (word : Text) (session : RunSession) : Type 0 where
   pub role : IsCut word (role_word session.role) rest
   pub files : IsCut rest session.input.now session.output.now
 
--- Each word spells a session, and there are 1 to 16 sessions.
+-- Each word encodes a session, and there are 1 to 16 sessions.
 pub record SpellsSessions (words : List Text) (sessions : List RunSession) : Type 0 where
   pub each : AllZip SpellsSession words sessions
   pub some : 1 ≤ length sessions
@@ -159,7 +159,7 @@ pub record SpellsAt (rows : List Row) (at : At) : Type 0 where
   pub object : IsNumber (one_of (codes "object") rows) at.object
   pub moment : IsNumber (one_of (codes "moment") rows) at.moment
 
--- The name and the matches of a subcommand spell the command.
+-- The name and the matches of a subcommand encode the command.
 abbrev pub Spells : Option (Text × List Row) → Command → Type 0
 Spells None c = ⊥
 Spells (Some named) (command.Pipe pipe) = (named.0 ≡ codes "pipe") × SpellsPipe named.1 pipe
@@ -168,6 +168,6 @@ Spells (Some named) (command.Verify verify) = (named.0 ≡ codes "verify") × Sp
 Spells (Some named) (command.Run run) = (named.0 ≡ codes "run") × SpellsRun named.1 run
 Spells (Some named) (command.At at) = (named.0 ≡ codes "at") × SpellsAt named.1 at
 
--- They spell none.
+-- They encode none.
 abbrev pub SpellsNone : Option (Text × List Row) → Type 0
 SpellsNone named = (c : Command) → Spells named c → ⊥

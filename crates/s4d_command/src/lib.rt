@@ -1,19 +1,21 @@
 //! What a line of words asks of the program, read with `clap`.
 //!
-//! The layer above may rely on this: a command that `command_of` gives has the numbers, texts and defaults
-//! of the matches that `clap` states for the words, and its numbers are in range; a line is refused only
-//! where `clap` refuses it or its matches spell no command, and want of memory is told apart. What a
-//! command does is said elsewhere.
+//! The layer above may rely on this: a command that `command_of` gives has the numbers, texts and
+//! defaults of the matches that `clap` states for the words, and its numbers are in range; a line
+//! is refused only where `clap` refuses it or its matches give no command, and lack of memory is
+//! told apart. What a command does is said elsewhere.
 #![tactic(auto)]
 
-ghost use Rattle.std.specs.Prelude.{◌≡◌, ◌≤◌, ◌↔◌, ℕ, IfOk, IfSome, IfNone, IsErrOf, IsTrue, Some, codes, map, true};
+ghost use Rattle.std.specs.Prelude.{◌≡◌, ◌≤◌, ◌↔◌, ℕ, IfOk, IfSome, IfNone, IsErrOf, IsTrue, Some};
+ghost use Rattle.std.specs.Prelude.{codes, map, true};
 ghost use Rattle.clap.specs.Walk.{all_of, first_of, one_of, rows_of, texts};
 ghost use Rattle.clap.specs.Takes.{takes};
 ghost use Rattle.clap.specs.Values.{kind_of};
 ghost use Rattle.clap.specs.Matches.{found_of};
 ghost use Rattle.clap.specs.Simple.{subcommand_of, subcommand_rows_of};
 ghost use Rattle.s4d_command.specs.CommandLine.{line, IsGiven, IsNumber, role_word};
-ghost use Rattle.s4d_command.specs.CommandLine.{Spells, SpellsNone, SpellsPipe, SpellsNew, SpellsVerify, SpellsRun, SpellsAt};
+ghost use Rattle.s4d_command.specs.CommandLine.{Spells, SpellsNone, SpellsPipe, SpellsNew};
+ghost use Rattle.s4d_command.specs.CommandLine.{SpellsVerify, SpellsRun, SpellsAt};
 
 mod line;
 mod sessions;
@@ -100,7 +102,7 @@ pub struct Pipe {
 /// Why a line of words gave no command.
 #[derive(Clone, Copy, Debug, PartialEq, Eq, Error)]
 pub enum CommandError {
-    /// The words spell no command.
+    /// The words give no command.
     #[error("usage")]
     Usage,
     /// A growth of memory was refused.
@@ -119,7 +121,7 @@ impl From<AllocError> for CommandError {
     }
 }
 
-/// The command that the words spell, the program's name first among them.
+/// The command that the words give, the program's name first among them.
 pub fn command_of<'a, S: AsStr>(alloc: Global, words: &'a [S]) -> Result<Command<'a>, CommandError>
     ensures spelled { IfOk result (Spells (subcommand_of line (map S.text words.entry.now))) }
     ensures usage { IsErrOf result CommandError.Usage → takes line (map S.text words.entry.now) ≡ true
@@ -144,7 +146,8 @@ fn refused(error: &clap::Error) -> CommandError
 
 fn command_in<'a>(alloc: Global, matches: &ArgMatches<'a>) -> Result<Command<'a>, CommandError>
     ensures spelled { IfOk result (Spells (subcommand_rows_of matches.now)) }
-    ensures usage { IsErrOf result CommandError.Usage → SpellsNone (subcommand_rows_of matches.now) }
+    ensures usage { IsErrOf result CommandError.Usage
+        → SpellsNone (subcommand_rows_of matches.now) }
 {
     match matches.subcommand() {
         Some((name, found)) => named_command(alloc, name, found),
@@ -158,7 +161,8 @@ fn named_command<'a>(
     found: &ArgMatches<'a>,
 ) -> Result<Command<'a>, CommandError>
     ensures spelled { IfOk result (Spells (Some (name.now, rows_of (found_of found.now)))) }
-    ensures usage { IsErrOf result CommandError.Usage → SpellsNone (Some (name.now, rows_of (found_of found.now))) }
+    ensures usage { IsErrOf result CommandError.Usage
+        → SpellsNone (Some (name.now, rows_of (found_of found.now))) }
 {
     match name {
         "pipe" => pipe_asked(found),
@@ -172,7 +176,8 @@ fn named_command<'a>(
 
 fn pipe_asked<'a>(found: &ArgMatches<'a>) -> Result<Command<'a>, CommandError>
     ensures spelled { IfOk result (Spells (Some (codes "pipe", rows_of (found_of found.now)))) }
-    ensures usage { IsErrOf result CommandError.Usage → SpellsNone (Some (codes "pipe", rows_of (found_of found.now))) }
+    ensures usage { IsErrOf result CommandError.Usage
+        → SpellsNone (Some (codes "pipe", rows_of (found_of found.now))) }
 {
     match pipe_in(found) {
         Some(pipe) => Ok(Command::Pipe(pipe)),
@@ -182,7 +187,8 @@ fn pipe_asked<'a>(found: &ArgMatches<'a>) -> Result<Command<'a>, CommandError>
 
 fn new_asked<'a>(found: &ArgMatches<'a>) -> Result<Command<'a>, CommandError>
     ensures spelled { IfOk result (Spells (Some (codes "new", rows_of (found_of found.now)))) }
-    ensures usage { IsErrOf result CommandError.Usage → SpellsNone (Some (codes "new", rows_of (found_of found.now))) }
+    ensures usage { IsErrOf result CommandError.Usage
+        → SpellsNone (Some (codes "new", rows_of (found_of found.now))) }
 {
     match new_in(found) {
         Some(new) => Ok(Command::New(new)),
@@ -192,7 +198,8 @@ fn new_asked<'a>(found: &ArgMatches<'a>) -> Result<Command<'a>, CommandError>
 
 fn verify_asked<'a>(found: &ArgMatches<'a>) -> Result<Command<'a>, CommandError>
     ensures spelled { IfOk result (Spells (Some (codes "verify", rows_of (found_of found.now)))) }
-    ensures usage { IsErrOf result CommandError.Usage → SpellsNone (Some (codes "verify", rows_of (found_of found.now))) }
+    ensures usage { IsErrOf result CommandError.Usage
+        → SpellsNone (Some (codes "verify", rows_of (found_of found.now))) }
 {
     match verify_in(found) {
         Some(verify) => Ok(Command::Verify(verify)),
@@ -202,7 +209,8 @@ fn verify_asked<'a>(found: &ArgMatches<'a>) -> Result<Command<'a>, CommandError>
 
 fn at_asked<'a>(found: &ArgMatches<'a>) -> Result<Command<'a>, CommandError>
     ensures spelled { IfOk result (Spells (Some (codes "at", rows_of (found_of found.now)))) }
-    ensures usage { IsErrOf result CommandError.Usage → SpellsNone (Some (codes "at", rows_of (found_of found.now))) }
+    ensures usage { IsErrOf result CommandError.Usage
+        → SpellsNone (Some (codes "at", rows_of (found_of found.now))) }
 {
     match at_in(found) {
         Some(at) => Ok(Command::At(at)),
@@ -212,7 +220,8 @@ fn at_asked<'a>(found: &ArgMatches<'a>) -> Result<Command<'a>, CommandError>
 
 fn run_asked<'a>(alloc: Global, found: &ArgMatches<'a>) -> Result<Command<'a>, CommandError>
     ensures spelled { IfOk result (Spells (Some (codes "run", rows_of (found_of found.now)))) }
-    ensures usage { IsErrOf result CommandError.Usage → SpellsNone (Some (codes "run", rows_of (found_of found.now))) }
+    ensures usage { IsErrOf result CommandError.Usage
+        → SpellsNone (Some (codes "run", rows_of (found_of found.now))) }
 {
     match run_in(alloc, found) {
         Ok(run) => Ok(Command::Run(run)),
@@ -221,7 +230,8 @@ fn run_asked<'a>(alloc: Global, found: &ArgMatches<'a>) -> Result<Command<'a>, C
 }
 
 fn pipe_in(matches: &ArgMatches<'_>) -> Option<Pipe>
-    ensures none { IfNone result ((pipe : _) → SpellsPipe (rows_of (found_of matches.now)) pipe → ⊥) }
+    ensures none { IfNone result
+        ((pipe : _) → SpellsPipe (rows_of (found_of matches.now)) pipe → ⊥) }
     ensures some { IfSome result (SpellsPipe (rows_of (found_of matches.now))) }
 {
     Some(Pipe {
@@ -245,7 +255,8 @@ fn new_in<'a>(matches: &ArgMatches<'a>) -> Option<New<'a>>
 }
 
 fn verify_in<'a>(matches: &ArgMatches<'a>) -> Option<Verify<'a>>
-    ensures none { IfNone result ((verify : _) → SpellsVerify (rows_of (found_of matches.now)) verify → ⊥) }
+    ensures none { IfNone result
+        ((verify : _) → SpellsVerify (rows_of (found_of matches.now)) verify → ⊥) }
     ensures some { IfSome result (SpellsVerify (rows_of (found_of matches.now))) }
 {
     Some(Verify {
@@ -266,7 +277,8 @@ fn at_in<'a>(matches: &ArgMatches<'a>) -> Option<At<'a>>
 
 fn run_in<'a>(alloc: Global, matches: &ArgMatches<'a>) -> Result<Run<'a>, CommandError>
     ensures spelled { IfOk result (SpellsRun (rows_of (found_of matches.now))) }
-    ensures usage { IsErrOf result CommandError.Usage → (run : _) → SpellsRun (rows_of (found_of matches.now)) run → ⊥ }
+    ensures usage { IsErrOf result CommandError.Usage → (run : _)
+        → SpellsRun (rows_of (found_of matches.now)) run → ⊥ }
 {
     let image = text_in(matches, "image").ok_or(CommandError::Usage)?;
     let tick = number(matches, "tick").ok_or(CommandError::Usage)?;
@@ -283,7 +295,8 @@ fn run_in<'a>(alloc: Global, matches: &ArgMatches<'a>) -> Result<Run<'a>, Comman
 fn frame_count(matches: &ArgMatches<'_>) -> Option<u64>
     ensures none { IfNone result ((n : ℕ) → IsNumber (one_of (codes "frames") (rows_of (found_of matches.now))) n
         → FEWEST_FRAMES ≤ n → n ≤ MOST_FRAMES → ⊥) }
-    ensures some { IfSome result (IsNumber (one_of (codes "frames") (rows_of (found_of matches.now)))) }
+    ensures some { IfSome result
+        (IsNumber (one_of (codes "frames") (rows_of (found_of matches.now)))) }
     ensures fewest { IfSome result (λ n. FEWEST_FRAMES ≤ n) }
     ensures most { IfSome result (λ n. n ≤ MOST_FRAMES) }
 {
@@ -295,15 +308,19 @@ fn frame_count(matches: &ArgMatches<'_>) -> Option<u64>
 }
 
 fn text_in<'a>(matches: &ArgMatches<'a>, id: &str) -> Option<&'a str>
-    ensures none { IfNone result ((text : _) → first_of id.now (rows_of (found_of matches.now)) ≡ Some text → ⊥) }
-    ensures some { IfSome result (λ text. first_of id.now (rows_of (found_of matches.now)) ≡ Some text.now) }
+    ensures none { IfNone result
+        ((text : _) → first_of id.now (rows_of (found_of matches.now)) ≡ Some text → ⊥) }
+    ensures some { IfSome result
+        (λ text. first_of id.now (rows_of (found_of matches.now)) ≡ Some text.now) }
 {
     matches.get_str(id)
 }
 
 fn texts_in<'b, 'a>(matches: &'b ArgMatches<'a>, id: &str) -> Option<&'b [&'a str]>
-    ensures none { IfNone result ((words : _) → all_of id.now (rows_of (found_of matches.entry.now)) ≡ Some words → ⊥) }
-    ensures some { IfSome result (λ words. all_of id.now (rows_of (found_of matches.entry.now)) ≡ Some (texts words.now)) }
+    ensures none { IfNone result
+        ((words : _) → all_of id.now (rows_of (found_of matches.entry.now)) ≡ Some words → ⊥) }
+    ensures some { IfSome result
+        (λ words. all_of id.now (rows_of (found_of matches.entry.now)) ≡ Some (texts words.now)) }
 {
     matches.get_strs(id)
 }

@@ -5,7 +5,8 @@ ghost use Rattle.s4_types.specs.declared.limits.TheConstants.{DEFAULT_FRAMES};
 ghost use Rattle.clap.specs.declared.builder.command.Command.TheViews.{out-Command as fields_of};
 ghost use Rattle.clap.specs.Walk.{rule_of};
 ghost use Rattle.clap.specs.Simple.{App, app_of, new_app, with_rule, with_subcommand};
-ghost use Rattle.s4d_command.specs.CommandLine.{line, program, pipe_line, new_line, verify_line, run_line, at_line, IsLine};
+ghost use Rattle.s4d_command.specs.CommandLine.{line, program, pipe_line, new_line, verify_line};
+ghost use Rattle.s4d_command.specs.CommandLine.{run_line, at_line, IsLine};
 ghost use Rattle.s4d_command.specs.CommandLine.{option_rule, flag_rule, operand_rule, list_rule};
 
 use clap::{Arg, ArgAction, Command};
@@ -49,7 +50,8 @@ fn with_option<'a>(
     name: &'a str,
     default: &'a str,
 ) -> Result<Command<'a>, AllocError>
-    ensures { (app : App) → IsLine command.entry app → IsLine result (with_rule app (option_rule name.entry.now default.entry.now)) }
+    ensures { (app : App) → IsLine command.entry app
+        → IsLine result (with_rule app (option_rule name.entry.now default.entry.now)) }
 {
     command?.arg(option_of(alloc, name, default))
 }
@@ -60,7 +62,8 @@ fn with_operand<'a>(
     command: Result<Command<'a>, AllocError>,
     name: &'a str,
 ) -> Result<Command<'a>, AllocError>
-    ensures { (app : App) → IsLine command.entry app → IsLine result (with_rule app (operand_rule name.entry.now)) }
+    ensures { (app : App) → IsLine command.entry app
+        → IsLine result (with_rule app (operand_rule name.entry.now)) }
 {
     command?.arg(operand_of(alloc, name))
 }
@@ -71,7 +74,8 @@ fn with_flag<'a>(
     command: Result<Command<'a>, AllocError>,
     name: &'a str,
 ) -> Result<Command<'a>, AllocError>
-    ensures { (app : App) → IsLine command.entry app → IsLine result (with_rule app (flag_rule name.entry.now)) }
+    ensures { (app : App) → IsLine command.entry app
+        → IsLine result (with_rule app (flag_rule name.entry.now)) }
 {
     command?.arg(flag_of(alloc, name))
 }
@@ -82,7 +86,8 @@ fn with_list<'a>(
     command: Result<Command<'a>, AllocError>,
     name: &'a str,
 ) -> Result<Command<'a>, AllocError>
-    ensures { (app : App) → IsLine command.entry app → IsLine result (with_rule app (list_rule name.entry.now)) }
+    ensures { (app : App) → IsLine command.entry app
+        → IsLine result (with_rule app (list_rule name.entry.now)) }
 {
     command?.arg(list_of(alloc, name))
 }

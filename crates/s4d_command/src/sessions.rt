@@ -26,7 +26,8 @@ pub(crate) fn sessions_in<'a>(
     words: &[&'a str],
 ) -> Result<Vec<RunSession<'a>>, CommandError>
     ensures spelled { IfOk result (λ sessions. SpellsSessions (texts words.now) sessions.items) }
-    ensures usage { IsErrOf result CommandError.Usage → (sessions : _) → SpellsSessions (texts words.now) sessions → ⊥ }
+    ensures usage { IsErrOf result CommandError.Usage → (sessions : _)
+        → SpellsSessions (texts words.now) sessions → ⊥ }
 {
     if words.is_empty() || words.len() > MOST_SESSIONS {
         return Err(CommandError::Usage);

@@ -76,7 +76,7 @@ best_without t f (Some b) before none = record {
   ];
 }
 
--- so does one of which so many blocks are held that it doesn't come before the best
+-- so does one of which this many blocks are held that it doesn't come before the best
 pub best_stays : (t : Table) (f n : ℕ) (best : Option Survey) → IsBestBelow t f best → n ≡ held_count t f
     → IfNone best (false ≡ nat_le n 7) → IfSome best (λ b. false ≡ nat_lt n b.count) → IsBestBelow t (f + 1) best
 best_stays t f n None before its first fewer = best_without t f None before

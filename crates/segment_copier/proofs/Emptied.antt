@@ -44,7 +44,7 @@ sparse_inside t f sparse outside =
 
 -- ---- what emptying takes
 
--- what is held where the loop has come, and what is behind it
+-- what is held where the loop has come, and what comes after it
 next_block : (d : DriveFields) (f n last : ℕ) → n < 15 → most_to_move d last (drop n (whole_of d.store.table f))
     ≡ added_at d.store.rows last (held_at d.store.table (block_at d.store.table f (n + 1))) + most_to_move d (last_at last (held_at d.store.table (block_at d.store.table f (n + 1)))) (drop (n + 1) (whole_of d.store.table f))
 next_block d f n last h =

@@ -104,7 +104,7 @@ from_lower low high (c ∷ copies) h e =
     let above : high ≤ c.place.block = leb-true _ _ parts.0 in
     both_true _ _ (le-leb low c.place.block (omega arith)) parts.1
 
--- one more place, and those behind it
+-- one more place, and those after it
 one_first : (p : Place) (copies : List CopiedBlock) (behind : List Place) (b : ℕ) → p.block ≡ b
     → ((later : List CopiedBlock) → map (λ c. c.place) later ≡ behind → blocks_ascend_from (b + 1) later ≡ true)
     → map (λ c. c.place) copies ≡ p ∷ behind → blocks_ascend_from b copies ≡ true

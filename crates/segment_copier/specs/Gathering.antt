@@ -77,7 +77,7 @@ pub record LacksRoom (d : DriveFields) (f o : ℕ) : Type 0 where
   pub there : row_of d.store.rows o ≡ Some row
   pub short : length (store_of d).log.ahead < blocks_moved d f o row
 
--- Why a whole move of an object that has a row isn't made: NoRoom where fewer places are ahead than it takes, else want of memory or of a
+-- Why a whole move of an object that has a row isn't made: NoRoom where fewer places are ahead than it takes, else lack of memory or of a
 -- pin.
 abbrev pub IsKeptBack : DriveFields → ℕ → ℕ → Refusal → Type 0
 IsKeptBack d f o e = ((e ≡ NoRoom) × LacksRoom d f o) ⊎ ((e ≡ NoMemory) ⊎ (e ≡ Busy))
@@ -108,7 +108,7 @@ abbrev pub GathersNothing : DriveFields → Type 0
 GathersNothing d = (MOVE_BLOCKS ≤ room (store_of d)) ⊎ (NoneIsSparse d.store.table ⊎ ((free_count d.store.table ≡ 0) ⊎ TakesMany d))
 
 -- Of the frame that the copier would choose, which may be emptied by fewer blocks than it has, the least object that holds a block there
--- stays for now: Busy for want of a pin, NoRoom where fewer places are ahead than its move takes.
+-- stays for now: Busy for lack of a pin, NoRoom where fewer places are ahead than its move takes.
 pub record KeepsBack (d : DriveFields) (e : Refusal) : Type 0 where
   pub next : Candidate
   pub frame : IsFirstFrame d.store.table next.frame

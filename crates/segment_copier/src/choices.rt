@@ -1,5 +1,6 @@
 //! The copier's choice of its next move.
-ghost use Rattle.std.specs.Prelude.{◌≡◌, ◌⊎◌, ◌+◌, ◌<◌, min, nat_lt, nat_le, IfSome, IfNone, IfOk, IfErr};
+ghost use Rattle.std.specs.Prelude.{◌≡◌, ◌⊎◌, ◌+◌, ◌<◌, min, nat_lt, nat_le, IfSome, IfNone, IfOk};
+ghost use Rattle.std.specs.Prelude.{IfErr};
 ghost use Rattle.s4_types.specs.declared.limits.TheConstants.{MOVE_BLOCKS};
 ghost use Rattle.s4_types.specs.declared.refusals.Refusal.TheVariants.{NoMemory};
 ghost use Rattle.segment_word.specs.Frames.{is_sealed};
@@ -7,7 +8,8 @@ ghost use Rattle.segment_word.specs.Layout.{frame_at};
 ghost use Rattle.version_store.specs.Costs.{room};
 ghost use Rattle.drive.specs.Fields.{store_of};
 ghost use Rattle.segment_copier.specs.declared.choices.TheConstants.{MOST_HELD};
-ghost use Rattle.segment_copier.specs.Choosing.{HasRoom, IsSparse, IsFirstFrame, IsLowestObject, NoneIsSparse};
+ghost use Rattle.segment_copier.specs.Choosing.{HasRoom, IsSparse, IsFirstFrame, IsLowestObject};
+ghost use Rattle.segment_copier.specs.Choosing.{NoneIsSparse};
 ghost use Rattle.segment_copier.specs.private.Surveying.{IsLowestIn, IsBestBelow};
 
 use crate::candidates::Candidate;
@@ -18,10 +20,12 @@ use segment_table::OverFrames;
 use segment_table::laws::what_is_listed_is_held;
 use segment_word::Naming;
 
-/// Held blocks of a frame that a move is made out of, at most: fewer than half of its payload blocks. Chosen.
+/// Held blocks of a frame that a move is made out of, at most: fewer than half of its payload
+/// blocks. Chosen.
 pub const MOST_HELD: usize = 7;
 
-/// A frame, how many blocks of it are held, at least one, and the least object that one of them is of.
+/// A frame, how many blocks of it are held, at least one, and the least object that one of them is
+/// of.
 #[derive(Clone, Copy)]
 pub(crate) struct Survey {
     frame: u16,
@@ -40,8 +44,8 @@ fn with_block(lowest: Option<ObjectId>, object: ObjectId) -> ObjectId
     }
 }
 
-// The least object that a held block of a frame is of, whatever its phase. None where nothing is held, or the frame isn't there or is
-// used no more.
+// The least object that a held block of a frame is of, whatever its phase. None where nothing is
+// held, or the frame isn't there or is used no more.
 fn lowest_in<J: Naming>(drive: &mut Drive<J>, frame: u16) -> Option<ObjectId>
     ensures some { IfSome result (IsLowestIn drive.old.store.table frame) }
     ensures none { IfNone result (IsSparse drive.old.store.table frame → ⊥) }
@@ -58,8 +62,8 @@ fn lowest_in<J: Naming>(drive: &mut Drive<J>, frame: u16) -> Option<ObjectId>
     lowest
 }
 
-// Whether a frame of which so many blocks are held, at least one, comes before the best of the frames with lower numbers, if it is
-// sealed.
+// Whether a frame of which this many blocks are held, at least one, comes before the best of the
+// frames with lower numbers, if it is sealed.
 fn is_better(count: usize, best: &Option<Survey>) -> bool
     ensures first { IfNone best.now (result ≡ nat_le count MOST_HELD) }
     ensures fewer { IfSome best.now (λ b. result ≡ nat_lt count b.count) }
@@ -77,7 +81,8 @@ fn is_sealed_with<J: Naming>(
     lowest: ObjectId,
 ) -> Result<bool, Refusal>
     requires { IsLowestIn drive.old.store.table frame lowest }
-    ensures sealed { IfOk result (λ sealed. sealed ≡ is_sealed (frame_at drive.old.store.table.seat.frames frame).phase) }
+    ensures sealed { IfOk result
+        (λ sealed. sealed ≡ is_sealed (frame_at drive.old.store.table.seat.frames frame).phase) }
     ensures refusal { IfErr result (λ e. e ≡ NoMemory) }
     ensures same { drive.new ≡ drive.old }
 {
@@ -86,8 +91,8 @@ fn is_sealed_with<J: Naming>(
     Ok(!held.is_empty())
 }
 
-// The best of the frames up to this one, where the best below it is known. By the count that is kept of a frame most are passed over,
-// and none of their blocks is looked at.
+// The best of the frames up to this one, where the best below it is known. By the count that is
+// kept of a frame most are passed over, and none of their blocks is looked at.
 fn best_with<J: Naming>(
     drive: &mut Drive<J>,
     best: Option<Survey>,
@@ -115,15 +120,18 @@ fn best_with<J: Naming>(
     Ok(best)
 }
 
-/// Whatever room there is: out of the sealed frame with the fewest held blocks, from 1 to 7, and with the lowest number on a tie,
-/// goes the least object that holds a block there. None exactly where there is no such frame. The drive is as before, whatever is
-/// answered. It looks at the count of held blocks that is kept of each frame, and at the blocks only of a frame that is better than
-/// the best so far, at these twice. It keeps no list of objects.
+/// Whatever room there is: out of the sealed frame with the fewest held blocks, from 1 to 7, and
+/// with the lowest number on a tie, goes the least object that holds a block there. None exactly
+/// where there is no such frame. The drive is as before, whatever is answered. It looks at the
+/// count of held blocks that is kept of each frame, and at the blocks only of a frame that is
+/// better than the best so far, at these twice. It keeps no list of objects.
 ///
 /// NoMemory alone, where the memory for the pointers into one frame is refused.
 pub(crate) fn sparsest<J: Naming>(drive: &mut Drive<J>) -> Result<Option<Candidate>, Refusal>
-    ensures frame { IfOk result (λ found. IfSome found (λ c. IsFirstFrame drive.old.store.table c.frame)) }
-    ensures object { IfOk result (λ found. IfSome found (λ c. IsLowestObject drive.old.store.table c.frame c.object)) }
+    ensures frame { IfOk result
+        (λ found. IfSome found (λ c. IsFirstFrame drive.old.store.table c.frame)) }
+    ensures object { IfOk result
+        (λ found. IfSome found (λ c. IsLowestObject drive.old.store.table c.frame c.object)) }
     ensures none { IfOk result (λ found. IfNone found (NoneIsSparse drive.old.store.table)) }
     ensures refusal { IfErr result (λ e. e ≡ NoMemory) }
     ensures same { drive.new ≡ drive.old }
@@ -143,16 +151,21 @@ pub(crate) fn sparsest<J: Naming>(drive: &mut Drive<J>) -> Result<Option<Candida
     }))
 }
 
-/// The copier's choice of its next move: out of the sealed frame with the fewest held blocks, from 1 to 7, and with the lowest
-/// number on a tie, goes the least object that holds a block there. None exactly where there is room for fewer than `MOVE_BLOCKS`
-/// beside the reserve, or no such frame. The drive is as before, whatever is answered.
+/// The copier's choice of its next move: out of the sealed frame with the fewest held blocks, from
+/// 1 to 7, and with the lowest number on a tie, goes the least object that holds a block there.
+/// None exactly where there is room for fewer than `MOVE_BLOCKS` beside the reserve, or no such
+/// frame. The drive is as before, whatever is answered.
 ///
 /// NoMemory alone, where the memory for the pointers into one frame is refused.
 pub fn candidate<J: Naming>(drive: &mut Drive<J>) -> Result<Option<Candidate>, Refusal>
     ensures room { IfOk result (λ found. IfSome found (λ _. HasRoom drive.old)) }
-    ensures frame { IfOk result (λ found. IfSome found (λ c. IsFirstFrame drive.old.store.table c.frame)) }
-    ensures object { IfOk result (λ found. IfSome found (λ c. IsLowestObject drive.old.store.table c.frame c.object)) }
-    ensures none { IfOk result (λ found. IfNone found ((room (store_of drive.old) < MOVE_BLOCKS) ⊎ NoneIsSparse drive.old.store.table)) }
+    ensures frame { IfOk result
+        (λ found. IfSome found (λ c. IsFirstFrame drive.old.store.table c.frame)) }
+    ensures object { IfOk result
+        (λ found. IfSome found (λ c. IsLowestObject drive.old.store.table c.frame c.object)) }
+    ensures none { IfOk result
+        (λ found. IfNone found
+        ((room (store_of drive.old) < MOVE_BLOCKS) ⊎ NoneIsSparse drive.old.store.table)) }
     ensures refusal { IfErr result (λ e. e ≡ NoMemory) }
     ensures same { drive.new ≡ drive.old }
 {

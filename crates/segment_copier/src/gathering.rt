@@ -1,11 +1,15 @@
-//! Gathering: where there is too little room for the copier's moves, a frame that holds little is emptied within the reserve.
-ghost use Rattle.std.specs.Prelude.{◌≡◌, ◌+◌, ◌≤◌, OnOk, OnErr, IfOk, IfErr, IfSome, IfNone, nat_lt};
+//! Gathering: where there is too little room for the copier's moves, a frame that holds little is
+//! emptied within the reserve.
+ghost use Rattle.std.specs.Prelude.{◌≡◌, ◌+◌, ◌≤◌, OnOk, OnErr, IfOk, IfErr, IfSome, IfNone};
+ghost use Rattle.std.specs.Prelude.{nat_lt};
 ghost use Rattle.s4_types.specs.declared.limits.TheConstants.{PAYLOAD_BLOCKS};
 ghost use Rattle.object_map.specs.Rows.{row_of};
 ghost use Rattle.drive.specs.Fields.{state_in, store_of};
 ghost use Rattle.drive.specs.Keeping.{KeepsVersions};
 ghost use Rattle.segment_copier.specs.Choosing.{IsSparse};
-ghost use Rattle.segment_copier.specs.Gathering.{free_count, most_journal, most_rewritten, blocks_added, most_to_empty, MovesNow, IsUnmade, IsGathered, GathersNothing, FailsToGather};
+ghost use Rattle.segment_copier.specs.Gathering.{free_count, most_journal, most_rewritten};
+ghost use Rattle.segment_copier.specs.Gathering.{blocks_added, most_to_empty, MovesNow, IsUnmade};
+ghost use Rattle.segment_copier.specs.Gathering.{IsGathered, GathersNothing, FailsToGather};
 
 use crate::candidates::Candidate;
 use crate::choices::sparsest;
@@ -34,8 +38,8 @@ pub fn free_frames<J: Naming>(drive: &mut Drive<J>) -> u16
     count
 }
 
-/// How many blocks a journal has at most, by the bytes of its entries and of those in its newest block: of two neighbouring blocks the
-/// entries have more bytes together than one block holds.
+/// How many blocks a journal has at most, by the bytes of its entries and of those in its newest
+/// block: of two neighbouring blocks the entries have more bytes together than one block holds.
 fn most_in_journal(bytes: u16, in_newest: u16) -> usize
     ensures most { result ≡ most_journal bytes in_newest }
     ensures few { result ≤ 300 }
@@ -64,14 +68,16 @@ fn most_of_row<J: Naming>(drive: &Drive<J>, object: ObjectId) -> usize
     }
 }
 
-/// How many blocks it may take to move the blocks of a frame that were looked at, and the object of the last one that is held.
+/// How many blocks it may take to move the blocks of a frame that were looked at, and the object of
+/// the last one that is held.
 #[derive(Clone, Copy)]
 struct Counted {
     count: usize,
     last: ObjectId,
 }
 
-/// How many blocks it may take more, where the next held block is of this object, and the one before it of the last one.
+/// How many blocks it may take more, where the next held block is of this object, and the one
+/// before it of the last one.
 fn added_by<J: Naming>(drive: &Drive<J>, last: ObjectId, object: ObjectId) -> usize
     ensures added { result ≡ blocks_added drive.now.store.rows last object }
     ensures few { result ≤ 302 }
@@ -85,7 +91,8 @@ fn added_by<J: Naming>(drive: &Drive<J>, last: ObjectId, object: ObjectId) -> us
 /// With one held block more, which is of this object.
 fn with_held<J: Naming>(drive: &Drive<J>, so_far: Counted, object: ObjectId) -> Counted
     requires few { so_far.count ≤ 5000 }
-    ensures count { result.count ≡ so_far.count + blocks_added drive.now.store.rows so_far.last object }
+    ensures count { result.count
+        ≡ so_far.count + blocks_added drive.now.store.rows so_far.last object }
     ensures last { result.last ≡ object }
     ensures few { result.count ≤ so_far.count + 302 }
 {
@@ -95,8 +102,8 @@ fn with_held<J: Naming>(drive: &Drive<J>, so_far: Counted, object: ObjectId) -> 
     }
 }
 
-/// Whether a frame that a move can be made out of is emptied by fewer blocks than it has. An object whose blocks there aren't
-/// neighbours counts more than once.
+/// Whether a frame that a move can be made out of is emptied by fewer blocks than it has. An object
+/// whose blocks there aren't neighbours counts more than once.
 fn takes_few<J: Naming>(drive: &mut Drive<J>, frame: u16) -> bool
     requires sparse { IsSparse drive.old.store.table frame }
     ensures few { result ≡ nat_lt (most_to_empty drive.old frame) PAYLOAD_BLOCKS }
@@ -120,10 +127,12 @@ fn takes_few<J: Naming>(drive: &mut Drive<J>, frame: u16) -> bool
     so_far.count < PAYLOAD_BLOCKS
 }
 
-/// A whole move of an object's held blocks out of a frame, planned, copied and put in place before anything else is done with the drive.
+/// A whole move of an object's held blocks out of a frame, planned, copied and put in place before
+/// anything else is done with the drive.
 ///
-/// NoObject exactly where the object has no row; else NoRoom where fewer places are ahead than the move takes, NoMemory where memory is
-/// refused, and Busy where no pin is to be had. Nothing has changed then.
+/// NoObject exactly where the object has no row; else NoRoom where fewer places are ahead than the
+/// move takes, NoMemory where memory is refused, and Busy where no pin is to be had. Nothing has
+/// changed then.
 pub fn move_now<J: Naming>(
     alloc: Global,
     drive: &mut Drive<J>,
@@ -142,16 +151,18 @@ pub fn move_now<J: Naming>(
     commit(alloc, drive, moved)
 }
 
-/// One step of gathering, where there is too little room for the copier's moves: out of the frame that the copier would choose goes the
-/// object that it would, with blocks of the reserve. None exactly where the copier has room, where no frame is sparse or none is free,
-/// or where emptying the frame may take as many blocks as it has: then nothing has changed. So what is gathered leaves the cleaner more
-/// of the reserve than it had, once the frame is free.
+/// One step of gathering, where there is too little room for the copier's moves: out of the frame
+/// that the copier would choose goes the object that it would, with blocks of the reserve. None
+/// exactly where the copier has room, where no frame is sparse or none is free, or where emptying
+/// the frame may take as many blocks as it has: then nothing has changed. So what is gathered
+/// leaves the cleaner more of the reserve than it had, once the frame is free.
 ///
 /// The history and every version that can be read stay, whatever is answered.
 ///
-/// Refused only where there is too little room for the copier's moves: NoMemory where memory is refused, for the choice or for the move;
-/// Busy where no pin of the chosen frame is to be had, and NoRoom where fewer places are ahead than the move takes, as where each free
-/// frame is retired. Nothing has changed then.
+/// Refused only where there is too little room for the copier's moves: NoMemory where memory is
+/// refused, for the choice or for the move; Busy where no pin of the chosen frame is to be had, and
+/// NoRoom where fewer places are ahead than the move takes, as where each free frame is retired.
+/// Nothing has changed then.
 pub fn gather<J: Naming>(
     alloc: Global,
     drive: &mut Drive<J>,

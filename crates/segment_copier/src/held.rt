@@ -21,7 +21,7 @@ fn is_of_data(role: &BlockRole) -> bool
     matches!(role.kind, BlockKind::Data)
 }
 
-/// Whether a pointer leads to a held data block.
+/// Whether a pointer refers to a held data block.
 fn leads_to_data<J: Naming>(drive: &mut Drive<J>, place: Ptr) -> bool
     ensures found { result ≡ is_data (held_at drive.old.store.table place) }
     ensures same { drive.new ≡ drive.old }
@@ -38,7 +38,9 @@ pub(crate) fn data_among<J: Naming>(
     drive: &mut Drive<J>,
     pointers: &[Ptr],
 ) -> Result<Vec<Ptr>, Refusal>
-    ensures found { IfOk result (λ places. places.items ≡ filter (λ p. is_data (held_at drive.old.store.table p)) pointers.now) }
+    ensures found { IfOk result
+        (λ places. places.items
+        ≡ filter (λ p. is_data (held_at drive.old.store.table p)) pointers.now) }
     ensures refusal { IfErr result (λ e. e ≡ NoMemory) }
     ensures same { drive.new ≡ drive.old }
 {

@@ -1,11 +1,13 @@
 //! The segment copier: the held blocks of one object leave one sealed frame, in three steps.
 //!
-//! The layers above may rely on this: [`plan_move`] notes what there is to move and pins the frame, [`MovePlan::copy`] reads
-//! the object's data blocks there without the drive, whatever other threads do meanwhile, and [`commit`] puts copies in place,
-//! where the object wasn't changed since. History and every version stay at every moment, whatever they answer; after Ok of a move
-//! that isn't empty the object holds no block in the frame. [`Copier`] is these three for a run of interleaved steps. Which object
-//! leaves which frame is the caller's choice, and [`candidate`] makes it. [`move_now`] takes the three steps at once, and [`gather`] does so
-//! within the reserve, where there is no room for the copier's moves.
+//! The layers above may rely on this: [`plan_move`] notes what there is to move and pins the frame,
+//! [`MovePlan::copy`] reads the object's data blocks there without the drive, whatever other
+//! threads do meanwhile, and [`commit`] puts copies in place, where the object wasn't changed
+//! since. History and every version stay at every moment, whatever they answer; after Ok of a move
+//! that isn't empty the object holds no block in the frame. [`Copier`] is these three for a run of
+//! interleaved steps. Which object leaves which frame is the caller's choice, and [`candidate`]
+//! makes it. [`move_now`] takes the three steps at once, and [`gather`] does so within the reserve,
+//! where there is no room for the copier's moves.
 #![tactic(auto)]
 
 mod candidates;

@@ -1,5 +1,6 @@
 //! Moves that are planned, and their copies.
-ghost use Rattle.std.specs.Prelude.{◌≡◌, ◌⊎◌, ℕ, ◌<◌, false, true, is_none, IfOk, IfErr, MatchResult};
+ghost use Rattle.std.specs.Prelude.{◌≡◌, ◌⊎◌, ℕ, ◌<◌, false, true, is_none, IfOk, IfErr};
+ghost use Rattle.std.specs.Prelude.{MatchResult};
 ghost use Rattle.std.specs.List.{AllByRecursion};
 ghost use Rattle.s4_types.specs.declared.refusals.Refusal.TheVariants.{NoMemory};
 ghost use Rattle.segment_word.specs.Counting.{pins_in};
@@ -19,8 +20,8 @@ use std::alloc::Global;
 use std::marker::{Model, PhantomData};
 use version_store::CopiedBlock;
 
-/// A move of an object's held blocks out of a frame of the drive that `J` names. While it lives, the frame keeps its generation and
-/// its contents, where there is something to move.
+/// A move of an object's held blocks out of a frame of the drive that `J` names. While it lives,
+/// the frame keeps its generation and its contents, where there is something to move.
 #[derive(Drop)]
 pub struct MovePlan<J: Naming> {
     frame: u16,
@@ -72,7 +73,8 @@ impl<J: Naming> Model for Moved<J> {
 
 // Copies the blocks at these places of a frame that the pin counts on.
 fn copies_by(alloc: Global, pin: &mut Pin, places: &[Ptr]) -> Result<Vec<CopiedBlock>, Refusal>
-    requires inside { AllByRecursion (λ p. (0 < pins_in p.frame pin.old.pins) × (p.block < 16)) places.now }
+    requires inside { AllByRecursion (λ p. (0 < pins_in p.frame pin.old.pins) × (p.block < 16))
+        places.now }
     ensures copies { IfOk result (λ copies. copies.items ≡ copies_of pin.old.pins places.now) }
     ensures refusal { IfErr result (λ e. e ≡ NoMemory) }
     ensures same { pin.new ≡ pin.old }
@@ -89,13 +91,15 @@ fn copies_by(alloc: Global, pin: &mut Pin, places: &[Ptr]) -> Result<Vec<CopiedB
 }
 
 impl<J: Naming> MovePlan<J> {
-    /// Copies the object's data blocks in the frame, as they were when the move was planned, without the drive and without a
-    /// lock. The pin ends with this call; what it counted on is remembered.
+    /// Copies the object's data blocks in the frame, as they were when the move was planned,
+    /// without the drive and without a lock. The pin ends with this call; what it counted on is
+    /// remembered.
     ///
     /// NoMemory alone, where the memory for the copies is refused; it is asked for once.
     pub fn copy(self, alloc: Global) -> Result<Moved<J>, Refusal>
         ensures what { IfOk result (λ moved. moved.what ≡ self.what) }
-        ensures copies { IfOk result (λ moved. moved.copies ≡ copies_of (pins_held self.pin) self.places) }
+        ensures copies { IfOk result
+            (λ moved. moved.copies ≡ copies_of (pins_held self.pin) self.places) }
         ensures memory { IfOk result (λ moved. moved.memory ≡ memory_of self.pin) }
         ensures refusal { IfErr result (λ e. e ≡ NoMemory) }
     {
@@ -130,14 +134,16 @@ impl<J: Naming> MovePlan<J> {
     }
 }
 
-/// Plans the move of an object's held blocks out of a frame: notes the stamp of the object's row and where its data blocks are
-/// there, and pins the frame, also where the object has no data block in it. The plan is empty, and pins nothing, exactly
-/// where the frame isn't sealed, or isn't there, or has no held block of the object. Drive and session are as before, whatever is
+/// Plans the move of an object's held blocks out of a frame: notes the stamp of the object's row
+/// and where its data blocks are there, and pins the frame, also where the object has no data block
+/// in it. The plan is empty, and pins nothing, exactly where the frame isn't sealed, or isn't
+/// there, or has no held block of the object. Drive and session are as before, whatever is
 /// answered.
 ///
-/// NoObject exactly where the object has no row; else NoMemory where memory is refused, and Busy where all seats of pins are in
-/// use, the count of those that share the frames is full, the frame has `MOST_READERS`, or other threads changed its word
-/// between load and exchange `PIN_TRIES` times.
+/// NoObject exactly where the object has no row; else NoMemory where memory is refused, and Busy
+/// where all seats of pins are in use, the count of those that share the frames is full, the frame
+/// has `MOST_READERS`, or other threads changed its word between load and exchange `PIN_TRIES`
+/// times.
 pub fn plan_move<J: Naming>(
     alloc: Global,
     drive: &mut Drive<J>,
@@ -145,9 +151,13 @@ pub fn plan_move<J: Naming>(
     frame: u16,
     object: ObjectId,
 ) -> Result<MovePlan<J>, Refusal>
-    ensures told { MatchResult result (λ plan. IsMoveOf drive.old frame object plan.what) (IsUnplanned drive.old object) }
-    ensures places { IfOk result (λ plan. plan.places ≡ data_in drive.old.store.table object frame) }
-    ensures pinned { IfOk result (λ plan. CountsOnFrame J.frames drive.old.store.table.seat.frames frame plan.what.is_empty plan.pin) }
+    ensures told { MatchResult result (λ plan. IsMoveOf drive.old frame object plan.what)
+        (IsUnplanned drive.old object) }
+    ensures places { IfOk result
+        (λ plan. plan.places ≡ data_in drive.old.store.table object frame) }
+    ensures pinned { IfOk result
+        (λ plan. CountsOnFrame J.frames drive.old.store.table.seat.frames frame plan.what.is_empty
+        plan.pin) }
     ensures session { session.new ≡ session.old }
     ensures same { drive.new ≡ drive.old }
 {

@@ -7,7 +7,7 @@ use drive::Drive;
 use segment_table::OverFrames;
 use segment_word::Naming;
 
-/// How many states a frame's word spells in its low bits.
+/// How many states a frame's word encodes in its low bits.
 const STATES: u64 = 4;
 
 /// The state of a free frame.

@@ -47,7 +47,7 @@ block_names k s b =
     names_by (same_kind (block_slot s b).role.kind Data) (is_held (block_slot s b)) (block_slot s b) (block_bytes k.contents b) refl refl
     ∙ sym (ap (λ (x : Bool). held_names (cond x (stored (block_slot s b) (block_bytes k.contents b)) None) (cond x (data_names (block_slot s b)) 0)) (own k))
 
--- so many places name a block of a frame
+-- this many places name a block of a frame
 pub name_count_is : (t : Table) (f b : ℕ) → slot_names (block_slot (slots_at t.slots f) b) ≡ name_count t f b
 name_count_is t f b = block_names (frame_at t.seat.frames f) (slots_at t.slots f) b
 

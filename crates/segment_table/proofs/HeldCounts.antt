@@ -24,7 +24,7 @@ count_push s role = sum_by_push adds s (record { role = role; named = 1 })
 pub count_some : (s : List Slot) (i : ℕ) → i < length s → adds (get_or s i no_slot) ≤ held_count s
 count_some s i inside = get_or-le-sum_by adds s i no_slot inside
 
--- one that so many places name instead
+-- one that this many places name instead
 pub count_set : (s : List Slot) (i n held after : ℕ) → i < length s → held ≡ held_count s → after + adds (get_or s i no_slot) ≡ held + cond (ltb 0 n) 1 0 → after ≡ held_count (with_names s i n)
 count_set s i n held after inside is step =
     let e = sum_by-set adds s i (record (get_or s i no_slot) { named = n }) no_slot inside in

@@ -55,7 +55,7 @@ names_are t p = data_block (frame_at t.seat.frames p.frame) (slots_at t.slots p.
 
 -- ---- one slot
 
--- what stands at p, at its frame's generation
+-- what is at p, at its frame's generation
 abbrev slot_of : Table → Place → Slot
 slot_of t p = block_slot (slots_at t.slots p.frame) p.block
 

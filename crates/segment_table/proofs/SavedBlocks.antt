@@ -1,4 +1,4 @@
--- The blocks of a frame as they are saved: read one by one, and what they spell.
+-- The blocks of a frame as they are saved: read one by one, and what they encode.
 use Rattle.std.proofs.Common.{◌≡◌, ◌≢◌, inl, inr, ◌⊎◌, ℕ, zero, suc, ◌+◌, ◌<◌, ◌≤◌, List, [], ◌∷◌, ◌++◌, length, take, drop, set, get_or, replicate, refl, sym, ap, subst, ◌∙◌, add-one, arith}
 use Rattle.std.specs.List.{AllByRecursion}
 use Rattle.std.proofs.lemmas.List.{take_more_set, length-map, get_or-replicate, drop_all, append-nil}
@@ -36,7 +36,7 @@ pub saved_none : (contents : List ℕ) → [] ≡ blocks_from contents 0 0
 unfolding blocks_from
 saved_none contents = refl
 
--- what holds of each element from one on holds of all behind the ones before
+-- what holds of each element from one on holds of all after the ones before
 behind : (P : List ℕ → Type 0) (l : List (List ℕ)) (n : ℕ) → ((j : ℕ) → n ≤ j → j < length l → P (get_or l j [])) → AllByRecursion P (drop n l)
 behind P [] zero h = tt
 behind P [] (suc n) h = tt
@@ -75,7 +75,7 @@ spelled_as f k slots blocks payload block s are is blank spells =
     let B : SummaryFields → Type 0 = λ x. SpellsSummary payload block x in
     subst A (sym are) (subst B is (spells (subst U (sym count) blank)))
 
--- a list gets a new first element, and others behind it
+-- a list gets a new first element, and others after it
 pub written : (n : ℕ) (blocks payload : List (List ℕ)) (block : List ℕ) → length blocks ≡ n + 1 → length payload ≡ n → put_mid 1 n (set blocks 0 block) payload ≡ block ∷ payload
 written n [] payload block long same = absurd (omega arith)
 written n (x ∷ blocks) payload block long same =

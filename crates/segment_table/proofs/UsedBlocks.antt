@@ -31,7 +31,7 @@ slot_inside : (s : List Slot) (b : ℕ) → ((1 ≤ b) × (b ≤ length s)) ⊎ 
 slot_inside s zero = inr refl
 slot_inside s (suc b) = elim (cases_lt b (length s)) [ inl h ↦ inl (omega arith, omega arith) | inr h ↦ inr (slice_get_past s b h) ]
 
--- what a pointer names that leads to a used block
+-- what a pointer names that refers to a used block
 pub used_here : (k : Frame) (s : List Slot) (b g : ℕ) → is_named k ≡ true → k.generation ≡ g → 1 ≤ b → b ≤ length s → used_block k s b g ≡ Some (with_bytes (block_bytes k.contents b) (get_or s (b - 1) no_slot))
 used_here k s b g named own low high =
     ap (λ (x : Bool). if x && k.generation == g then option_map (with_bytes (block_bytes k.contents b)) (used_slot s b) else None) named
@@ -208,7 +208,7 @@ roles_still old f i n g inside = elim (cases_eq g f) [
   | inr ne ↦ ap (map (λ (x : Slot). x.role)) (get_or-set_other old f g (with_names (slots_at old f) i n) [] ne)
 ]
 
--- the frame of a block that so many places name fits
+-- the frame of a block that this many places name fits
 pub fit_named : (f : ℕ) (k : Frame) (s : List Slot) (i n : ℕ) → IsFit f k s → k.phase ≢ Draining → IsFit f k (with_names s i n)
 fit_named f k s i n fit ne =
     let slot : Slot = record (get_or s i no_slot) { named = n } in

@@ -24,7 +24,7 @@ module _ (test : Frame → Bool) where
     | inr t ↦ subst (AllByRecursion (λ x. m < x)) (sym (numbers_out test n k ks t)) (least m (n + 1) ks (omega arith))
   ]
 
-  -- the numbers before and behind that of frame f, which didn't pass and now does
+  -- the numbers before and after that of frame f, which didn't pass and now does
   pub record JoinsAt (n f : ℕ) (ks : List Frame) (k : Frame) : Type 0 where
     pub lower : List ℕ
     pub higher : List ℕ
@@ -123,7 +123,7 @@ one_less f (y ∷ l) (suc j) d a h = one_less f l j d a.1 (omega arith)
 not_below : (f y : ℕ) → y < f → nat_lt f y ≡ true → ⊥
 not_below f y low t = let h : f < y = ltb-true f y t in omega arith
 
--- what the search asks of a list where all that are greater than f stand before all that are less
+-- what the search asks of a list where all that are greater than f are before all that are less
 pub parted : (f : ℕ) (higher lower : List ℕ) → AllByRecursion (λ n. f < n) higher → AllByRecursion (λ n. n < f) lower → IsPartitionedBy (λ n. nat_lt f n) (higher ++ lower)
 parted f [] lower a b i j d le h t = absurd (not_below f (get_or lower j d) (one_less f lower j d b h) t)
 parted f (x ∷ xs) lower a b zero j d le h t = lt-ltb f x a.0

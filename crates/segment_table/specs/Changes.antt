@@ -26,7 +26,7 @@ NoneIsFilling t = numbers is_filling 0 t.seat.frames ≡ []
 abbrev pub IsAlone : ℕ → Drive → Drive → Type 0
 IsAlone f old new = new ≡ with_changed old f (frame_at new.frames f)
 
--- frame f of a drive has the same number of lives behind it
+-- frame f of a drive has the same number of lives after it
 abbrev pub KeepsGeneration : ℕ → Drive → Drive → Type 0
 KeepsGeneration f old new = (frame_at new.frames f).generation ≡ (frame_at old.frames f).generation
 
@@ -116,7 +116,7 @@ pub record IsReleased (f : ℕ) (old new : Table) : Type 0 where
   pub seat : new.seat ≡ with_released old.seat f
   pub slots : new.slots ≡ slice_set old.slots f []
 
--- The 15 blocks of frame f, at its new generation, are among the places ahead: behind the unused blocks of the open frame
+-- The 15 blocks of frame f, at its new generation, are among the places ahead: after the unused blocks of the open frame
 -- and the free frames of lower numbers, before the free frames of higher numbers. The others are as they were.
 pub record IsAheadAgain (f : ℕ) (old new : Table) : Type 0 where
   pub lower : List ℕ

@@ -14,7 +14,7 @@ use Rattle.segment_table.specs.Room.{log_of, whole_of}
 abbrev pub slot_names : Slot → ℕ
 slot_names slot = if same_kind slot.role.kind Data then slot.named else (if is_held slot then 1 else 0)
 
--- how many places name a held block, of which so many names are counted where it is of data; 0 where nothing is held
+-- how many places name a held block, of which this many names are counted where it is of data; 0 where nothing is held
 abbrev pub held_names : Option Stored → ℕ → ℕ
 held_names None n = 0
 held_names (Some block) n = if same_kind block.kind Data then n else 1

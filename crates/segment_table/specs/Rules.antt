@@ -9,7 +9,7 @@ use Rattle.segment_table.specs.Room.{is_filling, numbers, log_of}
 use Rattle.segment_table.specs.Sealing.{IsFit, IsPartFilled}
 
 -- The frames are those of this table of words, FEWEST_FRAMES to MOST_FRAMES. The used blocks of each frame fit what it is for,
--- so that a sealed frame spells its summary in front of zeros in its unused blocks; at most one frame is open, with 1 to 14
+-- so that a sealed frame encodes its summary in front of zeros in its unused blocks; at most one frame is open, with 1 to 14
 -- used blocks. Each held block has 512 bytes and is used. The places that were ever taken and those ahead are fewer than 2^46,
 -- over all lives of the frames.
 pub record HasFramesInOrder (named : TableId) (t : Table) : Type 0 where

@@ -24,7 +24,7 @@ payload_of contents = blocks_from contents 1 15
 abbrev pub summary_of : ℕ → Frame → List Slot → SummaryFields
 summary_of f k slots = record { frame = f; generation = k.generation; roles = map (λ slot. slot.role) slots }
 
--- block 0 spells the summary of frame f over its payload, of which the unused blocks are zeros
+-- block 0 encodes the summary of frame f over its payload, of which the unused blocks are zeros
 abbrev pub IsSummed : ℕ → Frame → List Slot → Type 0
 IsSummed f k slots = SpellsSummary (payload_of k.contents) (block_bytes k.contents 0) (summary_of f k slots)
 

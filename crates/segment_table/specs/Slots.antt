@@ -14,7 +14,7 @@ abbrev pub held_role : Option Slot → Option BlockRole
 held_role None = None
 held_role (Some slot) = if is_held slot then Some slot.role else None
 
--- stands where a block isn't used
+-- is where a block isn't used
 abbrev pub no_slot : Slot
 no_slot = record { role = record { kind = Data; object = 0 }; named = 0 }
 
@@ -26,7 +26,7 @@ data_names slot = if same_kind slot.role.kind Data then slot.named else 0
 abbrev pub fewer_names : Slot → Slot
 fewer_names slot = record slot { named = data_names slot - 1 }
 
--- so many places name the used block of that index
+-- this many places name the used block of that index
 abbrev pub with_names : List Slot → ℕ → ℕ → List Slot
 with_names slots i n = slice_set slots i (record (slice_index_or slots i no_slot) { named = n })
 

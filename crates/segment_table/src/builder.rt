@@ -1,5 +1,8 @@
 //! The frames of a saved drive, before a table is made of them.
-ghost use Rattle.std.specs.Prelude.{◌≡◌, ◌≢◌, ℕ, ◌+◌, ◌^◌, ◌<◌, ◌≤◌, ◌⊎◌, ◌&&◌, ◌==◌, if◌then◌else◌, [], length, map, reverse, replicate, drop, slice_set, slice_index_or, vec_capacity, Some, None, IsSome, IfOk, IfErr};
+ghost use Rattle.std.specs.Prelude.{◌≡◌, ◌≢◌, ℕ, ◌+◌, ◌^◌, ◌<◌, ◌≤◌, ◌⊎◌, ◌&&◌, ◌==◌};
+ghost use Rattle.std.specs.Prelude.{if◌then◌else◌, [], length, map, reverse, replicate, drop};
+ghost use Rattle.std.specs.Prelude.{slice_set, slice_index_or, vec_capacity, Some, None, IsSome};
+ghost use Rattle.std.specs.Prelude.{IfOk, IfErr};
 ghost use Rattle.s4_types.specs.Sizes.{IsFrameCount};
 ghost use Rattle.s4_types.specs.Pointer.{Place};
 ghost use Rattle.s4_types.specs.declared.refusals.Refusal.TheVariants.{NoMemory, Busy};
@@ -60,8 +63,8 @@ impl UsedBlock {
     }
 }
 
-/// The frames of a saved drive with what their blocks are for, before a table is made of them. Contracts see it as a table
-/// that has no name.
+/// The frames of a saved drive with what their blocks are for, before a table is made of them.
+/// Contracts see it as a table that has no name.
 #[derive(Drop)]
 pub struct TableBuilder {
     words: FrameWords,
@@ -84,9 +87,12 @@ impl Model for TableBuilder {
 // Stores a block of a frame, which has 512 bytes.
 fn store_one(words: &mut FrameWords, frame: usize, number: usize, block: &Block)
     requires { (frame < length words.old) × (number < 16) }
-    ensures changed { words.new ≡ slice_set words.old frame (with_block (frame_at words.old frame) number block.now) }
+    ensures changed { words.new
+        ≡ slice_set words.old frame (with_block (frame_at words.old frame) number block.now) }
     ensures stored { block_bytes (frame_at words.new frame).contents number ≡ block.now }
-    ensures others { (b : ℕ) → b < 16 → b ≢ number → block_bytes (frame_at words.new frame).contents b ≡ block_bytes (frame_at words.old frame).contents b }
+    ensures others { (b : ℕ) → b < 16 → b ≢ number
+        → block_bytes (frame_at words.new frame).contents b
+        ≡ block_bytes (frame_at words.old frame).contents b }
     ensures whole { length block.now ≡ 512 }
 {
     words.store(frame, number, block);
@@ -130,8 +136,8 @@ impl TableBuilder {
         })
     }
 
-    /// Shows what holds: the frames are in order, under no name yet; each used block has 512 bytes; and the held data blocks have
-    /// names, and nothing else has.
+    /// Shows what holds: the frames are in order, under no name yet; each used block has 512 bytes;
+    /// and the held data blocks have names, and nothing else has.
     pub fn rules(&self)
         ensures frames { HasFramesInOrder no_table self.now }
         ensures used_whole { HasWholeBlocks self.now }
@@ -160,8 +166,8 @@ impl TableBuilder {
             .set_state(frame as usize, FrameState::Free, generation);
     }
 
-    /// A free frame gets a state in which it is used, the generation that its summary tells, and its 16 blocks, of which the first
-    /// is the summary. None of its used blocks is held yet.
+    /// A free frame gets a state in which it is used, the generation that its summary tells, and
+    /// its 16 blocks, of which the first is the summary. None of its used blocks is held yet.
     pub fn set_used(
         &mut self,
         frame: u16,
@@ -173,13 +179,18 @@ impl TableBuilder {
         requires free { (frame_at self.old.seat.frames frame).phase ≡ Free }
         requires state { phase_in state ≢ Free }
         requires number { summary.now.frame ≡ frame }
-        requires spelled { SpellsSummary (drop 1 blocks.now) (slice_index_or blocks.now 0 []) summary.now }
+        requires spelled { SpellsSummary (drop 1 blocks.now) (slice_index_or blocks.now 0 [])
+            summary.now }
         requires room { phase_in state ≡ Open → length summary.now.roles ≤ 14 }
         requires one_open { phase_in state ≡ Open → numbers is_filling 0 self.old.seat.frames ≡ [] }
-        ensures alone { self.new.seat.frames ≡ slice_set self.old.seat.frames frame (frame_at self.new.seat.frames frame) }
+        ensures alone { self.new.seat.frames
+            ≡ slice_set self.old.seat.frames frame (frame_at self.new.seat.frames frame) }
         ensures state { (frame_at self.new.seat.frames frame).phase ≡ phase_in state }
-        ensures generation { (frame_at self.new.seat.frames frame).generation ≡ summary.now.generation }
-        ensures blocks { (b : ℕ) → b < 16 → block_bytes (frame_at self.new.seat.frames frame).contents b ≡ slice_index_or blocks.now b [] }
+        ensures generation { (frame_at self.new.seat.frames frame).generation
+            ≡ summary.now.generation }
+        ensures blocks { (b : ℕ) → b < 16
+            → block_bytes (frame_at self.new.seat.frames frame).contents b
+            ≡ slice_index_or blocks.now b [] }
         ensures slots { self.new.slots ≡ slice_set self.old.slots frame (unheld summary.now.roles) }
         ensures held { (q : Place) → held_at self.new q ≡ held_at self.old q }
     {
@@ -191,10 +202,13 @@ impl TableBuilder {
         self.current = open_after(self.current, frame, state);
     }
 
-    // Whether a pointer may name blocks of its frame: the frame is open or sealed, at the pointer's generation.
+    // Whether a pointer may name blocks of its frame: the frame is open or sealed, at the pointer's
+    // generation.
     fn names(&self, place: Ptr) -> bool
         requires { place.frame < length self.now.seat.frames }
-        ensures { result ≡ (is_named (frame_at self.now.seat.frames place.frame) && (frame_at self.now.seat.frames place.frame).generation == place.generation) }
+        ensures { result
+            ≡ (is_named (frame_at self.now.seat.frames place.frame)
+            && (frame_at self.now.seat.frames place.frame).generation == place.generation) }
     {
         let number = place.frame() as usize;
         match self.words.state(number) {
@@ -205,8 +219,8 @@ impl TableBuilder {
         }
     }
 
-    /// The used block that a pointer names, held or not. None where it names none: the frame isn't there, isn't open or sealed,
-    /// or is at another generation, or the block isn't used.
+    /// The used block that a pointer names, held or not. None where it names none: the frame isn't
+    /// there, isn't open or sealed, or is at another generation, or the block isn't used.
     pub fn used(&self, place: Ptr) -> Option<UsedBlock>
         ensures { result ≡ used_at self.now place }
     {
@@ -223,11 +237,21 @@ impl TableBuilder {
     /// A used block is held from now on; one of data is named by one place more, up to 2^32 - 1.
     pub fn hold(&mut self, place: Ptr)
         requires { IsSome (used_at self.old place) }
-        ensures held { (q : Place) → held_at self.new q ≡ (if same_place place q then used_at self.old place else held_at self.old q) }
-        ensures named { (q : Place) → named_at self.new q ≡ (if same_place place q then (if is_data (used_at self.old place) then capped (1 + named_at self.old place) else 0) else named_at self.old q) }
+        ensures held { (q : Place)
+            → held_at self.new q
+            ≡ (if same_place place q then used_at self.old place else held_at self.old q) }
+        ensures named { (q : Place)
+            → named_at self.new q
+            ≡ (if same_place place q
+            then
+            (if is_data (used_at self.old place)
+            then capped (1 + named_at self.old place) else 0)
+            else named_at self.old q) }
         ensures used { (q : Place) → used_at self.new q ≡ used_at self.old q }
         ensures frames { self.new.seat.frames ≡ self.old.seat.frames }
-        ensures roles { (f : ℕ) → map (λ slot. slot.role) (slots_at self.new.slots f) ≡ map (λ slot. slot.role) (slots_at self.old.slots f) }
+        ensures roles { (f : ℕ)
+            → map (λ slot. slot.role) (slots_at self.new.slots f)
+            ≡ map (λ slot. slot.role) (slots_at self.old.slots f) }
     {
         self.slots[place.frame() as usize].hold(place.block() as usize);
     }
@@ -246,7 +270,8 @@ impl TableBuilder {
 
     // The numbers of the frames that can be opened, the lowest last, with room for all.
     fn vacant(&self, alloc: Global) -> Result<Vec<u16>, Refusal>
-        ensures numbers { IfOk result (λ free. free.items ≡ reverse (numbers can_open 0 self.now.seat.frames)) }
+        ensures numbers { IfOk result
+            (λ free. free.items ≡ reverse (numbers can_open 0 self.now.seat.frames)) }
         ensures room { IfOk result (λ free. length self.now.seat.frames ≤ vec_capacity free) }
         ensures refusal { IfErr result (λ e. e ≡ NoMemory) }
     {

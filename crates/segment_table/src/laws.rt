@@ -1,4 +1,5 @@
-//! Laws of what a table holds in its frames: each function does nothing, and its contract is the law.
+//! Laws of what a table holds in its frames: each function does nothing, and its contract is the
+//! law.
 ghost use Rattle.segment_table.specs.Laws.{WhatIsListedIsHeld, PlacesAheadAreInNoSealedFrame};
 
 /// What `held_in` lists is held in the frame that it was asked for, and that frame is sealed.

@@ -12,11 +12,14 @@ use codec::{Summary, encode_summary};
 use s4_types::limits::{BLOCK_BYTES, FRAME_BLOCKS, PAYLOAD_BLOCKS};
 use segment_word::DriveSeat;
 
-// The payload blocks that sealing a frame would leave, of which so many are used: those as they are, and zeros.
+// The payload blocks that sealing a frame would leave, of which this many are used: those as they
+// are, and zeros.
 fn sealed_payload(seat: &mut DriveSeat, frame: usize, used: usize) -> [Block; PAYLOAD_BLOCKS]
     requires inside { frame < length seat.old.frames }
     requires used { used ≤ 15 }
-    ensures used { (b : ℕ) → b < used → slice_index_or result b [] ≡ block_bytes (frame_at seat.old.frames frame).contents (b + 1) }
+    ensures used { (b : ℕ) → b < used
+        → slice_index_or result b []
+        ≡ block_bytes (frame_at seat.old.frames frame).contents (b + 1) }
     ensures unused { UnusedAreBlank used result }
     ensures same { seat.new ≡ seat.old }
 {
@@ -27,7 +30,7 @@ fn sealed_payload(seat: &mut DriveSeat, frame: usize, used: usize) -> [Block; PA
     blocks
 }
 
-// These blocks: a summary, and the payload behind it.
+// These blocks: a summary, and the payload after it.
 fn write_blocks(
     blocks: &mut [Block; FRAME_BLOCKS],
     summary: &Block,
@@ -50,8 +53,10 @@ pub fn save_sealed(
     requires phase { 0 < code_of (frame_at seat.old.frames frame).phase }
     requires used { (1 ≤ length slots.now) × (length slots.now ≤ 15) }
     requires owned { AllByRecursion IsOwned slots.now }
-    ensures spelled { SpellsSummary (drop 1 blocks.new) (slice_index_or blocks.new 0 []) (summary_of frame (frame_at seat.old.frames frame) slots.now) }
-    ensures kept { (b : ℕ) → 1 ≤ b → b ≤ length slots.now → slice_index_or blocks.new b [] ≡ block_bytes (frame_at seat.old.frames frame).contents b }
+    ensures spelled { SpellsSummary (drop 1 blocks.new) (slice_index_or blocks.new 0 [])
+        (summary_of frame (frame_at seat.old.frames frame) slots.now) }
+    ensures kept { (b : ℕ) → 1 ≤ b → b ≤ length slots.now
+        → slice_index_or blocks.new b [] ≡ block_bytes (frame_at seat.old.frames frame).contents b }
     ensures same { seat.new ≡ seat.old }
 {
     let number = frame as usize;

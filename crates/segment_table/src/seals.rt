@@ -12,7 +12,7 @@ use codec::{Summary, encode_summary};
 use s4_types::limits::{BLOCK_BYTES, FRAME_BLOCKS, PAYLOAD_BLOCKS};
 use segment_word::DriveSeat;
 
-// Zeros in the payload blocks behind the first `used`.
+// Zeros in the payload blocks after the first `used`.
 fn clear_unused(seat: &mut DriveSeat, frame: usize, used: usize)
     requires inside { frame < length seat.old.frames }
     requires open { (frame_at seat.old.frames frame).phase ≡ Open }
@@ -37,7 +37,8 @@ fn payload(seat: &mut DriveSeat, frame: usize) -> [Block; PAYLOAD_BLOCKS]
     blocks
 }
 
-/// Seals an open frame, of which these blocks are used. The others are zeros then, and block 0 is the summary.
+/// Seals an open frame, of which these blocks are used. The others are zeros then, and block 0 is
+/// the summary.
 pub fn seal(seat: &mut DriveSeat, frame: u16, slots: &Slots)
     requires inside { frame < length seat.old.frames }
     requires open { (frame_at seat.old.frames frame).phase ≡ Open }

@@ -1,5 +1,8 @@
 //! The frames of a drive and what their blocks are for, one step at a time.
-ghost use Rattle.std.specs.Prelude.{◌≡◌, ℕ, ◌+◌, ◌-◌, ◌^◌, ◌<◌, ◌≤◌, ◌==◌, true, false, ◌++◌, length, map, take, drop, Option, Some, None, IsSome, IfSome, IfNone, IfOk, IfErr, OnOk, MatchBool, option_map, vec_len, vec_capacity};
+ghost use Rattle.std.specs.Prelude.{◌≡◌, ℕ, ◌+◌, ◌-◌, ◌^◌, ◌<◌, ◌≤◌, ◌==◌, true, false, ◌++◌};
+ghost use Rattle.std.specs.Prelude.{length, map, take, drop, Option, Some, None, IsSome, IfSome};
+ghost use Rattle.std.specs.Prelude.{IfNone, IfOk, IfErr, OnOk, MatchBool, option_map, vec_len};
+ghost use Rattle.std.specs.Prelude.{vec_capacity};
 ghost use Rattle.std.specs.Option.{option_to_list};
 ghost use Rattle.s4_types.specs.declared.refusals.Refusal.TheVariants.{NoMemory, InUse};
 ghost use Rattle.s4_types.specs.declared.limits.TheConstants.{BLOCK_BYTES};
@@ -7,10 +10,12 @@ ghost use Rattle.block_log.specs.Log.{appended, dropped, held_more, is_data, Nam
 ghost use Rattle.segment_word.specs.Frames.{is_sealed};
 ghost use Rattle.segment_word.specs.Layout.{frame_at};
 ghost use Rattle.segment_table.specs.Table.{Table, slots_at, held_at, named_at, is_of, role_of};
-ghost use Rattle.segment_table.specs.Room.{is_filling, numbers, rest_of, places_ahead, places_spent, log_of, pointers_in};
+ghost use Rattle.segment_table.specs.Room.{is_filling, numbers, rest_of, places_ahead};
+ghost use Rattle.segment_table.specs.Room.{places_spent, log_of, pointers_in};
 ghost use Rattle.segment_table.specs.Counts.{name_count, held_count};
 ghost use Rattle.segment_table.specs.Sealing.{IsSoundTable, IsPartFilled};
-ghost use Rattle.segment_table.specs.Changes.{IsFilling, NoneIsFilling, IsReadyFrame, IsPut, IsSealed, IsSealedIn, MarksFrame, ReleasesFrame};
+ghost use Rattle.segment_table.specs.Changes.{IsFilling, NoneIsFilling, IsReadyFrame, IsPut};
+ghost use Rattle.segment_table.specs.Changes.{IsSealed, IsSealedIn, MarksFrame, ReleasesFrame};
 ghost use Rattle.segment_table.specs.private.Putting.{IsPutBetween};
 
 use crate::seals;
@@ -89,7 +94,8 @@ impl Segments {
         requires { NoneIsFilling self.old }
         ensures ready { IfSome result (λ f. IsReadyFrame f self.old self.new) }
         ensures log { log_of self.new ≡ log_of self.old }
-        ensures full { IfNone result ((self.new ≡ self.old) × (length (places_ahead self.old) ≡ 0)) }
+        ensures full { IfNone result
+            ((self.new ≡ self.old) × (length (places_ahead self.old) ≡ 0)) }
     {
         let frame = self.free.pop()?;
         self.seat.open(frame as usize);
@@ -97,12 +103,14 @@ impl Segments {
         Some(frame)
     }
 
-    /// The frame that takes the next append. It is opened, where none was open. None where there is no free frame either.
+    /// The frame that takes the next append. It is opened, where none was open. None where there is
+    /// no free frame either.
     pub fn ready_frame(&mut self) -> Option<u16>
         requires { IsPartFilled self.old }
         ensures ready { IfSome result (λ f. IsReadyFrame f self.old self.new) }
         ensures log { log_of self.new ≡ log_of self.old }
-        ensures full { IfNone result ((self.new ≡ self.old) × (length (places_ahead self.old) ≡ 0)) }
+        ensures full { IfNone result
+            ((self.new ≡ self.old) × (length (places_ahead self.old) ≡ 0)) }
     {
         if let Some(frame) = self.current {
             return Some(frame);
@@ -157,7 +165,8 @@ impl Segments {
     pub fn seal(&mut self, frame: u16)
         requires filling { IsFilling frame self.old }
         requires used { 1 ≤ length (slots_at self.old.slots frame) }
-        ensures sealed { IsSealed frame (slots_at self.old.slots frame) self.old.seat self.new.seat }
+        ensures sealed { IsSealed frame (slots_at self.old.slots frame) self.old.seat
+            self.new.seat }
         ensures slots { self.new.slots ≡ self.old.slots }
         ensures filling { NoneIsFilling self.new }
         ensures held { (log_of self.new).held ≡ (log_of self.old).held }
@@ -174,7 +183,8 @@ impl Segments {
         requires filling { IsFilling frame self.old }
         requires used { 1 ≤ length (slots_at self.old.slots frame) }
         ensures role { length (slots_at self.old.slots frame) < 15 → self.new ≡ self.old }
-        ensures full { length (slots_at self.old.slots frame) ≡ 15 → IsSealedIn frame self.old self.new × NoneIsFilling self.new }
+        ensures full { length (slots_at self.old.slots frame) ≡ 15
+            → IsSealedIn frame self.old self.new × NoneIsFilling self.new }
         ensures log { log_of self.new ≡ log_of self.old }
     {
         if self.slots[frame as usize].len() == PAYLOAD_BLOCKS {
@@ -182,7 +192,7 @@ impl Segments {
         }
     }
 
-    /// The block that a held pointer leads to.
+    /// The block that a held pointer refers to.
     pub fn get(&mut self, place: Ptr) -> Block
         requires { IsSome (held_at self.old place) }
         ensures bytes { IfSome (held_at self.old place) (λ block. result ≡ block.bytes) }
@@ -192,7 +202,7 @@ impl Segments {
             .load(place.frame() as usize, place.block() as usize)
     }
 
-    /// Adds the bytes `from..to` of the block that a held pointer leads to.
+    /// Adds the bytes `from..to` of the block that a held pointer refers to.
     pub fn get_bytes(
         &mut self,
         place: Ptr,
@@ -202,7 +212,10 @@ impl Segments {
     ) -> Result<(), Refusal>
         requires held { IsSome (held_at self.old place) }
         requires range { (from ≤ to) × (to ≤ BLOCK_BYTES) }
-        ensures bytes { OnOk result (IfSome (held_at self.old place) (λ block. into.new.items ≡ into.old.items ++ take (to - from) (drop from block.bytes))) }
+        ensures bytes { OnOk result
+            (IfSome (held_at self.old place)
+            (λ block. into.new.items
+            ≡ into.old.items ++ take (to - from) (drop from block.bytes))) }
         ensures added { OnOk result (length into.new.items ≡ length into.old.items + (to - from)) }
         ensures refusal { IfErr result (λ e. e ≡ NoMemory) }
         ensures same { self.new ≡ self.old }
@@ -213,7 +226,10 @@ impl Segments {
 
     /// Whether the frame that a pointer names is at the pointer's generation.
     pub fn is_current(&mut self, place: Ptr) -> bool
-        ensures found { MatchBool result ((place.frame < length self.old.seat.frames) × ((frame_at self.old.seat.frames place.frame).generation ≡ place.generation)) (held_at self.old place ≡ None) }
+        ensures found { MatchBool result
+            ((place.frame < length self.old.seat.frames)
+            × ((frame_at self.old.seat.frames place.frame).generation ≡ place.generation))
+            (held_at self.old place ≡ None) }
         ensures same { self.new ≡ self.old }
     {
         let number = place.frame() as usize;
@@ -223,19 +239,23 @@ impl Segments {
     /// What the block is for that a pointer at its frame's generation leads to, where it is held.
     pub fn current_role(&self, place: Ptr) -> Option<BlockRole>
         requires inside { place.frame < length self.now.seat.frames }
-        requires current { (frame_at self.now.seat.frames place.frame).generation ≡ place.generation }
+        requires current { (frame_at self.now.seat.frames place.frame).generation
+            ≡ place.generation }
         ensures { result ≡ option_map role_of (held_at self.now place) }
     {
         self.slots[place.frame() as usize].held(place.block() as usize)
     }
 
-    /// A data block has one name less, and is held no longer without any; any other block is held no longer. Where nothing is
-    /// held, nothing changes.
+    /// A data block has one name less, and is held no longer without any; any other block is held
+    /// no longer. Where nothing is held, nothing changes.
     pub fn drop_block(&mut self, place: Ptr)
         ensures log { log_of self.new ≡ dropped (log_of self.old) place }
         ensures seat { self.new.seat ≡ self.old.seat }
-        ensures used { (f : ℕ) → length (slots_at self.new.slots f) ≡ length (slots_at self.old.slots f) }
-        ensures roles { (f : ℕ) → map (λ slot. slot.role) (slots_at self.new.slots f) ≡ map (λ slot. slot.role) (slots_at self.old.slots f) }
+        ensures used { (f : ℕ)
+            → length (slots_at self.new.slots f) ≡ length (slots_at self.old.slots f) }
+        ensures roles { (f : ℕ)
+            → map (λ slot. slot.role) (slots_at self.new.slots f)
+            ≡ map (λ slot. slot.role) (slots_at self.old.slots f) }
     {
         if self.is_current(place) {
             self.slots[place.frame() as usize].let_go(place.block() as usize);
@@ -256,13 +276,17 @@ impl Segments {
         requires room { named_at self.old place + 1 < 2 ^ 32 }
         ensures log { log_of self.new ≡ held_more (log_of self.old) place }
         ensures seat { self.new.seat ≡ self.old.seat }
-        ensures used { (f : ℕ) → length (slots_at self.new.slots f) ≡ length (slots_at self.old.slots f) }
-        ensures roles { (f : ℕ) → map (λ slot. slot.role) (slots_at self.new.slots f) ≡ map (λ slot. slot.role) (slots_at self.old.slots f) }
+        ensures used { (f : ℕ)
+            → length (slots_at self.new.slots f) ≡ length (slots_at self.old.slots f) }
+        ensures roles { (f : ℕ)
+            → map (λ slot. slot.role) (slots_at self.new.slots f)
+            ≡ map (λ slot. slot.role) (slots_at self.old.slots f) }
     {
         self.slots[place.frame() as usize].name(place.block() as usize);
     }
 
-    /// How many places name a block of a frame, at the generation that the frame has: 0 where no such block is held.
+    /// How many places name a block of a frame, at the generation that the frame has: 0 where no
+    /// such block is held.
     pub fn name_count(&self, frame: u16, block: u8) -> u32
         ensures { result ≡ name_count self.now frame block }
     {
@@ -286,10 +310,13 @@ impl Segments {
     // The generation of a frame, where it is there and sealed.
     fn sealed_generation(&mut self, frame: u16) -> Option<u32>
         ensures inside { IfSome result (λ g. frame < length self.old.seat.frames) }
-        ensures sealed { IfSome result (λ g. is_sealed (frame_at self.old.seat.frames frame).phase ≡ true) }
-        ensures generation { IfSome result (λ g. g ≡ (frame_at self.old.seat.frames frame).generation) }
+        ensures sealed { IfSome result
+            (λ g. is_sealed (frame_at self.old.seat.frames frame).phase ≡ true) }
+        ensures generation { IfSome result
+            (λ g. g ≡ (frame_at self.old.seat.frames frame).generation) }
         ensures range { IfSome result (λ g. (1 ≤ g) × (g + 1 < 2 ^ 32)) }
-        ensures other { IfNone result (is_sealed (frame_at self.old.seat.frames frame).phase ≡ false) }
+        ensures other { IfNone result
+            (is_sealed (frame_at self.old.seat.frames frame).phase ≡ false) }
         ensures same { self.new ≡ self.old }
     {
         let number = frame as usize;
@@ -314,7 +341,8 @@ impl Segments {
         Ok(())
     }
 
-    /// A frame that is being emptied and has no reader is free at its next generation, and can be opened again.
+    /// A frame that is being emptied and has no reader is free at its next generation, and can be
+    /// opened again.
     pub fn release(&mut self, frame: u16) -> Result<(), Refusal>
         ensures { ReleasesFrame frame self.old result self.new }
     {
@@ -333,7 +361,8 @@ impl Segments {
     // Whether a pointer at its frame's generation leads to a held block of this object.
     fn is_of(&self, object: ObjectId, place: Ptr) -> bool
         requires inside { place.frame < length self.now.seat.frames }
-        requires current { (frame_at self.now.seat.frames place.frame).generation ≡ place.generation }
+        requires current { (frame_at self.now.seat.frames place.frame).generation
+            ≡ place.generation }
         ensures { result ≡ is_of object (held_at self.now place) }
     {
         match self.current_role(place) {
@@ -350,7 +379,8 @@ impl Segments {
         object: ObjectId,
         frame: u16,
     ) -> Result<Vec<Ptr>, Refusal>
-        ensures pointers { IfOk result (λ pointers. pointers.items ≡ pointers_in self.old object frame) }
+        ensures pointers { IfOk result
+            (λ pointers. pointers.items ≡ pointers_in self.old object frame) }
         ensures refusal { IfErr result (λ e. e ≡ NoMemory) }
         ensures same { self.new ≡ self.old }
     {

@@ -1,10 +1,13 @@
 //! What the payload blocks of one frame are.
-ghost use Rattle.std.specs.Prelude.{◌≡◌, ℕ, ◌+◌, ◌-◌, ◌^◌, ◌<◌, ◌≤◌, true, cond, nat_lt, [], ◌∷◌, ◌++◌, length, map, option_map, replicate, slice_set, slice_get, slice_index_or, IfOk, IfErr};
+ghost use Rattle.std.specs.Prelude.{◌≡◌, ℕ, ◌+◌, ◌-◌, ◌^◌, ◌<◌, ◌≤◌, true, cond, nat_lt, [], ◌∷◌};
+ghost use Rattle.std.specs.Prelude.{◌++◌, length, map, option_map, replicate, slice_set, slice_get};
+ghost use Rattle.std.specs.Prelude.{slice_index_or, IfOk, IfErr};
 ghost use Rattle.s4_types.specs.declared.refusals.Refusal.TheVariants.{NoMemory};
 ghost use Rattle.std.specs.List.{count_by, list_any};
 ghost use Rattle.segment_table.specs.Counts.{slot_names};
 ghost use Rattle.segment_table.specs.Table.{block_slot};
-ghost use Rattle.segment_table.specs.Slots.{no_slot, is_held, data_names, with_names, more_names, hold_on, let_go, held_role, unheld};
+ghost use Rattle.segment_table.specs.Slots.{no_slot, is_held, data_names, with_names, more_names};
+ghost use Rattle.segment_table.specs.Slots.{hold_on, let_go, held_role, unheld};
 
 use arrayvec::ArrayVec;
 use block_log::BlockKind;
@@ -15,7 +18,8 @@ use std::alloc::Global;
 use std::cmp::min;
 use std::marker::Model;
 
-/// A used payload block: what it is for, whose it is, and how many places name it. It is held while some place does.
+/// A used payload block: what it is for, whose it is, and how many places name it. It is held while
+/// some place does.
 #[derive(Clone, Copy, PartialEq, Eq)]
 pub struct Slot {
     pub role: BlockRole,
@@ -51,7 +55,8 @@ impl Model for Slots {
     ghost invariant = { λ s. s.held ≡ count_by (λ slot. is_held slot) s.slots.items };
 }
 
-// How many blocks of a frame are held once one of them that was named `before` times is named `after` times.
+// How many blocks of a frame are held once one of them that was named `before` times is named
+// `after` times.
 fn held_after(held: u8, before: u32, after: u32) -> u8
     requires some { cond (nat_lt 0 before) 1 0 ≤ held }
     requires few { held < 16 }
@@ -64,7 +69,7 @@ fn held_after(held: u8, before: u32, after: u32) -> u8
     }
 }
 
-/// No used block in so many frames.
+/// No used block in this many frames.
 pub fn no_slots(alloc: Global, count: u16) -> Result<Vec<Slots>, Refusal>
     ensures slots { IfOk result (λ v. v.items ≡ replicate count []) }
     ensures refusal { IfErr result (λ e. e ≡ NoMemory) }
@@ -164,7 +169,8 @@ impl Slots {
         }
     }
 
-    // So many places name the block of that index from now on. Where it isn't used, nothing changes.
+    // This many places name the block of that index from now on. Where it isn't used, nothing
+    // changes.
     fn set_names(&mut self, index: usize, named: u32)
         ensures { self.new ≡ with_names self.old index named }
     {
@@ -175,8 +181,8 @@ impl Slots {
         }
     }
 
-    /// The block of that number, from 1 on, is held from now on: of data one place more names it, up to 2^32 - 1, and any other is
-    /// named by one. Where it isn't used, nothing changes.
+    /// The block of that number, from 1 on, is held from now on: of data one place more names it,
+    /// up to 2^32 - 1, and any other is named by one. Where it isn't used, nothing changes.
     pub fn hold(&mut self, block: usize)
         requires { 1 ≤ block }
         ensures { self.new ≡ hold_on self.old (block - 1) }
@@ -185,7 +191,8 @@ impl Slots {
         self.set_names(block - 1, names.saturating_add(1));
     }
 
-    /// One place more names the block of that number, from 1 on. Where it isn't used, nothing changes.
+    /// One place more names the block of that number, from 1 on. Where it isn't used, nothing
+    /// changes.
     pub fn name(&mut self, block: usize)
         requires low { 1 ≤ block }
         requires room { (slice_index_or self.old (block - 1) no_slot).named + 1 < 2 ^ 32 }
@@ -195,7 +202,8 @@ impl Slots {
         self.set_names(block - 1, names + 1);
     }
 
-    /// One place less names the block of that number, from 1 on, where it is of data; any other block is held no longer.
+    /// One place less names the block of that number, from 1 on, where it is of data; any other
+    /// block is held no longer.
     pub fn let_go(&mut self, block: usize)
         requires { 1 ≤ block }
         ensures { self.new ≡ let_go self.old (block - 1) }
@@ -204,8 +212,8 @@ impl Slots {
         self.set_names(block - 1, names.saturating_sub(1));
     }
 
-    /// How many places name the block of that number: the names of a data block, and 1 of another that is held. 0 where it isn't
-    /// held, isn't used, or isn't a payload block.
+    /// How many places name the block of that number: the names of a data block, and 1 of another
+    /// that is held. 0 where it isn't held, isn't used, or isn't a payload block.
     pub fn name_count(&self, block: usize) -> u32
         ensures { result ≡ slot_names (block_slot self.now block) }
     {

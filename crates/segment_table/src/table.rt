@@ -1,8 +1,12 @@
-//! The segment table: blocks behind pointers, the sealing of frames, and pins that count on them.
-ghost use Rattle.std.specs.Prelude.{◌≡◌, ◌≢◌, ℕ, ◌+◌, ◌-◌, ◌^◌, ◌<◌, ◌≤◌, ◌⊎◌, true, [], ◌∷◌, ◌++◌, length, map, take, drop, replicate, Some, None, IsSome, IfSome, IfOk, IfErr, OnOk, OnErr, IsOk, MatchBool};
+//! The segment table: blocks that pointers refer to, the sealing of frames, and pins that count on
+//! them.
+ghost use Rattle.std.specs.Prelude.{◌≡◌, ◌≢◌, ℕ, ◌+◌, ◌-◌, ◌^◌, ◌<◌, ◌≤◌, ◌⊎◌, true, [], ◌∷◌, ◌++◌};
+ghost use Rattle.std.specs.Prelude.{length, map, take, drop, replicate, Some, None, IsSome, IfSome};
+ghost use Rattle.std.specs.Prelude.{IfOk, IfErr, OnOk, OnErr, IsOk, MatchBool};
 ghost use Rattle.s4_types.specs.Sizes.{IsFrameCount};
 ghost use Rattle.s4_types.specs.declared.limits.TheConstants.{BLOCK_BYTES};
-ghost use Rattle.s4_types.specs.declared.refusals.Refusal.TheVariants.{NoMemory, Busy, NoSpace, InUse};
+ghost use Rattle.s4_types.specs.declared.refusals.Refusal.TheVariants.{NoMemory, Busy, NoSpace};
+ghost use Rattle.s4_types.specs.declared.refusals.Refusal.TheVariants.{InUse};
 ghost use Rattle.block_log.specs.Log.{appended, dropped, held_more, is_data, NamesAreOfData};
 ghost use Rattle.segment_word.specs.Frames.{Pinned, is_draining};
 ghost use Rattle.segment_word.specs.Frames.Phase.{Open, Sealed};
@@ -27,7 +31,7 @@ use segment_word::{Frames, Memory, Pin};
 use std::alloc::Global;
 use std::marker::Model;
 
-/// Blocks behind pointers, in the frames of a drive.
+/// Blocks that pointers refer to, in the frames of a drive.
 #[derive(Drop)]
 pub struct SegmentTable {
     frames: Frames,
@@ -50,8 +54,8 @@ impl Model for SegmentTable {
 impl SegmentTable {
     /// The table of a new drive of `FEWEST_FRAMES` to `MOST_FRAMES` frames: nothing is held.
     ///
-    /// NoMemory where memory was refused, Busy where the count of those that share it was full. No other call but
-    /// `count_on` and `held_in` takes memory.
+    /// NoMemory where memory was refused, Busy where the count of those that share it was full. No
+    /// other call but `count_on` and `held_in` takes memory.
     pub fn new(alloc: Global, frames: usize) -> Result<Self, Refusal>
         requires { IsFrameCount frames }
         ensures frames { IfOk result (λ t. t.seat.frames ≡ replicate frames fresh_frame) }
@@ -80,8 +84,8 @@ impl SegmentTable {
         })
     }
 
-    /// Seals the open frame: zeros are stored in its unused blocks, and its summary in block 0. Without effect where none
-    /// is open.
+    /// Seals the open frame: zeros are stored in its unused blocks, and its summary in block 0.
+    /// Without effect where none is open.
     pub fn seal_open(&mut self)
         ensures { SealsFrame self.old self.new }
     {
@@ -93,7 +97,8 @@ impl SegmentTable {
     // Whether a frame is the open one.
     fn is_filling(&self, frame: u16) -> bool
         requires { frame < length self.now.seat.frames }
-        ensures { MatchBool result ((frame_at self.now.seat.frames frame).phase ≡ Open) ((frame_at self.now.seat.frames frame).phase ≢ Open) }
+        ensures { MatchBool result ((frame_at self.now.seat.frames frame).phase ≡ Open)
+            ((frame_at self.now.seat.frames frame).phase ≢ Open) }
     {
         match self.segments.current {
             Some(open) => open == frame,
@@ -101,21 +106,25 @@ impl SegmentTable {
         }
     }
 
-    /// A sealed frame of which no block is held is being emptied from now on. Its readers and its pins stay.
+    /// A sealed frame of which no block is held is being emptied from now on. Its readers and its
+    /// pins stay.
     ///
-    /// InUse exactly where the frame isn't sealed or isn't there, or where one of its blocks is held. Nothing has changed then.
+    /// InUse exactly where the frame isn't sealed or isn't there, or where one of its blocks is
+    /// held. Nothing has changed then.
     pub fn mark(&mut self, frame: u16) -> Result<(), Refusal>
         ensures { MarksFrame frame self.old result self.new }
     {
         self.segments.mark(frame)
     }
 
-    /// A frame that is being emptied and has no reader is free at its next generation: its 15 payload blocks are ahead again,
-    /// in their order. One that reaches the last generation, 2^32 - 1, is retired instead. No fewer places than before were ever
-    /// taken: the frame's life counts as whole.
+    /// A frame that is being emptied and has no reader is free at its next generation: its 15
+    /// payload blocks are ahead again, in their order. One that reaches the last generation, 2^32 -
+    /// 1, is retired instead. No fewer places than before were ever taken: the frame's life counts
+    /// as whole.
     ///
-    /// InUse where the frame isn't being emptied or isn't there, and nothing has changed then; or where its word counted a
-    /// reader at the one exchange that was tried, which is noted, and no frame or block has changed.
+    /// InUse where the frame isn't being emptied or isn't there, and nothing has changed then; or
+    /// where its word counted a reader at the one exchange that was tried, which is noted, and no
+    /// frame or block has changed.
     pub fn release(&mut self, frame: u16) -> Result<(), Refusal>
         ensures { ReleasesFrame frame self.old result self.new }
     {
@@ -125,7 +134,8 @@ impl SegmentTable {
     /// Whether a held block lies in the open frame; else its frame is sealed.
     pub fn is_open(&self, place: Ptr) -> bool
         requires { IsSome (held_at self.now place) }
-        ensures { MatchBool result ((frame_at self.now.seat.frames place.frame).phase ≡ Open) ((frame_at self.now.seat.frames place.frame).phase ≡ Sealed) }
+        ensures { MatchBool result ((frame_at self.now.seat.frames place.frame).phase ≡ Open)
+            ((frame_at self.now.seat.frames place.frame).phase ≡ Sealed) }
     {
         match self.segments.current {
             Some(frame) => frame == place.frame(),
@@ -133,8 +143,8 @@ impl SegmentTable {
         }
     }
 
-    /// A pin without frames, which `count_on` gives some. Busy where all seats are in use, or the count of those that share the
-    /// memory is full.
+    /// A pin without frames, which `count_on` gives some. Busy where all seats are in use, or the
+    /// count of those that share the memory is full.
     pub fn new_pin(&self) -> Result<Pin, Refusal>
         ensures pin { IfOk result (λ p. (p.table ≡ self.now.seat.table) × (p.pins ≡ [])) }
         ensures busy { IfErr result (λ e. e ≡ Busy) }
@@ -142,11 +152,13 @@ impl SegmentTable {
         self.frames.seat()
     }
 
-    /// The pin counts on the sealed frame of a held block from now on, so that `read_block` and `append_bytes` of the pin give the
-    /// block's bytes for as long as the pin lives. A frame that it counts on already is left so.
+    /// The pin counts on the sealed frame of a held block from now on, so that `read_block` and
+    /// `append_bytes` of the pin give the block's bytes for as long as the pin lives. A frame that
+    /// it counts on already is left so.
     ///
-    /// NoMemory where there was none for the frame's number. Busy where the frame has `MOST_READERS`, or where other
-    /// threads changed its word between load and exchange `PIN_TRIES` times. After either, nothing has changed.
+    /// NoMemory where there was none for the frame's number. Busy where the frame has
+    /// `MOST_READERS`, or where other threads changed its word between load and exchange
+    /// `PIN_TRIES` times. After either, nothing has changed.
     pub fn count_on(&mut self, pin: &mut Pin, place: Ptr) -> Result<(), Refusal>
         requires table { pin.old.table ≡ self.old.seat.table }
         requires held { IsSome (held_at self.old place) }
@@ -154,7 +166,10 @@ impl SegmentTable {
         ensures again { 0 < pins_in place.frame pin.old.pins → IsOk result × (pin.new ≡ pin.old) }
         ensures pinned { pins_in place.frame pin.old.pins ≡ 0 → OnOk result (pin.new ≡ record pin.old { pins = pin_of self.old.seat.frames place.frame ∷ pin.old.pins }) }
         ensures counted { OnOk result (0 < pins_in place.frame pin.new.pins) }
-        ensures bytes { OnOk result ((p : Pinned) → IsAmong p pin.new.pins → p.number ≡ place.frame → IfSome (held_at self.old place) (λ block. block_bytes p.contents place.block ≡ block.bytes)) }
+        ensures bytes { OnOk result
+            ((p : Pinned) → IsAmong p pin.new.pins → p.number ≡ place.frame
+            → IfSome (held_at self.old place)
+            (λ block. block_bytes p.contents place.block ≡ block.bytes)) }
         ensures others { (p : Pinned) → IsAmong p pin.old.pins → IsAmong p pin.new.pins }
         ensures table { pin.new.table ≡ pin.old.table }
         ensures refused { OnErr result (pin.new ≡ pin.old) }
@@ -167,7 +182,8 @@ impl SegmentTable {
         Ok(())
     }
 
-    /// Shows that each frame that a pin of this table counts on has the pin's generation and contents.
+    /// Shows that each frame that a pin of this table counts on has the pin's generation and
+    /// contents.
     pub fn confirm(&mut self, pin: &mut Pin)
         requires { pin.old.table ≡ self.old.seat.table }
         ensures agree { AllAgree self.old.seat.frames pin.old.pins }
@@ -266,7 +282,9 @@ impl Blocks for SegmentTable {
         requires { 1 ≤ object }
         ensures appended { IfOk result (λ p. appended (log_of self.old) (record { kind = kind; object = object; bytes = block.now }) ≡ Some (p, log_of self.new)) }
         ensures fresh { IfOk result (λ p. (log_of self.old).held p ≡ None) }
-        ensures full { IfErr result (λ e. (e ≡ NoSpace) × ((length (log_of self.old).ahead ≡ 0) × (log_of self.new ≡ log_of self.old))) }
+        ensures full { IfErr result
+            (λ e. (e ≡ NoSpace)
+            × ((length (log_of self.old).ahead ≡ 0) × (log_of self.new ≡ log_of self.old))) }
         ensures exact { IfOk result (λ p. IsAppended p (record { kind = kind; object = object }) block.now self.old self.new) }
         ensures unchanged { OnErr result (self.new ≡ self.old) }
     {
@@ -296,7 +314,10 @@ impl Blocks for SegmentTable {
     ) -> Result<(), Refusal>
         requires held { IsSome ((log_of self.old).held place) }
         requires range { (from ≤ to) × (to ≤ BLOCK_BYTES) }
-        ensures bytes { OnOk result (IfSome ((log_of self.old).held place) (λ block. into.new.items ≡ into.old.items ++ take (to - from) (drop from block.bytes))) }
+        ensures bytes { OnOk result
+            (IfSome ((log_of self.old).held place)
+            (λ block. into.new.items
+            ≡ into.old.items ++ take (to - from) (drop from block.bytes))) }
         ensures added { OnOk result (length into.new.items ≡ length into.old.items + (to - from)) }
         ensures refusal { IfErr result (λ e. e ≡ NoMemory) }
         ensures same { log_of self.new ≡ log_of self.old }
@@ -310,8 +331,11 @@ impl Blocks for SegmentTable {
         requires room { (log_of self.old).named place + 1 < 2 ^ 32 }
         ensures log { log_of self.new ≡ held_more (log_of self.old) place }
         ensures seat { self.new.seat ≡ self.old.seat }
-        ensures used { (f : ℕ) → length (slots_at self.new.slots f) ≡ length (slots_at self.old.slots f) }
-        ensures roles { (f : ℕ) → map (λ slot. slot.role) (slots_at self.new.slots f) ≡ map (λ slot. slot.role) (slots_at self.old.slots f) }
+        ensures used { (f : ℕ)
+            → length (slots_at self.new.slots f) ≡ length (slots_at self.old.slots f) }
+        ensures roles { (f : ℕ)
+            → map (λ slot. slot.role) (slots_at self.new.slots f)
+            ≡ map (λ slot. slot.role) (slots_at self.old.slots f) }
     {
         self.segments.hold(place);
     }
@@ -325,8 +349,11 @@ impl Blocks for SegmentTable {
     fn drop_block(&mut self, place: Ptr)
         ensures log { log_of self.new ≡ dropped (log_of self.old) place }
         ensures seat { self.new.seat ≡ self.old.seat }
-        ensures used { (f : ℕ) → length (slots_at self.new.slots f) ≡ length (slots_at self.old.slots f) }
-        ensures roles { (f : ℕ) → map (λ slot. slot.role) (slots_at self.new.slots f) ≡ map (λ slot. slot.role) (slots_at self.old.slots f) }
+        ensures used { (f : ℕ)
+            → length (slots_at self.new.slots f) ≡ length (slots_at self.old.slots f) }
+        ensures roles { (f : ℕ)
+            → map (λ slot. slot.role) (slots_at self.new.slots f)
+            ≡ map (λ slot. slot.role) (slots_at self.old.slots f) }
     {
         self.segments.drop_block(place);
     }

@@ -19,7 +19,7 @@ prefix_trans xs ys zs p q = (p.0 ++ q.0, sym (append_assoc xs p.0 q.0) ∙ (ap (
 pub prefix_length : {A : Type 0} (xs ys : List A) → IsPrefix xs ys → length xs ≤ length ys
 prefix_length xs ys p = omega (arith, sym (ap length p.1) ∙ length-append xs p.0)
 
--- what stands in a list with one more behind it stood there, or is that one
+-- what is in a list with one more after it was there, or is that one
 pub at_one_more : {A : Type 0} (l : List A) (a b : A) (j : ℕ) → get_elem? (l ++ a ∷ []) j ≡ some b → (get_elem? l j ≡ some b) ⊎ ((j ≡ length l) × (a ≡ b))
 at_one_more [] a b zero e = inr (refl, some-injective a b e)
 at_one_more [] a b (suc j) e = absurd (some-ne-none b (sym e))

@@ -15,7 +15,7 @@ first_small [] (suc n) small i = omega arith
 first_small (x ∷ bytes) (suc n) small zero = small 0
 first_small (x ∷ bytes) (suc n) small (suc i) = first_small bytes n (λ j. small (suc j)) i
 
--- 8 bytes are those of the number that they spell
+-- 8 bytes are those of the number that they encode
 number_back : (bytes : List ℕ) → 8 ≤ length bytes → ((i : ℕ) → get_or bytes i 0 < 256) → big_bytes 8 (big_number 8 bytes) ≡ take 8 bytes
 number_back bytes long small =
     let at : (i : ℕ) → i < 8 → get_or (take 8 bytes) i 0 ≡ get_or bytes i 0 = λ i h. get_or-take 8 bytes i 0 h in

@@ -1,4 +1,4 @@
--- Parts of a block's bytes: those of one word, and one part behind another.
+-- Parts of a block's bytes: those of one word, and one part after another.
 use Rattle.std.proofs.Common.{◌≡◌, ℕ, zero, suc, ◌+◌, ◌-◌, ◌*◌, ◌/◌, ◌%◌, ◌<◌, ◌≤◌, List, [], ◌∷◌, ◌++◌, length, take, drop, slice_index, flat_map, refl, sym, ap, ◌∙◌, arith, length-take-le, length-drop, take-add, get_or-take, get_or-drop, ext_get_or}
 use Rattle.std.proofs.lemmas.List.{take-append-le, drop-append-le, drop-drop, append_assoc}
 use Rattle.std.proofs.Math.Seq.{drop-append-add, take-append-add}
@@ -44,7 +44,7 @@ word_added contents old all b at next start end w long low inside is_start le mo
     ∙ ap (λ (m : ℕ). take m (drop at (block_bytes contents b))) (let e : end - start ≡ next - at = omega (arith, is_next, le) in e) in
     is_all ∙ ap (λ (l : List ℕ). old ++ l) here
 
--- the bytes of words behind some others, and of so many from the first on
+-- the bytes of words after some others, and of this many from the first on
 words_drop : (k : ℕ) (words : List ℕ) → k ≤ length words → drop (8 * k) (flat_map (big_bytes 8) words) ≡ flat_map (big_bytes 8) (drop k words)
 words_drop zero words h = refl
 words_drop (suc k) [] h = absurd (omega arith)
@@ -84,7 +84,7 @@ run_added contents old new found b index long low inside full same is_new =
     ∙ ap (λ (l : List ℕ). old ++ take 64 l) (sym (words_drop index (take 64 (drop (64 * b) contents)) (omega (arith, all, inside))))
     ∙ ap (λ (m : ℕ). old ++ take m (drop (8 * index) (flat_map (big_bytes 8) (take 64 (drop (64 * b) contents))))) (let e : 64 ≡ 8 * index + 64 - 8 * index = omega arith in e)
 
--- a part of a block was added behind the part in front of it
+-- a part of a block was added after the part in front of it
 pub more_added : (block old new all : List ℕ) (from at next : ℕ) → from ≤ at → at ≤ next → new ≡ old ++ take (at - from) (drop from block) → all ≡ new ++ take (next - at) (drop at block)
     → all ≡ old ++ take (next - from) (drop from block)
 more_added block old new all from at next behind le is_new is_all =

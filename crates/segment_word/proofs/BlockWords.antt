@@ -1,4 +1,4 @@
--- Blocks as 64 words: what stands in a frame after some of them were written, and bytes against words.
+-- Blocks as 64 words: what is in a frame after some of them were written, and bytes against words.
 use Rattle.std.proofs.Common.{◌≡◌, ℕ, zero, suc, ◌+◌, ◌*◌, ◌<◌, ◌≤◌, List, ◌++◌, set, length, take, drop, slice_index, flat_map, refl, sym, ap, ◌∙◌, arith, get_or-set_same, set-set, length-append, length-take, length-drop, length-take-le, drop-drop, get_or-take, get_or-drop, ext_get_or}
 use lib.Seq.{paste, paste-zero, paste-suc, set-get_or}
 use Rattle.byteorder.specs.Endian.{big_bytes, big_number}

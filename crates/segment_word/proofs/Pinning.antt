@@ -61,7 +61,7 @@ counts_new f p ps e = let t = counts_one p.number f e in omega arith
 counts_old : (g : ℕ) (p : Pinned) (ps : List Pinned) → p.number ≢ g → pins_in g (p ∷ ps) ≡ pins_in g ps
 counts_old g p ps e = let t = counts_none p.number g e in omega arith
 
--- a word that isn't 0 stands in the table
+-- a word that isn't 0 is in the table
 has_place : (words : List ℕ) (i : ℕ) → slice_index words i ≢ 0 → i < length words
 has_place words i some_word = elim (dec_le (length words) i) as (λ _. i < length words) [ yes out ↦ absurd (some_word (get_or-eq_default words 0 out)) | no h ↦ lt_of_not-le h ]
 

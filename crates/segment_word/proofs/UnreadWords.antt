@@ -18,7 +18,7 @@ use Rattle.segment_word.proofs.Opening.{length-frames_of, first_frames-at, conte
 use Rattle.segment_word.proofs.BlockWords.{is_block, length-block_words}
 use Rattle.segment_word.proofs.BlockBytes.{replaced, before, behind, stored_here, stored_elsewhere}
 
--- the frame of that number is spelled from its first word on
+-- the frame of that number is encoded from its first word on
 pub frame_at-frames_of : (words : List ℕ) (f : ℕ) → f < length words / 1025 → frame_at (frames_of words) f ≡ frame_of (drop (1025 * f) words)
 frame_at-frames_of words f inside = first_frames-at (length words / 1025) f words inside
 
@@ -190,7 +190,7 @@ pub reads_other : (frames new : List Frame) (f b c : ℕ) (bytes : List ℕ) →
 reads_other frames new f b c bytes is inside low small far whole =
     ap (λ (k : Frame). block_bytes k.contents c) (there frames new f (with_block (frame_at frames f) b bytes) is inside) ∙ stored_elsewhere (frame_at frames f) b c bytes low small far whole
 
--- 64 words that stand at a block's place are the block's bytes
+-- 64 words that are at a block's place are the block's bytes
 pub is_loaded : (words found : List ℕ) (f b n : ℕ) → AreFrameWords words → f < length words / 1025 → b < 16 → n ≡ 64 → found ≡ take n (drop (1025 * f + 1 + 64 * b) words)
     → flat_map (big_bytes 8) found ≡ block_bytes (frame_at (frames_of words) f).contents b
 is_loaded words found f b n are inside low some is =

@@ -9,7 +9,7 @@ use Rattle.s4_types.specs.History.{Base}
 use Rattle.segment_word.specs.AcceptViews.{Told, Ledger, AcceptView, Driving, Attending, begun, blank_base, ledger_of, told_of}
 use Rattle.segment_word.specs.AcceptRule.{FitsLedger, ShareNone, AcceptRule}
 
--- stands where no table is named
+-- is where no table is named
 abbrev pub no_table : TableId
 no_table = record { words = 0; slots = 0; views_name = 0; atom = 0; block = 0; offset = 0; slot_names = [] }
 

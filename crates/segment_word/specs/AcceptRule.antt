@@ -9,7 +9,7 @@ use Rattle.s4_types.specs.declared.changes.Accepted.{Accepted}
 use Rattle.s4_types.specs.History.{accepted}
 use Rattle.segment_word.specs.AcceptViews.{Told, Ledger, AcceptView, Driving, Lent, Attending, Beside, Carried, Spent, begun, blank_base, ledger_of, count_of}
 
--- the changes have the numbers behind n, in order
+-- the changes have the numbers after n, in order
 abbrev pub AreNumbered : ℕ → List Accepted → Type 0
 AreNumbered n [] = Unit {0}
 AreNumbered n (a ∷ rest) = (a.number ≡ n + 1) × AreNumbered (n + 1) rest

@@ -66,7 +66,7 @@ guest_of (Beside t u) = u
 guest_of (Carried t) = new_session 0
 guest_of Spent = new_session 0
 
--- the history with a record behind it
+-- the history with a record after it
 abbrev pub with_record : History → Record → History
 with_record h r = record h { records = h.records ++ r ∷ [] }
 

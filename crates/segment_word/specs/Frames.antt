@@ -73,6 +73,6 @@ no_releases = record { tried = 0; last = 0; found = 0 }
 abbrev pub nothing_known : View
 nothing_known = record { frames = []; releases = no_releases; pins = []; remembered = [] }
 
--- stands where a list has no frame of that number
+-- is where a list has no frame of that number
 abbrev pub no_frame : Frame
 no_frame = record { phase = Free; generation = 0; contents = [] }

@@ -1,5 +1,6 @@
-//! Whole blocks, word by word. The highest byte of each word stands first.
-ghost use Rattle.std.specs.Prelude.{◌≡◌, ℕ, ◌+◌, ◌*◌, ◌/◌, ◌%◌, ◌^◌, ◌<◌, ◌≤◌, [], ◌∷◌, ◌-◌, ◌++◌, length, take, drop, flat_map, OnOk, IfOk, IfErr};
+//! Whole blocks, word by word. The highest byte of each word is first.
+ghost use Rattle.std.specs.Prelude.{◌≡◌, ℕ, ◌+◌, ◌*◌, ◌/◌, ◌%◌, ◌^◌, ◌<◌, ◌≤◌, [], ◌∷◌, ◌-◌, ◌++◌};
+ghost use Rattle.std.specs.Prelude.{length, take, drop, flat_map, OnOk, IfOk, IfErr};
 ghost use mathlib.Core.Option.{some};
 ghost use lib.ListN.{get_elem?};
 ghost use Rattle.byteorder.specs.Endian.{big_bytes};
@@ -16,7 +17,7 @@ use crate::steps::{Place, Words, look, read, store};
 use byteorder::{BigEndian, ByteOrder};
 use s4_types::Refusal;
 
-/// The bytes that words spell.
+/// The bytes that words give.
 pub fn bytes_of(words: &[u64; 64]) -> [u8; 512]
     ensures { result ≡ flat_map (big_bytes 8) words.now }
 {
@@ -25,7 +26,7 @@ pub fn bytes_of(words: &[u64; 64]) -> [u8; 512]
     bytes
 }
 
-/// The words of a block, and that they spell its bytes.
+/// The words of a block, and that they encode its bytes.
 pub fn words_of(bytes: &[u8; 512]) -> [u64; 64]
     ensures words { result ≡ block_words bytes.now }
     ensures back { flat_map (big_bytes 8) result ≡ bytes.now }
@@ -40,7 +41,8 @@ pub fn load_block(words: &Words, seat: &mut Place, frame: usize, block: usize) -
     requires table { seat.old.table_id ≡ words.now.table_id }
     requires drive { seat.old.id ≡ 0 }
     requires inside { (frame < length seat.old.me.0.frames) × (block < 16) }
-    requires sized { (words.now.table_id.words ≡ 1025 * length seat.old.me.0.frames) × (length seat.old.me.0.frames ≤ 1024) }
+    requires sized { (words.now.table_id.words ≡ 1025 * length seat.old.me.0.frames)
+        × (length seat.old.me.0.frames ≤ 1024) }
     ensures seat { IsSameSeat seat.old seat.new }
     ensures view { seat.new.me.0 ≡ seat.old.me.0 }
     ensures bytes { result ≡ block_bytes (frame_at seat.old.me.0.frames frame).contents block }
@@ -56,10 +58,13 @@ pub fn load_block(words: &Words, seat: &mut Place, frame: usize, block: usize) -
 /// A block of a frame that the seat of a pin counts on.
 pub fn read_block(words: &Words, seat: &mut Place, frame: usize, block: usize) -> [u8; 512]
     requires table { seat.old.table_id ≡ words.now.table_id }
-    requires inside { (1025 * frame + 1024 < words.now.table_id.words) × (words.now.table_id.words ≤ 1049600) × (block < 16) }
+    requires inside { (1025 * frame + 1024 < words.now.table_id.words)
+        × (words.now.table_id.words ≤ 1049600) × (block < 16) }
     ensures seat { IsSameSeat seat.old seat.new }
     ensures view { seat.new.me.0 ≡ seat.old.me.0 }
-    ensures bytes { (i : ℕ) (p : Pinned) → get_elem? seat.old.me.0.pins i ≡ some p → p.number ≡ frame → result ≡ block_bytes p.contents block }
+    ensures bytes { (i : ℕ) (p : Pinned)
+        → get_elem? seat.old.me.0.pins i ≡ some p → p.number ≡ frame
+        → result ≡ block_bytes p.contents block }
 {
     let first = FRAME_WORDS * frame + 1 + BLOCK_WORDS * block;
     let mut found = [0; 64];
@@ -72,7 +77,8 @@ pub fn read_block(words: &Words, seat: &mut Place, frame: usize, block: usize) -
 /// Adds the bytes of a word from one place on and up to another. A whole word is the common case.
 fn append_word(word: u64, from: usize, to: usize, into: &mut Vec<u8>) -> Result<(), Refusal>
     requires range { (from ≤ to) × (to ≤ 8) }
-    ensures bytes { OnOk result (into.new.items ≡ into.old.items ++ take (to - from) (drop from (big_bytes 8 word))) }
+    ensures bytes { OnOk result
+        (into.new.items ≡ into.old.items ++ take (to - from) (drop from (big_bytes 8 word))) }
     ensures added { OnOk result (length into.new.items ≡ length into.old.items + (to - from)) }
     ensures refusal { IfErr result (λ e. e ≡ NoMemory) }
 {
@@ -86,15 +92,17 @@ fn append_word(word: u64, from: usize, to: usize, into: &mut Vec<u8>) -> Result<
     Ok(())
 }
 
-/// Words that are added at once where so many are whole: their bytes stay in registers until then.
+/// Words that are added at once where this many are whole: their bytes stay in registers until
+/// then.
 const RUN_WORDS: usize = 8;
 
-/// Bytes of so many words.
+/// Bytes of this many words.
 const RUN_BYTES: usize = 64;
 
 /// Adds the bytes of eight words.
 fn append_words(words: &[u64; RUN_WORDS], into: &mut Vec<u8>) -> Result<(), Refusal>
-    ensures bytes { OnOk result (into.new.items ≡ into.old.items ++ flat_map (big_bytes 8) words.now) }
+    ensures bytes { OnOk result
+        (into.new.items ≡ into.old.items ++ flat_map (big_bytes 8) words.now) }
     ensures added { OnOk result (length into.new.items ≡ length into.old.items + 64) }
     ensures refusal { IfErr result (λ e. e ≡ NoMemory) }
 {
@@ -104,7 +112,8 @@ fn append_words(words: &[u64; RUN_WORDS], into: &mut Vec<u8>) -> Result<(), Refu
     Ok(())
 }
 
-/// Adds the bytes of eight words of a block from that of an index on, of a frame that the seat of a pin counts on.
+/// Adds the bytes of eight words of a block from that of an index on, of a frame that the seat of a
+/// pin counts on.
 fn append_run(
     words: &Words,
     seat: &mut Place,
@@ -114,11 +123,14 @@ fn append_run(
     into: &mut Vec<u8>,
 ) -> Result<(), Refusal>
     requires table { seat.old.table_id ≡ words.now.table_id }
-    requires inside { (1025 * frame + 1024 < words.now.table_id.words) × (words.now.table_id.words ≤ 1049600) × (block < 16) }
+    requires inside { (1025 * frame + 1024 < words.now.table_id.words)
+        × (words.now.table_id.words ≤ 1049600) × (block < 16) }
     requires index { index ≤ 56 }
     ensures seat { IsSameSeat seat.old seat.new }
     ensures view { seat.new.me.0 ≡ seat.old.me.0 }
-    ensures bytes { OnOk result (GrowsByPinned seat.old.me.0.pins frame block (8 * index) (8 * index + 64) into.old.items into.new.items) }
+    ensures bytes { OnOk result
+        (GrowsByPinned seat.old.me.0.pins frame block (8 * index) (8 * index + 64) into.old.items
+        into.new.items) }
     ensures added { OnOk result (length into.new.items ≡ length into.old.items + 64) }
     ensures refusal { IfErr result (λ e. e ≡ NoMemory) }
 {
@@ -131,8 +143,9 @@ fn append_run(
     Ok(())
 }
 
-/// Adds the bytes of a block from one place on, of a frame that the seat of a pin counts on: eight words where so many are whole,
-/// and else those up to an end or to that of their word. Answers where they end.
+/// Adds the bytes of a block from one place on, of a frame that the seat of a pin counts on: eight
+/// words where this many are whole, and else those up to an end or to that of their word. Answers
+/// where they end.
 fn append_next(
     words: &Words,
     seat: &mut Place,
@@ -143,14 +156,18 @@ fn append_next(
     into: &mut Vec<u8>,
 ) -> Result<usize, Refusal>
     requires table { seat.old.table_id ≡ words.now.table_id }
-    requires inside { (1025 * frame + 1024 < words.now.table_id.words) × (words.now.table_id.words ≤ 1049600) × (block < 16) }
+    requires inside { (1025 * frame + 1024 < words.now.table_id.words)
+        × (words.now.table_id.words ≤ 1049600) × (block < 16) }
     requires range { (at < to) × (to ≤ 512) }
     ensures seat { IsSameSeat seat.old seat.new }
     ensures view { seat.new.me.0 ≡ seat.old.me.0 }
     ensures later { IfOk result (λ next. at < next) }
     ensures within { IfOk result (λ next. next ≤ to) }
-    ensures bytes { IfOk result (λ next. GrowsByPinned seat.old.me.0.pins frame block at next into.old.items into.new.items) }
-    ensures added { IfOk result (λ next. length into.new.items ≡ length into.old.items + (next - at)) }
+    ensures bytes { IfOk result
+        (λ next. GrowsByPinned seat.old.me.0.pins frame block at next into.old.items
+        into.new.items) }
+    ensures added { IfOk result
+        (λ next. length into.new.items ≡ length into.old.items + (next - at)) }
     ensures refusal { IfErr result (λ e. e ≡ NoMemory) }
 {
     let index = at / WORD_BYTES;
@@ -166,7 +183,8 @@ fn append_next(
     Ok(at + (end - start))
 }
 
-/// Adds the bytes of a block from one place on and up to another, of a frame that the seat of a pin counts on.
+/// Adds the bytes of a block from one place on and up to another, of a frame that the seat of a pin
+/// counts on.
 pub fn append_bytes(
     words: &Words,
     seat: &mut Place,
@@ -177,11 +195,13 @@ pub fn append_bytes(
     into: &mut Vec<u8>,
 ) -> Result<(), Refusal>
     requires table { seat.old.table_id ≡ words.now.table_id }
-    requires inside { (1025 * frame + 1024 < words.now.table_id.words) × (words.now.table_id.words ≤ 1049600) × (block < 16) }
+    requires inside { (1025 * frame + 1024 < words.now.table_id.words)
+        × (words.now.table_id.words ≤ 1049600) × (block < 16) }
     requires range { (from ≤ to) × (to ≤ 512) }
     ensures seat { IsSameSeat seat.old seat.new }
     ensures view { seat.new.me.0 ≡ seat.old.me.0 }
-    ensures bytes { OnOk result (GrowsByPinned seat.old.me.0.pins frame block from to into.old.items into.new.items) }
+    ensures bytes { OnOk result
+        (GrowsByPinned seat.old.me.0.pins frame block from to into.old.items into.new.items) }
     ensures added { OnOk result (length into.new.items ≡ length into.old.items + (to - from)) }
     ensures refusal { IfErr result (λ e. e ≡ NoMemory) }
 {
@@ -192,7 +212,8 @@ pub fn append_bytes(
     Ok(())
 }
 
-/// Adds the bytes of eight words of a block from that of an index on, as the drive's seat finds them.
+/// Adds the bytes of eight words of a block from that of an index on, as the drive's seat finds
+/// them.
 fn load_run(
     words: &Words,
     seat: &mut Place,
@@ -204,11 +225,14 @@ fn load_run(
     requires table { seat.old.table_id ≡ words.now.table_id }
     requires drive { seat.old.id ≡ 0 }
     requires inside { (frame < length seat.old.me.0.frames) × (block < 16) }
-    requires sized { (words.now.table_id.words ≡ 1025 * length seat.old.me.0.frames) × (length seat.old.me.0.frames ≤ 1024) }
+    requires sized { (words.now.table_id.words ≡ 1025 * length seat.old.me.0.frames)
+        × (length seat.old.me.0.frames ≤ 1024) }
     requires index { index ≤ 56 }
     ensures seat { IsSameSeat seat.old seat.new }
     ensures view { seat.new.me.0 ≡ seat.old.me.0 }
-    ensures bytes { OnOk result (GrowsByBlock (frame_at seat.old.me.0.frames frame).contents block (8 * index) (8 * index + 64) into.old.items into.new.items) }
+    ensures bytes { OnOk result
+        (GrowsByBlock (frame_at seat.old.me.0.frames frame).contents block (8 * index)
+        (8 * index + 64) into.old.items into.new.items) }
     ensures added { OnOk result (length into.new.items ≡ length into.old.items + 64) }
     ensures refusal { IfErr result (λ e. e ≡ NoMemory) }
 {
@@ -221,8 +245,9 @@ fn load_run(
     Ok(())
 }
 
-/// Adds the bytes of a block from one place on, as the drive's seat finds them: eight words where so many are whole, and else
-/// those up to an end or to that of their word. Answers where they end.
+/// Adds the bytes of a block from one place on, as the drive's seat finds them: eight words where
+/// this many are whole, and else those up to an end or to that of their word. Answers where they
+/// end.
 fn load_next(
     words: &Words,
     seat: &mut Place,
@@ -235,14 +260,18 @@ fn load_next(
     requires table { seat.old.table_id ≡ words.now.table_id }
     requires drive { seat.old.id ≡ 0 }
     requires inside { (frame < length seat.old.me.0.frames) × (block < 16) }
-    requires sized { (words.now.table_id.words ≡ 1025 * length seat.old.me.0.frames) × (length seat.old.me.0.frames ≤ 1024) }
+    requires sized { (words.now.table_id.words ≡ 1025 * length seat.old.me.0.frames)
+        × (length seat.old.me.0.frames ≤ 1024) }
     requires range { (at < to) × (to ≤ 512) }
     ensures seat { IsSameSeat seat.old seat.new }
     ensures view { seat.new.me.0 ≡ seat.old.me.0 }
     ensures later { IfOk result (λ next. at < next) }
     ensures within { IfOk result (λ next. next ≤ to) }
-    ensures bytes { IfOk result (λ next. GrowsByBlock (frame_at seat.old.me.0.frames frame).contents block at next into.old.items into.new.items) }
-    ensures added { IfOk result (λ next. length into.new.items ≡ length into.old.items + (next - at)) }
+    ensures bytes { IfOk result
+        (λ next. GrowsByBlock (frame_at seat.old.me.0.frames frame).contents block at next
+        into.old.items into.new.items) }
+    ensures added { IfOk result
+        (λ next. length into.new.items ≡ length into.old.items + (next - at)) }
     ensures refusal { IfErr result (λ e. e ≡ NoMemory) }
 {
     let index = at / WORD_BYTES;
@@ -271,11 +300,14 @@ pub fn load_bytes(
     requires table { seat.old.table_id ≡ words.now.table_id }
     requires drive { seat.old.id ≡ 0 }
     requires inside { (frame < length seat.old.me.0.frames) × (block < 16) }
-    requires sized { (words.now.table_id.words ≡ 1025 * length seat.old.me.0.frames) × (length seat.old.me.0.frames ≤ 1024) }
+    requires sized { (words.now.table_id.words ≡ 1025 * length seat.old.me.0.frames)
+        × (length seat.old.me.0.frames ≤ 1024) }
     requires range { (from ≤ to) × (to ≤ 512) }
     ensures seat { IsSameSeat seat.old seat.new }
     ensures view { seat.new.me.0 ≡ seat.old.me.0 }
-    ensures bytes { OnOk result (GrowsByBlock (frame_at seat.old.me.0.frames frame).contents block from to into.old.items into.new.items) }
+    ensures bytes { OnOk result
+        (GrowsByBlock (frame_at seat.old.me.0.frames frame).contents block from to into.old.items
+        into.new.items) }
     ensures added { OnOk result (length into.new.items ≡ length into.old.items + (to - from)) }
     ensures refusal { IfErr result (λ e. e ≡ NoMemory) }
 {
@@ -291,10 +323,13 @@ pub fn store_block(words: &Words, seat: &mut Place, frame: usize, block: usize, 
     requires table { seat.old.table_id ≡ words.now.table_id }
     requires drive { seat.old.id ≡ 0 }
     requires inside { (frame < length seat.old.me.0.frames) × (block < 16) }
-    requires sized { (words.now.table_id.words ≡ 1025 * length seat.old.me.0.frames) × (length seat.old.me.0.frames ≤ 1024) }
+    requires sized { (words.now.table_id.words ≡ 1025 * length seat.old.me.0.frames)
+        × (length seat.old.me.0.frames ≤ 1024) }
     requires phase { (frame_at seat.old.me.0.frames frame).phase ≡ Open }
     ensures seat { IsSameSeat seat.old seat.new }
-    ensures view { seat.new.me.0 ≡ with_frame seat.old.me.0 frame (with_block (frame_at seat.old.me.0.frames frame) block bytes.now) }
+    ensures view { seat.new.me.0
+        ≡ with_frame seat.old.me.0 frame
+        (with_block (frame_at seat.old.me.0.frames frame) block bytes.now) }
     ensures whole { length (frame_at seat.old.me.0.frames frame).contents ≡ 1024 }
     ensures back { flat_map (big_bytes 8) (block_words bytes.now) ≡ bytes.now }
 {

@@ -1,4 +1,5 @@
-//! What the drive's seat and all pins share: the table, and a perch for each seat that a pin may have.
+//! What the drive's seat and all pins share: the table, and a perch for each seat that a pin may
+//! have.
 ghost use Rattle.std.specs.Prelude.{◌≡◌, All, vec_len};
 ghost use Rattle.segment_word.specs.Frames.{nothing_known};
 ghost use Rattle.segment_word.specs.Handles.{IsSized};

@@ -1,5 +1,6 @@
 //! The drive's seat.
-ghost use Rattle.std.specs.Prelude.{◌≡◌, ◌≢◌, ℕ, ◌+◌, ◌-◌, ◌*◌, ◌^◌, ◌<◌, ◌≤◌, ◌++◌, length, take, drop, OnOk, OnErr, IfErr};
+ghost use Rattle.std.specs.Prelude.{◌≡◌, ◌≢◌, ℕ, ◌+◌, ◌-◌, ◌*◌, ◌^◌, ◌<◌, ◌≤◌, ◌++◌, length, take};
+ghost use Rattle.std.specs.Prelude.{drop, OnOk, OnErr, IfErr};
 ghost use Rattle.s4_types.specs.declared.refusals.Refusal.TheVariants.{InUse, NoMemory};
 ghost use Rattle.segment_word.specs.Frames.{Frame, code_of, is_sealed, is_draining};
 ghost use Rattle.segment_word.specs.Frames.Phase.{Free, Open, Sealed, Draining};
@@ -19,7 +20,8 @@ use std::alloc::Global;
 use std::marker::Model;
 use std::sync::Arc;
 
-/// The drive's seat at the table, which knows every frame. There is one, and only it changes frames.
+/// The drive's seat at the table, which knows every frame. There is one, and only it changes
+/// frames.
 #[derive(Drop)]
 pub struct DriveSeat {
     pub(crate) board: Arc<Board, Global>,
@@ -64,7 +66,8 @@ impl DriveSeat {
         raise(&self.board.table.shared, &mut self.seat, frame);
     }
 
-    /// A sealed frame is being emptied from now on. Its readers, its generation and its contents stay.
+    /// A sealed frame is being emptied from now on. Its readers, its generation and its contents
+    /// stay.
     pub fn mark(&mut self, frame: usize)
         requires inside { frame < length self.old.frames }
         requires sealed { (frame_at self.old.frames frame).phase ≡ Sealed }
@@ -74,17 +77,25 @@ impl DriveSeat {
         raise(words, &mut self.seat, frame);
     }
 
-    /// A frame that is being emptied and has no reader is free at its next generation. The last one, 2^32 - 1, retires it.
+    /// A frame that is being emptied and has no reader is free at its next generation. The last
+    /// one, 2^32 - 1, retires it.
     ///
-    /// InUse where the frame isn't being emptied, and nothing has changed then; or where its word counted a reader at the one
-    /// exchange that was tried: no frame has changed then, and the try is noted with the word that it found.
+    /// InUse where the frame isn't being emptied, and nothing has changed then; or where its word
+    /// counted a reader at the one exchange that was tried: no frame has changed then, and the try
+    /// is noted with the word that it found.
     pub fn release(&mut self, frame: usize) -> Result<(), Refusal>
         requires { frame < length self.old.frames }
-        ensures freed { OnOk result (((frame_at self.old.frames frame).phase ≡ Draining) × (self.new ≡ with_released self.old frame)) }
+        ensures freed { OnOk result
+            (((frame_at self.old.frames frame).phase ≡ Draining)
+            × (self.new ≡ with_released self.old frame)) }
         ensures goes_on { OnOk result ((frame_at self.old.frames frame).generation + 1 < 2 ^ 32) }
-        ensures missed { OnErr result ((frame_at self.old.frames frame).phase ≡ Draining → HasMissed frame self.old self.new) }
-        ensures idle { OnErr result ((frame_at self.old.frames frame).phase ≢ Draining → self.new ≡ self.old) }
-        ensures refused { OnErr result ((self.new.table ≡ self.old.table) × (self.new.frames ≡ self.old.frames)) }
+        ensures missed { OnErr result
+            ((frame_at self.old.frames frame).phase ≡ Draining
+            → HasMissed frame self.old self.new) }
+        ensures idle { OnErr result
+            ((frame_at self.old.frames frame).phase ≢ Draining → self.new ≡ self.old) }
+        ensures refused { OnErr result
+            ((self.new.table ≡ self.old.table) × (self.new.frames ≡ self.old.frames)) }
         ensures refusal { IfErr result (λ e. e ≡ InUse) }
     {
         let seen = self.state(frame);
@@ -104,9 +115,13 @@ impl DriveSeat {
     pub fn store(&mut self, frame: usize, block: usize, bytes: &[u8; 512])
         requires inside { (frame < length self.old.frames) × (block < 16) }
         requires open { (frame_at self.old.frames frame).phase ≡ Open }
-        ensures changed { self.new ≡ with_changed self.old frame (with_block (frame_at self.old.frames frame) block bytes.now) }
+        ensures changed { self.new
+            ≡ with_changed self.old frame
+            (with_block (frame_at self.old.frames frame) block bytes.now) }
         ensures stored { block_bytes (frame_at self.new.frames frame).contents block ≡ bytes.now }
-        ensures others { (b : ℕ) → b < 16 → b ≢ block → block_bytes (frame_at self.new.frames frame).contents b ≡ block_bytes (frame_at self.old.frames frame).contents b }
+        ensures others { (b : ℕ) → b < 16 → b ≢ block
+            → block_bytes (frame_at self.new.frames frame).contents b
+            ≡ block_bytes (frame_at self.old.frames frame).contents b }
     {
         let words = &self.board.table.shared;
         store_block(words, &mut self.seat, frame, block, bytes);
@@ -121,10 +136,11 @@ impl DriveSeat {
         load_block(&self.board.table.shared, &mut self.seat, frame, block)
     }
 
-    /// Adds the bytes `from..to` of the 512 of block `block`, from 0 to 15, of any frame, as [`crate::Pin::append_bytes`] does.
+    /// Adds the bytes `from..to` of the 512 of block `block`, from 0 to 15, of any frame, as
+    /// [`crate::Pin::append_bytes`] does.
     ///
-    /// NoMemory alone, where `into` has no room and more is refused; it may have some of the bytes then. Where it has room,
-    /// nothing is asked for.
+    /// NoMemory alone, where `into` has no room and more is refused; it may have some of the bytes
+    /// then. Where it has room, nothing is asked for.
     pub fn append_bytes(
         &mut self,
         frame: usize,
@@ -135,7 +151,11 @@ impl DriveSeat {
     ) -> Result<(), Refusal>
         requires inside { (frame < length self.old.frames) × (block < 16) }
         requires range { (from ≤ to) × (to ≤ 512) }
-        ensures bytes { OnOk result (into.new.items ≡ into.old.items ++ take (to - from) (drop from (block_bytes (frame_at self.old.frames frame).contents block))) }
+        ensures bytes { OnOk result
+            (into.new.items
+            ≡ into.old.items
+            ++ take (to - from)
+            (drop from (block_bytes (frame_at self.old.frames frame).contents block))) }
         ensures added { OnOk result (length into.new.items ≡ length into.old.items + (to - from)) }
         ensures refusal { IfErr result (λ e. e ≡ NoMemory) }
         ensures same { self.new ≡ self.old }
@@ -200,8 +220,9 @@ impl DriveSeat {
         self.state(frame) % ONE_READER == EMPTIED
     }
 
-    /// Shows what is true of what is remembered: each of the frames has come to the generation that it had, and while it is at
-    /// that one, it is sealed or being emptied with the contents that it had.
+    /// Shows what is true of what is remembered: each of the frames has come to the generation that
+    /// it had, and while it is at that one, it is sealed or being emptied with the contents that it
+    /// had.
     pub fn recall(&mut self, memory: &mut Memory)
         requires { memory.old.table ≡ self.old.table }
         ensures remembered { AllRemembered self.old.frames memory.old.remembered }

@@ -1,5 +1,6 @@
 //! The words of a drive's frames before any seat knows them.
-ghost use Rattle.std.specs.Prelude.{◌≡◌, ◌≢◌, ℕ, ◌+◌, ◌*◌, ◌^◌, ◌<◌, ◌≤◌, length, replicate, slice_index, slice_set, IfOk, IfErr};
+ghost use Rattle.std.specs.Prelude.{◌≡◌, ◌≢◌, ℕ, ◌+◌, ◌*◌, ◌^◌, ◌<◌, ◌≤◌, length, replicate};
+ghost use Rattle.std.specs.Prelude.{slice_index, slice_set, IfOk, IfErr};
 ghost use Rattle.s4_types.specs.Sizes.{IsFrameCount};
 ghost use Rattle.s4_types.specs.declared.refusals.Refusal.TheVariants.{NoMemory};
 ghost use Rattle.segment_word.specs.Frames.{code_of};
@@ -55,7 +56,8 @@ impl FrameState {
     }
 }
 
-/// The words of a drive's frames before any seat knows them: a table of frames is made of them. Contracts see the frames.
+/// The words of a drive's frames before any seat knows them: a table of frames is made of them.
+/// Contracts see the frames.
 #[derive(Drop)]
 pub struct FrameWords {
     pub(crate) words: Vec<u64>,
@@ -78,8 +80,10 @@ impl Model for FrameWords {
 fn blank_words(alloc: Global, count: usize) -> Result<Vec<u64>, AllocError>
     requires { count ≤ 1024 }
     ensures count { IfOk result (λ words. length words.items ≡ 1025 * count) }
-    ensures state { IfOk result (λ words. (f : ℕ) → f < count → slice_index words.items (1025 * f) ≡ 2 ^ 32) }
-    ensures zeros { IfOk result (λ words. (f j : ℕ) → j < 1024 → slice_index words.items (1025 * f + 1 + j) ≡ 0) }
+    ensures state { IfOk result
+        (λ words. (f : ℕ) → f < count → slice_index words.items (1025 * f) ≡ 2 ^ 32) }
+    ensures zeros { IfOk result
+        (λ words. (f j : ℕ) → j < 1024 → slice_index words.items (1025 * f + 1 + j) ≡ 0) }
 {
     let mut words = vec![in alloc; 0u64; FRAME_WORDS * count]?;
     for i in 0..count {
@@ -137,9 +141,12 @@ impl FrameWords {
     /// 512 bytes become block `block`, from 0 to 15, of a frame.
     pub fn store(&mut self, frame: usize, block: usize, bytes: &[u8; 512])
         requires inside { (frame < length self.old) × (block < 16) }
-        ensures changed { self.new ≡ slice_set self.old frame (with_block (frame_at self.old frame) block bytes.now) }
+        ensures changed { self.new
+            ≡ slice_set self.old frame (with_block (frame_at self.old frame) block bytes.now) }
         ensures stored { block_bytes (frame_at self.new frame).contents block ≡ bytes.now }
-        ensures others { (b : ℕ) → b < 16 → b ≢ block → block_bytes (frame_at self.new frame).contents b ≡ block_bytes (frame_at self.old frame).contents b }
+        ensures others { (b : ℕ) → b < 16 → b ≢ block
+            → block_bytes (frame_at self.new frame).contents b
+            ≡ block_bytes (frame_at self.old frame).contents b }
     {
         let values = words_of(bytes);
         let words = self.words.as_mut_slice();

@@ -1,4 +1,4 @@
-//! Where the words of a frame stand in the table.
+//! Where the words of a frame are in the table.
 
 /// Words of a frame: its state word, and 64 for each of its 16 blocks.
 pub const FRAME_WORDS: usize = 1025;

@@ -10,9 +10,11 @@ use crate::layout::FRAME_WORDS;
 use crate::steps::{Place, Words, gain, hand, look, receive, remember};
 use s4_types::limits::{MOST_READERS, PIN_TRIES};
 
-/// The pins go to the drive's seat and back. In between, one load tells that they say what the drive knows.
+/// The pins go to the drive's seat and back. In between, one load tells that they say what the
+/// drive knows.
 pub fn confirm(words: &Words, drive: &mut Place, seat: &mut Place)
-    requires table { (drive.old.table_id ≡ words.now.table_id) × (seat.old.table_id ≡ words.now.table_id) }
+    requires table { (drive.old.table_id ≡ words.now.table_id)
+        × (seat.old.table_id ≡ words.now.table_id) }
     requires drive { IsDriveSeat drive.old }
     requires seat { IsPinSeat seat.old }
     ensures drive { IsSameSeat drive.old drive.new × (drive.new.me ≡ drive.old.me) }
@@ -26,12 +28,15 @@ pub fn confirm(words: &Words, drive: &mut Place, seat: &mut Place)
     receive(words, seat, back);
 }
 
-/// What a memory remembers comes to the drive's seat too, and one load tells that it is true. It stays there, unseen.
+/// What a memory remembers comes to the drive's seat too, and one load tells that it is true. It
+/// stays there, unseen.
 pub fn recall(words: &Words, seat: &mut Place, memory: &mut Place)
-    requires table { (seat.old.table_id ≡ words.now.table_id) × (memory.old.table_id ≡ words.now.table_id) }
+    requires table { (seat.old.table_id ≡ words.now.table_id)
+        × (memory.old.table_id ≡ words.now.table_id) }
     requires drive { IsDriveSeat seat.old }
     ensures drive { IsSameSeat seat.old seat.new × IsDriveSeat seat.new }
-    ensures known { (seat.new.me.0.frames ≡ seat.old.me.0.frames) × (seat.new.me.0.releases ≡ seat.old.me.0.releases) }
+    ensures known { (seat.new.me.0.frames ≡ seat.old.me.0.frames)
+        × (seat.new.me.0.releases ≡ seat.old.me.0.releases) }
     ensures memory { IsSameSeat memory.old memory.new × (memory.new.me.0 ≡ memory.old.me.0) }
     ensures remembered { AllRemembered seat.old.me.0.frames memory.old.me.0.remembered }
 {
@@ -40,16 +45,21 @@ pub fn recall(words: &Words, seat: &mut Place, memory: &mut Place)
     look(words, seat, 0);
 }
 
-/// One reader more for a sealed frame, and says whether there is. Each try exchanges the word that it has just loaded.
+/// One reader more for a sealed frame, and says whether there is. Each try exchanges the word that
+/// it has just loaded.
 pub fn pin(words: &Words, drive: &mut Place, seat: &mut Place, frame: usize) -> bool
-    requires table { (drive.old.table_id ≡ words.now.table_id) × (seat.old.table_id ≡ words.now.table_id) }
+    requires table { (drive.old.table_id ≡ words.now.table_id)
+        × (seat.old.table_id ≡ words.now.table_id) }
     requires drive { IsDriveSeat drive.old }
     requires seat { IsPinSeat seat.old }
     requires inside { frame < length drive.old.me.0.frames }
     requires sealed { (frame_at drive.old.me.0.frames frame).phase ≡ Sealed }
     ensures drive { IsSameSeat drive.old drive.new × (drive.new.me ≡ drive.old.me) }
     ensures seat { IsSameSeat seat.old seat.new }
-    ensures view { MatchBool result (seat.new.me.0 ≡ with_pins seat.old.me.0 (pin_of drive.old.me.0.frames frame ∷ seat.old.me.0.pins)) (seat.new.me.0 ≡ seat.old.me.0) }
+    ensures view { MatchBool result
+        (seat.new.me.0
+        ≡ with_pins seat.old.me.0 (pin_of drive.old.me.0.frames frame ∷ seat.old.me.0.pins))
+        (seat.new.me.0 ≡ seat.old.me.0) }
 {
     for _ in 0..PIN_TRIES {
         let seen = look(words, drive, FRAME_WORDS * frame);

@@ -2,8 +2,9 @@
 use crate::steps::Place;
 use std::marker::Model;
 
-/// What a pin counted on when the memory was made. It keeps no frame from being released, is none of the seats that pins
-/// have, and lives as long as it likes. `DriveSeat::recall` tells what is still true of it.
+/// What a pin counted on when the memory was made. It keeps no frame from being released, is none
+/// of the seats that pins have, and lives as long as it likes. `DriveSeat::recall` tells what is
+/// still true of it.
 #[derive(Drop)]
 pub struct Memory {
     pub(crate) seat: Place,

@@ -1,5 +1,7 @@
 //! Pins: frames that stay as they are while somebody counts on them.
-ghost use Rattle.std.specs.Prelude.{◌≡◌, ◌≢◌, ℕ, ◌+◌, ◌-◌, ◌*◌, ◌<◌, ◌≤◌, ◌⊎◌, ◌↔◌, [], ◌∷◌, ◌++◌, length, take, drop, MatchBool, IsTrue, OnOk, OnErr, IfErr, IsOk, vec_len};
+ghost use Rattle.std.specs.Prelude.{◌≡◌, ◌≢◌, ℕ, ◌+◌, ◌-◌, ◌*◌, ◌<◌, ◌≤◌, ◌⊎◌, ◌↔◌, [], ◌∷◌, ◌++◌};
+ghost use Rattle.std.specs.Prelude.{length, take, drop, MatchBool, IsTrue, OnOk, OnErr, IfErr};
+ghost use Rattle.std.specs.Prelude.{IsOk, vec_len};
 ghost use Rattle.s4_types.specs.declared.refusals.Refusal.TheVariants.{NoMemory, Busy};
 ghost use Rattle.std.specs.Arc.{arc_value};
 ghost use Rattle.segment_word.specs.Frames.{Pinned, nothing_known};
@@ -22,8 +24,9 @@ use std::alloc::Global;
 use std::marker::Model;
 use std::sync::Arc;
 
-/// A seat at the table, with the frames that it counts on. While it lives, each of them keeps its generation and its
-/// contents, whatever other threads do. Dropping it unpins them all and gives the seat back.
+/// A seat at the table, with the frames that it counts on. While it lives, each of them keeps its
+/// generation and its contents, whatever other threads do. Dropping it unpins them all and gives
+/// the seat back.
 pub struct Pin {
     board: Arc<Board, Global>,
     seat: Place,
@@ -68,15 +71,18 @@ impl Pin {
         self.numbers.contains(&frame)
     }
 
-    /// Counts on a sealed frame of the same table from now on. A frame that it counts on already is left so.
+    /// Counts on a sealed frame of the same table from now on. A frame that it counts on already is
+    /// left so.
     ///
-    /// NoMemory where there was none for the frame's number. Busy where the frame has `MOST_READERS`, or where other
-    /// threads changed its word between load and exchange `PIN_TRIES` times. After either, nothing has changed.
+    /// NoMemory where there was none for the frame's number. Busy where the frame has
+    /// `MOST_READERS`, or where other threads changed its word between load and exchange
+    /// `PIN_TRIES` times. After either, nothing has changed.
     pub fn add(&mut self, frame: FrameToken<'_>) -> Result<(), Refusal>
         requires table { frame.drive.now.table ≡ self.old.table }
         requires inside { frame.number < length frame.drive.now.frames }
         requires sealed { (frame_at frame.drive.now.frames frame.number).phase ≡ Sealed }
-        ensures counted { 0 < pins_in frame.entry.number self.old.pins → IsOk result × (self.new ≡ self.old) }
+        ensures counted { 0 < pins_in frame.entry.number self.old.pins
+            → IsOk result × (self.new ≡ self.old) }
         ensures pinned { pins_in frame.entry.number self.old.pins ≡ 0 → OnOk result (self.new ≡ record self.old { pins = pin_of frame.entry.drive.now.frames frame.entry.number ∷ self.old.pins }) }
         ensures refused { OnErr result (self.new ≡ self.old) }
         ensures refusal { IfErr result (λ e. (e ≡ NoMemory) ⊎ (e ≡ Busy)) }
@@ -95,7 +101,8 @@ impl Pin {
         Ok(())
     }
 
-    /// Shows that each frame that it counts on has the pin's generation and contents, as the drive's seat knows them.
+    /// Shows that each frame that it counts on has the pin's generation and contents, as the
+    /// drive's seat knows them.
     pub fn confirm(&mut self, drive: &mut DriveSeat)
         requires { drive.old.table ≡ self.old.table }
         ensures agree { AllAgree drive.old.frames self.old.pins }
@@ -105,7 +112,8 @@ impl Pin {
         confirm(words, &mut drive.seat, &mut self.seat);
     }
 
-    /// What it counts on, as a memory that outlives it. Takes no memory of the machine, and no seat.
+    /// What it counts on, as a memory that outlives it. Takes no memory of the machine, and no
+    /// seat.
     pub fn remember(&mut self) -> Memory
         ensures memory { result ≡ record { table = self.old.table; remembered = self.old.pins } }
         ensures same { self.new ≡ self.old }
@@ -114,21 +122,24 @@ impl Pin {
         Memory { seat }
     }
 
-    /// The 512 bytes of block `block`, from 0 to 15, of a frame that it counts on, as they were when the frame was pinned.
+    /// The 512 bytes of block `block`, from 0 to 15, of a frame that it counts on, as they were
+    /// when the frame was pinned.
     pub fn read_block(&mut self, frame: usize, block: usize) -> [u8; 512]
         requires counted { 0 < pins_in frame self.old.pins }
         requires inside { block < 16 }
-        ensures bytes { (p : Pinned) → IsAmong p self.old.pins → p.number ≡ frame → result ≡ block_bytes p.contents block }
+        ensures bytes { (p : Pinned) → IsAmong p self.old.pins → p.number ≡ frame
+            → result ≡ block_bytes p.contents block }
         ensures same { self.new ≡ self.old }
     {
         read_block(&self.board.table.shared, &mut self.seat, frame, block)
     }
 
-    /// Adds the bytes `from..to` of the 512 of block `block`, from 0 to 15, of a frame that it counts on, as they were when the
-    /// frame was pinned. Eight words at a time are added where so many are whole, and else one.
+    /// Adds the bytes `from..to` of the 512 of block `block`, from 0 to 15, of a frame that it
+    /// counts on, as they were when the frame was pinned. Eight words at a time are added where
+    /// this many are whole, and else one.
     ///
-    /// NoMemory alone, where `into` has no room and more is refused; it may have some of the bytes then. Where it has room,
-    /// nothing is asked for.
+    /// NoMemory alone, where `into` has no room and more is refused; it may have some of the bytes
+    /// then. Where it has room, nothing is asked for.
     pub fn append_bytes(
         &mut self,
         frame: usize,
@@ -140,7 +151,11 @@ impl Pin {
         requires counted { 0 < pins_in frame self.old.pins }
         requires inside { block < 16 }
         requires range { (from ≤ to) × (to ≤ 512) }
-        ensures bytes { OnOk result ((p : Pinned) → IsAmong p self.old.pins → p.number ≡ frame → into.new.items ≡ into.old.items ++ take (to - from) (drop from (block_bytes p.contents block))) }
+        ensures bytes { OnOk result
+            ((p : Pinned) → IsAmong p self.old.pins → p.number ≡ frame
+            → into.new.items
+            ≡ into.old.items
+            ++ take (to - from) (drop from (block_bytes p.contents block))) }
         ensures added { OnOk result (length into.new.items ≡ length into.old.items + (to - from)) }
         ensures refusal { IfErr result (λ e. e ≡ NoMemory) }
         ensures same { self.new ≡ self.old }
@@ -158,7 +173,9 @@ impl Pin {
 
     // Unpins the newest frame, and says whether there was one.
     fn unpin(&mut self) -> bool
-        ensures pins { MatchBool result ((length self.old.pins ≡ length self.new.pins + 1) × (self.new.pins ≡ older self.old.pins)) (self.new.pins ≡ []) }
+        ensures pins { MatchBool result
+            ((length self.old.pins ≡ length self.new.pins + 1)
+            × (self.new.pins ≡ older self.old.pins)) (self.new.pins ≡ []) }
         ensures same { (self.new.table ≡ self.old.table) × (self.new.perch ≡ self.old.perch) }
     {
         let Some(frame) = self.numbers.pop() else {

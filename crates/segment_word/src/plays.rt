@@ -1,6 +1,7 @@
 //! What each step on a word tells its seat, and how pins and memories go from one seat to another.
 ghost use Rattle.segment_word.specs.Frames.{nothing_known};
-ghost use Rattle.segment_word.specs.Steps.{Raises, Stores, Looks, ReadsBlockWord, Frees, Pins, Unpins, pins_of, without_pins, memory_of, joined_view};
+ghost use Rattle.segment_word.specs.Steps.{Raises, Stores, Looks, ReadsBlockWord, Frees, Pins};
+ghost use Rattle.segment_word.specs.Steps.{Unpins, pins_of, without_pins, memory_of, joined_view};
 
 use crate::rule::Known;
 use atomic_table::{Join, Play, Split};

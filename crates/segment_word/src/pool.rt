@@ -39,7 +39,8 @@ impl Model for Frames {
     ghost view = { λ f. (arc_value f.board).table.shared.table_id };
 }
 
-// The table of these words, and its first seat, which is the drive's. The words go once the table has its own.
+// The table of these words, and its first seat, which is the drive's. The words go once the table
+// has its own.
 fn table_of(alloc: Global, words: FrameWords) -> Result<(FrameTable, Place), Refusal>
     ensures words { IfOk result (λ t. t.0.shared.table_id.words ≡ 1025 * length words) }
     ensures seat { IfOk result (λ t. (t.1.table_id ≡ t.0.shared.table_id) × (t.1.id ≡ 0)) }
@@ -57,7 +58,8 @@ fn perches(alloc: Global, words: &Words, seat: &mut Place) -> Result<Vec<Perch<(
     requires table { (seat.old.table_id ≡ words.now.table_id) × (0 < words.now.table_id.words) }
     requires unlent { seat.old.me.0.pins ≡ [] }
     ensures seat { IsSameSeat seat.old seat.new × (seat.new.me ≡ seat.old.me) }
-    ensures rests { IfOk result (λ v. All (λ r. (r.table_id ≡ words.now.table_id) × (r.view ≡ nothing_known)) v.items) }
+    ensures rests { IfOk result
+        (λ v. All (λ r. (r.table_id ≡ words.now.table_id) × (r.view ≡ nothing_known)) v.items) }
     ensures refusal { IfErr result (λ e. e ≡ NoMemory) }
 {
     let mut perches = Vec::with_capacity(alloc, SEATS)?;
@@ -71,8 +73,8 @@ fn perches(alloc: Global, words: &Words, seat: &mut Place) -> Result<Vec<Perch<(
 }
 
 impl Frames {
-    /// The memory of a drive of `FEWEST_FRAMES` to `MOST_FRAMES` frames, all free at generation 1 and full of zeros, and the
-    /// drive's seat.
+    /// The memory of a drive of `FEWEST_FRAMES` to `MOST_FRAMES` frames, all free at generation 1
+    /// and full of zeros, and the drive's seat.
     ///
     /// NoMemory where memory was refused, Busy where the count of those that share it was full.
     pub fn new(alloc: Global, count: usize) -> Result<(Frames, DriveSeat), Refusal>
@@ -103,7 +105,8 @@ impl Frames {
         Ok((frames, DriveSeat { board, seat }))
     }
 
-    /// A pin without frames. Busy where all seats are in use, or the count of those that share the memory is full.
+    /// A pin without frames. Busy where all seats are in use, or the count of those that share the
+    /// memory is full.
     pub fn seat(&self) -> Result<Pin, Refusal>
         ensures pin { IfOk result (λ p. (p.table ≡ self.now) × (p.pins ≡ [])) }
         ensures busy { IfErr result (λ e. e ≡ Busy) }

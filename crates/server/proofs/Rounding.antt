@@ -10,7 +10,7 @@ use Rattle.history_cleaner.specs.declared.rounds.Turn.TheVariants.{Cleaned, Pass
 use Rattle.server.specs.Upkeep.{SharedTurn, TakesTurns, IsRound, ends_round}
 use Rattle.server.specs.declared.upkeep.Round.{Round}
 
--- Turns were taken from before the first object on, one for each of so many objects, and none of them ended the round.
+-- Turns were taken from before the first object on, one for each of this many objects, and none of them ended the round.
 pub record IsUnderway (base : Base) (passed count : ℕ) : Type 0 where
   pub turns : List Turn
   pub taken : TakesTurns base 0 turns passed

@@ -77,7 +77,7 @@ come_tended begins clock has_upkeep requests changes d e come tended ledger =
 pub next_count : (n answered next : ℕ) → answered ≡ min n (2 ^ 64 - 1) → next ≡ min (answered + 1) (2 ^ 64 - 1) → next ≡ min (n + 1) (2 ^ 64 - 1)
 next_count n answered next is more = omega (arith, is, more)
 
--- behind the last number it gives the last moment, where the clock ticks
+-- after the last number it gives the last moment, where the clock ticks
 stopped_ticks : (start tick n : ℕ) → 1 ≤ tick → 2 ^ 64 - 1 ≤ n + 1 → moment_of_tick start tick (2 ^ 64 - 1) ≡ moment_of_tick start tick (n + 1)
 stopped_ticks start tick n ticks behind =
     let here : (2 ^ 64 - 1) * 1 ≤ (2 ^ 64 - 1) * tick = mul-le-mul_left (2 ^ 64 - 1) ticks in

@@ -67,7 +67,7 @@ IsRefused _ = ⊥
 free_wants : (first : Option Refusal) → first ≡ None → (o off len : ℕ) (at : Option ℕ) → MayWantMemory first (Read o off len at)
 free_wants first free o off len at = subst (λ (r : Option Refusal). MayWantMemory r (Read o off len at)) (sym free) tt
 
--- a read that is answered may be refused for want of memory in place of that
+-- a read that is answered may be refused for lack of memory in place of that
 unfetched : (h after : History) (role : Role) (o off len now : ℕ) (at : Option ℕ) (bytes : List ℕ) → Step h role (Read o off len at) now (Data bytes) after → Step h role (Read o off len at) now (Refused NoMemory) after
 unfetched h after role o off len now at bytes (Refuses refusal is may grows) = absurd (subst IsRefused (sym is) tt)
 unfetched h after role o off len now at bytes (Serves r free (Alters change asked reply is) grows) = absurd (none-some change asked)

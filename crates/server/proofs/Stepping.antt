@@ -11,7 +11,7 @@ use Rattle.server.specs.Moving.{SharedMove, TakesSteps, IsMoving, is_planned, is
 use Rattle.server.specs.declared.moving.MoveStep.{MoveStep}
 use Rattle.server.specs.declared.moving.Moves.{Moves}
 
--- Steps were taken, of which so many planned a move, and so many put one in place.
+-- Steps were taken, of which this many planned a move, and this many put one in place.
 pub record HasMoved (base : Base) (session : SessionFields) (planned moved : ℕ) : Type 0 where
   pub first : SessionFields
   pub fresh : IsFresh base Client first

@@ -2,7 +2,7 @@
 use Rattle.std.specs.Prelude.{◌≡◌, ℕ}
 use Rattle.serving.specs.Drawing.{moment_of_tick}
 
--- what contracts see of a shared clock: where it stood at first, and how far each request moves it
+-- what contracts see of a shared clock: where it was at first, and how far each request moves it
 pub record ClockFields : Type 0 where
   pub start : ℕ
   pub tick : ℕ

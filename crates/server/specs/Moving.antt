@@ -109,7 +109,7 @@ abbrev pub is_moved : MoveStep → Bool
 is_moved (Moved next) = true
 is_moved _ = false
 
--- steps were taken one behind another
+-- steps were taken one after another
 abbrev pub TakesSteps : Base → SessionFields → List MoveStep → SessionFields → Type 0
 TakesSteps base old [] new = new ≡ old
 TakesSteps base old (step ∷ steps) new = (between : SessionFields) × SharedMove base old step between × TakesSteps base between steps new

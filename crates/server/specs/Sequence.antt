@@ -1,4 +1,4 @@
--- What is made of a drive under its lock: requests that are answered one behind another, and steps of upkeep.
+-- What is made of a drive under its lock: requests that are answered one after another, and steps of upkeep.
 use Rattle.std.specs.Prelude.{◌≡◌, ℕ, ◌+◌, Bool, true, false, List, [], ◌∷◌, count_by}
 use Rattle.s4_types.specs.declared.requests.Role.{Role}
 use Rattle.s4_types.specs.declared.requests.Request.{Request}
@@ -20,7 +20,7 @@ pub record IsAnswered (before : DriveFields) (seat : ℕ) (role : Role) (request
   pub stored : Leaves (store_of before) (state_in before) request now reply (store_of after)
   pub owners : after.ledger.owners ≡ owners_after reply seat before.ledger.owners
 
--- Events, one behind another, make the last drive of a first one, where k requests were answered before. Each request is answered at the
+-- Events, one after another, make the last drive of a first one, where k requests were answered before. Each request is answered at the
 -- next moment of the clock. A step of upkeep leaves the history.
 abbrev pub Makes : ClockFields → ℕ → DriveFields → List Event → DriveFields → Type 0
 Makes clock k drive [] last = last ≡ drive
@@ -42,8 +42,8 @@ abbrev pub is_upkeep : Event → Bool
 is_upkeep (Answers seat role request reply) = false
 is_upkeep Tends = true
 
--- What a run has come to, by what holds of the drive that it began with: events have made this drive of that one. So many requests were
--- answered among them and so many changes accepted; and without upkeep no step of it was taken.
+-- What a run has come to, by what holds of the drive that it began with: events have made this drive of that one. This many requests were
+-- answered among them and this many changes accepted; and without upkeep no step of it was taken.
 pub record HasCome (begins : DriveFields → Type 0) (clock : ClockFields) (has_upkeep : Bool) (requests changes : ℕ) (drive : DriveFields) : Type 0 where
   pub first : DriveFields
   pub began : begins first

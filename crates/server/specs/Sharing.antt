@@ -72,7 +72,7 @@ pub record IsFresh (base : Base) (role : Role) (session : SessionFields) : Type 
   pub mine : session.told.mine ≡ []
   pub role_is : session.role ≡ role
 
--- what a read that was planned so is answered: the bytes that the plan names, or want of memory; or why there is no plan
+-- what a read that was planned so is answered: the bytes that the plan names, or lack of memory; or why there is no plan
 abbrev pub IsFetched : Result PlanFields Refusal → Reply → Type 0
 IsFetched (Ok plan) reply = (reply ≡ Data (bytes_planned plan)) ⊎ (reply ≡ Refused NoMemory)
 IsFetched (Err refusal) reply = reply ≡ Refused refusal

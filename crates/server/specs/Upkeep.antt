@@ -45,7 +45,7 @@ abbrev pub ends_round : Turn → Bool
 ends_round Ended = true
 ends_round _ = false
 
--- Turns were taken one behind another, from one object on up to another.
+-- Turns were taken one after another, from one object on up to another.
 abbrev pub TakesTurns : Base → ℕ → List Turn → ℕ → Type 0
 TakesTurns base passed [] next = next ≡ passed
 TakesTurns base passed (turn ∷ turns) next = (m : ℕ) × SharedTurn base passed turn m × TakesTurns base m turns next

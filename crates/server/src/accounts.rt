@@ -1,6 +1,7 @@
-//! The books of a run, in proofs alone: how many requests were answered, and how many changes accepted. The sessions of a run have a
-//! part of them each, and only with a part is a request answered. So what the drive has come to is what its sessions asked, once all
-//! parts are together again.
+//! The books of a run, in proofs alone: how many requests were answered, and how many changes
+//! accepted. The sessions of a run have a part of them each, and only with a part is a request
+//! answered. So what the drive has come to is what its sessions asked, once all parts are together
+//! again.
 ghost use Rattle.std.specs.Prelude.{◌≡◌, ℕ, ◌+◌, ◌-◌, ◌<◌, ◌≤◌, Bool, cond};
 ghost use Rattle.server.specs.Accounts.{one_part, counted};
 
@@ -8,8 +9,8 @@ use segment_word::Naming;
 use std::marker::{Brand, Model, PhantomData};
 use std::sync::ledger::{Blank, Book, Ledger, Share};
 
-/// Which run it is, and what its drive begins with. As a ledger it is that of the changes that were accepted. Each call that begins a
-/// run picks it, with `Brand`.
+/// Which run it is, and what its drive begins with. As a ledger it is that of the changes that were
+/// accepted. Each call that begins a run picks it, with `Brand`.
 pub trait Running: Naming + Ledger {
     ghost use Rattle.std.specs.Prelude.{ℕ, Bool};
     ghost use Rattle.drive.specs.Fields.{DriveFields};
@@ -70,7 +71,7 @@ impl Model for Blanks {
 }
 
 impl Blanks {
-    /// Two ledgers, of so many parts.
+    /// Two ledgers, of this many parts.
     pub fn new(parts: u64) -> Self
         ensures { result.parts ≡ parts }
     {

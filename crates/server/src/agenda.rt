@@ -14,8 +14,8 @@ use std::mem::replace;
 pub(crate) struct History {
     /// The moment of its oldest entry above the floor.
     pub oldest: Moment,
-    /// The moment of its Delete, if it is deleted. From that floor on a turn removes the object, and
-    /// writes nothing.
+    /// The moment of its Delete, if it is deleted. From that floor on a turn removes the object,
+    /// and writes nothing.
     pub deleted: Option<Moment>,
     /// All its entries fit one journal block.
     pub is_short: bool,
@@ -32,7 +32,8 @@ impl History {
     }
 }
 
-/// The objects of which a turn of the cleaner may free something, now or later: those that have history.
+/// The objects of which a turn of the cleaner may free something, now or later: those that have
+/// history.
 #[derive(Drop)]
 pub(crate) struct Agenda {
     alloc: Global,
@@ -133,8 +134,8 @@ impl Agenda {
         }
     }
 
-    /// A round begins at this floor: the objects that it is to visit, by ascending number. None where
-    /// it is to visit all.
+    /// A round begins at this floor: the objects that it is to visit, by ascending number. None
+    /// where it is to visit all.
     pub(crate) fn begin_round(&mut self, floor: Moment) -> Option<Vec<ObjectId>> {
         let is_hidden = replace(&mut self.is_hidden, false);
         if replace(&mut self.has_gaps, false) {
@@ -158,8 +159,8 @@ impl Agenda {
         Some(objects)
     }
 
-    /// The objects whose Deletes have passed the floor have their turn now. One that can't be removed
-    /// is visited again as others are.
+    /// The objects whose Deletes have passed the floor have their turn now. One that can't be
+    /// removed is visited again as others are.
     fn forget_removed(&mut self, floor: u64) {
         for _ in 0..u64::MAX {
             if !self.has_removal(floor) {

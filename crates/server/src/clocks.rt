@@ -2,8 +2,9 @@
 use s4_types::Moment;
 use serving::Clock;
 
-/// A clock that gives no moment of its own: a session that shares its drive draws that of each request under the drive's lock, once the
-/// request is its turn. So moments come in the order in which requests are answered.
+/// A clock that gives no moment of its own: a session that shares its drive draws that of each
+/// request under the drive's lock, once the request is its turn. So moments come in the order in
+/// which requests are answered.
 #[derive(Drop)]
 pub struct Undrawn;
 

@@ -10,14 +10,15 @@ use s4_types::limits::{MOST_FRAMES, PAYLOAD_BLOCKS};
 use std::alloc::Global;
 use std::sync::{Mutex, Wait};
 
-/// Turns of the cleaner after which it gathers: what so many write may fill a frame.
+/// Turns of the cleaner after which it gathers: what this many write may fill a frame.
 const TURNS_BETWEEN: u64 = PAYLOAD_BLOCKS as u64;
 
 /// Steps of gathering at one time, at most.
 const MOST_STEPS: usize = MOST_FRAMES;
 
-/// Gathers where there is too little room for the copier, one object after another, if the cleaner has a seat for it. Frames that hold
-/// nothing are released before each step, so that it has their blocks.
+/// Gathers where there is too little room for the copier, one object after another, if the cleaner
+/// has a seat for it. Frames that hold nothing are released before each step, so that it has their
+/// blocks.
 pub(crate) fn gather_all<J: Running>(
     rt: &impl Wait,
     alloc: Global,
@@ -41,7 +42,7 @@ pub(crate) fn gather_all<J: Running>(
     }
 }
 
-/// The cleaner has taken so many turns of a round: after some of them it gathers.
+/// The cleaner has taken this many turns of a round: after some of them it gathers.
 pub(crate) fn gather_between<J: Running>(
     rt: &impl Wait,
     alloc: Global,

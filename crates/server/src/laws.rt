@@ -1,16 +1,19 @@
 //! Laws of sessions that share a drive: each function does nothing, and its contract is the law.
-ghost use Rattle.server.specs.Laws.{AWindowIsRefusedByRoleAndClockAlone, ARunAddsItsChangesAlone, ARunsClockGoesByItsRequests};
+ghost use Rattle.server.specs.Laws.{AWindowIsRefusedByRoleAndClockAlone, ARunAddsItsChangesAlone};
+ghost use Rattle.server.specs.Laws.{ARunsClockGoesByItsRequests};
 
 use s4_model::laws::the_state_goes_on_record_by_record;
 
-/// A session that shares its drive is refused a window only as a client, or where the clock is at its end.
+/// A session that shares its drive is refused a window only as a client, or where the clock is at
+/// its end.
 #[tactic(auto, using(crate::proofs::Windows::window_refused))]
 pub fn a_window_is_refused_by_role_and_clock_alone()
     ensures { AWindowIsRefusedByRoleAndClockAlone }
 {}
 
-/// The drive that a run leaves has the accepted changes that it began with, those that are on the run's books, and no others. Its clock
-/// goes by a tick for each request on the books, and by a moment for each of these changes.
+/// The drive that a run leaves has the accepted changes that it began with, those that are on the
+/// run's books, and no others. Its clock goes by a tick for each request on the books, and by a
+/// moment for each of these changes.
 pub fn a_run_is_what_was_asked()
     ensures changes { ARunAddsItsChangesAlone }
     ensures clock { ARunsClockGoesByItsRequests }

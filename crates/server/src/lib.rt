@@ -1,15 +1,17 @@
 //! Sessions that share one drive under a lock.
 //!
-//! The layer above may rely on this: each request is answered as [`drive::Drive::request`] answers it over a drive whose history begins
-//! with all that the session had seen before: by a step of the model, and with a refusal exactly where that drive has one. What was
-//! accepted in that history is what the session has seen afterwards. A read holds the lock while it is planned, and not
-//! while its bytes are fetched.
+//! The layer above may rely on this: each request is answered as [`drive::Drive::request`] answers
+//! it over a drive whose history begins with all that the session had seen before: by a step of the
+//! model, and with a refusal exactly where that drive has one. What was accepted in that history is
+//! what the session has seen afterwards. A read holds the lock while it is planned, and not while
+//! its bytes are fetched.
 //!
-//! The drive that all sessions leave is what their requests have made of the one before, and nobody else's: [`SharedDrive`] keeps
-//! books of them, whose parts the sessions have, and [`settle`] puts these together again. The k-th request that is answered has the
-//! moment `start + k * tick`. [`run_with_upkeep`] has the history cleaner and the segment copier beside the sessions; the history and
-//! every version that can be read stay, whatever the two do. Without upkeep neither takes a step. In which order sessions that told each
-//! other nothing come is not said here.
+//! The drive that all sessions leave is what their requests have made of the one before, and nobody
+//! else's: [`SharedDrive`] keeps books of them, whose parts the sessions have, and [`settle`] puts
+//! these together again. The k-th request that is answered has the moment `start + k * tick`.
+//! [`run_with_upkeep`] has the history cleaner and the segment copier beside the sessions; the
+//! history and every version that can be read stay, whatever the two do. Without upkeep neither
+//! takes a step. In which order sessions that told each other nothing come is not said here.
 #![tactic(auto)]
 
 mod accounts;

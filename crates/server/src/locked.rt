@@ -53,7 +53,8 @@ fn resolve<J: Running>(
     at: Option<Moment>,
 ) -> Result<ReadPlan, Refusal>
     requires { 0 < part.old.parts }
-    ensures step { SharedAnswer J.base J.clock part.old.requests session.old (Read object offset length at) (reply_planned result) session.new }
+    ensures step { SharedAnswer J.base J.clock part.old.requests session.old
+        (Read object offset length at) (reply_planned result) session.new }
     ensures part { part.new ≡ counted part.old false }
     ensures fits { ReplyFits (reply_planned result) }
 {
@@ -83,7 +84,8 @@ fn ask<J: Running>(
     request: Request,
 ) -> Reply
     requires { 0 < part.old.parts }
-    ensures step { SharedAnswer J.base J.clock part.old.requests session.old request result session.new }
+    ensures step { SharedAnswer J.base J.clock part.old.requests session.old request result
+        session.new }
     ensures part { part.new ≡ counted part.old (is_acceptance result) }
     ensures fits { ReplyFits result }
 {
@@ -106,7 +108,8 @@ fn meet<J: Running>(
     hold(rt, drive, pace).meet(session);
 }
 
-/// An object had its turn, and the lock is still held. One that could not be cleaned has another in the next round.
+/// An object had its turn, and the lock is still held. One that could not be cleaned has another in
+/// the next round.
 fn settle<J: Running>(
     rt: &impl Wait,
     shared: &mut SharedDrive<J>,
@@ -124,7 +127,8 @@ fn settle<J: Running>(
     }
 }
 
-/// A turn of a round over all objects was taken, and the lock is still held. After the last round nothing is visited any more.
+/// A turn of a round over all objects was taken, and the lock is still held. After the last round
+/// nothing is visited any more.
 fn settle_turn<J: Running>(
     rt: &impl Wait,
     shared: &mut SharedDrive<J>,
@@ -186,8 +190,8 @@ pub(crate) fn take_sweep<J: Running>(rt: &impl Wait, drive: &Mutex<SharedDrive<J
     pace.look(rt, &shared.drive);
 }
 
-/// What the copier is to move next, and a plan of that, made under the lock, where there is something to be moved. Its session
-/// has met the drive before.
+/// What the copier is to move next, and a plan of that, made under the lock, where there is
+/// something to be moved. Its session has met the drive before.
 pub(crate) fn plan_next<J: Running>(
     rt: &impl Wait,
     alloc: Global,
@@ -243,7 +247,8 @@ pub(crate) fn release_frames<J: Running>(rt: &impl Wait, drive: &Mutex<SharedDri
     pace.count_free(rt, &shared.drive, frames);
 }
 
-/// The reply to a Read that was planned so: the bytes that the plan names, where there is memory for them.
+/// The reply to a Read that was planned so: the bytes that the plan names, where there is memory
+/// for them.
 fn fetched(alloc: Global, planned: Result<ReadPlan, Refusal>) -> Reply
     ensures { IsFetched planned result }
 {
@@ -257,7 +262,8 @@ fn fetched(alloc: Global, planned: Result<ReadPlan, Refusal>) -> Reply
     }
 }
 
-/// A session with a drive that others share, under a lock. Contracts see the session, and how many requests it was answered.
+/// A session with a drive that others share, under a lock. Contracts see the session, and how many
+/// requests it was answered.
 #[derive(Drop)]
 pub struct Locked<'a, J: Running, R: Wait, G: Gate> {
     rt: &'a R,
@@ -284,8 +290,9 @@ impl<'a, J: Running, R: Wait, G: Gate> Model for Locked<'a, J, R, G> {
 }
 
 impl<'a, J: Running, R: Wait, G: Gate> Locked<'a, J, R, G> {
-    /// The session of that number, from 1 on, of a role, with a part of the books. It has seen what was accepted in a history of the
-    /// drive, and nothing is its own yet. Busy where no seat is to be had: the part is lost then.
+    /// The session of that number, from 1 on, of a role, with a part of the books. It has seen what
+    /// was accepted in a history of the drive, and nothing is its own yet. Busy where no seat is to
+    /// be had: the part is lost then.
     pub fn new(
         rt: &'a R,
         alloc: Global,
@@ -332,7 +339,8 @@ impl<'a, J: Running, R: Wait, G: Gate> Locked<'a, J, R, G> {
         }
     }
 
-    /// Without a request the session sees what was accepted in a history of the drive that begins with what it had seen before.
+    /// Without a request the session sees what was accepted in a history of the drive that begins
+    /// with what it had seen before.
     pub fn meet(&mut self)
         ensures session { HasMet J.base self.old.session self.new.session }
         ensures requests { self.new.requests ≡ self.old.requests }
@@ -340,8 +348,8 @@ impl<'a, J: Running, R: Wait, G: Gate> Locked<'a, J, R, G> {
         meet(self.rt, self.drive, self.pace, &mut self.session);
     }
 
-    /// The session itself, which is asked nothing more, and its part of the books: each request that it was answered is counted on it,
-    /// and each change of its own.
+    /// The session itself, which is asked nothing more, and its part of the books: each request
+    /// that it was answered is counted on it, and each change of its own.
     pub fn into_parts(self) -> (Session<J>, Part<J>)
         ensures session { result.0 ≡ self.entry.session }
         ensures part { result.1 ≡ record { parts = 1; requests = self.entry.requests; changes = length self.entry.session.told.mine } }
@@ -351,7 +359,8 @@ impl<'a, J: Running, R: Wait, G: Gate> Locked<'a, J, R, G> {
 
     /// The reply to a Read. The lock isn't held while its bytes are fetched.
     fn read(&mut self, object: ObjectId, offset: u64, length: u32, at: Option<Moment>) -> Reply
-        ensures step { SeatAnswer J.base J.clock self.old (Read object offset length at) result self.new }
+        ensures step { SeatAnswer J.base J.clock self.old (Read object offset length at) result
+            self.new }
         ensures fits { ReplyFits result }
     {
         let planned = resolve(

@@ -1,4 +1,5 @@
-//! The segment copier beside sessions: it has the lock while a move is planned and while it is put in place, and copies without it.
+//! The segment copier beside sessions: it has the lock while a move is planned and while it is put
+//! in place, and copies without it.
 ghost use Rattle.std.specs.Prelude.{◌≡◌, ◌+◌, ◌^◌, ◌<◌, MatchResult, cond, true};
 ghost use Rattle.s4_types.specs.declared.refusals.Refusal.TheVariants.{Busy};
 ghost use Rattle.server.specs.Moving.{SharedMove, IsMoving, is_planned, is_moved};
@@ -54,8 +55,8 @@ impl Moves {
     }
 }
 
-/// The move that is to be made next: planned under the lock, copied without it, which the plan's pin allows, and put in place
-/// under the lock. A refusal ends the step.
+/// The move that is to be made next: planned under the lock, copied without it, which the plan's
+/// pin allows, and put in place under the lock. A refusal ends the step.
 fn move_next<J: Running>(
     rt: &impl Wait,
     alloc: Global,

@@ -13,7 +13,8 @@ use std::sync::atomic::{AtomicU64, Ordering};
 use std::sync::{Condvar, CondvarTimeouts, Mutex, MutexGuard, Wait};
 use std::time::{Clock, Duration};
 
-/// How long sessions wait for the cleaner before they begin, in milliseconds: it may have no thread.
+/// How long sessions wait for the cleaner before they begin, in milliseconds: it may have no
+/// thread.
 const START_MILLISECONDS: u64 = 100;
 
 /// How upkeep gets on and what it is needed for.
@@ -22,8 +23,8 @@ pub(crate) struct Pace {
     progress: Mutex<Progress>,
     /// Whoever waits for progress is woken by this.
     news: Condvar,
-    /// How many of cleaner and copier wait for the drive's lock, as the struct has it. Sessions look
-    /// at this copy while they try that lock, and decide no sleep by it.
+    /// How many of cleaner and copier wait for the drive's lock, as the struct has it. Sessions
+    /// look at this copy while they try that lock, and decide no sleep by it.
     wanting: AtomicU64,
 }
 
@@ -58,8 +59,8 @@ impl Pace {
             .wait_timeout_while(rt, progress, most, |progress| !progress.is_going());
     }
 
-    /// A change of an object is asked, and the drive's lock is held. Answers whether it is to wait for
-    /// a round.
+    /// A change of an object is asked, and the drive's lock is held. Answers whether it is to wait
+    /// for a round.
     pub(crate) fn count<J: Naming>(
         &self,
         rt: &impl Wait,
@@ -74,8 +75,8 @@ impl Pace {
         is_pressed
     }
 
-    /// A change waits until the cleaner has gone a whole round from now on, or the one that frees what
-    /// was hidden last. Not where no cleaner is at work.
+    /// A change waits until the cleaner has gone a whole round from now on, or the one that frees
+    /// what was hidden last. Not where no cleaner is at work.
     pub(crate) fn await_round(&self, rt: &impl Wait) {
         let mut progress = self.progress.lock(rt);
         let round = progress.want_round();
@@ -87,8 +88,8 @@ impl Pace {
             .wait_while(rt, progress, |progress| progress.is_to_come(round));
     }
 
-    /// A request was answered, and the drive's lock is held. What it has changed is to be visited; where
-    /// it has hidden moments that could be read, the cleaner is called.
+    /// A request was answered, and the drive's lock is held. What it has changed is to be visited;
+    /// where it has hidden moments that could be read, the cleaner is called.
     pub(crate) fn note<J: Naming>(
         &self,
         rt: &impl Wait,
@@ -169,7 +170,7 @@ impl Pace {
         self.end_section(progress);
     }
 
-    /// The same, and so many frames were free.
+    /// The same, and this many frames were free.
     pub(crate) fn count_free<J: Naming>(&self, rt: &impl Wait, drive: &Drive<J>, frames: u16) {
         let mut progress = self.progress.lock(rt);
         progress.look(drive);
@@ -177,7 +178,7 @@ impl Pace {
         self.end_section(progress);
     }
 
-    /// A round of so many turns has ended, and there is none after the last.
+    /// A round of this many turns has ended, and there is none after the last.
     pub(crate) fn end_round(&self, rt: &impl Wait, turns: u64, is_last: bool) {
         let mut progress = self.progress.lock(rt);
         progress.end_round(turns, is_last);
@@ -227,13 +228,14 @@ impl Pace {
         self.end_section(progress);
     }
 
-    /// Whether cleaner or copier waits for the drive's lock: to be asked while one tries to have it.
+    /// Whether cleaner or copier waits for the drive's lock: to be asked while one tries to have
+    /// it.
     pub(crate) fn is_drive_wanted(&self) -> bool {
         self.wanting.load(Ordering::SeqCst) > 0
     }
 
-    /// A session is about to wait for the drive's lock. Where cleaner or copier waits for it, that one
-    /// has it first, once.
+    /// A session is about to wait for the drive's lock. Where cleaner or copier waits for it, that
+    /// one has it first, once.
     pub(crate) fn ask_drive(&self, rt: &impl Wait) {
         let mut progress = self.progress.lock(rt);
         let taken = progress.taken();
@@ -254,8 +256,8 @@ impl Pace {
         self.end_section(progress);
     }
 
-    /// Cleaner or copier is about to take the drive's lock. Where a session waits for it, that one has
-    /// it first, once.
+    /// Cleaner or copier is about to take the drive's lock. Where a session waits for it, that one
+    /// has it first, once.
     pub(crate) fn want_drive(&self, rt: &impl Wait) {
         let mut progress = self.progress.lock(rt);
         let entered = progress.entered();

@@ -15,7 +15,8 @@ const LITTLE_ROOM: u64 = 2;
 /// journal block.
 const ROUND_BLOCKS: u64 = 2;
 
-/// Rounds in the time of one window that are worth their cost, and rounds that remove objects alone.
+/// Rounds in the time of one window that are worth their cost, and rounds that remove objects
+/// alone.
 const ROUNDS_IN_A_WINDOW: u64 = 4;
 
 const REMOVALS_IN_A_WINDOW: u64 = 16;
@@ -147,7 +148,7 @@ impl Progress {
         self.call_copier();
     }
 
-    /// So many frames are free, and of the reserve no more is left.
+    /// This many frames are free, and of the reserve no more is left.
     pub(crate) fn count_free(&mut self, frames: u16) {
         self.reserve = u64::from(frames) * PAYLOAD_BLOCKS as u64;
     }
@@ -204,8 +205,8 @@ impl Progress {
         self.agenda.add(object, moment);
     }
 
-    /// Moments of an object were hidden, or of all where its number is 0. The round that begins next
-    /// frees what they held.
+    /// Moments of an object were hidden, or of all where its number is 0. The round that begins
+    /// next frees what they held.
     pub(crate) fn hide(&mut self, object: ObjectId) {
         self.agenda.hide(object);
         self.frees = self.begun.saturating_add(1);
@@ -272,7 +273,7 @@ impl Progress {
         }
     }
 
-    /// A round of so many turns has ended, and there is none after the last.
+    /// A round of this many turns has ended, and there is none after the last.
     pub(crate) fn end_round(&mut self, turns: u64, is_last: bool) {
         self.due = self.asked.saturating_add(turns.saturating_mul(2));
         self.ended = self.begun;
@@ -315,7 +316,7 @@ impl Progress {
         self.is_scarce() && self.stirred >= self.next_step
     }
 
-    /// So many changes came, or as much was freed.
+    /// This many changes came, or as much was freed.
     fn stir(&mut self, changes: u64) {
         self.stirred = self.stirred.saturating_add(changes);
         self.call_copier();

@@ -1,5 +1,6 @@
 //! Sessions that are served at once, each from its own reader to its own writer, over one drive.
-ghost use Rattle.std.specs.Prelude.{◌≡◌, ℕ, ◌+◌, ◌-◌, ◌^◌, ◌<◌, ◌≤◌, All, Some, length, slice_index_or};
+ghost use Rattle.std.specs.Prelude.{◌≡◌, ℕ, ◌+◌, ◌-◌, ◌^◌, ◌<◌, ◌≤◌, All, Some, length};
+ghost use Rattle.std.specs.Prelude.{slice_index_or};
 ghost use Rattle.server.specs.Accounts.{one_part};
 ghost use Rattle.server.specs.Attending.{IsAttendedClient, with_part};
 
@@ -43,8 +44,8 @@ pub struct Client<J: Running, S: Source, W: Sink> {
     pub reader: S,
     pub writer: W,
     pub outcome: Outcome,
-    /// The drive's session, once it was served: what it was told of the drive's history, so that this can be compared with the drive
-    /// that all sessions leave.
+    /// The drive's session, once it was served: what it was told of the drive's history, so that
+    /// this can be compared with the drive that all sessions leave.
     pub session: Option<Session<J>>,
     /// Its part of the run's books, once it was served: what it asked is counted on it.
     pub part: Option<Part<J>>,
@@ -63,7 +64,8 @@ fn attend<J: Running, R: Wait, G: Gate, S: Source, W: Sink>(
     requires part { client.old.part ≡ Some one_part }
     requires reader { S.failures client.old.reader + 1 < 2 ^ 64 }
     requires writer { W.failures client.old.writer + 1 < 2 ^ 64 }
-    ensures attended { IsAttendedClient S.remaining W.passed S.failures W.failures J.base J.clock client.old client.new }
+    ensures attended { IsAttendedClient S.remaining W.passed S.failures W.failures J.base J.clock
+        client.old client.new }
 {
     the_state_goes_on_record_by_record();
     let session = match enter(rt, drive, pace, client.role) {
@@ -106,13 +108,15 @@ pub fn give_parts<J: Running, S: Source, W: Sink>(
     }
 }
 
-/// Serves sessions of one drive at once, each on a thread of its own and with its own reader and writer, until each has ended, and
-/// says of each what became of it. The sessions have the numbers from 1 on, by their order.
+/// Serves sessions of one drive at once, each on a thread of its own and with its own reader and
+/// writer, until each has ended, and says of each what became of it. The sessions have the numbers
+/// from 1 on, by their order.
 ///
-/// A Read holds the lock while it is planned and not while it is fetched, and passes the gate between the two; each other request is
-/// one call under the lock. The k-th request that is answered under the lock, from 1 on, has the moment `start + k * tick`, and the last
-/// one, 2^64 - 1, where that is less. A session for which the drive has no seat is refused with Busy, and the others go on. Where the
-/// system gives no thread for a session, it is served after another one.
+/// A Read holds the lock while it is planned and not while it is fetched, and passes the gate
+/// between the two; each other request is one call under the lock. The k-th request that is
+/// answered under the lock, from 1 on, has the moment `start + k * tick`, and the last one, 2^64 -
+/// 1, where that is less. A session for which the drive has no seat is refused with Busy, and the
+/// others go on. Where the system gives no thread for a session, it is served after another one.
 pub fn run_sessions<
     J: Running + Send + Sync,
     R: Threads + Wait + Sync,
@@ -126,7 +130,8 @@ pub fn run_sessions<
     requires writers { All (λ c. W.failures c.writer + 1 < 2 ^ 64) clients.old }
     // Each session was answered by steps of the shared drive, or the drive had no seat for it.
     ensures attended { (i : ℕ) (d : _) → i < length clients.old
-        → IsAttendedClient S.remaining W.passed S.failures W.failures J.base J.clock (slice_index_or clients.old i d) (slice_index_or clients.new i d) }
+        → IsAttendedClient S.remaining W.passed S.failures W.failures J.base J.clock
+        (slice_index_or clients.old i d) (slice_index_or clients.new i d) }
 {
     run_beside(rt, alloc, drive, None, gate, clients)
 }
@@ -152,11 +157,15 @@ pub(crate) fn run_beside<
     requires writers { All (λ c. W.failures c.writer + 1 < 2 ^ 64) clients.old }
     // Each session was answered by steps of the shared drive, or the drive had no seat for it.
     ensures attended { (i : ℕ) (d : _) → i < length clients.old
-        → IsAttendedClient S.remaining W.passed S.failures W.failures J.base J.clock (slice_index_or clients.old i d) (slice_index_or clients.new i d) }
+        → IsAttendedClient S.remaining W.passed S.failures W.failures J.base J.clock
+        (slice_index_or clients.old i d) (slice_index_or clients.new i d) }
 {
     let serve_one = |index: usize, client: &mut Client<J, S, W>|
-        requires { (client.now.part ≡ Some one_part) × (S.failures client.now.reader + 1 < 2 ^ 64) × (W.failures client.now.writer + 1 < 2 ^ 64) }
-        ensures attended { IsAttendedClient S.remaining W.passed S.failures W.failures J.base J.clock client.entry.now client.exit.now }
+        requires { (client.now.part ≡ Some one_part)
+            × (S.failures client.now.reader + 1 < 2 ^ 64)
+            × (W.failures client.now.writer + 1 < 2 ^ 64) }
+        ensures attended { IsAttendedClient S.remaining W.passed S.failures W.failures J.base
+            J.clock client.entry.now client.exit.now }
     {
         attend(
             rt,

@@ -23,7 +23,8 @@ fn settle_one<J: Running, S: Source, W: Sink>(drive: &mut Drive<J>, client: &mut
 /// Each session meets the drive.
 fn settle_all<J: Running, S: Source, W: Sink>(drive: &mut Drive<J>, clients: &mut [Client<J, S, W>])
     ensures settled { (i : ℕ) (d : _) → i < length clients.old
-        → HasSettled drive.old.ledger (slice_index_or clients.old i d) (slice_index_or clients.new i d) }
+        → HasSettled drive.old.ledger (slice_index_or clients.old i d)
+        (slice_index_or clients.new i d) }
     ensures same { drive.new ≡ drive.old }
 {
     for client in clients.iter_mut() {
@@ -56,9 +57,10 @@ fn take_parts<J: Running, S: Source, W: Sink>(all: &mut Part<J>, clients: &mut [
     }
 }
 
-/// Once all sessions have ended, their parts of the books come back, which shows that the drive is what their requests have made of it,
-/// and nobody else's. Then each meets the drive that they leave: its history begins with all that the session had seen, and has the
-/// session's own changes at their numbers.
+/// Once all sessions have ended, their parts of the books come back, which shows that the drive is
+/// what their requests have made of it, and nobody else's. Then each meets the drive that they
+/// leave: its history begins with all that the session had seen, and has the session's own changes
+/// at their numbers.
 pub fn settle<J: Running, S: Source, W: Sink>(
     shared: SharedDrive<J>,
     rest: Part<J>,
@@ -70,7 +72,8 @@ pub fn settle<J: Running, S: Source, W: Sink>(
         (rest.requests + sum_by (λ c. requests_in c.part) clients.old)
         (rest.changes + sum_by (λ c. changes_in c.part) clients.old) result }
     ensures settled { (i : ℕ) (d : _) → i < length clients.old
-        → HasSettled result.ledger (without_part (slice_index_or clients.old i d)) (slice_index_or clients.new i d) }
+        → HasSettled result.ledger (without_part (slice_index_or clients.old i d))
+        (slice_index_or clients.new i d) }
 {
     let mut all = rest;
     take_parts(&mut all, clients);

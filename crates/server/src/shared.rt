@@ -15,7 +15,7 @@ use s4_types::{Moment, ObjectId, Refusal, Reply, Request, Role};
 use std::marker::Model;
 use time_read::ReadPlan;
 
-/// So many ticks of a clock after its start. It stops at the last moment, 2^64 - 1.
+/// This many ticks of a clock after its start. It stops at the last moment, 2^64 - 1.
 fn moment_after(start: u64, tick: u64, count: u64) -> Moment
     ensures { result ≡ moment_of_tick start tick count }
 {
@@ -29,10 +29,11 @@ fn accepts(reply: &Reply) -> bool
     matches!(reply, Reply::Changed(_) | Reply::Created(..))
 }
 
-/// A drive that sessions share, with the clock that gives their requests moments, and the books of the run. Contracts see the drive.
+/// A drive that sessions share, with the clock that gives their requests moments, and the books of
+/// the run. Contracts see the drive.
 ///
-/// Whatever was done under the lock: the drive is what the requests on the books have made of the one that the run began with, the k-th
-/// of them, from 1 on, at the moment `start + k * tick`.
+/// Whatever was done under the lock: the drive is what the requests on the books have made of the
+/// one that the run began with, the k-th of them, from 1 on, at the moment `start + k * tick`.
 #[derive(Drop)]
 pub struct SharedDrive<J: Running> {
     pub(crate) drive: Drive<J>,
@@ -56,7 +57,8 @@ impl<J: Running> Model for SharedDrive<J> {
 }
 
 impl<J: Running> SharedDrive<J> {
-    /// A drive that a run begins with, its clock, and books in which nothing is counted yet. Gives all parts of these, too.
+    /// A drive that a run begins with, its clock, and books in which nothing is counted yet. Gives
+    /// all parts of these, too.
     pub fn new(drive: Drive<J>, start: Moment, tick: u64, blanks: Blanks) -> (Self, Part<J>)
         requires begins { J.begins drive }
         requires clock { J.clock ≡ record { start = start; tick = tick } }
@@ -77,8 +79,8 @@ impl<J: Running> SharedDrive<J> {
         (shared, all)
     }
 
-    /// The drive itself, once all parts of the books are together again: it is what the requests that are counted on them have made of
-    /// the one that the run began with.
+    /// The drive itself, once all parts of the books are together again: it is what the requests
+    /// that are counted on them have made of the one that the run began with.
     pub fn close(self, all: Part<J>) -> Drive<J>
         requires { all.parts ≡ J.parts }
         ensures drive { result ≡ self }
@@ -112,7 +114,8 @@ impl<J: Running> SharedDrive<J> {
         self.drive.meet(session);
     }
 
-    /// The reply to a session's request, at the next moment of the clock. It is counted on the session's part.
+    /// The reply to a session's request, at the next moment of the clock. It is counted on the
+    /// session's part.
     pub(crate) fn answer(
         &mut self,
         session: &mut Session<J>,
@@ -120,7 +123,8 @@ impl<J: Running> SharedDrive<J> {
         request: Request,
     ) -> Reply
         requires { 0 < part.old.parts }
-        ensures step { SharedAnswer J.base J.clock part.old.requests session.old request result session.new }
+        ensures step { SharedAnswer J.base J.clock part.old.requests session.old request result
+            session.new }
         ensures part { part.new ≡ counted part.old (is_acceptance result) }
         ensures fits { ReplyFits result }
     {
@@ -132,7 +136,8 @@ impl<J: Running> SharedDrive<J> {
         reply
     }
 
-    /// A plan of a session's Read, at the next moment of the clock. It is counted on the session's part.
+    /// A plan of a session's Read, at the next moment of the clock. It is counted on the session's
+    /// part.
     pub(crate) fn resolve(
         &mut self,
         session: &mut Session<J>,
@@ -143,7 +148,8 @@ impl<J: Running> SharedDrive<J> {
         at: Option<Moment>,
     ) -> Result<ReadPlan, Refusal>
         requires { 0 < part.old.parts }
-        ensures step { SharedAnswer J.base J.clock part.old.requests session.old (Read object offset length at) (reply_planned result) session.new }
+        ensures step { SharedAnswer J.base J.clock part.old.requests session.old
+            (Read object offset length at) (reply_planned result) session.new }
         ensures part { part.new ≡ counted part.old false }
         ensures fits { ReplyFits (reply_planned result) }
     {

@@ -55,7 +55,8 @@ impl<J: Running> SharedDrive<J> {
         free_frames(&mut self.drive)
     }
 
-    /// What the copier is to move next, and a plan of that, where there is something to be moved. Its session has met the drive before.
+    /// What the copier is to move next, and a plan of that, where there is something to be moved.
+    /// Its session has met the drive before.
     pub(crate) fn plan(
         &mut self,
         alloc: Global,

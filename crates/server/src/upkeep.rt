@@ -1,5 +1,7 @@
-//! Sessions with the history cleaner and the segment copier beside them. The cleaner has the lock for one object at a time.
-ghost use Rattle.std.specs.Prelude.{◌≡◌, ℕ, ◌+◌, ◌^◌, ◌<◌, ◌≤◌, All, MatchResult, Some, length, slice_index_or, true, vec_len};
+//! Sessions with the history cleaner and the segment copier beside them. The cleaner has the lock
+//! for one object at a time.
+ghost use Rattle.std.specs.Prelude.{◌≡◌, ℕ, ◌+◌, ◌^◌, ◌<◌, ◌≤◌, All, MatchResult, Some, length};
+ghost use Rattle.std.specs.Prelude.{slice_index_or, true, vec_len};
 ghost use Rattle.s4_types.specs.declared.refusals.Refusal.TheVariants.{Busy};
 ghost use Rattle.server.specs.Accounts.{one_part};
 ghost use Rattle.server.specs.Attending.{IsAttendedClient};
@@ -50,8 +52,8 @@ fn is_end(turn: Turn) -> bool
     matches!(turn, Turn::Ended)
 }
 
-/// One whole round. Between its turns sessions may have the lock. Where the cleaner has a seat, it gathers between some turns, and
-/// after the last.
+/// One whole round. Between its turns sessions may have the lock. Where the cleaner has a seat, it
+/// gathers between some turns, and after the last.
 #[tactic(auto, using(crate::proofs::Rounding::underway_first, crate::proofs::Rounding::underway_more, crate::proofs::Rounding::underway_rises, crate::proofs::Rounding::underway_ends))]
 fn go_round<J: Running>(
     rt: &impl Wait,
@@ -85,7 +87,8 @@ fn go_over<J: Running>(
     objects: &[ObjectId],
 )
     requires { J.has_upkeep ≡ true }
-    ensures visited { (i : ℕ) (d : _) → i < length objects.now → SharedVisit J.base (slice_index_or objects.now i d) }
+    ensures visited { (i : ℕ) (d : _) → i < length objects.now
+        → SharedVisit J.base (slice_index_or objects.now i d) }
     ensures swept { SharedSweep J.base }
 {
     let mut turns: u64 = 0;
@@ -137,8 +140,8 @@ fn keep_up<J: Running, R: Wait, G: Gate>(
     unreachable!()
 }
 
-/// The cleaner and the copier beside sessions. The copier ends once all sessions have ended, and the
-/// cleaner with a whole round after that.
+/// The cleaner and the copier beside sessions. The copier ends once all sessions have ended, and
+/// the cleaner with a whole round after that.
 fn keep_beside<J: Running + Send + Sync, R: Threads + Wait + Sync, G: Gate + Sync>(
     rt: &R,
     alloc: Global,
@@ -169,17 +172,20 @@ fn keep_beside<J: Running + Send + Sync, R: Threads + Wait + Sync, G: Gate + Syn
     Upkeep { round, moves }
 }
 
-/// Serves sessions of one drive at once, as [`run_sessions`] does, and beside them keeps the drive up, on two threads more: one cleans,
-/// the other moves blocks.
+/// Serves sessions of one drive at once, as [`run_sessions`] does, and beside them keeps the drive
+/// up, on two threads more: one cleans, the other moves blocks.
 ///
-/// The cleaner has the lock for one object at a time, by ascending number and round again. It frees the frames that hold nothing
-/// after each round, and after each turn while little room is left. Its first and its last round are over all objects, those between
-/// over the ones that have history to free, as far as that is known. It rests until a flush or another window hides moments, or until
-/// room is short or a chain nearly full, and enough has aged since its last round. Where that is so, a change waits for a round before
-/// it is asked, a Read never, and no request where no cleaner is at work. The copier takes step after step while room is short: it has
-/// the lock while it plans the next move and while it puts it in place, and copies without it. It takes one step at least, and ends
-/// once all sessions have ended. Then the cleaner goes round a last time. Where the system gives no thread for one of the two, it
-/// goes round once, or takes one step, after the sessions.
+/// The cleaner has the lock for one object at a time, by ascending number and round again. It frees
+/// the frames that hold nothing after each round, and after each turn while little room is left.
+/// Its first and its last round are over all objects, those between over the ones that have history
+/// to free, as far as that is known. It rests until a flush or another window hides moments, or
+/// until room is short or a chain nearly full, and enough has aged since its last round. Where that
+/// is so, a change waits for a round before it is asked, a Read never, and no request where no
+/// cleaner is at work. The copier takes step after step while room is short: it has the lock while
+/// it plans the next move and while it puts it in place, and copies without it. It takes one step
+/// at least, and ends once all sessions have ended. Then the cleaner goes round a last time. Where
+/// the system gives no thread for one of the two, it goes round once, or takes one step, after the
+/// sessions.
 ///
 /// Answers the clients, the cleaner's last round, and what the copier did.
 pub fn run_with_upkeep<
@@ -205,7 +211,8 @@ pub fn run_with_upkeep<
     ensures count { vec_len result.0 ≡ vec_len clients }
     // Each session was answered by steps of the shared drive, or the drive had no seat for it.
     ensures attended { (i : ℕ) (d : _) → i < vec_len clients
-        → IsAttendedClient S.remaining W.passed S.failures W.failures J.base J.clock (slice_index_or clients.items i d) (slice_index_or result.0.items i d) }
+        → IsAttendedClient S.remaining W.passed S.failures W.failures J.base J.clock
+        (slice_index_or clients.items i d) (slice_index_or result.0.items i d) }
 {
     let pace = Pace::new(rt, alloc, drive);
     let keep = || -> Upkeep
@@ -220,7 +227,8 @@ pub fn run_with_upkeep<
         requires writers { All (λ c. W.failures c.writer + 1 < 2 ^ 64) clients.items }
         ensures count { vec_len result ≡ vec_len clients }
         ensures attended { (i : ℕ) (d : _) → i < vec_len clients
-            → IsAttendedClient S.remaining W.passed S.failures W.failures J.base J.clock (slice_index_or clients.items i d) (slice_index_or result.items i d) }
+            → IsAttendedClient S.remaining W.passed S.failures W.failures J.base J.clock
+            (slice_index_or clients.items i d) (slice_index_or result.items i d) }
     {
         let mut clients = clients;
         pace.await_start(rt);

@@ -42,7 +42,7 @@ enum Scene {
     Held,
     Sixteen,
     Crowded,
-    /// A session's writer fails after so many bytes.
+    /// A session's writer fails after this many bytes.
     FailsAbove(usize),
     /// So does what is below it.
     FailsBelow(usize),
@@ -61,7 +61,8 @@ fn clock_of(scene: Scene) -> (u64, u64) {
     }
 }
 
-/// Plays a scene. The drive is let go here alone, since that is proved anew in each function that does so.
+/// Plays a scene. The drive is let go here alone, since that is proved anew in each function that
+/// does so.
 fn play_named<J: Running + Send + Sync, R: Abort + Threads + Wait + Clock + Sync>(
     rt: &R,
     alloc: Global,
@@ -105,7 +106,7 @@ fn play<R: Abort + Threads + Wait + Clock + Sync>(
     play_named::<Brand, R>(rt, alloc, made, blanks, clock_of(scene), scene)
 }
 
-/// These parts, one behind the other.
+/// These parts, one after the other.
 fn joined(alloc: Global, parts: &[&[u8]]) -> Result<Vec<u8>, Fail> {
     let mut all = Vec::new(alloc);
     for part in parts {

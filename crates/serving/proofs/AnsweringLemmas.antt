@@ -17,7 +17,7 @@ use Rattle.serving.specs.declared.ends.ServeEnd.TheVariants.{Ended, CutFrame, Ov
 pub said-append : (xs ys : List Reply) → said (xs ++ ys) ≡ said xs ++ said ys
 said-append xs ys = flat_map-append reply_frame xs ys
 
--- what an end says of replies, it says of them behind others that are written
+-- what an end says of replies, it says of them after others that are written
 pub SaidBy-behind : (end : ServeEnd) (first replies : List Reply) (written : List ℕ) → SaidBy end replies written → SaidBy end (first ++ replies) (said first ++ written)
 SaidBy-behind Ended first replies written h = ap (λ w. said first ++ w) h ∙ sym (said-append first replies)
 SaidBy-behind CutFrame first replies written h = ap (λ w. said first ++ w) h ∙ sym (said-append first replies)
@@ -98,7 +98,7 @@ module _ {B C : Type 0} (steps : B → Request → ℕ → Reply → B → Type 
     wrote = subst (Appends o o'') (sym (said-append h.replies k.replies)) (Appends-trans o o' o'' _ _ h.wrote k.wrote);
   }
 
-  -- the items behind those that are answered are stopped among
+  -- the items after those that are answered are stopped among
   pub StopsAmong-behind : (items others : List (Item Request)) (end : ServeEnd) (b b' b'' : B) (c c' c'' : C) (o o' o'' : Option (List ℕ))
       → AnswersAll steps draws items b c o b' c' o' → StopsAmong steps draws others end b' c' o' b'' c'' o'' → StopsAmong steps draws (items ++ others) end b c o b'' c'' o''
   StopsAmong-behind items others end b b' b'' c c' c'' o o' o'' h k = record {
@@ -168,7 +168,7 @@ map-same : {X : Type 0} (xs : List X) → map (λ x. x) xs ≡ xs
 map-same [] = refl
 map-same (x ∷ xs) = ap (λ ys. x ∷ ys) (map-same xs)
 
--- a loop over a list has passed a beginning of it, and stands at the next item
+-- a loop over a list has passed a beginning of it, and is at the next item
 pub passed_items : {X : Type 0} (all passed : List X) (x : X) → map (λ y. y) passed ≡ take (length passed) all → (length passed < length all) × (x ≡ get_or all (length passed) x)
     → all ≡ passed ++ (x ∷ drop (suc (length passed)) all)
 passed_items all passed x front here =

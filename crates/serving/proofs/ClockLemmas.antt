@@ -3,11 +3,11 @@ use Rattle.std.proofs.Common.{◌≡◌, ℕ, ◌+◌, ◌^◌, ◌<◌, List, [
 use Rattle.serving.specs.Drawing.{Drawn, Ticks, moment_of_tick}
 use Rattle.serving.specs.declared.clock.Ticking.{Ticking}
 
--- one tick behind the j-th moment is the next
+-- one tick after the j-th moment is the next
 next_moment : (start tick j m : ℕ) → m ≡ moment_of_tick start tick j → moment_of_tick m tick 1 ≡ moment_of_tick start tick (j + 1)
 next_moment start tick j m at = grind arith
 
--- the moments drawn from a clock that stands at the j-th moment
+-- the moments drawn from a clock that is at the j-th moment
 moments_behind : (start tick : ℕ) (moments : List ℕ) (old new : Ticking) (j : ℕ) → old.present ≡ moment_of_tick start tick j → old.tick ≡ tick → Drawn Ticks old moments new
     → (k : ℕ) → k < length moments → get_or moments k 0 ≡ moment_of_tick start tick (j + (k + 1))
 moments_behind start tick [] old new j at same drawn k lt = absurd (omega arith)
@@ -19,7 +19,7 @@ moments_behind start tick (now ∷ moments) old new j at same drawn (suc k) lt =
     let count : j + 1 + (k + 1) ≡ j + (suc k + 1) = omega arith in
     rest ∙ ap (moment_of_tick start tick) count
 
--- the moments drawn from a clock that stands at the start
+-- the moments drawn from a clock that is at the start
 pub moments_from : (start tick : ℕ) (moments : List ℕ) (old new : Ticking) → old.present ≡ start → start < 2 ^ 64 → old.tick ≡ tick → Drawn Ticks old moments new
     → (k : ℕ) → k < length moments → get_or moments k 0 ≡ moment_of_tick start tick (k + 1)
 moments_from start tick moments old new at fits same drawn k lt =

@@ -19,7 +19,7 @@ ReadsItems-partial stream rest [] h = h.1
 ReadsItems-partial stream rest (item ∷ items) (inl h) = ReadsItems-partial h.1 rest items h.4
 ReadsItems-partial stream rest (item ∷ items) (inr h) = let none : Some rest ≡ None = h.3 in absurd cc
 
--- a stream that goes on behind what was left is read as the items so far and those behind
+-- a stream that goes on after what was left is read as the items so far and those after
 pub ReadsItems-more : (stream piece rest : List ℕ) (items more : List (Item Request)) (end : Option (List ℕ))
     → ReadsItems SpellsRequest stream items (Some rest) → ReadsItems SpellsRequest (rest ++ piece) more end → ReadsItems SpellsRequest (stream ++ piece) (items ++ more) end
 ReadsItems-more stream piece rest [] more end h k = subst (λ (s : List ℕ). ReadsItems SpellsRequest (s ++ piece) more end) (sym h.0) k
@@ -50,7 +50,7 @@ TakenUp-left end begun first second rest items more others front unread e cut h 
   subst (λ (is : List (Item Request)). ReadsItems SpellsRequest (begun ++ (first ++ front)) is e) (sym (append_assoc items more others)) (ReadsItems-pieces begun first front rest items (more ++ others) e h k),
 )
 
--- what is taken up behind items that were read
+-- what is taken up after items that were read
 pub TakenUp-behind : (end : ServeEnd) (begun first second rest : List ℕ) (items more : List (Item Request))
     → ReadsItems SpellsRequest (begun ++ first) items (Some rest) → TakenUp end rest second more → TakenUp end begun (first ++ second) (items ++ more)
 TakenUp-behind Ended begun first second rest items more h k = ReadsItems-pieces begun first second rest items more (Some []) h k
@@ -74,7 +74,7 @@ TakenUp-break ReadFailed begun stream items met others e b h cut = absurd b
 idle_for_memory : SaidBy NoMemory [] []
 idle_for_memory = record { before = []; last = []; single = lit≤ tt; all = refl; bytes = refl }
 
--- nothing is read behind what is held of a frame
+-- nothing is read after what is held of a frame
 ReadsItems-held : (held : Option (List ℕ)) → IsBegun held → ReadsItems SpellsRequest (begun_of held ++ []) [] (Some (begun_of held))
 ReadsItems-held None h = absurd h
 ReadsItems-held (Some begun) h = (append-nil begun, h)
@@ -223,7 +223,7 @@ module _ {B C : Type 0} (steps : B → Request → ℕ → Reply → B → Type 
   pub begins_at : (held : Option (List ℕ)) (b : B) (c : C) (i o : Option (List ℕ)) → held ≡ Some [] → Goes steps draws [] held b c i o b c i o
   begins_at held b c i o is = subst (λ (h : Option (List ℕ)). Goes steps draws [] h b c i o b c i o) (sym is) (begins b c i o)
 
-  -- it doesn't begin for want of memory
+  -- it doesn't begin for lack of memory
   pub unstarted : (b : B) (c : C) (i o : Option (List ℕ)) → Serves steps draws [] NoMemory b c i o b c i o
   unstarted b c i o = record { stream = []; read = Consumes-nil i; over = tt; finishes = unfed (Some []) [] b c o (λ h. absurd (omega arith)) }
 

@@ -19,7 +19,7 @@ use Rattle.serving.specs.declared.ends.ServeEnd.TheVariants.{WriteFailed, NoMemo
 abbrev pub reply_frame : Reply → List ℕ
 reply_frame reply = frame (reply_spelling reply)
 
--- the frames of replies, one behind the other
+-- the frames of replies, one after the other
 abbrev pub said : List Reply → List ℕ
 said replies = flat_map reply_frame replies
 

@@ -7,7 +7,7 @@ abbrev pub Drawn : {C : Type 0} → (C → ℕ → C → Type 0) → C → List 
 Drawn draws old [] new = new ≡ old
 Drawn {C} draws old (now ∷ moments) new = (mid : C) × draws old now mid × Drawn draws mid moments new
 
--- the k-th moment of a clock, counted from 1: so many ticks after the start, stopping at the last moment
+-- the k-th moment of a clock, counted from 1: this many ticks after the start, stopping at the last moment
 abbrev pub moment_of_tick : ℕ → ℕ → ℕ → ℕ
 moment_of_tick start tick k = min (start + k * tick) (2 ^ 64 - 1)
 

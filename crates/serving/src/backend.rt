@@ -7,10 +7,11 @@ use s4_types::{Moment, Reply, Request};
 
 /// What answers the requests of a session.
 pub trait Backend {
-    // From the first state, the request at the moment may be answered by the reply, which leads to the second.
+    // From the first state, the request at the moment may be answered by the reply, which leads to
+    // the second.
     ghost steps: { Self → RequestValue → ℕ → ReplyValue → Self → Type 0 };
 
-    /// Answers one request. The reply is one that has a spelling on the wire.
+    /// Answers one request. The reply is one that has an encoding on the wire.
     fn request(&mut self, request: Request, now: Moment) -> Reply
         ensures step { steps self.old request now result self.new }
         ensures fits { ReplyFits result };

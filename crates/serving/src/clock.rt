@@ -21,12 +21,13 @@ pub struct Ticking {
 }
 
 impl Ticking {
-    /// A clock that stands at `start`: the k-th moment drawn, counted from 1, is `start + k * tick`.
+    /// A clock that is at `start`: the k-th moment drawn, counted from 1, is `start + k * tick`.
     pub fn new(start: Moment, tick: u64) -> Self
         ensures present { result.present ≡ start }
         ensures tick { result.tick ≡ tick }
         ensures later { (moments : List ℕ) (later : Ticking) → Drawn Ticks result moments later
-            → (k : ℕ) → k < length moments → slice_index moments k ≡ moment_of_tick start tick (k + 1) }
+            → (k : ℕ) → k < length moments
+            → slice_index moments k ≡ moment_of_tick start tick (k + 1) }
     {
         Ticking {
             present: start.number(),

@@ -1,7 +1,9 @@
-ghost use Rattle.std.specs.Prelude.{◌≡◌, ◌≢◌, ◌+◌, ◌^◌, ◌<◌, [], ◌∷◌, ◌⊎◌, MatchResult, OnOk, Some, length};
+ghost use Rattle.std.specs.Prelude.{◌≡◌, ◌≢◌, ◌+◌, ◌^◌, ◌<◌, [], ◌∷◌, ◌⊎◌, MatchResult, OnOk, Some};
+ghost use Rattle.std.specs.Prelude.{length};
 ghost use Rattle.s4_types.specs.Sizes.{ReplyFits};
 ghost use Rattle.serving.specs.Answering.{Answered, AnswersAll, Said, StopsAmong};
-ghost use Rattle.serving.specs.Session.{Continues, Finishes, Goes, IsBegun, IsLate, Serves, begun_of, failures_by, reading_failures, writing_failures};
+ghost use Rattle.serving.specs.Session.{Continues, Finishes, Goes, IsBegun, IsLate, Serves};
+ghost use Rattle.serving.specs.Session.{begun_of, failures_by, reading_failures, writing_failures};
 
 use crate::backend::Backend;
 use crate::clock::Clock;
@@ -16,8 +18,9 @@ const PIECE_BYTES: usize = 65_536;
 
 /// Serves one session until its input ends or something fails, and says how it ended.
 ///
-/// Each reply is written whole, by one `put`, before the next item is taken up and before the reader is asked for more. So where
-/// the writer fails, the backend was asked nothing after the request whose reply failed.
+/// Each reply is written whole, by one `put`, before the next item is taken up and before the
+/// reader is asked for more. So where the writer fails, the backend was asked nothing after the
+/// request whose reply failed.
 pub fn serve<R: Source, W: Sink, B: Backend, C: Clock>(
     alloc: Global,
     reader: &mut R,
@@ -78,8 +81,10 @@ fn serve_piece<R: Source, W: Sink, B: Backend, C: Clock>(
         backend.old clock.old (R.remaining reader.old) (W.passed writer.old)
         backend.new clock.new (R.remaining reader.new) (W.passed writer.new)) }
     ensures turns { OnOk result (R.turns reader.new < R.turns reader.old) }
-    ensures reading { R.failures reader.new ≡ R.failures reader.old + failures_by reading_failures result }
-    ensures writing { W.failures writer.new ≡ W.failures writer.old + failures_by writing_failures result }
+    ensures reading { R.failures reader.new
+        ≡ R.failures reader.old + failures_by reading_failures result }
+    ensures writing { W.failures writer.new
+        ≡ W.failures writer.old + failures_by writing_failures result }
 {
     let count = match reader.read(piece) {
         Ok(count) => count,
@@ -121,7 +126,8 @@ fn answer_piece<W: Sink, B: Backend, C: Clock>(
         (λ end. IsLate end × Finishes B.steps C.draws end (begun_of frames.old) piece.now
         backend.old clock.old (W.passed writer.old)
         backend.new clock.new (W.passed writer.new)) }
-    ensures writing { W.failures writer.new ≡ W.failures writer.old + failures_by writing_failures result }
+    ensures writing { W.failures writer.new
+        ≡ W.failures writer.old + failures_by writing_failures result }
 {
     let Ok(items) = frames.feed::<Request>(piece) else {
         return Err(ServeEnd::NoMemory);
@@ -148,7 +154,8 @@ fn answer_all<W: Sink, B: Backend, C: Clock>(
         (λ end. StopsAmong B.steps C.draws items.items end
         backend.old clock.old (W.passed writer.old)
         backend.new clock.new (W.passed writer.new)) }
-    ensures writing { W.failures writer.new ≡ W.failures writer.old + failures_by writing_failures result }
+    ensures writing { W.failures writer.new
+        ≡ W.failures writer.old + failures_by writing_failures result }
 {
     for item in items {
         match answer(item, writer, backend, clock, out) {
@@ -174,7 +181,8 @@ fn answer<W: Sink, B: Backend, C: Clock>(
         (λ end. StopsAmong B.steps C.draws (item ∷ []) end
         backend.old clock.old (W.passed writer.old)
         backend.new clock.new (W.passed writer.new)) }
-    ensures writing { W.failures writer.new ≡ W.failures writer.old + failures_by writing_failures result }
+    ensures writing { W.failures writer.new
+        ≡ W.failures writer.old + failures_by writing_failures result }
 {
     let reply = reply_to(item, backend, clock);
     say(&reply, writer, out)
@@ -194,13 +202,14 @@ fn reply_to<B: Backend, C: Clock>(item: Item<Request>, backend: &mut B, clock: &
     }
 }
 
-// Writes the frame of a reply. `out` is where it is spelled.
+// Writes the frame of a reply. `out` is where it is encoded.
 fn say<W: Sink>(reply: &Reply, writer: &mut W, out: &mut Vec<u8>) -> Result<(), ServeEnd>
     requires room { W.failures writer.old + 1 < 2 ^ 64 }
     requires fits { ReplyFits reply.now }
     ensures said { Said (W.passed writer.old) (W.passed writer.new)
         reply.now result }
-    ensures writing { W.failures writer.new ≡ W.failures writer.old + failures_by writing_failures result }
+    ensures writing { W.failures writer.new
+        ≡ W.failures writer.old + failures_by writing_failures result }
 {
     out.clear();
     if push_reply(out, reply).is_err() {

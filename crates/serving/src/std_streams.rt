@@ -50,8 +50,8 @@ impl<R: Read> Source for ReadSource<R> {
     }
 }
 
-/// A sink over a writer of the standard library. What it takes is written and flushed at once, by one write where the
-/// writer takes all of it.
+/// A sink over a writer of the standard library. What it takes is written and flushed at once, by
+/// one write where the writer takes all of it.
 #[derive(Drop)]
 pub struct WriteSink<W> {
     writer: W,
@@ -92,10 +92,12 @@ impl<W: Write> Sink for WriteSink<W> {
     }
 }
 
-// Writes the bytes and flushes the writer. Says how many it took, and whether it took all and was flushed.
+// Writes the bytes and flushes the writer. Says how many it took, and whether it took all and was
+// flushed.
 fn write_through<W: Write>(writer: &mut W, bytes: &[u8]) -> (usize, bool)
     ensures within { result.0 ≤ length bytes.now }
-    ensures taken { Appends (W.contents writer.old) (W.contents writer.new) (take result.0 bytes.now) }
+    ensures taken { Appends (W.contents writer.old) (W.contents writer.new)
+        (take result.0 bytes.now) }
     ensures whole { IsTrue result.1 → result.0 ≡ length bytes.now }
 {
     let mut count = 0;
@@ -114,7 +116,8 @@ fn write_through<W: Write>(writer: &mut W, bytes: &[u8]) -> (usize, bool)
 // Writes some of the bytes and says how many: none of them where the writer was interrupted.
 fn write_some<W: Write>(writer: &mut W, bytes: &[u8]) -> Option<usize>
     ensures within { IfSome result (λ count. count ≤ length bytes.now) }
-    ensures taken { Appends (W.contents writer.old) (W.contents writer.new) (take (unwrap_or result 0) bytes.now) }
+    ensures taken { Appends (W.contents writer.old) (W.contents writer.new)
+        (take (unwrap_or result 0) bytes.now) }
 {
     match writer.write(bytes) {
         Ok(0) => None,

@@ -1,4 +1,5 @@
-ghost use Rattle.std.specs.Prelude.{◌≡◌, ℕ, ◌+◌, ◌^◌, ◌<◌, ◌≤◌, List, length, Option, IfOk, OnOk, OnErr};
+ghost use Rattle.std.specs.Prelude.{◌≡◌, ℕ, ◌+◌, ◌^◌, ◌<◌, ◌≤◌, List, length, Option, IfOk, OnOk};
+ghost use Rattle.std.specs.Prelude.{OnErr};
 ghost use Rattle.std.specs.Io.KnownBytes.{Appends, ReadConsumes};
 ghost use Rattle.serving.specs.Streams.{AppendsPart, failures_after};
 
@@ -20,8 +21,8 @@ pub trait Source {
     // How many more reads give bytes, at most.
     ghost turns: { Self → ℕ };
 
-    /// Reads some bytes to the front of `into`, and says how many. None come only at the end, or where `into`
-    /// has no room.
+    /// Reads some bytes to the front of `into`, and says how many. None come only at the end, or
+    /// where `into` has no room.
     fn read(&mut self, into: &mut [u8]) -> Result<usize, StreamFailed>
         requires { failures self.old + 1 < 2 ^ 64 }
         ensures bound { IfOk result (λ count. count ≤ length into.new) }

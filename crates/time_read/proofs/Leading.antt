@@ -21,7 +21,7 @@ RunsJoin = (i : Inode) (front back : List EntryFields) → redone_all (front ++ 
 cut : (entries : List EntryFields) (a b : ℕ) → a ≤ b → take b entries ≡ take a entries ++ between entries a b
 cut entries a b le = ap (λ (n : ℕ). take n entries) (omega (arith, le)) ∙ take-add a (b - a) entries
 
--- the entries between two places, done again, lead from the inode behind the first place to the one behind the second
+-- the entries between two places, done again, lead from the inode after the first place to the one after the second
 pub led_on : RunsJoin → (entries : List EntryFields) (a b : ℕ) (first : Inode) → a ≤ b → redone_all (between entries a b) (inode_behind first entries a) ≡ inode_behind first entries b
 led_on join entries a b first le = sym (ap (λ (es : List EntryFields). redone_all es first) (cut entries a b le) ∙ join first (take a entries) (between entries a b))
 

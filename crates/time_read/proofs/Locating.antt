@@ -1,4 +1,4 @@
--- Where the bytes behind a slot come from.
+-- Where the bytes that a slot refers to come from.
 use Rattle.std.proofs.Common.{◌≡◌, ℕ, ◌<◌, ◌⊎◌, ◌↔◌, true, false, true≢false, Option, Some, None, inl, inr, refl, ap, sym, subst, ◌∙◌}
 use Rattle.std.proofs.lemmas.Bool.{cond-true, cond-false, eqb-true, eq-eqb}
 use Rattle.s4_types.specs.Pointer.{Place}

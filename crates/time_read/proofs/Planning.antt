@@ -168,7 +168,7 @@ pinned_among t i offset count k lt is =
 pub slot_at : (i : Inode) (k : ℕ) (slot d : Option Place) → k < length i.pointers → slot ≡ slice_index_or i.pointers k d → slot ≡ pointer_at i k
 slot_at i k slot d lt is = is ∙ get_or_default i.pointers k d None lt
 
--- how many blocks a loop from the first one to behind the last has passed
+-- how many blocks a loop from the first one to after the last has passed
 pub passed : (count first behind index : ℕ) → behind ≡ first + count → behind ≤ index → index ≤ behind → index - first ≡ count
 passed count first behind index is low high = omega arith
 

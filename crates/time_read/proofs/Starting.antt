@@ -25,7 +25,7 @@ use Rattle.time_read.proofs.Reading.{is_checkpoint, read_is}
 
 -- ---- the nearest
 
--- one more behind the others is looked at first
+-- one more after the others is looked at first
 pub push_nearest : (entries : List EntryFields) (to : ℕ) (best : Start) (sides : List Side) (side : Side) → nearest_with entries to best (sides ++ side ∷ []) ≡ nearest_with entries to (nearer to best (start_at entries side)) sides
 push_nearest entries to best [] side = refl
 push_nearest entries to best (s ∷ sides) side = ap (λ (b : Start). nearer to b (start_at entries s)) (push_nearest entries to best sides side)
@@ -94,7 +94,7 @@ is_start held o row entries to p start r is nearest =
     subst (IsStart held o row entries) (sym nearest)
     (holds_of_nearest (IsStart held o row entries) entries to (start_at entries (record { moment = row.checkpoint_moment; place = p })) row.sides (newest_of held o row entries p r is) (older_of held o row entries row.sides r.sides))
 
--- a checkpoint stands there
+-- a checkpoint is there
 pub named_is_told : (held : Place → Option Stored) (o : ℕ) (row : Row) (side : Side) → IsNamed held o row side → IsSome (checkpoint_held held o side.place)
 named_is_told held o row side n = subst (λ (c : Option CheckpointFields). IsSome c) (sym n.told) refl
 
@@ -131,7 +131,7 @@ Ascend = (entries : List EntryFields) → grouped entries ≡ true → moments_a
 abbrev pub Parts : Type 0
 Parts = (entries : List EntryFields) (low t : ℕ) → moments_ascend_from low entries ≡ true → entries ≡ entries_by t entries ++ entries_past t entries
 
--- the inode that is current at a moment stands at the moment's place
+-- the inode that is current at a moment is at the moment's place
 pub stands_at : Ascend → Parts → (held : Place → Option Stored) (o : ℕ) (row : Row) (entries : List EntryFields) (t : ℕ) → IsRow held o row → entries ≡ entries_of held o row → inode_of held o row t ≡ inode_behind (first_of held o row) entries (place_of entries t)
 stands_at ascend parts held o row entries t r is =
     is_behind ascend parts held o row t r

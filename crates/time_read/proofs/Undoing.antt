@@ -30,7 +30,7 @@ all_left held o row chain back r is begins = ap (λ (found : Option (List EntryF
 pub groups_left : (held : Place → Option Stored) (o : ℕ) (row : Row) (chain : ChainFields) (back : BackFields) → IsRow held o row → chain ≡ chain_of o row → Begins held chain back → grouped (left held back) ≡ true
 groups_left held o row chain back r is begins = ap (λ (es : List EntryFields). grouped es) (all_left held o row chain back r is begins) ∙ r.groups
 
--- the run of a row's entries leads to the inode behind all of them
+-- the run of a row's entries leads to the inode after all of them
 leads : ((i j : Inode) (entries : List EntryFields) → Run i entries j → j ≡ redone_all entries i) → (held : Place → Option Stored) (o : ℕ) (row : Row) → IsRow held o row → Run (first_of held o row) (entries_of held o row) (last_inode held o row)
 leads end held o row r = subst (λ (j : Inode). Run (first_of held o row) (entries_of held o row) j) (end (first_of held o row) r.last (entries_of held o row) r.run) r.run
 

@@ -346,7 +346,7 @@ pub record Laws : Type 0 where
   pub undone : ALaterEntryIsUndone
   pub stays : ThePresentInodeIsLast
 
--- so many records stand before those that are later, where moments don't descend
+-- this many records are before those that are later, where moments don't descend
 abbrev pub Parts : List UndoRecord → ℕ → ℕ → Type 0
 Parts rs at k = IsNonDecreasingBy (λ r. r.moment) rs → IsPartitionPoint (λ r. nat_le r.moment at ≡ true) (λ r. nat_le r.moment at ≡ false) rs k
 

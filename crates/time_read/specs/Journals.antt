@@ -1,4 +1,4 @@
--- What an object's row leads to in its journal and its checkpoint.
+-- What an object's row refers to in its journal and its checkpoint.
 use Rattle.std.specs.Prelude.{◌≡◌, ℕ, true, Option, IfSome, option_map}
 use Rattle.s4_types.specs.Pointer.{Place}
 use Rattle.block_log.specs.Log.{Stored}

@@ -10,7 +10,7 @@ use Rattle.undo_redo.specs.Runs.{redone_all, blank}
 use Rattle.object_map.specs.declared.map.Row.{Row}
 use Rattle.time_read.specs.Rows.{entries_of, first_of}
 
--- The inode of a chain behind so many of its entries: behind none the first, and behind as many as there are, or more,
+-- The inode of a chain after this many of its entries: after none the first, and after as many as there are, or more,
 -- the last.
 abbrev pub inode_behind : Inode → List EntryFields → ℕ → Inode
 inode_behind first entries n = redone_all (take n entries) first

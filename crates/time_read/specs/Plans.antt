@@ -45,7 +45,7 @@ piece_bytes pins Hole = zeros 512
 piece_bytes pins (Copied block) = block
 piece_bytes pins (Pinned frame block) = block_bytes (contents_pinned frame pins) block
 
--- the byte at a place, counted from the first one of the first piece; a place behind the pieces is in a hole
+-- the byte at a place, counted from the first one of the first piece; a place after the pieces is in a hole
 unfoldable pub byte_planned : PlanFields → ℕ → ℕ
 byte_planned plan n = slice_index (piece_bytes (pins_held plan.pin) (slice_index_or plan.pieces (n / 512) Hole)) (n % 512)
 
@@ -53,12 +53,12 @@ byte_planned plan n = slice_index (piece_bytes (pins_held plan.pin) (slice_index
 abbrev pub bytes_planned : PlanFields → List ℕ
 bytes_planned plan = listed (byte_planned plan) plan.skip plan.length
 
--- where the bytes of the block behind a slot come from: a block of the open frame is copied, one of any other frame is pinned
+-- where the bytes of the block that a slot refers to come from: a block of the open frame is copied, one of any other frame is pinned
 abbrev pub piece_of : Table → Option Place → Piece
 piece_of t None = Hole
 piece_of t (Some p) = if is_open (frame_at t.seat.frames p.frame).phase then Copied (contents_of (held_at t) p) else Pinned p.frame p.block
 
--- the pieces of so many bytes of an inode from an offset on: one for each block that has one of them, by ascending index
+-- the pieces of this many bytes of an inode from an offset on: one for each block that has one of them, by ascending index
 abbrev pub pieces_of : Table → Inode → ℕ → ℕ → List Piece
 pieces_of t i offset count = map (λ k. piece_of t (pointer_at i k)) (range_with_len (offset / 512) (touched_count offset count))
 

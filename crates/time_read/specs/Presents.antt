@@ -15,7 +15,7 @@ IsIndexOf index entries = IfSome index (λ undoings. undoings ≡ map undoing_of
 abbrev pub KeepsIndexOf : Option Present → List EntryFields → Type 0
 KeepsIndexOf present entries = IfSome present (λ p. IsIndexOf p.index entries)
 
--- An object has this row, and beside it this inode and an index, if there is one, that tells these entries behind those that it told;
+-- An object has this row, and beside it this inode and an index, if there is one, that tells these entries after those that it told;
 -- all others are as they were.
 pub record TurnsBeside (m : MapOf Present) (o : ℕ) (row : Row) (i : Inode) (entries : List EntryFields) (later : MapOf Present) : Type 0 where
   pub present : Present

@@ -53,7 +53,7 @@ first_of held o row = inode_before row.created row.checkpoint_moment (entries_of
 unfoldable pub inode_of : (Place → Option Stored) → ℕ → Row → ℕ → Inode
 inode_of held o row t = inode_after (first_of held o row) (entries_of held o row) t
 
--- The inode behind all entries of an object: its present one.
+-- The inode after all entries of an object: its present one.
 abbrev pub last_inode : (Place → Option Stored) → ℕ → Row → Inode
 last_inode held o row = redone_all (entries_of held o row) (first_of held o row)
 

@@ -13,7 +13,7 @@ use Rattle.time_read.specs.Rows.{entries_of}
 abbrev pub apart : ℕ → ℕ → ℕ
 apart a b = (a - b) + (b - a)
 
--- the place of a moment: behind all entries of the moment or earlier
+-- the place of a moment: after all entries of the moment or earlier
 abbrev pub place_of : List EntryFields → ℕ → ℕ
 place_of entries t = length (entries_by t entries)
 

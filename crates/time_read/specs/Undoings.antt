@@ -36,11 +36,11 @@ undone_by u j = record { alive = u.before.alive; size = u.before.size; created =
 abbrev pub attribute_in : List (List ℕ) → UndoRecord → Option (List ℕ)
 attribute_in attributes r = if r.tells_attribute then Some (slice_index_or attributes r.attribute []) else None
 
--- The undoing that a record tells, by the lists of pointers and attributes that it leads to: its part of the pointers is in reverse order.
+-- The undoing that a record tells, by the lists of pointers and attributes that it refers to: its part of the pointers is in reverse order.
 abbrev pub undoing_in : List Earlier → List (List ℕ) → UndoRecord → Undoing
 undoing_in pointers attributes r = record { moment = r.moment; before = r.before; attribute = attribute_in attributes r; pointers = reverse (take (r.end - r.first) (drop r.first pointers)) }
 
--- the place behind a record's attribute; where it tells none, its place
+-- the place after a record's attribute; where it tells none, its place
 abbrev pub attribute_end : UndoRecord → ℕ
 attribute_end r = if r.tells_attribute then r.attribute + 1 else r.attribute
 
@@ -62,7 +62,7 @@ pub record Tells (records : List UndoRecord) (pointers : List Earlier) (attribut
   pub tiles : Tile 0 0 records (length pointers) (length attributes)
   pub told : map (undoing_in pointers attributes) records ≡ us
 
--- The inode with all that a record and those behind it tell: the status of the first one, the first attribute from its place
+-- The inode with all that a record and those after it tell: the status of the first one, the first attribute from its place
 -- on, where there is one, and all pointers from its first one on, the last one first.
 unfoldable pub undone_from : List Earlier → List (List ℕ) → UndoRecord → Inode → Inode
 undone_from pointers attributes r j = record { alive = r.before.alive; size = r.before.size; created = j.created; changed = r.before.changed; attribute = slice_index_or attributes r.attribute j.attribute; pointers = put_back (reverse (drop r.first pointers)) j.pointers }

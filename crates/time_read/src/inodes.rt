@@ -30,7 +30,8 @@ pub fn entries<B: Blocks>(
     row: &Row,
 ) -> Result<Vec<Entry>, Refusal>
     requires { IsRow (B.log table.old).held object row.now }
-    ensures entries { IfOk result (λ entries. entries.items ≡ entries_of (B.log table.old).held object row.now) }
+    ensures entries { IfOk result
+        (λ entries. entries.items ≡ entries_of (B.log table.old).held object row.now) }
     ensures refusal { IfErr result (λ e. e ≡ NoMemory) }
     ensures same { B.log table.new ≡ B.log table.old }
 {
@@ -43,8 +44,13 @@ pub fn entries<B: Blocks>(
 fn next_past<B: Blocks>(back: &mut EntriesBack, table: &mut B, at: Moment) -> Option<Entry>
     requires there { IsSome (entries_left (B.log table.old).held back.old) }
     requires groups { grouped (left (B.log table.old).held back.old) ≡ true }
-    ensures gives { IfSome result (λ e. (left (B.log table.old).held back.old ≡ left (B.log table.new).held back.new ++ e ∷ []) × AllPast at (e ∷ [])) }
-    ensures end { IfNone result ((first last : InodeFields) → Run first (left (B.log table.old).held back.old) last → inode_after first (left (B.log table.old).held back.old) at ≡ last) }
+    ensures gives { IfSome result
+        (λ e. (left (B.log table.old).held back.old
+        ≡ left (B.log table.new).held back.new ++ e ∷ []) × AllPast at (e ∷ [])) }
+    ensures end { IfNone result
+        ((first last : InodeFields)
+        → Run first (left (B.log table.old).held back.old) last
+        → inode_after first (left (B.log table.old).held back.old) at ≡ last) }
     ensures there { IsSome (entries_left (B.log table.new).held back.new) }
     ensures same { B.log table.new ≡ B.log table.old }
 {
@@ -57,11 +63,14 @@ fn next_past<B: Blocks>(back: &mut EntriesBack, table: &mut B, at: Moment) -> Op
     Some(entry)
 }
 
-/// Undoes the entries that a reader has not given and that are later than a moment, the newest first.
+/// Undoes the entries that a reader has not given and that are later than a moment, the newest
+/// first.
 fn undo_past<B: Blocks>(back: &mut EntriesBack, table: &mut B, at: Moment, inode: &mut Inode)
     requires there { IsSome (entries_left (B.log table.old).held back.old) }
     requires groups { grouped (left (B.log table.old).held back.old) ≡ true }
-    ensures inode { (first : InodeFields) → Run first (left (B.log table.old).held back.old) inode.old → inode.new ≡ inode_after first (left (B.log table.old).held back.old) at }
+    ensures inode { (first : InodeFields)
+        → Run first (left (B.log table.old).held back.old) inode.old
+        → inode.new ≡ inode_after first (left (B.log table.old).held back.old) at }
     ensures same { B.log table.new ≡ B.log table.old }
 {
     groups_join_and_part();
@@ -71,9 +80,9 @@ fn undo_past<B: Blocks>(back: &mut EntriesBack, table: &mut B, at: Moment, inode
     }
 }
 
-/// The inode of an object that is current at a moment, led to from the present one, which all entries have made: those later
-/// than the moment are undone, the newest first. No block before the one with the newest entry that isn't later is read, and
-/// no memory is taken.
+/// The inode of an object that is current at a moment, led to from the present one, which all
+/// entries have made: those later than the moment are undone, the newest first. No block before the
+/// one with the newest entry that isn't later is read, and no memory is taken.
 pub fn inode_before<B: Blocks>(
     table: &mut B,
     object: ObjectId,

@@ -1,4 +1,4 @@
-//! All that an object's row leads to in its journal and its checkpoint.
+//! All that an object's row refers to in its journal and its checkpoint.
 ghost use Rattle.std.specs.Prelude.{◌≡◌, IfSome, IfOk, IfErr, true, option_map};
 ghost use Rattle.s4_types.specs.declared.refusals.Refusal.TheVariants.{NoMemory};
 ghost use Rattle.codec.specs.Checkpoint.{checkpoint_rules};
@@ -14,7 +14,8 @@ use object_map::Row;
 use s4_types::{ObjectId, Refusal};
 use std::alloc::Global;
 
-/// The inode in an object's checkpoint, if it has one, and the entries of its journal, the oldest first.
+/// The inode in an object's checkpoint, if it has one, and the entries of its journal, the oldest
+/// first.
 #[derive(Drop)]
 pub struct ObjectJournal {
     pub checkpoint: Option<Inode>,
@@ -24,8 +25,10 @@ pub struct ObjectJournal {
 /// The inode in the checkpoint that an object's row names, if it names one.
 fn checkpoint_inode<B: Blocks>(table: &mut B, object: ObjectId, row: &Row) -> Option<Inode>
     requires { IsRow (B.log table.old).held object row.now }
-    ensures inode { result ≡ option_map (λ c. c.inode) (checkpoint_of (B.log table.old).held object row.now) }
-    ensures rules { IfSome (checkpoint_of (B.log table.old).held object row.now) (λ c. checkpoint_rules c ≡ true) }
+    ensures inode { result
+        ≡ option_map (λ c. c.inode) (checkpoint_of (B.log table.old).held object row.now) }
+    ensures rules { IfSome (checkpoint_of (B.log table.old).held object row.now)
+        (λ c. checkpoint_rules c ≡ true) }
     ensures same { B.log table.new ≡ B.log table.old }
 {
     a_checkpoint_has_its_blocks();
@@ -45,7 +48,8 @@ impl ObjectJournal {
         row: &Row,
     ) -> Result<Self, Refusal>
         requires { IsRow (B.log table.old).held object row.now }
-        ensures journal { IfOk result (λ journal. IsJournalOf (B.log table.old).held object row.now journal) }
+        ensures journal { IfOk result
+            (λ journal. IsJournalOf (B.log table.old).held object row.now journal) }
         ensures refusal { IfErr result (λ e. e ≡ NoMemory) }
         ensures same { B.log table.new ≡ B.log table.old }
     {

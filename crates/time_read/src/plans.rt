@@ -1,7 +1,10 @@
 //! Plans of reads: where the bytes come from, and their fetching without the drive.
-ghost use Rattle.std.specs.Prelude.{◌≡◌, ℕ, ◌+◌, ◌-◌, ◌/◌, ◌<◌, ◌≤◌, ◌⊎◌, ◌↔◌, ◌++◌, [], ◌∷◌, length, take, drop, min, true, false, Option, Some, None, IsSome, IfOk, IfErr, OnOk, OnErr, slice_index_or};
+ghost use Rattle.std.specs.Prelude.{◌≡◌, ℕ, ◌+◌, ◌-◌, ◌/◌, ◌<◌, ◌≤◌, ◌⊎◌, ◌↔◌, ◌++◌, [], ◌∷◌};
+ghost use Rattle.std.specs.Prelude.{length, take, drop, min, true, false, Option, Some, None};
+ghost use Rattle.std.specs.Prelude.{IsSome, IfOk, IfErr, OnOk, OnErr, slice_index_or};
 ghost use Rattle.std.specs.List.{list_any};
-ghost use Rattle.s4_types.specs.declared.limits.TheConstants.{BLOCK_BYTES, OBJECT_BLOCKS, OBJECT_BYTES};
+ghost use Rattle.s4_types.specs.declared.limits.TheConstants.{BLOCK_BYTES, OBJECT_BLOCKS};
+ghost use Rattle.s4_types.specs.declared.limits.TheConstants.{OBJECT_BYTES};
 ghost use Rattle.s4_types.specs.Pointer.{Place};
 ghost use Rattle.s4_types.specs.declared.refusals.Refusal.TheVariants.{NoMemory, Busy};
 ghost use Rattle.inode.specs.Contents.{contents_of, bytes_of, listed};
@@ -11,7 +14,9 @@ ghost use Rattle.segment_word.specs.Frames.Phase.{Open, Sealed};
 ghost use Rattle.segment_word.specs.Layout.{frame_at, block_bytes};
 ghost use Rattle.segment_word.specs.Counting.{pins_in};
 ghost use Rattle.segment_table.specs.Table.{held_at};
-ghost use Rattle.time_read.specs.Plans.{piece_bytes, pins_held, bytes_planned, byte_planned, piece_of, pieces_of, contents_pinned, is_pinned_in, is_pinned, IsAt, Hole, Copied, Pinned};
+ghost use Rattle.time_read.specs.Plans.{piece_bytes, pins_held, bytes_planned, byte_planned};
+ghost use Rattle.time_read.specs.Plans.{piece_of, pieces_of, contents_pinned, is_pinned_in};
+ghost use Rattle.time_read.specs.Plans.{is_pinned, IsAt, Hole, Copied, Pinned};
 ghost use Rattle.time_read.specs.private.Planning.{CountsOn, Locates, AddsPiece};
 
 use block_log::{Block, Blocks};
@@ -33,7 +38,7 @@ enum Source {
     Frame { frame: u16, block: u8 },
 }
 
-// Adds bytes behind others.
+// Adds bytes after others.
 fn append_slice(bytes: &[u8], into: &mut Vec<u8>) -> Result<(), Refusal>
     ensures bytes { OnOk result (into.new.items ≡ into.old.items ++ bytes.now) }
     ensures added { OnOk result (length into.new.items ≡ length into.old.items + length bytes.now) }
@@ -43,7 +48,8 @@ fn append_slice(bytes: &[u8], into: &mut Vec<u8>) -> Result<(), Refusal>
     Ok(())
 }
 
-// Adds bytes of a block of a frame that the pin counts on, from one place of it on and up to another.
+// Adds bytes of a block of a frame that the pin counts on, from one place of it on and up to
+// another.
 fn append_pinned(
     pin: &mut Option<Pin>,
     frame: u16,
@@ -54,7 +60,11 @@ fn append_pinned(
 ) -> Result<(), Refusal>
     requires counted { (0 < pins_in frame (pins_held pin.old)) × (block < 16) }
     requires range { (from ≤ to) × (to ≤ 512) }
-    ensures bytes { OnOk result (into.new.items ≡ into.old.items ++ take (to - from) (drop from (block_bytes (contents_pinned frame (pins_held pin.old)) block))) }
+    ensures bytes { OnOk result
+        (into.new.items
+        ≡ into.old.items
+        ++ take (to - from)
+        (drop from (block_bytes (contents_pinned frame (pins_held pin.old)) block))) }
     ensures added { OnOk result (length into.new.items ≡ length into.old.items + (to - from)) }
     ensures refusal { IfErr result (λ e. e ≡ NoMemory) }
     ensures same { pin.new ≡ pin.old }
@@ -118,9 +128,14 @@ impl PlanPiece {
         to: usize,
         into: &mut Vec<u8>,
     ) -> Result<(), Refusal>
-        requires counted { (frame block : ℕ) → self.now ≡ Pinned frame block → (0 < pins_in frame (pins_held pin.old)) × (block < 16) }
+        requires counted { (frame block : ℕ)
+            → self.now ≡ Pinned frame block
+            → (0 < pins_in frame (pins_held pin.old)) × (block < 16) }
         requires range { (from ≤ to) × (to ≤ 512) }
-        ensures bytes { OnOk result (into.new.items ≡ into.old.items ++ take (to - from) (drop from (piece_bytes (pins_held pin.old) self.now))) }
+        ensures bytes { OnOk result
+            (into.new.items
+            ≡ into.old.items
+            ++ take (to - from) (drop from (piece_bytes (pins_held pin.old) self.now))) }
         ensures added { OnOk result (length into.new.items ≡ length into.old.items + (to - from)) }
         ensures refusal { IfErr result (λ e. e ≡ NoMemory) }
         ensures same { pin.new ≡ pin.old }
@@ -133,8 +148,8 @@ impl PlanPiece {
     }
 }
 
-/// What a read is to give: pieces of whole blocks, and which of their bytes it asks for. While it lives, each frame of a pinned
-/// piece keeps its contents, whatever other threads do.
+/// What a read is to give: pieces of whole blocks, and which of their bytes it asks for. While it
+/// lives, each frame of a pinned piece keeps its contents, whatever other threads do.
 #[derive(Drop)]
 pub struct ReadPlan {
     pieces: Vec<PlanPiece>,
@@ -170,7 +185,8 @@ fn pin_at(table: &SegmentTable, pin: Option<Pin>) -> Result<Pin, Refusal>
 }
 
 impl ReadPlan {
-    // Adds bytes of the piece of an index, from one place of it on and up to another; behind the last one they are zeros.
+    // Adds bytes of the piece of an index, from one place of it on and up to another; after the
+    // last one they are zeros.
     fn append(
         &mut self,
         index: usize,
@@ -179,8 +195,15 @@ impl ReadPlan {
         bytes: &mut Vec<u8>,
     ) -> Result<(), Refusal>
         requires range { (from ≤ to) × (to ≤ 512) }
-        ensures bytes { OnOk result (bytes.new.items ≡ bytes.old.items ++ take (to - from) (drop from (piece_bytes (pins_held self.old.pin) (slice_index_or self.old.pieces index Hole)))) }
-        ensures added { OnOk result (length bytes.new.items ≡ length bytes.old.items + (to - from)) }
+        ensures bytes { OnOk result
+            (bytes.new.items
+            ≡ bytes.old.items
+            ++ take (to - from)
+            (drop from
+            (piece_bytes (pins_held self.old.pin)
+            (slice_index_or self.old.pieces index Hole)))) }
+        ensures added { OnOk result
+            (length bytes.new.items ≡ length bytes.old.items + (to - from)) }
         ensures refusal { IfErr result (λ e. e ≡ NoMemory) }
         ensures same { self.new ≡ self.old }
     {
@@ -190,13 +213,16 @@ impl ReadPlan {
         self.pieces[index].append(&mut self.pin, from, to, bytes)
     }
 
-    // Adds the bytes of one piece, from a place on and up to an end or to that of the piece, and answers where they end.
+    // Adds the bytes of one piece, from a place on and up to an end or to that of the piece, and
+    // answers where they end.
     fn fetch_piece(&mut self, at: usize, end: usize, bytes: &mut Vec<u8>) -> Result<usize, Refusal>
         requires start { at < end }
         requires end { end ≤ OBJECT_BYTES + BLOCK_BYTES }
         ensures later { IfOk result (λ next. at < next) }
         ensures within { IfOk result (λ next. next ≤ end) }
-        ensures bytes { IfOk result (λ next. bytes.new.items ≡ bytes.old.items ++ listed (byte_planned self.old) at (next - at)) }
+        ensures bytes { IfOk result
+            (λ next. bytes.new.items
+            ≡ bytes.old.items ++ listed (byte_planned self.old) at (next - at)) }
         ensures refusal { IfErr result (λ e. e ≡ NoMemory) }
         ensures same { self.new ≡ self.old }
     {
@@ -208,7 +234,8 @@ impl ReadPlan {
         Ok(next)
     }
 
-    /// The bytes that the plan names. Its pin ends with this call, which needs neither the drive nor a lock.
+    /// The bytes that the plan names. Its pin ends with this call, which needs neither the drive
+    /// nor a lock.
     ///
     /// NoMemory alone, where the memory for the bytes is refused; it is asked for once.
     pub fn fetch(mut self, alloc: Global) -> Result<Vec<u8>, Refusal>
@@ -240,7 +267,8 @@ impl ReadPlan {
         counted
     }
 
-    // Where the bytes behind a slot come from. The frame of a sealed block is counted on from now on.
+    // Where the bytes that a slot refers to come from. The frame of a sealed block is counted on
+    // from now on.
     fn locate(
         &mut self,
         alloc: Global,
@@ -251,9 +279,11 @@ impl ReadPlan {
         requires held { (p : Place) → slot ≡ Some p → IsSome (held_at table.old p) }
         ensures piece { IfOk result (λ piece. piece ≡ piece_of table.old slot) }
         ensures located { OnOk result (Locates table.old slot self.old self.new) }
-        ensures within { IfOk result (λ piece. (frame block : ℕ) → piece ≡ Pinned frame block → block < 16) }
+        ensures within { IfOk result
+            (λ piece. (frame block : ℕ) → piece ≡ Pinned frame block → block < 16) }
         ensures refusal { IfErr result (λ e. (e ≡ NoMemory) ⊎ (e ≡ Busy)) }
-        ensures pinned { IfErr result (λ e. (e ≡ NoMemory) ⊎ (is_pinned (piece_of table.old slot) ≡ true)) }
+        ensures pinned { IfErr result
+            (λ e. (e ≡ NoMemory) ⊎ (is_pinned (piece_of table.old slot) ≡ true)) }
         ensures same { table.new ≡ table.old }
     {
         let Some(place) = slot else {
@@ -277,7 +307,8 @@ impl ReadPlan {
         requires at { IsAt table.old self.old.pin }
         requires held { (p : Place) → slot ≡ Some p → IsSome (held_at table.old p) }
         ensures adds { OnOk result (AddsPiece table.old slot self.old self.new) }
-        ensures refusal { IfErr result (λ e. (e ≡ NoMemory) ⊎ ((e ≡ Busy) × (is_pinned (piece_of table.old slot) ≡ true))) }
+        ensures refusal { IfErr result
+            (λ e. (e ≡ NoMemory) ⊎ ((e ≡ Busy) × (is_pinned (piece_of table.old slot) ≡ true))) }
         ensures same { table.new ≡ table.old }
     {
         let piece = self.locate(alloc, table, slot)?;
@@ -286,7 +317,8 @@ impl ReadPlan {
     }
 }
 
-// The index behind the last block that has one of so many bytes from a place on; the place's own index where there are none.
+// The index after the last block that has one of this many bytes from a place on; the place's own
+// index where there are none.
 fn block_behind(start: usize, count: usize) -> usize
     requires { 0 < count → start + count ≤ OBJECT_BYTES }
     ensures { result ≡ start / 512 + touched_count start count }
@@ -297,14 +329,15 @@ fn block_behind(start: usize, count: usize) -> usize
     (start + count - 1) / BLOCK_BYTES + 1
 }
 
-/// A plan of reading the bytes of an object from an offset on, `wanted` of them or as many as there are: none where the offset
-/// is at or past the size. Blocks of the open frame are copied. The frames of all others that are needed are pinned, and none of
-/// their bytes is read yet.
+/// A plan of reading the bytes of an object from an offset on, `wanted` of them or as many as there
+/// are: none where the offset is at or past the size. Blocks of the open frame are copied. The
+/// frames of all others that are needed are pinned, and none of their bytes is read yet.
 ///
-/// NoMemory where memory is refused: it is asked for once, and once for each block that is copied and each frame that is pinned.
-/// Busy only where a block of a sealed frame is needed, and all seats of pins are in use, the count of those that share the
-/// frames is full, its frame has `MOST_READERS`, or other threads changed the frame's word between load and exchange
-/// `PIN_TRIES` times. Then nothing stays pinned.
+/// NoMemory where memory is refused: it is asked for once, and once for each block that is copied
+/// and each frame that is pinned. Busy only where a block of a sealed frame is needed, and all
+/// seats of pins are in use, the count of those that share the frames is full, its frame has
+/// `MOST_READERS`, or other threads changed the frame's word between load and exchange `PIN_TRIES`
+/// times. Then nothing stays pinned.
 pub fn plan(
     alloc: Global,
     table: &mut SegmentTable,
@@ -315,13 +348,25 @@ pub fn plan(
     requires size { inode.now.size ≤ OBJECT_BYTES }
     requires count { length inode.now.pointers ≡ OBJECT_BLOCKS }
     requires lead { PointersLead (held_at table.old) inode.now }
-    ensures pieces { IfOk result (λ plan. plan.pieces ≡ pieces_of table.old inode.now offset (min wanted (inode.now.size - offset))) }
+    ensures pieces { IfOk result
+        (λ plan. plan.pieces
+        ≡ pieces_of table.old inode.now offset (min wanted (inode.now.size - offset))) }
     ensures length { IfOk result (λ plan. plan.length ≡ min wanted (inode.now.size - offset)) }
-    ensures bytes { IfOk result (λ plan. bytes_planned plan ≡ take wanted (drop offset (bytes_of (contents_of (held_at table.old)) inode.now))) }
-    ensures pins { IfOk result (λ plan. (f : ℕ) → (0 < pins_in f (pins_held plan.pin)) ↔ (list_any (is_pinned_in f) plan.pieces ≡ true)) }
+    ensures bytes { IfOk result
+        (λ plan. bytes_planned plan
+        ≡ take wanted (drop offset (bytes_of (contents_of (held_at table.old)) inode.now))) }
+    ensures pins { IfOk result
+        (λ plan. (f : ℕ)
+        → (0 < pins_in f (pins_held plan.pin))
+        ↔ (list_any (is_pinned_in f) plan.pieces ≡ true)) }
     ensures seat { IfOk result (λ plan. list_any is_pinned plan.pieces ≡ false → plan.pin ≡ None) }
     ensures at { IfOk result (λ plan. IsAt table.old plan.pin) }
-    ensures refusal { IfErr result (λ e. (e ≡ NoMemory) ⊎ ((e ≡ Busy) × (list_any is_pinned (pieces_of table.old inode.now offset (min wanted (inode.now.size - offset))) ≡ true))) }
+    ensures refusal { IfErr result
+        (λ e. (e ≡ NoMemory)
+        ⊎ ((e ≡ Busy)
+        × (list_any is_pinned
+        (pieces_of table.old inode.now offset
+        (min wanted (inode.now.size - offset))) ≡ true))) }
     ensures same { table.new ≡ table.old }
 {
     ranges_join_and_part();

@@ -16,8 +16,8 @@ use std::slice::from_ref;
 use undo_redo::EntriesBetween;
 use undo_redo::laws::a_run_has_one_end_and_one_beginning;
 
-/// An object's present inode, and an index of what undoes the entries of its journal. Where the index's growth was refused there
-/// is none, and the journal is walked.
+/// An object's present inode, and an index of what undoes the entries of its journal. Where the
+/// index's growth was refused there is none, and the journal is walked.
 #[derive(Drop)]
 pub struct Present {
     pub inode: Inode,
@@ -25,8 +25,9 @@ pub struct Present {
 }
 
 impl Present {
-    /// Makes of an object's inode behind all its entries the one at a moment, in its place: by the index of its entries, or where
-    /// there is none by a walk of the journal. Takes no memory. No block is read but by such a walk.
+    /// Makes of an object's inode after all its entries the one at a moment, in its place: by the
+    /// index of its entries, or where there is none by a walk of the journal. Takes no memory. No
+    /// block is read but by such a walk.
     pub fn lead_back<B: Blocks>(
         &self,
         table: &mut B,
@@ -36,7 +37,8 @@ impl Present {
         inode: &mut Inode,
     )
         requires row { IsRow (B.log table.old).held object row.now }
-        requires index { IsIndexOf self.now.index (entries_of (B.log table.old).held object row.now) }
+        requires index { IsIndexOf self.now.index
+            (entries_of (B.log table.old).held object row.now) }
         requires present { inode.old ≡ last_inode (B.log table.old).held object row.now }
         ensures inode { inode.new ≡ inode_of (B.log table.old).held object row.now at }
         ensures same { B.log table.new ≡ B.log table.old }
@@ -61,9 +63,11 @@ pub fn index_of(alloc: Global, entries: &[Entry]) -> Option<UndoIndex>
     }
 }
 
-/// Appends to an index, if there is one, what undoes this entry. There is none any more where memory for that is refused.
+/// Appends to an index, if there is one, what undoes this entry. There is none any more where
+/// memory for that is refused.
 fn add_entry(index: &mut Option<UndoIndex>, entry: &Entry)
-    ensures { (older : List EntryFields) → IsIndexOf index.old older → IsIndexOf index.new (older ++ entry.now ∷ []) }
+    ensures { (older : List EntryFields) → IsIndexOf index.old older
+        → IsIndexOf index.new (older ++ entry.now ∷ []) }
 {
     if let Some(undoings) = index {
         if undoings.push(from_ref(entry)).is_err() {
@@ -72,9 +76,11 @@ fn add_entry(index: &mut Option<UndoIndex>, entry: &Entry)
     }
 }
 
-/// Appends to an index, if there is one, what undoes these entries. There is none any more where memory for that is refused.
+/// Appends to an index, if there is one, what undoes these entries. There is none any more where
+/// memory for that is refused.
 fn lengthen(index: &mut Option<UndoIndex>, entries: &EntriesBetween<'_>)
-    ensures { (older : List EntryFields) → IsIndexOf index.old older → IsIndexOf index.new (older ++ entries.now) }
+    ensures { (older : List EntryFields) → IsIndexOf index.old older
+        → IsIndexOf index.new (older ++ entries.now) }
 {
     let (first, others) = entries.split_first();
     add_entry(index, first);
@@ -87,15 +93,17 @@ impl Present {
     /// The object has another inode, to which these entries lead.
     fn turn(&mut self, after: &Inode, entries: &EntriesBetween<'_>)
         ensures inode { self.new.inode ≡ after.now }
-        ensures told { (older : List EntryFields) → IsIndexOf self.old.index older → IsIndexOf self.new.index (older ++ entries.now) }
+        ensures told { (older : List EntryFields)
+            → IsIndexOf self.old.index older → IsIndexOf self.new.index (older ++ entries.now) }
     {
         self.inode = *after;
         lengthen(&mut self.index, entries);
     }
 }
 
-/// An object's row becomes this one, but for the stamp, which is one above the old row's; and what stands beside it is changed in its
-/// place: it has another inode, to which these entries lead. One search of the map finds both.
+/// An object's row becomes this one, but for the stamp, which is one above the old row's; and what
+/// is beside it is changed in its place: it has another inode, to which these entries lead. One
+/// search of the map finds both.
 pub fn turn_beside(
     objects: &mut ObjectMap<Present>,
     object: ObjectId,

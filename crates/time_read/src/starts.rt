@@ -1,5 +1,6 @@
 //! The inode at a moment from the nearest checkpoint, and how many entries lie between the two.
-ghost use Rattle.std.specs.Prelude.{◌≡◌, ◌⊎◌, ◌≤◌, length, Some, IsSome, IfSome, IfOk, IfErr, Contains};
+ghost use Rattle.std.specs.Prelude.{◌≡◌, ◌⊎◌, ◌≤◌, length, Some, IsSome, IfSome, IfOk, IfErr};
+ghost use Rattle.std.specs.Prelude.{Contains};
 ghost use Rattle.s4_types.specs.declared.limits.TheConstants.{CHAIN_ENTRIES};
 ghost use Rattle.s4_types.specs.declared.refusals.Refusal.TheVariants.{NoMemory};
 ghost use Rattle.codec.specs.declared.inodes.Inode.{Inode as InodeFields};
@@ -62,8 +63,8 @@ fn nearer(to: usize, best: Start, other: Start) -> Start
     }
 }
 
-/// The nearest to a place of an object's newest checkpoint and the older ones. Of those that are as far it is the newest one, or
-/// else the latest.
+/// The nearest to a place of an object's newest checkpoint and the older ones. Of those that are as
+/// far it is the newest one, or else the latest.
 #[tactic(auto, using(crate::proofs::Starting::push_nearest))]
 fn nearest(entries: &[Entry], to: usize, newest: Start, older: &[Side]) -> Start
     ensures { result ≡ nearest_with entries.now to newest older.now }
@@ -75,10 +76,11 @@ fn nearest(entries: &[Entry], to: usize, newest: Start, older: &[Side]) -> Start
     best
 }
 
-/// The inode of the checkpoint that a pointer leads to.
+/// The inode of the checkpoint that a pointer refers to.
 fn read_inode<B: Blocks>(table: &mut B, object: ObjectId, place: Ptr) -> Inode
     requires { IsSome (checkpoint_held (B.log table.old).held object place) }
-    ensures inode { IfSome (checkpoint_held (B.log table.old).held object place) (λ c. result ≡ c.inode) }
+    ensures inode { IfSome (checkpoint_held (B.log table.old).held object place)
+        (λ c. result ≡ c.inode) }
     ensures same { B.log table.new ≡ B.log table.old }
 {
     a_checkpoint_has_its_blocks();
@@ -88,7 +90,8 @@ fn read_inode<B: Blocks>(table: &mut B, object: ObjectId, place: Ptr) -> Inode
     *checkpoint.inode()
 }
 
-/// Reads the inode of the checkpoint that a row names, and keeps it in the cache, where there is memory for that.
+/// Reads the inode of the checkpoint that a row names, and keeps it in the cache, where there is
+/// memory for that.
 fn read_and_keep<B: Blocks>(
     table: &mut B,
     cache: &mut InodeCache,
@@ -97,8 +100,10 @@ fn read_and_keep<B: Blocks>(
     place: Ptr,
 ) -> Inode
     requires { IsSome (checkpoint_held (B.log table.old).held object place) }
-    ensures inode { IfSome (checkpoint_held (B.log table.old).held object place) (λ c. result ≡ c.inode) }
-    ensures kept { (e : _) → Contains cache.new.pairs e → Contains cache.old.pairs e ⊎ (e ≡ (key_of object row.now, result)) }
+    ensures inode { IfSome (checkpoint_held (B.log table.old).held object place)
+        (λ c. result ≡ c.inode) }
+    ensures kept { (e : _) → Contains cache.new.pairs e
+        → Contains cache.old.pairs e ⊎ (e ≡ (key_of object row.now, result)) }
     ensures same { B.log table.new ≡ B.log table.old }
 {
     let inode = read_inode(table, object, place);
@@ -121,7 +126,8 @@ fn newest_inode<B: Blocks>(
     requires there { IsSome (checkpoint_held (B.log table.old).held object place) }
     requires named { row.now.checkpoint ≡ Some place }
     requires cached { IsTrueOf cache.old.pairs (B.log table.old).held object row.now }
-    ensures inode { IfSome (checkpoint_held (B.log table.old).held object place) (λ c. result ≡ c.inode) }
+    ensures inode { IfSome (checkpoint_held (B.log table.old).held object place)
+        (λ c. result ≡ c.inode) }
     ensures kept { AddsTrue (B.log table.old).held object row.now cache.old.pairs cache.new.pairs }
     ensures same { B.log table.new ≡ B.log table.old }
 {
@@ -135,7 +141,8 @@ fn newest_inode<B: Blocks>(
     read_and_keep(table, cache, object, row, place)
 }
 
-/// The inode of a checkpoint that a row names. The newest one's is kept in the cache, at this place.
+/// The inode of a checkpoint that a row names. The newest one's is kept in the cache, at this
+/// place.
 fn named_inode<B: Blocks>(
     table: &mut B,
     cache: &mut InodeCache,
@@ -158,8 +165,8 @@ fn named_inode<B: Blocks>(
     newest_inode(table, cache, object, row, newest)
 }
 
-/// The inode at which the way to a place begins, and its place: that of the nearest checkpoint; of an object without one the
-/// blank inode, before all entries.
+/// The inode at which the way to a place begins, and its place: that of the nearest checkpoint; of
+/// an object without one the blank inode, before all entries.
 fn begin<B: Blocks>(
     table: &mut B,
     cache: &mut InodeCache,
@@ -171,7 +178,8 @@ fn begin<B: Blocks>(
     requires row { IsRow (B.log table.old).held object row.now }
     requires cached { IsTrueOf cache.old.pairs (B.log table.old).held object row.now }
     requires entries { entries.now ≡ entries_of (B.log table.old).held object row.now }
-    ensures inode { result.0 ≡ inode_behind (first_of (B.log table.old).held object row.now) entries.now result.1 }
+    ensures inode { result.0
+        ≡ inode_behind (first_of (B.log table.old).held object row.now) entries.now result.1 }
     ensures few { result.1 ≤ length entries.now }
     ensures count { apart result.1 to ≡ least_over entries.now to (starts_of row.now) }
     ensures kept { AddsTrue (B.log table.old).held object row.now cache.old.pairs cache.new.pairs }
@@ -189,12 +197,14 @@ fn begin<B: Blocks>(
     (inode, start.place)
 }
 
-/// Makes of the inode behind so many entries the one behind so many others.
+/// Makes of the inode after this many entries the one after this many others.
 #[tactic(auto, using(crate::proofs::Leading::led_on, crate::proofs::Leading::run_between))]
 fn lead(entries: &[Entry], from: usize, to: usize, inode: &mut Inode)
     requires from { from ≤ length entries.now }
     requires to { to ≤ length entries.now }
-    ensures { (first last : InodeFields) → Run first entries.now last → inode.old ≡ inode_behind first entries.now from → inode.new ≡ inode_behind first entries.now to }
+    ensures { (first last : InodeFields) → Run first entries.now last
+        → inode.old ≡ inode_behind first entries.now from
+        → inode.new ≡ inode_behind first entries.now to }
 {
     a_run_has_one_end_and_one_beginning();
     runs_join_and_part();
@@ -214,7 +224,8 @@ fn entries_between(from: usize, to: usize) -> u32
     from.abs_diff(to) as u32
 }
 
-/// The inode at a moment, led to from the nearest checkpoint, and how many of the entries were undone or redone.
+/// The inode at a moment, led to from the nearest checkpoint, and how many of the entries were
+/// undone or redone.
 fn led_from_nearest<B: Blocks>(
     table: &mut B,
     cache: &mut InodeCache,
@@ -240,12 +251,13 @@ fn led_from_nearest<B: Blocks>(
     (inode, entries_between(from, to))
 }
 
-/// The inode of an object that is current at a moment, and how many entries of its journal were undone or redone for it: as
-/// many as lie between the moment's place and the nearest start.
+/// The inode of an object that is current at a moment, and how many entries of its journal were
+/// undone or redone for it: as many as lie between the moment's place and the nearest start.
 ///
-/// The starts are the checkpoints that the row names. Of those that are as far it is the newest, or else the latest of the older
-/// ones. An object without a checkpoint starts as blank, before all entries. The journal is read whole, and one checkpoint, but
-/// for the newest where the cache has its inode; else the cache keeps it, where there is memory for that.
+/// The starts are the checkpoints that the row names. Of those that are as far it is the newest, or
+/// else the latest of the older ones. An object without a checkpoint starts as blank, before all
+/// entries. The journal is read whole, and one checkpoint, but for the newest where the cache has
+/// its inode; else the cache keeps it, where there is memory for that.
 ///
 /// NoMemory alone, where the memory for the entries is refused; it is asked for once.
 pub fn inode_at_counted<B: Blocks>(
@@ -258,8 +270,10 @@ pub fn inode_at_counted<B: Blocks>(
 ) -> Result<(Inode, u32), Refusal>
     requires row { IsRow (B.log table.old).held object row.now }
     requires cached { IsTrueOf cache.old.pairs (B.log table.old).held object row.now }
-    ensures inode { IfOk result (λ found. found.0 ≡ inode_of (B.log table.old).held object row.now at) }
-    ensures count { IfOk result (λ found. found.1 ≡ least_distance (B.log table.old).held object row.now at) }
+    ensures inode { IfOk result
+        (λ found. found.0 ≡ inode_of (B.log table.old).held object row.now at) }
+    ensures count { IfOk result
+        (λ found. found.1 ≡ least_distance (B.log table.old).held object row.now at) }
     ensures refusal { IfErr result (λ e. e ≡ NoMemory) }
     ensures kept { AddsTrue (B.log table.old).held object row.now cache.old.pairs cache.new.pairs }
     ensures same { B.log table.new ≡ B.log table.old }
@@ -268,8 +282,8 @@ pub fn inode_at_counted<B: Blocks>(
     Ok(led_from_nearest(table, cache, object, row, &entries, at))
 }
 
-/// The inode of an object that is current at a moment: all changes up to the moment are in it, and none behind. It is led to
-/// from the nearest checkpoint, as by [`inode_at_counted`].
+/// The inode of an object that is current at a moment: all changes up to the moment are in it, and
+/// none after. It is led to from the nearest checkpoint, as by [`inode_at_counted`].
 ///
 /// NoMemory alone, where the memory for the entries is refused; it is asked for once.
 pub fn inode_at<B: Blocks>(
@@ -282,7 +296,8 @@ pub fn inode_at<B: Blocks>(
 ) -> Result<Inode, Refusal>
     requires row { IsRow (B.log table.old).held object row.now }
     requires cached { IsTrueOf cache.old.pairs (B.log table.old).held object row.now }
-    ensures inode { IfOk result (λ inode. inode ≡ inode_of (B.log table.old).held object row.now at) }
+    ensures inode { IfOk result
+        (λ inode. inode ≡ inode_of (B.log table.old).held object row.now at) }
     ensures refusal { IfErr result (λ e. e ≡ NoMemory) }
     ensures kept { AddsTrue (B.log table.old).held object row.now cache.old.pairs cache.new.pairs }
     ensures same { B.log table.new ≡ B.log table.old }

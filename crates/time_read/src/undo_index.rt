@@ -1,5 +1,6 @@
 //! The index of one object.
-ghost use Rattle.std.specs.Prelude.{◌≡◌, ◌++◌, true, List, [], ◌∷◌, length, map, IfErr, OnOk, OnErr};
+ghost use Rattle.std.specs.Prelude.{◌≡◌, ◌++◌, true, List, [], ◌∷◌, length, map, IfErr, OnOk};
+ghost use Rattle.std.specs.Prelude.{OnErr};
 ghost use Rattle.s4_types.specs.declared.refusals.Refusal.TheVariants.{NoMemory};
 ghost use Rattle.codec.specs.declared.inodes.Inode.{Inode as InodeFields};
 ghost use Rattle.codec.specs.Entry.{EntryFields};
@@ -16,9 +17,10 @@ use undo_redo::laws::{groups_join_and_part, the_last_entry_is_undone_or_stays};
 
 /// What undoes each entry of an object, oldest first. Contracts see the list of undoings.
 ///
-/// A record has 32 bytes, an earlier pointer at most 16, and an attribute one byte more than `ATTRIBUTE_BYTES`. In a chain an
-/// entry has `SHORTEST_ENTRY_BYTES` and more, a pointer `TRIPLE_BYTES`, and an attribute 3 at least. So less than three times
-/// `CHAIN_ENTRY_BYTES` are in use here; without attributes no more than those. The lists may have asked for more, to grow.
+/// A record has 32 bytes, an earlier pointer at most 16, and an attribute one byte more than
+/// `ATTRIBUTE_BYTES`. In a chain an entry has `SHORTEST_ENTRY_BYTES` and more, a pointer
+/// `TRIPLE_BYTES`, and an attribute 3 at least. So less than three times `CHAIN_ENTRY_BYTES` are in
+/// use here; without attributes no more than those. The lists may have asked for more, to grow.
 #[derive(Drop)]
 pub struct UndoIndex {
     records: Vec<UndoRecord>,
@@ -45,7 +47,11 @@ fn push_entry(
     attributes: &mut Vec<Attribute>,
     entry: &Entry,
 ) -> Result<(), Refusal>
-    ensures told { (us : List Undoing) → Tells records.old.items pointers.old.items attributes.old.items us → OnOk result (Tells records.new.items pointers.new.items attributes.new.items (us ++ undoing_of entry.now ∷ [])) }
+    ensures told { (us : List Undoing)
+        → Tells records.old.items pointers.old.items attributes.old.items us
+        → OnOk result
+        (Tells records.new.items pointers.new.items attributes.new.items
+        (us ++ undoing_of entry.now ∷ [])) }
     ensures records { Extends records.old.items records.new.items }
     ensures pointers { Extends pointers.old.items pointers.new.items }
     ensures attributes { Extends attributes.old.items attributes.new.items }
@@ -56,7 +62,8 @@ fn push_entry(
     Ok(())
 }
 
-/// Appends what undoes each of the entries. Where memory is refused, the lists begin with what they were.
+/// Appends what undoes each of the entries. Where memory is refused, the lists begin with what they
+/// were.
 #[tactic(auto, using(crate::proofs::Undone::extends_none, crate::proofs::Undone::extends_on))]
 fn push_all(
     records: &mut Vec<UndoRecord>,
@@ -64,7 +71,11 @@ fn push_all(
     attributes: &mut Vec<Attribute>,
     entries: &[Entry],
 ) -> Result<(), Refusal>
-    ensures told { (us : List Undoing) → Tells records.old.items pointers.old.items attributes.old.items us → OnOk result (Tells records.new.items pointers.new.items attributes.new.items (us ++ map undoing_of entries.now)) }
+    ensures told { (us : List Undoing)
+        → Tells records.old.items pointers.old.items attributes.old.items us
+        → OnOk result
+        (Tells records.new.items pointers.new.items attributes.new.items
+        (us ++ map undoing_of entries.now)) }
     ensures records { Extends records.old.items records.new.items }
     ensures pointers { Extends pointers.old.items pointers.new.items }
     ensures attributes { Extends attributes.old.items attributes.new.items }
@@ -107,8 +118,9 @@ impl UndoIndex {
         }
     }
 
-    /// Appends what undoes each of the entries, the first one first. NoMemory, and nothing has changed, where the index couldn't
-    /// grow: where memory is refused, or where it would hold more than 65,535 pointers, or holds more attributes than that.
+    /// Appends what undoes each of the entries, the first one first. NoMemory, and nothing has
+    /// changed, where the index couldn't grow: where memory is refused, or where it would hold more
+    /// than 65,535 pointers, or holds more attributes than that.
     pub fn push(&mut self, entries: &[Entry]) -> Result<(), Refusal>
         ensures told { OnOk result (self.new ≡ self.old ++ map undoing_of entries.now) }
         ensures refusal { IfErr result (λ e. e ≡ NoMemory) }
@@ -131,11 +143,14 @@ impl UndoIndex {
         pushed
     }
 
-    /// Undoes all entries later than a moment, the newest first. Where the index tells the undoings of a run's entries, and the
-    /// inode is the run's last one, it becomes the one that is current at the moment. Takes no memory. Logarithmic in the
-    /// entries, and linear in the pointers of those that are undone.
+    /// Undoes all entries later than a moment, the newest first. Where the index tells the undoings
+    /// of a run's entries, and the inode is the run's last one, it becomes the one that is current
+    /// at the moment. Takes no memory. Logarithmic in the entries, and linear in the pointers of
+    /// those that are undone.
     pub fn undo_past(&self, at: Moment, inode: &mut Inode)
-        ensures { (first : InodeFields) (entries : List EntryFields) → map undoing_of entries ≡ self.now → grouped entries ≡ true → Run first entries inode.old → inode.new ≡ inode_after first entries at }
+        ensures { (first : InodeFields) (entries : List EntryFields)
+            → map undoing_of entries ≡ self.now → grouped entries ≡ true
+            → Run first entries inode.old → inode.new ≡ inode_after first entries at }
     {
         undo_past(
             self.records.as_slice(),

@@ -1,17 +1,19 @@
 //! What is kept of one entry.
-ghost use Rattle.std.specs.Prelude.{◌≡◌, ◌<◌, ◌≤◌, ◌++◌, true, false, nat_le, length, map, reverse, slice_set, IfOk, IfErr, OnOk, option_map, option_to_list};
+ghost use Rattle.std.specs.Prelude.{◌≡◌, ◌<◌, ◌≤◌, ◌++◌, true, false, nat_le, length, map, reverse};
+ghost use Rattle.std.specs.Prelude.{slice_set, IfOk, IfErr, OnOk, option_map, option_to_list};
 ghost use Rattle.std.specs.List.{All};
 ghost use Rattle.std.specs.List.Sorted.{IsNonDecreasingBy, IsPartitionPoint};
 ghost use Rattle.s4_types.specs.declared.limits.TheConstants.{OBJECT_BLOCKS};
 ghost use Rattle.s4_types.specs.declared.refusals.Refusal.TheVariants.{NoMemory};
-ghost use Rattle.time_read.specs.Undoings.{Extends, Spans, earlier_of, undoing_of, put_back, undone_from, undoing_in};
+ghost use Rattle.time_read.specs.Undoings.{Extends, Spans, earlier_of, undoing_of, put_back};
+ghost use Rattle.time_read.specs.Undoings.{undone_from, undoing_in};
 
 use codec::{Attribute, Entry, Inode, Pair, PointerIndex, Status, Triple};
 use s4_types::limits::OBJECT_BLOCKS;
 use s4_types::{Moment, Ptr, Refusal};
 use std::marker::Model;
 
-/// A pointer's index and what stood there before an entry.
+/// A pointer's index and what was there before an entry.
 #[derive(Clone, Copy)]
 pub(crate) struct EarlierPointer {
     index: PointerIndex,
@@ -50,9 +52,10 @@ impl EarlierPointer {
     }
 }
 
-/// What undoes an entry, but for its attribute and its pointers, which stand in lists of their own. The pointers are those from a
-/// first place up to an end, in reverse order. The attribute is the one at a place, if it tells one; if not, the place is that of the
-/// next attribute a later record tells.
+/// What undoes an entry, but for its attribute and its pointers, which are in lists of their own.
+/// The pointers are those from a first place up to an end, in reverse order. The attribute is the
+/// one at a place, if it tells one; if not, the place is that of the next attribute a later record
+/// tells.
 #[derive(Clone, Copy)]
 pub(crate) struct UndoRecord {
     pub(crate) moment: Moment,
@@ -77,7 +80,8 @@ fn place(index: usize) -> Result<u16, Refusal>
 /// Keeps the earlier pointers of an entry, the last one first.
 fn keep_pointers(pointers: &mut Vec<EarlierPointer>, triples: &[Triple]) -> Result<(), Refusal>
     requires { All (λ t. t.index < OBJECT_BLOCKS) triples.now }
-    ensures kept { OnOk result (pointers.new.items ≡ pointers.old.items ++ reverse (map earlier_of triples.now)) }
+    ensures kept { OnOk result
+        (pointers.new.items ≡ pointers.old.items ++ reverse (map earlier_of triples.now)) }
     ensures extends { Extends pointers.old.items pointers.new.items }
     ensures refusal { IfErr result (λ e. e ≡ NoMemory) }
 {
@@ -90,7 +94,9 @@ fn keep_pointers(pointers: &mut Vec<EarlierPointer>, triples: &[Triple]) -> Resu
 /// Keeps the earlier attribute of an entry that has two.
 #[tactic(auto, using(crate::proofs::Undone::extends_none, crate::proofs::Undone::extends_push, crate::proofs::Undone::nothing_more))]
 fn keep_attribute(attributes: &mut Vec<Attribute>, pair: Option<Pair>) -> Result<(), Refusal>
-    ensures kept { OnOk result (attributes.new.items ≡ attributes.old.items ++ option_to_list (option_map (λ p. p.before) pair)) }
+    ensures kept { OnOk result
+        (attributes.new.items
+        ≡ attributes.old.items ++ option_to_list (option_map (λ p. p.before) pair)) }
     ensures extends { Extends attributes.old.items attributes.new.items }
     ensures refusal { IfErr result (λ e. e ≡ NoMemory) }
 {
@@ -100,15 +106,19 @@ fn keep_attribute(attributes: &mut Vec<Attribute>, pair: Option<Pair>) -> Result
     Ok(())
 }
 
-/// Keeps what undoes an entry, at the ends of the lists. Where memory is refused, what was kept of it stays behind there.
+/// Keeps what undoes an entry, at the ends of the lists. Where memory is refused, what was kept of
+/// it stays at their ends.
 #[tactic(auto, using(crate::proofs::Undone::are_low, crate::proofs::Undone::extends_none, crate::proofs::Undone::undoing_is, crate::proofs::Undone::spans_made))]
 pub(crate) fn keep(
     pointers: &mut Vec<EarlierPointer>,
     attributes: &mut Vec<Attribute>,
     entry: &Entry,
 ) -> Result<UndoRecord, Refusal>
-    ensures spans { IfOk result (λ r. Spans (length pointers.old.items) (length attributes.old.items) (length pointers.new.items) (length attributes.new.items) r) }
-    ensures told { IfOk result (λ r. undoing_in pointers.new.items attributes.new.items r ≡ undoing_of entry.now) }
+    ensures spans { IfOk result
+        (λ r. Spans (length pointers.old.items) (length attributes.old.items)
+        (length pointers.new.items) (length attributes.new.items) r) }
+    ensures told { IfOk result
+        (λ r. undoing_in pointers.new.items attributes.new.items r ≡ undoing_of entry.now) }
     ensures pointers { Extends pointers.old.items pointers.new.items }
     ensures attributes { Extends attributes.old.items attributes.new.items }
     ensures refusal { IfErr result (λ e. e ≡ NoMemory) }
@@ -138,7 +148,8 @@ fn put_all_back(earlier: &[EarlierPointer], pointers: &mut [Option<Ptr>; OBJECT_
     }
 }
 
-/// Makes of an inode what it was before the entry of a record, where all behind that are undone with it.
+/// Makes of an inode what it was before the entry of a record, where all after that are undone with
+/// it.
 #[tactic(auto, unfolding(crate::specs::Undoings::undone_from))]
 pub(crate) fn undo_from(
     oldest: &UndoRecord,
@@ -158,10 +169,13 @@ pub(crate) fn undo_from(
     put_all_back(&pointers[oldest.first as usize..], &mut inode.pointers);
 }
 
-/// How many records stand before those that are later than a moment, where moments don't descend. Logarithmic in the records.
+/// How many records are before those that are later than a moment, where moments don't descend.
+/// Logarithmic in the records.
 pub(crate) fn count_up_to(records: &[UndoRecord], at: Moment) -> usize
     ensures bound { result ≤ length records.now }
-    ensures point { IsNonDecreasingBy (λ r. r.moment) records.now → IsPartitionPoint (λ r. nat_le r.moment at ≡ true) (λ r. nat_le r.moment at ≡ false) records.now result }
+    ensures point { IsNonDecreasingBy (λ r. r.moment) records.now
+        → IsPartitionPoint (λ r. nat_le r.moment at ≡ true) (λ r. nat_le r.moment at ≡ false)
+        records.now result }
 {
     records.partition_point(|record| record.moment <= at)
 }

@@ -279,7 +279,7 @@ above_front : (lower front back : List Triple) → above lower (front ++ back) �
 above_front lower [] back h = refl
 above_front lower (t ∷ front) back h = let parts = and_parts (list_all (λ u. ltb u.index t.index) lower) (above lower (front ++ back)) h in and_from (list_all (λ u. ltb u.index t.index) lower) (above lower front) parts.0 (above_front lower front back parts.1)
 
--- the first piece behind one of ascending triples stands above it
+-- the first piece after one of ascending triples stands above it
 next_above : (triples : List Triple) → ascend_from 0 triples ≡ true → above (take ENTRY_TRIPLES triples) (take ENTRY_TRIPLES (drop ENTRY_TRIPLES triples)) ≡ true
 next_above triples up =
     above_front (take ENTRY_TRIPLES triples) (take ENTRY_TRIPLES (drop ENTRY_TRIPLES triples)) (drop ENTRY_TRIPLES (drop ENTRY_TRIPLES triples)) (subst (λ (ts : List Triple). above (take ENTRY_TRIPLES triples) ts ≡ true) (sym (take-append-drop ENTRY_TRIPLES (drop ENTRY_TRIPLES triples))) (above_pieces ENTRY_TRIPLES 0 triples up))
@@ -331,7 +331,7 @@ unfolding later_sizes
 sizes_more zero h = absurd (omega arith)
 sizes_more (suc count) h = ap (λ (ns : List ℕ). (SHORTEST_ENTRY_BYTES + TRIPLE_BYTES * min ENTRY_TRIPLES (suc count)) ∷ ns) (later_sizes_same count (suc count - ENTRY_TRIPLES) (suc count - ENTRY_TRIPLES) (omega arith) (omega arith))
 
--- the size of the next entry goes behind those that stand
+-- the size of the next entry goes after those that stand
 pub next_size : (old new all : List ℕ) (rest left size : ℕ) → 0 < rest → left ≡ rest - ENTRY_TRIPLES → size ≡ SHORTEST_ENTRY_BYTES + TRIPLE_BYTES * min ENTRY_TRIPLES rest → new ≡ old ++ size ∷ [] → old ++ later_sizes rest rest ≡ all → new ++ later_sizes left left ≡ all
 next_size old new all rest left size some cut is put h =
     ap (λ (ns : List ℕ). ns ++ later_sizes left left) put ∙ ap (λ (c : ℕ). (old ++ size ∷ []) ++ later_sizes c c) cut ∙ append_assoc old (size ∷ []) (later_sizes (rest - ENTRY_TRIPLES) (rest - ENTRY_TRIPLES))

@@ -16,7 +16,7 @@ use Rattle.undo_redo.proofs.Pointers.{Leaves}
 use Rattle.undo_redo.proofs.Indices.{ascends, ascend_none, ascend_made, ascend_weaker, ascend_reaches}
 use Rattle.undo_redo.proofs.Slots.{same_slot_true, same_slot_same}
 
--- the pointers that differ from an index on, among so many
+-- the pointers that differ from an index on, among this many
 abbrev pub stretch : Inode → Inode → ℕ → ℕ → List Triple
 stretch i j a n = filter tells_apart (map (triple_between i j) (range_with_len a n))
 
@@ -189,7 +189,7 @@ leaves_above low n (t ∷ front) u back h le =
       back_same = λ p. ap (λ b. pointer_before front n (cond b t.before p)) other ∙ behind.back_same p;
     }
 
--- where front triples were redone, the earlier pointers of those behind them still stand
+-- where front triples were redone, the earlier pointers of those after them still stand
 pub still_before : (i j : Inode) (low n : ℕ) (front back : List Triple) → ascend_from low (front ++ back) ≡ true → AreOf i j back → pointer_after front n (pointer_at i n) ≡ pointer_before back n (pointer_after front n (pointer_at i n))
 still_before i j low n front [] h are = refl
 still_before i j low n front (u ∷ back) h are = elim (cases_lt n u.index) [

@@ -9,7 +9,7 @@ use Rattle.codec.specs.declared.entries.Triple.{Triple}
 use Rattle.undo_redo.specs.Groups.{above}
 use Rattle.codec.specs.Entry.{EntryFields, same_slot, ascend_from, was_nothing, changes_now, differs, entry_rules}
 
--- the tests of a triple, and those of the ones behind it
+-- the tests of a triple, and those of the ones after it
 pub ascend_parts : (low : ℕ) (t : Triple) (triples : List Triple) → ascend_from low (t ∷ triples) ≡ true → ((leb low t.index && (ltb t.index OBJECT_BLOCKS && not (same_slot t.before t.after))) ≡ true) × (ascend_from (t.index + 1) triples ≡ true)
 unfolding ascend_from
 ascend_parts low t triples h = and_parts (leb low t.index && (ltb t.index OBJECT_BLOCKS && not (same_slot t.before t.after))) (ascend_from (t.index + 1) triples) h
@@ -67,7 +67,7 @@ pub ascend_made : (low : ℕ) (t : Triple) (triples : List Triple) → low ≤ t
 unfolding ascend_from
 ascend_made low t triples le h k = and_from (leb low t.index && apart t) (ascend_from (t.index + 1) triples) (and_from (leb low t.index) (apart t) (le-leb low t.index le) h) k
 
--- what ascends from an index on: the first is at or above it, its pointers differ, and the others ascend behind it
+-- what ascends from an index on: the first is at or above it, its pointers differ, and the others ascend after it
 pub record Ascends (low : ℕ) (t : Triple) (triples : List Triple) : Type 0 where
   pub least : low ≤ t.index
   pub apart : apart t ≡ true
@@ -107,7 +107,7 @@ pub ascend_front : (low : ℕ) (front back : List Triple) → ascend_from low (f
 ascend_front low [] back h = ascend_none low
 ascend_front low (t ∷ front) back h = let a = ascends low t (front ++ back) h in ascend_made low t front a.least a.apart (ascend_front (t.index + 1) front back a.others)
 
--- a triple behind others is at or above where they begin, and ascends with those behind it from its own index on
+-- a triple after others is at or above where they begin, and ascends with those after it from its own index on
 pub ascend_reaches : (low : ℕ) (front : List Triple) (t : Triple) (back : List Triple) → ascend_from low (front ++ t ∷ back) ≡ true → (low ≤ t.index) × (ascend_from t.index (t ∷ back) ≡ true)
 ascend_reaches low [] t back h = let a = ascends low t back h in (a.least, ascend_made t.index t back (omega arith) a.apart a.others)
 ascend_reaches low (u ∷ front) t back h =

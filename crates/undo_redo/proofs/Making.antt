@@ -99,7 +99,7 @@ none_behind i j m n end piece is cut none =
     let left : length (triples_from end i j) ≡ length (triples_from n i j) - ENTRY_TRIPLES = ap (λ (ts : List Triple). length ts) cut ∙ length-drop ENTRY_TRIPLES (triples_from n i j) in
     later_none j m (triples_from end i j) (omega (arith, count, left, none))
 
--- the next keeps the rules, and so do those behind it
+-- the next keeps the rules, and so do those after it
 pub next_keep : (i j : Inode) (m n end : ℕ) (piece : List Triple) → piece ≡ take ENTRY_TRIPLES (triples_from n i j) → triples_from end i j ≡ drop ENTRY_TRIPLES (triples_from n i j) → length piece ≢ 0 → AllByRecursion (λ e. entry_rules e ≡ true) (entries_from i j m n) → (entry_rules (further_entry j m piece) ≡ true) × AllByRecursion (λ e. entry_rules e ≡ true) (entries_from i j m end)
 next_keep i j m n end piece is cut some h = subst (λ (es : List EntryFields). AllByRecursion (λ e. entry_rules e ≡ true) es) (next_made i j m n end piece is cut some) h
 
@@ -111,7 +111,7 @@ none_keep i j m n end piece is cut none = subst (λ (es : List EntryFields). All
 pub kept_made : (i j : Inode) (m : ℕ) (e : EntryFields) (made : List EntryFields) → checked_entry (leading_entry i j m) ≡ Some e → made ≡ entries_between i j m → checked_between i j m ≡ Some made
 kept_made i j m e made h is = cond-true (entry_rules (leading_entry i j m)) (Some (entries_between i j m)) None (checked_some (leading_entry i j m) e h).0 ∙ ap (λ (es : List EntryFields). Some es) (sym is)
 
--- the next entry goes behind those that stand
+-- the next entry goes after those that stand
 pub one_more : (old new left rest all : List EntryFields) (e : EntryFields) → old ++ left ≡ all → left ≡ e ∷ rest → new ≡ old ++ e ∷ [] → new ++ rest ≡ all
 one_more old new left rest all e h is put = ap (λ (es : List EntryFields). es ++ rest) put ∙ append_assoc old (e ∷ []) rest ∙ ap (λ (es : List EntryFields). old ++ es) (sym is) ∙ h
 

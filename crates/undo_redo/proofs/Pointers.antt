@@ -48,7 +48,7 @@ pub record Leaves {A : Type 0} (forth back : A → A) : Type 0 where
 abbrev pub Either : {A : Type 0} → (A → A) → (A → A) → Type 0
 Either forth back = Settles forth back ⊎ Leaves forth back
 
--- so do two, one behind the other
+-- so do two, one after the other
 pub either_both : {A : Type 0} (f b g c : A → A) → Either f b → Either g c → Either (λ x. g (f x)) (λ x. b (c x))
 either_both f b g c (inl s) h = inl (record { forth_one = λ p q. ap g (s.forth_one p q); back_one = λ p q. s.back_one (c p) (c q) })
 either_both f b g c (inr l) (inl s) = inl (record { forth_one = λ p q. s.forth_one (f p) (f q); back_one = λ p q. ap b (s.back_one p q) })

@@ -15,7 +15,7 @@ use Rattle.undo_redo.specs.Linked.{status_of}
 abbrev pub pair_between : List ℕ → List ℕ → Option Pair
 pair_between before after = if pointwise ◌==◌ before after then None else Some (record { before = before; after = after })
 
--- what stands at an index in both inodes
+-- what is at an index in both inodes
 abbrev pub triple_between : Inode → Inode → ℕ → Triple
 triple_between i j n = record { index = n; before = pointer_at i n; after = pointer_at j n }
 
@@ -23,7 +23,7 @@ triple_between i j n = record { index = n; before = pointer_at i n; after = poin
 abbrev pub tells_apart : Triple → Bool
 tells_apart t = not (same_slot t.before t.after)
 
--- the pointers that differ among the first so many, by ascending index
+-- the pointers that differ among the first this many, by ascending index
 unfoldable pub triples_below : ℕ → Inode → Inode → List Triple
 triples_below n i j = filter tells_apart (map (triple_between i j) (range_with_len 0 n))
 
@@ -39,7 +39,7 @@ leading_entry i j m = record { moment = m; before = status_of i; after = status_
 abbrev pub further_entry : Inode → ℕ → List Triple → EntryFields
 further_entry j m triples = record { moment = m; before = status_of j; after = status_of j; pair = None; triples = triples }
 
--- triples in pieces, as many in each as an entry holds, and the rest in the last: so many pieces at most
+-- triples in pieces, as many in each as an entry holds, and the rest in the last: this many pieces at most
 unfoldable pub pieces : ℕ → List Triple → List (List Triple)
 pieces zero triples = []
 pieces (suc n) [] = []
@@ -49,11 +49,11 @@ pieces (suc n) (t ∷ triples) = take ENTRY_TRIPLES (t ∷ triples) ∷ pieces n
 unfoldable pub later_entries : Inode → ℕ → List Triple → List EntryFields
 later_entries j m triples = map (further_entry j m) (pieces (length triples) triples)
 
--- The entries of a moment: the first tells all but the pointers that it has no room for, and these stand in further ones.
+-- The entries of a moment: the first tells all but the pointers that it has no room for, and these are in further ones.
 unfoldable pub entries_between : Inode → Inode → ℕ → List EntryFields
 entries_between i j m = leading_entry i j m ∷ later_entries j m (drop ENTRY_TRIPLES (triples_between i j))
 
--- the triples tell what stands in the two inodes
+-- the triples tell what is in the two inodes
 abbrev pub AreOf : Inode → Inode → List Triple → Type 0
 AreOf i j triples = AllByRecursion (λ t. t ≡ triple_between i j t.index) triples
 

@@ -1,4 +1,4 @@
--- Entries of one moment: one change makes at most three of them, which stand together.
+-- Entries of one moment: one change makes at most three of them, which are together.
 use Rattle.std.specs.Prelude.{ℕ, Bool, true, nat_lt, ◌==◌, ◌&&◌, ◌+◌, if◌then◌else◌, List, [], ◌∷◌, is_none}
 use Rattle.std.specs.List.{list_all}
 use Rattle.s4_types.specs.declared.limits.TheConstants.{CHANGE_ENTRIES}
@@ -15,7 +15,7 @@ abbrev pub continues : EntryFields → EntryFields → Bool
 continues e f =
     (f.before.alive && f.after.alive) && (f.before.size == f.after.size && ((f.before.changed == f.moment && f.after.changed == f.moment) && (is_none f.pair && above e.triples f.triples)))
 
--- The entries behind this one, which is the count-th of its moment: each is of a later moment, or it is one of
+-- The entries after this one, which is the count-th of its moment: each is of a later moment, or it is one of
 -- three at most and continues the one before it.
 abbrev pub grouped_behind : ℕ → EntryFields → List EntryFields → Bool
 grouped_behind count e [] = true

@@ -4,7 +4,8 @@ ghost use Rattle.std.specs.List.{AllByRecursion};
 ghost use Rattle.s4_types.specs.declared.limits.TheConstants.{ENTRY_TRIPLES, OBJECT_BLOCKS};
 ghost use Rattle.codec.specs.Fields.{Reads};
 ghost use Rattle.codec.specs.Entry.{entry_rules, checked_entry};
-ghost use Rattle.undo_redo.specs.Between.{CanLead, triples_between, leading_entry, further_entry, entries_between};
+ghost use Rattle.undo_redo.specs.Between.{CanLead, triples_between, leading_entry, further_entry};
+ghost use Rattle.undo_redo.specs.Between.{entries_between};
 ghost use Rattle.undo_redo.specs.private.Further.{entries_from};
 
 use crate::pieces::{pair_between, piece_from, status_of};
@@ -12,9 +13,11 @@ use codec::{Entry, Inode, Triples};
 use s4_types::Moment;
 use std::marker::Model;
 
-/// The entries of a moment that lead from an inode to another, the first of which is made. Contracts see the list of them.
+/// The entries of a moment that lead from an inode to another, the first of which is made.
+/// Contracts see the list of them.
 ///
-/// The first tells all but the pointers that it has no room for; those stand in further ones, as many in each as it holds.
+/// The first tells all but the pointers that it has no room for; those are in further ones, as many
+/// in each as it holds.
 #[derive(Drop)]
 pub struct EntriesBetween<'a> {
     first: Entry,
@@ -60,8 +63,8 @@ impl<'a> EntriesBetween<'a> {
     }
 }
 
-/// The entries of a moment that lead from an inode to another, behind the first: each is made when it is asked for. Contracts see the
-/// list of those that were not given.
+/// The entries of a moment that lead from an inode to another, after the first: each is made when
+/// it is asked for. Contracts see the list of those that were not given.
 #[derive(Drop)]
 pub struct OtherEntries<'a> {
     before: &'a Inode,
@@ -89,7 +92,8 @@ impl<'a> OtherEntries<'a> {
     /// The entries that tell the pointers from an index on.
     pub(crate) fn new(before: &'a Inode, after: &'a Inode, moment: Moment, from: usize) -> Self
         requires end { from ≤ OBJECT_BLOCKS }
-        requires rules { AllByRecursion (λ e. entry_rules e ≡ true) (entries_from before.now after.now moment from) }
+        requires rules { AllByRecursion (λ e. entry_rules e ≡ true)
+            (entries_from before.now after.now moment from) }
         ensures { result ≡ entries_from before.entry.now after.entry.now moment from }
     {
         OtherEntries {
@@ -130,7 +134,8 @@ impl<'a> Iterator for OtherEntries<'a> {
     }
 }
 
-/// The first entry, with the first pointers that differ. None where it would break a rule of entries.
+/// The first entry, with the first pointers that differ. None where it would break a rule of
+/// entries.
 #[tactic(auto, unfolding(crate::specs::Between::leading_entry))]
 pub(crate) fn leading_entry(
     before: &Inode,
@@ -139,7 +144,8 @@ pub(crate) fn leading_entry(
     triples: Triples,
 ) -> Option<Entry>
     requires { triples.items ≡ take ENTRY_TRIPLES (triples_between before.now after.now) }
-    ensures { Reads (λ entry. entry) result (checked_entry (leading_entry before.now after.now moment)) }
+    ensures { Reads (λ entry. entry) result
+        (checked_entry (leading_entry before.now after.now moment)) }
 {
     let pair = pair_between(before.attribute, after.attribute);
     Entry::new(moment, status_of(before), status_of(after), pair, triples)

@@ -11,8 +11,8 @@ use codec::{Attribute, Entry, Inode, Triple};
 use s4_types::limits::OBJECT_BLOCKS;
 use s4_types::{Moment, Ptr};
 
-/// Makes of an inode what the entry made of it. Where the entry's values before are the inode's, the entry links
-/// the two.
+/// Makes of an inode what the entry made of it. Where the entry's values before are the inode's,
+/// the entry links the two.
 #[tactic(auto, using(crate::proofs::LinkLaws::linked_redone, crate::proofs::LinkLaws::is_redone))]
 pub fn redo(entry: &Entry, inode: &mut Inode)
     ensures exact { inode.new ≡ redone entry.now inode.old }
@@ -45,13 +45,14 @@ fn put_later_pointers(triples: &[Triple], pointers: &mut [Option<Ptr>; OBJECT_BL
     }
 }
 
-/// Makes of an inode what it was before the entry. Where the entry's values after are the inode's, the entry links
-/// the two.
+/// Makes of an inode what it was before the entry. Where the entry's values after are the inode's,
+/// the entry links the two.
 #[tactic(auto, using(crate::proofs::LinkLaws::linked_undone, crate::proofs::LinkLaws::is_undone))]
 pub fn undo(entry: &Entry, inode: &mut Inode)
     ensures exact { inode.new ≡ undone entry.now inode.old }
     ensures link { StandsAfter entry.now inode.old → Linked inode.new entry.now inode.old }
-    ensures only { (previous : InodeFields) → Linked previous entry.now inode.old → inode.new ≡ previous }
+    ensures only { (previous : InodeFields)
+        → Linked previous entry.now inode.old → inode.new ≡ previous }
 {
     put_before(entry, inode);
 }

@@ -1,4 +1,5 @@
-ghost use Rattle.std.specs.Prelude.{◌≡◌, ◌<◌, ◌≤◌, ◌+◌, ◌++◌, [], ◌∷◌, if◌then◌else◌, length, take, drop};
+ghost use Rattle.std.specs.Prelude.{◌≡◌, ◌<◌, ◌≤◌, ◌+◌, ◌++◌, [], ◌∷◌, if◌then◌else◌, length, take};
+ghost use Rattle.std.specs.Prelude.{drop};
 ghost use Rattle.s4_types.specs.declared.limits.TheConstants.{ENTRY_TRIPLES, OBJECT_BLOCKS};
 ghost use Rattle.codec.specs.Entry.{same_slot};
 ghost use Rattle.undo_redo.specs.Linked.{status_of};
@@ -52,7 +53,8 @@ fn triple_at(before: &Inode, after: &Inode, index: usize) -> Triple
 /// Appends the triple where its two pointers differ.
 fn push_apart(triples: &mut Triples, triple: Triple)
     requires { length triples.old.items < ENTRY_TRIPLES }
-    ensures items { triples.new.items ≡ triples.old.items ++ (if tells_apart triple then triple ∷ [] else []) }
+    ensures items { triples.new.items
+        ≡ triples.old.items ++ (if tells_apart triple then triple ∷ [] else []) }
     ensures len { length triples.new.items ≤ length triples.old.items + 1 }
 {
     if !is_same_slot(triple.before, triple.after) {
@@ -60,12 +62,13 @@ fn push_apart(triples: &mut Triples, triple: Triple)
     }
 }
 
-/// The pointers that differ from an index on, by ascending index, as many as one entry has room for; and the index from which on the
-/// others differ.
+/// The pointers that differ from an index on, by ascending index, as many as one entry has room
+/// for; and the index from which on the others differ.
 pub(crate) fn piece_from(before: &Inode, after: &Inode, from: usize) -> (Triples, usize)
     requires { from ≤ OBJECT_BLOCKS }
     ensures piece { result.0.items ≡ take ENTRY_TRIPLES (triples_from from before.now after.now) }
-    ensures others { triples_from result.1 before.now after.now ≡ drop ENTRY_TRIPLES (triples_from from before.now after.now) }
+    ensures others { triples_from result.1 before.now after.now
+        ≡ drop ENTRY_TRIPLES (triples_from from before.now after.now) }
     ensures end { result.1 ≤ OBJECT_BLOCKS }
 {
     let mut triples = Triples::new();

@@ -1,5 +1,6 @@
 ghost use Rattle.std.specs.Prelude.{◌≡◌, ◌≤◌, ◌+◌, ◌*◌, ◌++◌, length};
-ghost use Rattle.s4_types.specs.declared.limits.TheConstants.{ENTRY_TRIPLES, OBJECT_BLOCKS, ATTRIBUTE_PAIR_BYTES};
+ghost use Rattle.s4_types.specs.declared.limits.TheConstants.{ENTRY_TRIPLES, OBJECT_BLOCKS};
+ghost use Rattle.s4_types.specs.declared.limits.TheConstants.{ATTRIBUTE_PAIR_BYTES};
 ghost use Rattle.undo_redo.specs.Sizes.{later_sizes, entry_sizes};
 
 use arrayvec::ArrayVec;
@@ -8,8 +9,9 @@ use s4_types::limits::{CHANGE_ENTRIES, ENTRY_TRIPLES, SHORTEST_ENTRY_BYTES, TRIP
 /// The numbers of bytes of the entries of one change.
 pub type Sizes = ArrayVec<usize, CHANGE_ENTRIES>;
 
-/// How many bytes each entry between two inodes has of which `triples` pointers differ, where the pair of their
-/// attributes takes `pair_bytes`: 0 where these are equal, else both attributes behind a byte each.
+/// How many bytes each entry between two inodes has of which `triples` pointers differ, where the
+/// pair of their attributes takes `pair_bytes`: 0 where these are equal, else both attributes after
+/// a byte each.
 pub fn entry_sizes(triples: usize, pair_bytes: usize) -> Sizes
     requires pointers { triples ≤ OBJECT_BLOCKS }
     requires pair { pair_bytes ≤ ATTRIBUTE_PAIR_BYTES }

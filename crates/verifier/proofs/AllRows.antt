@@ -1,4 +1,4 @@
--- The rows of an image that were read, one behind another.
+-- The rows of an image that were read, one after another.
 use Rattle.std.proofs.Common.{◌≡◌, ℕ, List, [], ◌∷◌, ◌++◌, Bool, true, false, MatchBool, Option, None, Some, IfSome, IfNone, refl, sym, ap, ◌∙◌, subst, append_assoc}
 use Rattle.std.specs.List.{AllByRecursion, Contains}
 use Rattle.std.proofs.lemmas.List.{append-nil}
@@ -49,7 +49,7 @@ moments_more used rows row =
     let f : ImageRow → List ℕ = λ r. moments_of_chain (entries_used used r) in
     flat_map-append f rows (row ∷ []) ∙ ap (λ (l : List ℕ). moments_used used rows ++ l) (append-nil (f row))
 
--- ---- rows that parts spell, one of which is looked at
+-- ---- rows that parts encode, one of which is looked at
 
 record SpelledAt (done : List RowPart) (part : RowPart) (rest : List RowPart) (rows : List ImageRow) : Type 0 where
   front : List ImageRow
@@ -124,7 +124,7 @@ one_read start clock done part old new h read =
 
 -- ---- what that says of an image
 
--- a row that doesn't stand
+-- a row that isn't there
 pub one_falls : (start : Table) (clock : ℕ) (done : List RowPart) (part : RowPart) (rest all : List RowPart) (now : ReadRows) → HaveRead start clock done now → (PartStands (used_at now.table) part clock → ⊥) → all ≡ done ++ part ∷ rest
     → (rows : List ImageRow) → SpellRows all rows → RowsStand (used_at start) rows clock → ⊥
 one_falls start clock done part rest all now h falls whole rows spelled stand =

@@ -29,7 +29,7 @@ capped_more n = elim (cases_lt n (2 ^ 32)) [
   | inr past ↦ ap (λ (m : ℕ). capped (1 + m)) (capped_high n past) ∙ capped_high (1 + (2 ^ 32 - 1)) (omega arith) ∙ sym (capped_high (1 + n) (omega (arith, past)))
 ]
 
--- ---- how often a place stands among places
+-- ---- how often a place is among places
 
 times_none : (p : Place) → times p [] ≡ 0
 unfolding times
@@ -85,7 +85,7 @@ named_more name used now after places i place p n lt is step of_data was =
 
 -- ---- what rows tell
 
--- what is counted where nothing stood before
+-- what is counted where nothing was before
 pub counted_alone : (p : Place) (before places : List Place) (n : ℕ) → before ≡ [] → times p places ≡ times p before + n → times p places ≡ n
 counted_alone p before places n cleared is = let none : times p before ≡ 0 = ap (times p) cleared ∙ times_none p in omega (arith, is, none)
 
@@ -100,7 +100,7 @@ names_none used log nothing names p of_data =
     let zero_names : log.named p ≡ 0 = omega (arith, none) in
     zero_names ∙ sym (capped_low 0 (omega arith))
 
--- one row more gives each data block a name more for each of its pointers that leads to it
+-- one row more gives each data block a name more for each of its pointers that refers to it
 pub names_more : (used : Place → Option Stored) (named after : Place → ℕ) (rows : List ImageRow) (row : ImageRow) (places : List Place)
     → ((p : Place) (n : ℕ) → is_data (used p) ≡ true → named p ≡ capped n → after p ≡ capped (n + times p places))
     → ((p : Place) → is_data (used p) ≡ true → times p places ≡ times_led p (pointers_used used row))

@@ -22,12 +22,12 @@ some_is_some cause e = absurd (cc)
 abbrev Test : Type 0 → Cause → Type 0 → Option Cause → Type 0
 Test holds cause later found = ((holds → ⊥) × (found ≡ Some cause)) ⊎ (holds × later)
 
--- a test that holds does so whatever comes behind
+-- a test that holds does so whatever comes after
 passed : {holds early late : Type 0} {cause : Cause} {found : Option Cause} → Test holds cause early None → (early → late) → Test holds cause late found
 passed {cause = cause} (inl failed) on = some_is_some cause failed.1
 passed (inr held) on = inr (held.0, on held.1)
 
--- where all tests hold, what comes behind them decides
+-- where all tests hold, what comes after them decides
 behind : {holds early late : Type 0} {cause : Cause} {found : Option Cause} → Test holds cause early None → Test holds cause late found → early × late
 behind {cause = cause} (inl failed) other = some_is_some cause failed.1
 behind (inr held) (inl failed) = absurd (failed.0 held.0)
@@ -38,7 +38,7 @@ none_found : {holds later : Type 0} {cause : Cause} → Test holds cause later N
 none_found {cause = cause} (inl failed) = some_is_some cause failed.1
 none_found (inr held) = held
 
--- a test that fails does so whatever comes behind
+-- a test that fails does so whatever comes after
 kept_found : {holds early late : Type 0} {cause : Cause} {found : Option Cause} → Test holds cause early found → (early → late) → Test holds cause late found
 kept_found (inl failed) on = inl failed
 kept_found (inr held) on = inr (held.0, on held.1)
@@ -52,12 +52,12 @@ one_found (inr a) (inr b) on = on a.1 b.1
 
 -- ---- all tests
 
--- where all tests of parts hold, what comes behind them decides
+-- where all tests of parts hold, what comes after them decides
 pub parts_passed : (bytes : List ℕ) (late : Option Cause → Type 0) (found : Option Cause) → FirstCause bytes None → late found → TestedParts bytes late found
 parts_passed bytes late found tests on =
     passed tests (λ a. passed a (λ b. passed b (λ c. passed c (λ d. passed d (λ e. passed e (λ f. passed f (λ g. on)))))))
 
--- what comes behind the tests of parts, where those hold
+-- what comes after the tests of parts, where those hold
 pub parts_behind : (bytes : List ℕ) (late : Option Cause → Type 0) (found : Option Cause) → FirstCause bytes None → TestedParts bytes late found → late found
 parts_behind bytes late found tests all =
     let a = behind tests all in
@@ -116,11 +116,11 @@ split_fault bytes cause tests = kept_found tests (λ a. kept_found a (λ b. kept
 pub digest_fault : (bytes : List ℕ) → FirstSplitCause bytes None → (HasDigest bytes → ⊥) → FirstFault bytes (Some Digest)
 digest_fault bytes tests other = passed tests (λ a. passed a (λ b. passed b (λ c. inl (other, refl))))
 
--- what comes behind the digest, of these parts and this header
+-- what comes after the digest, of these parts and this header
 abbrev rest : Header → Image → Option Cause → Type 0
 rest h image found = Tested (KeepFrameRules image.frames) Frame (Tested (KeepSpanRules h image.spans) Span (Tested (KeepRowRules h image.rows) Row (Tested (ChainsStand image) Chain (λ f. f ≡ None)))) found
 
--- and where they have theirs, what was found behind it decides
+-- and where they have theirs, what was found after it decides
 pub rest_fault : (bytes : List ℕ) (parts : Image) (found : Option Cause) → FirstSplitCause bytes None → parts ≡ image_in bytes → header_of parts ≡ header_in bytes → HasDigest bytes → FirstRestCause parts found → FirstFault bytes found
 rest_fault bytes parts found tests is header digest later =
     let H : Header → Type 0 = λ h. rest h parts found in

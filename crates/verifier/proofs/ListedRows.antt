@@ -30,7 +30,7 @@ pub none_before : (rows : List (ℕ × Row)) (low o : ℕ) → ObjectsAscend low
 none_before [] low o ascend lt = refl
 none_before (e ∷ rows) low o ascend lt = found_behind rows o e.0 e.1 (λ is. omega (arith, ascend.0)) ∙ none_before rows (e.0 + 1) o ascend.1 (omega (arith, ascend.0))
 
--- with one more row behind them all others are found as before
+-- with one more row after them all others are found as before
 pub found_as_before : (rows : List (ℕ × Row)) (o k : ℕ) (row : Row) → (o ≡ k → ⊥) → row_of (rows ++ (k, row) ∷ []) o ≡ row_of rows o
 found_as_before [] o k row apart = found_behind [] o k row apart
 found_as_before (e ∷ rows) o k row apart = ap (λ r. cond (is_at (nat_cmp o) e.0) (Some e.1) r) (found_as_before rows o k row apart)

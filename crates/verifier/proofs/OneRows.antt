@@ -62,7 +62,7 @@ one_list_of_rows low (e ∷ rows) (f ∷ others) ascend ascend_others alike =
     let rest : rows ≡ others = one_list_of_rows (e.0 + 1) rows others ascend.1 ascend_e.1 (others_alike low e rows others ascend ascend_e alike_e) in
     ap (λ (l : List (ℕ × Row)). e ∷ l) rest ∙ ap (λ (x : ℕ × Row). x ∷ others) same
 
--- ---- parts that spell the same rows
+-- ---- parts that encode the same rows
 
 one_number : (n m : ℕ) → n < 2 ^ 64 → m < 2 ^ 64 → number w64 n ≡ number w64 m → n ≡ m
 unfolding number
@@ -91,7 +91,7 @@ one_part p q row is_p is_q spelled_p spelled_q =
     (sym spelled_p.checkpoint_moment ∙ spelled_q.checkpoint_moment)
     (one_slot p.head q.head row.head is_p.head is_q.head spelled_p.head spelled_q.head)
 
--- two lists of parts that spell the same rows
+-- two lists of parts that encode the same rows
 pub one_list_of_parts : (parts others : List RowPart) (rows : List ImageRow) → AllByRecursion IsRow parts → AllByRecursion IsRow others → SpellRows parts rows → SpellRows others rows → parts ≡ others
 one_list_of_parts [] [] [] is_p is_q spelled_p spelled_q = refl
 one_list_of_parts [] [] (row ∷ rows) is_p is_q spelled_p spelled_q = absurd spelled_p

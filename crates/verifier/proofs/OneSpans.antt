@@ -21,11 +21,11 @@ ahead : (list t : ℕ) (run : Span) → IsAhead list t run → covers list t run
 ahead list t run (inl less) = and_left (run.object == list) (is_within run t) (ne_eqb run.object list (λ is. omega arith))
 ahead list t run (inr early) = and_right (run.object == list) (is_within run t) (and_left (leb run.first t) (leb t run.last) (lt-leb run.first t early.1))
 
--- none of its own list behind its last
+-- none of its own list after its last
 behind : (list t : ℕ) (run : Span) → run.last < t → covers list t run ≡ false
 behind list t run late = and_right (run.object == list) (is_within run t) (and_right (leb run.first t) (leb t run.last) (lt-leb t run.last late))
 
--- what isn't past the moment that a run leaves out behind it is ahead of the runs that follow
+-- what isn't past the moment that a run leaves out after it is ahead of the runs that follow
 abbrev IsUpTo : ℕ → ℕ → Span → Type 0
 IsUpTo list t run = (list < run.object) ⊎ ((list ≡ run.object) × (t ≤ run.last + 1))
 
@@ -58,7 +58,7 @@ not_ahead floor x y xs ys from order_x order_y all alike early =
     let none : list_any (covers x.object x.first) (y ∷ ys) ≡ false = none_covers x.object x.first y ys (ahead x.object x.first y early) up all in
     false≢true (sym none ∙ sym (alike x.object x.first from) ∙ here)
 
--- neither ends behind the other, where they begin together
+-- neither ends after the other, where they begin together
 not_behind : (floor : ℕ) (x y : Span) (xs ys : List Span) → floor ≤ x.first → x.first ≤ x.last → IsBeforeAll x xs → CoverAlike floor (x ∷ xs) (y ∷ ys) → x.object ≡ y.object → x.first ≡ y.first → x.last < y.last → ⊥
 not_behind floor x y xs ys from order all alike own first longer =
     let none : list_any (covers x.object (x.last + 1)) (x ∷ xs) ≡ false = none_covers x.object (x.last + 1) x xs (behind x.object (x.last + 1) x (omega arith)) (inr (refl, omega arith)) all in

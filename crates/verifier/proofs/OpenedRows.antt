@@ -21,7 +21,7 @@ use Rattle.verifier.specs.Opened.{inode_of_rows, version_of_rows}
 use Rattle.verifier.proofs.ListedRows.{found_here, found_behind}
 use Rattle.verifier.proofs.KeptRows.{listed_first, listed_later}
 
--- ---- what bytes spell
+-- ---- what bytes encode
 
 -- what one_pointer_a_spelling tells
 abbrev pub OnePointerASpelling : Type 0
@@ -35,7 +35,7 @@ one_row one part row other a b =
     ∙ ap (λ n. record { object = other.object; created = other.created; checkpoint = other.checkpoint; checkpoint_moment = n; head = row.head }) (a.checkpoint_moment ∙ sym b.checkpoint_moment)
     ∙ ap (λ p. record { object = other.object; created = other.created; checkpoint = other.checkpoint; checkpoint_moment = other.checkpoint_moment; head = p }) (one _ row.head other.head a.head b.head)
 
--- the parts of rows spell one list of rows
+-- the parts of rows encode one list of rows
 pub rows_same : OnePointerASpelling → (parts : List RowPart) (rows others : List ImageRow) → SpellRows parts rows → SpellRows parts others → rows ≡ others
 rows_same one [] [] [] a b = refl
 rows_same one [] [] (y ∷ others) a b = absurd b

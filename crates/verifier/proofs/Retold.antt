@@ -121,7 +121,7 @@ table_held frames t u is same counted parts =
 
 -- ---- chains
 
--- where no rows that bytes spell stand over one table of the frames, the chains of the image don't stand
+-- where no rows that bytes encode are over one table of the frames, the chains of the image aren't
 pub chains_fall : OneSummaryASpelling → (parts : Image) (t : Table) → IsTableOf parts.frames t → ((rows : List ImageRow) → SpellRows parts.rows rows → RowsStand (used_at t) rows parts.clock → ⊥) → ChainsStand parts → ⊥
 chains_fall one parts t is none stand =
     let R : (Place → Option Stored) → Type 0 = λ used. RowsStand used stand.rows parts.clock in

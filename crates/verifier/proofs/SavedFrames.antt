@@ -118,7 +118,7 @@ blocks_whole (block ∷ payload) s used count parts head spelled kept =
     let U : ℕ → Type 0 = λ n. UnusedAreBlank n payload in
     (ap length spelled.1.1 ∙ head, all_whole payload used (λ j h. kept (suc j) (omega arith) (omega arith)) (subst U parts spelled.1.0))
 
--- what stands at the end of a list of bytes is bytes
+-- what is at the end of a list of bytes is bytes
 bytes_behind : (before word contents after : List ℕ) → after ≡ before ++ (word ++ contents) → ((i d : ℕ) → i < length after → get_or after i d < 256) → AreBytes contents
 bytes_behind before word contents after is bytes i = elim (cases_lt i (length contents)) [
   | inl lt ↦ (let at : get_or after (length before + (length word + i)) 0 ≡ get_or contents i 0 =
@@ -131,7 +131,7 @@ bytes_behind before word contents after is bytes i = elim (cases_lt i (length co
 
 -- ---- one frame
 
--- An image's frame that is the table's, and has a spelling and keeps its rules.
+-- An image's frame that is the table's, and has an encoding and keeps its rules.
 record IsSaved (number : ℕ) (f : FrameFields) (k : Frame) (slots : List Slot) : Type 0 where
   pub is : IsFrame f
   pub rules : KeepsFrameRules number f

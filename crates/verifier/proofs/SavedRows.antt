@@ -51,7 +51,7 @@ saved_on all last o parts row part saved next found spells is =
       is = all_push IsRow parts part saved.is is;
     }
 
--- all are saved, where none is behind the last
+-- all are saved, where none is after the last
 pub all_saved : (all : List (ℕ × Row)) (last : ℕ) (parts : List RowPart) → AreSavedUpTo all last parts → ((o : ℕ) → last < o → row_of all o ≡ None) → AreSaved all parts
 all_saved all last parts saved none = record {
   rows = saved.rows;

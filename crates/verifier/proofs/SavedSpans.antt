@@ -11,7 +11,7 @@ use Rattle.window.specs.Runs.{is_before, IsBeforeAll, Ascend, AllBeginFrom, AllE
 use Rattle.image_parts.specs.Spans.{IsSpan, KeepsSpanRules, SpansFollow, SpansKeep, KeepSpanRules}
 use Rattle.image_parts.specs.declared.headers.Header.{Header}
 
--- a span stands before another, by numbers
+-- a span is before another, by numbers
 abbrev Before : Span → Span → Type 0
 Before x y = (x.object < y.object) ⊎ ((x.object ≡ y.object) × (x.last + 1 < y.first))
 
@@ -71,7 +71,7 @@ spans_keep_rules h spans ordered from past given few few_each = record {
   few = few;
 }
 
--- and each has a spelling, where clock and next number have 64 bits
+-- and each has an encoding, where clock and next number have 64 bits
 pub are_spans : (clock next : ℕ) (spans : List Span) → clock < 2 ^ 64 → next < 2 ^ 64 → Ascend spans → AllEndBefore clock spans → AllByRecursion (IsOfGiven next) spans → AllByRecursion IsSpan spans
 are_spans clock next [] small low ordered past given = tt
 are_spans clock next (s ∷ spans) small low ordered past given =

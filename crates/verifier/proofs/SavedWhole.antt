@@ -178,14 +178,14 @@ same_header h k frames clock window floor next rows spans =
     ∙ ap (λ n. record { frames = k.frames; clock = k.clock; window = k.window; floor = k.floor; next = k.next; rows = n; spans = h.spans }) rows
     ∙ ap (λ n. record { frames = k.frames; clock = k.clock; window = k.window; floor = k.floor; next = k.next; rows = k.rows; spans = n }) spans
 
--- a store's rows ascend and stand as an image's
+-- a store's rows ascend and are as an image's
 abbrev pub Stand : Type 0
 Stand = (used : Place → Option Stored) (s : StoreFields) (low clock : ℕ) → IsStore s → s.latest ≤ clock → HoldsUsed used s.log.held → ObjectsAscend low s.rows → RowsStand used (saved_rows s.rows) clock
 
 abbrev pub Ascending : Type 0
 Ascending = (used : Place → Option Stored) (s : StoreFields) (low clock : ℕ) → IsStore s → s.latest ≤ clock → HoldsUsed used s.log.held → ObjectsAscend low s.rows → RowsAscend clock 0 0 (saved_rows s.rows)
 
--- the parts, one behind the other, are the front of an image
+-- the parts, one after the other, are the front of an image
 front : (image : Image) (h : Header) (out : List ℕ) → h ≡ header_of image
     → out ≡ ((([] ++ header_bytes h) ++ flat_map frame_bytes image.frames) ++ flat_map row_bytes image.rows) ++ flat_map span_bytes image.spans → out ≡ front_bytes image
 unfolding front_bytes

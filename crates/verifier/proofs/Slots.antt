@@ -25,7 +25,7 @@ are_bytes (Some p) is = (omega arith, (omega arith, (omega (arith, is.highest_bl
 slot_bytes : (q : Option Place) → IfSome q IsPlace → (i : ℕ) → get_or (slot q) i 0 < 256
 slot_bytes q is = each_byte (slot q) (are_bytes q is)
 
--- the number that the bytes of a pointer or of a hole stand for has these bytes
+-- the number that the bytes of a pointer or of a hole represent has these bytes
 pub number_of_slot : (q : Option Place) (bytes : List ℕ) (n : ℕ) → IfSome q IsPlace → bytes ≡ slot q → n ≡ from_be_bytes w64 bytes → number w64 n ≡ slot q
 unfolding number
 number_of_slot q bytes n is spells from =

@@ -51,7 +51,7 @@ next_follow : (h : Header) (before : Span) (nth : ℕ) (s : Span) (spans : List 
 next_follow h before nth s spans (inl begins) = (1, begins.1)
 next_follow h before nth s spans (inr goes) = (nth + 1, goes.1)
 
--- what is behind a span stands behind it, in order
+-- what comes after a span comes after it, in order
 order_behind : (h : Header) (before : Span) (nth : ℕ) (spans : List Span) → SpansFollow h before nth spans → IsBeforeAll before spans × Ascend spans
 order_behind h before nth [] follow = (tt, tt)
 order_behind h before nth (s ∷ spans) follow =

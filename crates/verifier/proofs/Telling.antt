@@ -7,7 +7,7 @@ use Rattle.std.proofs.lemmas.List.{drop_more, drop_all}
 use Rattle.codec.specs.Entry.{EntryFields}
 use Rattle.image_objects.specs.Moments.{moments_of_chain, StandOnce}
 
--- the moments of entries behind one of a moment that was not yet told
+-- the moments of entries after one of a moment that was not yet told
 unfoldable pub told_from : ℕ → List EntryFields → List ℕ
 told_from last entries = dedup_from nat_eq last (map (λ e. e.moment) entries)
 
@@ -60,7 +60,7 @@ at_any [] i d e lt = absurd (omega (arith, lt))
 at_any (n ∷ numbers) zero d e lt = refl
 at_any (n ∷ numbers) (suc i) d e lt = at_any numbers i d e (omega (arith, lt))
 
--- where two neighbours are equal, a number stands twice
+-- where two neighbours are equal, a number is twice
 pub stands_twice : (numbers sorted : List ℕ) (i a b : ℕ) → StandOnce numbers ↔ ((k : ℕ) → k + 1 < length sorted → get_or sorted k 0 ≡ get_or sorted (k + 1) 0 → ⊥)
     → 1 ≤ i → i < length sorted → a ≡ get_or sorted (i - 1) a → b ≡ get_or sorted i b → a ≡ b → StandOnce numbers → ⊥
 stands_twice numbers sorted i a b tells low lt first second same once =

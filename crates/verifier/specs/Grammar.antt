@@ -6,7 +6,7 @@ use Rattle.image_parts.specs.Image.{Image, SpellsImage, image_in}
 use Rattle.image_parts.specs.Causes.{Tested, TestedParts}
 use Rattle.verifier.specs.Rows.{ChainsStand}
 
--- the bytes spell the image of a drive: its parts, and its chains stand
+-- the bytes encode the image of a drive: its parts, and its chains stand
 pub record SpellsDrive (bytes : List ℕ) (image : Image) : Type 0 where
   pub parts : SpellsImage bytes image
   pub chains : ChainsStand image

@@ -32,7 +32,7 @@ pub record ImageFields : Type 0 where
 abbrev pub store_in : ImageFields → StoreFields
 store_in image = record { rows = rows_opened image.objects; log = log_of image.table; latest = image.clock }
 
--- An image that was verified can be opened: its objects make a store over what is held, with what stands beside their rows; its
+-- An image that was verified can be opened: its objects make a store over what is held, with what is beside their rows; its
 -- spans are a window's, and its numbers a drive's.
 pub record CanBeOpened (image : ImageFields) : Type 0 where
   pub store : IsStore (store_in image)
@@ -51,7 +51,7 @@ pub record CanBeOpened (image : ImageFields) : Type 0 where
   pub few_in_each_list : AreFewInEachList image.spans
 
 -- An image is what these parts tell: it has their numbers and spans, its table is that of their frames, its objects are those
--- that their rows spell, and of their used blocks just those are held that these rows name.
+-- that their rows encode, and of their used blocks just those are held that these rows name.
 pub record IsImageOf (parts : Image) (image : ImageFields) : Type 0 where
   pub clock : image.clock ≡ parts.clock
   pub window : image.window ≡ parts.window

@@ -41,12 +41,12 @@ abbrev pub inode_of_rows : (Place → Option Stored) → List ImageRow → ℕ �
 inode_of_rows used [] o t = None
 inode_of_rows used (row ∷ rows) o t = if row.object == o then Some (inode_used used row t) else inode_of_rows used rows o t
 
--- the version of an object at a moment: what that inode stands for over the used blocks, and Absent where there is none
+-- the version of an object at a moment: what that inode represents over the used blocks, and Absent where there is none
 abbrev pub version_of_rows : (Place → Option Stored) → List ImageRow → ℕ → ℕ → Version
 version_of_rows used rows o t = version_by used (inode_of_rows used rows o t)
 
 -- A base is what the parts of an image tell. It has their clock, window, floor, next number and spans; and at each moment it tells of each
--- object the version that their rows tell, as their bytes spell these, over the used blocks of their frames. It lists each object once, by
+-- object the version that their rows tell, as their bytes encode these, over the used blocks of their frames. It lists each object once, by
 -- ascending moments.
 pub record IsToldBy (parts : Image) (base : Base) : Type 0 where
   pub clock : base.clock ≡ parts.clock

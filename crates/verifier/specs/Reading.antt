@@ -1,4 +1,4 @@
--- What is read of an image's rows, one behind the other.
+-- What is read of an image's rows, one after the other.
 use Rattle.std.specs.Prelude.{◌≡◌, ℕ, true, List, [], ◌∷◌, Option}
 use Rattle.s4_types.specs.Pointer.{Place}
 use Rattle.block_log.specs.Log.{Stored, is_data}
@@ -28,11 +28,11 @@ AreKept used [] (x ∷ objects) = ⊥
 AreKept used (row ∷ rows) [] = ⊥
 AreKept used (row ∷ rows) (x ∷ objects) = IsKept used row x × AreKept used rows objects
 
--- each used data block has as many names as pointers of these rows lead to it, as far as 32 bits count
+-- each used data block has as many names as pointers of these rows refer to it, as far as 32 bits count
 abbrev pub NamesAreCapped : (Place → Option Stored) → (Place → ℕ) → List ImageRow → Type 0
 NamesAreCapped used named rows = (p : Place) → is_data (used p) ≡ true → named p ≡ capped (times_told used rows p)
 
--- What was read of the rows of an image, over the table that its frames told: the rows that their bytes spell all stand up to
+-- What was read of the rows of an image, over the table that its frames told: the rows that their bytes encode all stand up to
 -- the clock, these objects are kept of them, and of the used blocks just those are held afterwards that the rows name, data by as many
 -- names as they give it.
 pub record AreRead (table : Table) (parts : List RowPart) (clock : ℕ) (after : Table) (objects : List OpenedFields) : Type 0 where

@@ -10,7 +10,7 @@ use Rattle.segment_table.specs.Table.{Table}
 use Rattle.segment_table.specs.Used.{used_at}
 use Rattle.verifier.specs.Tables.{IsTableOf}
 
--- a row of an image, with the pointers that its bytes spell
+-- a row of an image, with the pointers that its bytes encode
 pub record SpellsRow (part : RowPart) (row : ImageRow) : Type 0 where
   pub object : row.object ≡ part.object
   pub created : row.created ≡ part.created
@@ -25,7 +25,7 @@ SpellRows [] (row ∷ rows) = ⊥
 SpellRows (part ∷ parts) [] = ⊥
 SpellRows (part ∷ parts) (row ∷ rows) = SpellsRow part row × SpellRows parts rows
 
--- The chains of an image stand: over the table that its frames tell, the rows that its bytes spell all stand up to its clock.
+-- The chains of an image stand: over the table that its frames tell, the rows that its bytes encode all stand up to its clock.
 -- A pointer names used blocks of open and sealed frames alone, so that a frame which is being emptied holds nothing.
 pub record ChainsStand (image : Image) : Type 0 where
   pub table : Table

@@ -14,7 +14,7 @@ use Rattle.verifier.specs.Tables.{IsTableOf}
 use Rattle.verifier.specs.Rows.{SpellRows}
 use Rattle.verifier.specs.Grammar.{SpellsDrive}
 
--- Bytes are these with the frames of a table behind them, as an image has them.
+-- Bytes are these with the frames of a table after them, as an image has them.
 pub record AddsFrames (t : Table) (before after : List ℕ) : Type 0 where
   pub frames : List FrameFields
   pub is : AllByRecursion IsFrame frames
@@ -36,7 +36,7 @@ pub record IsSavedOf (d : DriveFields) (image : Image) : Type 0 where
   pub spelled : SpellRows image.rows (saved_rows rows)
   pub spans : CoverAlike (state_in d).floor image.spans (spans_of (state_in d))
 
--- the bytes are an image of the drive: they spell one, and it is what the drive is saved as
+-- the bytes are an image of the drive: they encode one, and it is what the drive is saved as
 pub record SpellsSaved (d : DriveFields) (bytes : List ℕ) : Type 0 where
   pub image : Image
   pub spelled : SpellsDrive bytes image

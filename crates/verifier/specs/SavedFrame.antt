@@ -5,7 +5,7 @@ use Rattle.segment_word.specs.Layout.{frame_at}
 use Rattle.segment_table.specs.Table.{Table, slots_at}
 use Rattle.verifier.specs.Tables.{IsFrameOf}
 
--- Bytes are these with the frame of that number of a table behind them.
+-- Bytes are these with the frame of that number of a table after them.
 pub record AddsFrame (t : Table) (number : ℕ) (before after : List ℕ) : Type 0 where
   pub frame : FrameFields
   pub is : IsFrame frame

@@ -8,7 +8,7 @@ use Rattle.segment_table.specs.declared.slots.Slot.{Slot}
 use Rattle.segment_table.specs.Table.{Table, slots_at}
 use Rattle.segment_table.specs.Sealing.{summary_of}
 
--- stands where a list has no frame of that number
+-- is where a list has no frame of that number
 abbrev pub no_part : FrameFields
 no_part = record { word = 0; contents = [] }
 

@@ -36,12 +36,16 @@ impl UsedBlocks for TableBlocks<'_> {
     }
 }
 
-/// The used blocks at these places are held from now on. A block of data has one name more for each time that its place stands
-/// there, as far as 32 bits count; where another was held, nothing changes.
+/// The used blocks at these places are held from now on. A block of data has one name more for each
+/// time that its place stands there, as far as 32 bits count; where another was held, nothing
+/// changes.
 pub(crate) fn hold_all(table: &mut TableBuilder, places: &[Ptr])
     requires { All (λ p. IsSome (used_at table.old p)) places.now }
-    ensures also { HoldsAlso (used_at table.old) (held_at table.old) (held_at table.new) places.now }
-    ensures named { (p : Place) (n : ℕ) → is_data (used_at table.old p) ≡ true → named_at table.old p ≡ capped n → named_at table.new p ≡ capped (n + times p places.now) }
+    ensures also { HoldsAlso (used_at table.old) (held_at table.old) (held_at table.new)
+        places.now }
+    ensures named { (p : Place) (n : ℕ)
+        → is_data (used_at table.old p) ≡ true
+        → named_at table.old p ≡ capped n → named_at table.new p ≡ capped (n + times p places.now) }
     ensures alike { IsUsedAlike table.old table.new }
 {
     one_place_has_one_name();

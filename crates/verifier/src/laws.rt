@@ -1,4 +1,5 @@
-//! Laws of the images of drives, for the layers above: each function does nothing, and its contract is the law.
+//! Laws of the images of drives, for the layers above: each function does nothing, and its contract
+//! is the law.
 ghost use Rattle.std.specs.Prelude.{◌≡◌, ◌↔◌, ℕ, List, Option, Some, None};
 ghost use Rattle.s4_types.specs.declared.refusals.Cause.{Cause as Found};
 ghost use Rattle.s4_types.specs.declared.spans.Span.{Span as Hidden};
@@ -12,17 +13,21 @@ ghost use Rattle.verifier.specs.Saved.{SpellsSaved};
 
 use image_parts::laws::{an_image_is_read, what_no_test_refuses_is_an_image};
 
-/// Bytes in which a fault is found spell no image of a drive.
+/// Bytes in which a fault is found encode no image of a drive.
 pub fn what_has_a_fault_spells_nothing()
-    ensures { (bytes : List ℕ) (cause : Found) (image : ImageParts) → FirstFault bytes (Some cause) → SpellsDrive bytes image → ⊥ }
+    ensures { (bytes : List ℕ) (cause : Found) (image : ImageParts)
+        → FirstFault bytes (Some cause) → SpellsDrive bytes image → ⊥ }
 {
     an_image_is_read();
 }
 
-/// Bytes in which no fault is found are those that spell the image of a drive: the one that is read from them.
+/// Bytes in which no fault is found are those that encode the image of a drive: the one that is
+/// read from them.
 pub fn what_has_no_fault_is_an_image()
-    ensures image { (bytes : List ℕ) → AreBytes bytes → FirstFault bytes None ↔ SpellsDrive bytes (image_in bytes) }
-    ensures read { (bytes : List ℕ) (image : ImageParts) → SpellsDrive bytes image → image_in bytes ≡ image }
+    ensures image { (bytes : List ℕ) → AreBytes bytes
+        → FirstFault bytes None ↔ SpellsDrive bytes (image_in bytes) }
+    ensures read { (bytes : List ℕ) (image : ImageParts) → SpellsDrive bytes image
+        → image_in bytes ≡ image }
 {
     an_image_is_read();
     what_no_test_refuses_is_an_image();
@@ -30,15 +35,20 @@ pub fn what_has_no_fault_is_an_image()
 
 /// The tests come to one cause, or to none.
 pub fn one_first_fault()
-    ensures { (bytes : List ℕ) (found other : Option Found) → FirstFault bytes found → FirstFault bytes other → found ≡ other }
+    ensures { (bytes : List ℕ) (found other : Option Found) → FirstFault bytes found
+        → FirstFault bytes other → found ≡ other }
 {}
 
-/// Spans in order, from a floor on, are told by what they hide: two such lists that cover the same moments of the same lists are equal.
+/// Spans in order, from a floor on, are told by what they hide: two such lists that cover the same
+/// moments of the same lists are equal.
 pub fn spans_that_cover_alike_are_equal()
-    ensures { (floor : ℕ) (spans others : List Hidden) → Ascend spans → Ascend others → AllBeginFrom floor spans → AllBeginFrom floor others → CoverAlike floor spans others → spans ≡ others }
+    ensures { (floor : ℕ) (spans others : List Hidden) → Ascend spans → Ascend others
+        → AllBeginFrom floor spans → AllBeginFrom floor others
+        → CoverAlike floor spans others → spans ≡ others }
 {}
 
-/// A drive is saved as one list of bytes: two lists that both spell an image of it are equal.
+/// A drive is saved as one list of bytes: two lists that both encode an image of it are equal.
 pub fn one_image_a_drive()
-    ensures { (d : DriveFields) (bytes other : List ℕ) → SpellsSaved d bytes → SpellsSaved d other → bytes ≡ other }
+    ensures { (d : DriveFields) (bytes other : List ℕ) → SpellsSaved d bytes → SpellsSaved d other
+        → bytes ≡ other }
 {}

@@ -7,11 +7,13 @@ use codec::Entry;
 use image_objects::laws::neighbours_tell_what_stands_twice;
 use s4_types::Refusal;
 
-/// Adds the moments of entries of a chain, in their order; that of neighbours which have one moment is added once.
+/// Adds the moments of entries of a chain, in their order; that of neighbours which have one moment
+/// is added once.
 ///
 /// NoMemory alone, after which some of them may have been added. Linear in the entries.
 pub(crate) fn push_moments(entries: &[Entry], moments: &mut Vec<u64>) -> Result<(), Refusal>
-    ensures moments { IfOk result (λ _. moments.new.items ≡ moments.old.items ++ moments_of_chain entries.now) }
+    ensures moments { IfOk result
+        (λ _. moments.new.items ≡ moments.old.items ++ moments_of_chain entries.now) }
     ensures refusal { IfErr result (λ e. e ≡ NoMemory) }
 {
     let Some(first) = entries.first() else {
@@ -30,7 +32,7 @@ pub(crate) fn push_moments(entries: &[Entry], moments: &mut Vec<u64>) -> Result<
     Ok(())
 }
 
-/// Whether no number stands among these twice. No memory is taken.
+/// Whether no number is among these twice. No memory is taken.
 pub(crate) fn are_apart(mut moments: Vec<u64>) -> bool
     ensures { MatchBool result (StandOnce moments.items) (StandOnce moments.items → ⊥) }
 {

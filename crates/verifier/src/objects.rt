@@ -1,5 +1,6 @@
 //! The objects of an image, read by its rows.
-ghost use Rattle.std.specs.Prelude.{◌≡◌, ℕ, [], map, List, Option, None, MatchBool, IfSome, IfNone, IfOk, IfErr};
+ghost use Rattle.std.specs.Prelude.{◌≡◌, ℕ, [], map, List, Option, None, MatchBool, IfSome, IfNone};
+ghost use Rattle.std.specs.Prelude.{IfOk, IfErr};
 ghost use Rattle.s4_types.specs.Pointer.{Place};
 ghost use Rattle.s4_types.specs.declared.refusals.Refusal.TheVariants.{NoMemory};
 ghost use Rattle.block_log.specs.Log.{Stored};
@@ -24,7 +25,8 @@ use segment_table::TableBuilder;
 use std::alloc::Global;
 use version_store::OpenedObject;
 
-/// What a drive keeps of the objects of an image, and the frames with all held that their rows name.
+/// What a drive keeps of the objects of an image, and the frames with all held that their rows
+/// name.
 #[derive(Drop)]
 pub(crate) struct Read {
     pub(crate) table: TableBuilder,
@@ -44,7 +46,8 @@ struct ReadRows {
 
 /// What a drive keeps of an object of an image. Where memory for its index is refused it has none.
 fn kept_of(alloc: Global, row: &ImageRow, versions: &VersionChain) -> OpenedObject
-    ensures { (used : Place → Option Stored) → TellsOfRow used row.now versions.now → IsKept used row.now result }
+    ensures { (used : Place → Option Stored)
+        → TellsOfRow used row.now versions.now → IsKept used row.now result }
 {
     let kept = Row {
         created: row.created,
@@ -80,7 +83,8 @@ impl ReadRows {
         }
     }
 
-    /// Reads a row, and says whether its object stands: where it doesn't, reading is over. NoMemory alone, after which it is too.
+    /// Reads a row, and says whether its object stands: where it doesn't, reading is over. NoMemory
+    /// alone, after which it is too.
     fn read_row(&mut self, alloc: Global, part: &RowPart, clock: Moment) -> Result<bool, Refusal>
         ensures read { IfOk result (λ stands. MatchBool stands (IsRowRead (used_at self.old.table) part.now clock self.old self.new)
             (PartStands (used_at self.old.table) part.now clock → ⊥)) }
@@ -122,8 +126,8 @@ impl ReadRows {
     }
 }
 
-/// What a drive keeps of the objects of an image, by its rows, with all held that these name. None exactly where the rows don't
-/// all stand.
+/// What a drive keeps of the objects of an image, by its rows, with all held that these name. None
+/// exactly where the rows don't all stand.
 ///
 /// NoMemory alone. Linear in the image but for the order of moments.
 pub(crate) fn read_objects(
@@ -133,11 +137,15 @@ pub(crate) fn read_objects(
     clock: Moment,
 ) -> Result<Option<Read>, Refusal>
     requires { (p : Place) → held_at table p ≡ None }
-    ensures found { IfOk result (λ found. IfSome found (λ read. AreRead table parts.now.rows clock read.table read.objects.items)) }
+    ensures found { IfOk result
+        (λ found. IfSome found
+        (λ read. AreRead table parts.now.rows clock read.table read.objects.items)) }
     ensures none { IfOk result (λ found. IfNone found ((rows : List RowFields)
         → SpellRows parts.now.rows rows → RowsStand (used_at table) rows clock → ⊥)) }
-    ensures used { IfOk result (λ found. IfSome found (λ read. (p : Place) → used_at read.table p ≡ used_at table p)) }
-    ensures frames { IfOk result (λ found. IfSome found (λ read. read.table.seat.frames ≡ table.seat.frames)) }
+    ensures used { IfOk result
+        (λ found. IfSome found (λ read. (p : Place) → used_at read.table p ≡ used_at table p)) }
+    ensures frames { IfOk result
+        (λ found. IfSome found (λ read. read.table.seat.frames ≡ table.seat.frames)) }
     ensures slots { IfOk result (λ found. IfSome found (λ read. (f : ℕ)
         → map (λ slot. slot.role) (slots_at read.table.slots f) ≡ map (λ slot. slot.role) (slots_at table.slots f))) }
     ensures refusal { IfErr result (λ e. e ≡ NoMemory) }

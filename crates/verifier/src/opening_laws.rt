@@ -1,4 +1,5 @@
-//! Laws of drives that are opened from images, for the layers above: each function does nothing, and its contract is the law.
+//! Laws of drives that are opened from images, for the layers above: each function does nothing,
+//! and its contract is the law.
 ghost use Rattle.std.specs.Prelude.{◌≡◌, ℕ, List};
 ghost use Rattle.s4_types.specs.History.{Base};
 ghost use Rattle.s4_model.specs.Promise.{beginning, GoesOn};
@@ -21,8 +22,9 @@ use image_objects::laws::an_object_that_stands_is_held;
 use image_objects::saving_laws::a_saved_row_tells_the_same;
 use inode::laws::only_its_blocks_matter;
 
-/// What a drive begins with that is opened from an image is what the parts of the image tell: their numbers and spans, and at each moment
-/// of each object the version that their rows and used blocks do.
+/// What a drive begins with that is opened from an image is what the parts of the image tell: their
+/// numbers and spans, and at each moment of each object the version that their rows and used blocks
+/// do.
 pub fn an_opened_drive_begins_as_its_image_tells()
     ensures { (bytes : List ℕ) (parts : ImageParts) (image : ImageFields) (opened : OpenedFields) → SpellsDrive bytes parts → IsImageOf parts image → CanBeOpened image → IsOpenedOf image opened
         → IsToldBy parts (base_of (fields_of log_of opened.store) opened.timeline opened.next) }
@@ -39,8 +41,9 @@ pub fn an_image_spells_the_drive_opened_from_it()
         → SpellsSaved d bytes }
 {}
 
-/// What was verified, opened and saved again is the same list of bytes: a drive that has begun with what an image tells, and that nothing
-/// has happened to, is saved as just the bytes that it was opened from.
+/// What was verified, opened and saved again is the same list of bytes: a drive that has begun with
+/// what an image tells, and that nothing has happened to, is saved as just the bytes that it was
+/// opened from.
 pub fn what_is_opened_is_saved_as_it_was()
     ensures { (bytes saved : List ℕ) (parts : ImageParts) (image : ImageFields) (opened : OpenedFields) (d : DriveFields) → SpellsDrive bytes parts → IsImageOf parts image → IsOpenedOf image opened → IsNamedOf opened d
         → SpellsSaved d saved → saved ≡ bytes }
@@ -49,8 +52,9 @@ pub fn what_is_opened_is_saved_as_it_was()
     an_image_spells_the_drive_opened_from_it();
 }
 
-/// What a drive begins with that is opened from a saved image goes on where the saved drive ended: with its clock, window, floor and next
-/// number, its hidden moments from the floor on, and each version that can be read.
+/// What a drive begins with that is opened from a saved image goes on where the saved drive ended:
+/// with its clock, window, floor and next number, its hidden moments from the floor on, and each
+/// version that can be read.
 pub fn what_is_saved_goes_on()
     ensures { (d : DriveFields) (bytes : List ℕ) (base : Base) → IsStore (store_of d) → HoldsUsedBlocks d.store.table → DecodesWhereVisible (store_of d) (state_in d) → SpellsSaved d bytes → TellsBase bytes base
         → GoesOn (history_of d) (beginning base) }

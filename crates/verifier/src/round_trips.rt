@@ -23,12 +23,14 @@ use std::thread::Threads;
 
 /// The image of a drive that is opened from an image: the same bytes.
 ///
-/// Damaged with the cause of the first test that fails, where the bytes spell no image; NoMemory where memory was refused, Busy where a
-/// count of those that share a part of the drive was full.
+/// Damaged with the cause of the first test that fails, where the bytes encode no image; NoMemory
+/// where memory was refused, Busy where a count of those that share a part of the drive was full.
 pub fn round_trip<R: Threads>(rt: &R, alloc: Global, bytes: &[u8]) -> Result<Vec<u8>, Refusal>
     ensures same { IfOk result (λ saved. saved.items ≡ bytes.now) }
     ensures whole { IfOk result (λ saved. SpellsDrive bytes.now (image_in bytes.now)) }
-    ensures refusal { IfErr result (λ e. (e ≡ NoMemory) ⊎ (e ≡ Busy) ⊎ ((cause : Found) × (e ≡ Damaged cause) × FirstFault bytes.now (Some cause))) }
+    ensures refusal { IfErr result
+        (λ e. (e ≡ NoMemory) ⊎ (e ≡ Busy)
+        ⊎ ((cause : Found) × (e ≡ Damaged cause) × FirstFault bytes.now (Some cause))) }
 {
     let image = verify(rt, alloc, bytes)?;
     let opened = open(alloc, image)?;

@@ -6,7 +6,8 @@ ghost use Rattle.verifier.specs.Rows.{SpellsRow};
 use image_objects::ImageRow;
 use image_parts::RowPart;
 
-/// A row of an image, with the pointers that its bytes spell. None where they spell neither a pointer nor a hole.
+/// A row of an image, with the pointers that its bytes encode. None where they encode neither a
+/// pointer nor a hole.
 pub(crate) fn row_of(part: &RowPart) -> Option<ImageRow>
     ensures found { IfSome result (λ row. SpellsRow part.now row) }
     ensures only { (row : RowFields) → SpellsRow part.now row → result ≡ Some row }

@@ -16,8 +16,8 @@ use segment_word::Naming;
 /// States of a frame, in the two low bits of its word: 0 is free.
 const STATES: u64 = 4;
 
-/// Adds a frame of a drive: its word, and its blocks, which are none where it is free. The blocks are written over. NoMemory
-/// alone, after which some of them may have been added.
+/// Adds a frame of a drive: its word, and its blocks, which are none where it is free. The blocks
+/// are written over. NoMemory alone, after which some of them may have been added.
 fn push_saved<J: Naming>(
     drive: &mut Drive<J>,
     frame: u16,
@@ -25,7 +25,8 @@ fn push_saved<J: Naming>(
     out: &mut Vec<u8>,
 ) -> Result<(), Refusal>
     requires { frame < length drive.old.store.table.seat.frames }
-    ensures frame { IfOk result (λ _. AddsFrame drive.old.store.table frame out.old.items out.new.items) }
+    ensures frame { IfOk result
+        (λ _. AddsFrame drive.old.store.table frame out.old.items out.new.items) }
     ensures refusal { IfErr result (λ e. e ≡ NoMemory) }
     ensures same { drive.new ≡ drive.old }
 {
@@ -53,9 +54,11 @@ pub(crate) fn frames_with_blocks<J: Naming>(drive: &mut Drive<J>) -> u16
     count
 }
 
-/// Adds the frames of a drive, as an image has them. NoMemory alone, after which some of them may have been added.
+/// Adds the frames of a drive, as an image has them. NoMemory alone, after which some of them may
+/// have been added.
 pub(crate) fn push_frames<J: Naming>(drive: &mut Drive<J>, out: &mut Vec<u8>) -> Result<(), Refusal>
-    ensures frames { IfOk result (λ _. AddsFrames drive.old.store.table out.old.items out.new.items) }
+    ensures frames { IfOk result
+        (λ _. AddsFrames drive.old.store.table out.old.items out.new.items) }
     ensures refusal { IfErr result (λ e. e ≡ NoMemory) }
     ensures same { drive.new ≡ drive.old }
 {

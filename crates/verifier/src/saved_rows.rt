@@ -19,7 +19,7 @@ use s4_types::{ObjectId, Ptr, Refusal, Span};
 use segment_word::Naming;
 use std::alloc::Global;
 
-/// The number that a pointer's bytes, or those of a hole, stand for.
+/// The number that a pointer's bytes, or those of a hole, represent.
 fn slot_number(ptr: Option<Ptr>) -> u64
     ensures { SpellsSlot (number w64 result) ptr }
 {
@@ -44,8 +44,8 @@ fn part_of(object: ObjectId, row: &Row) -> RowPart
     }
 }
 
-/// The rows of all objects as they are saved, by ascending object. They are few, since each names a block of its own. The only
-/// error is NoMemory.
+/// The rows of all objects as they are saved, by ascending object. They are few, since each names a
+/// block of its own. The only error is NoMemory.
 pub(crate) fn rows_saved<J: Naming>(
     alloc: Global,
     drive: &Drive<J>,

@@ -43,8 +43,8 @@ fn header_of<J: Naming>(drive: &Drive<J>, rows: u32, spans: u32) -> Header
     }
 }
 
-/// An empty list with room for the whole image of a drive with so many rows and spans, so that it isn't moved while it grows: no
-/// second copy of it stands beside the drive. NoMemory alone.
+/// An empty list with room for the whole image of a drive with this many rows and spans, so that it
+/// isn't moved while it grows: no second copy of it is beside the drive. NoMemory alone.
 fn room_for_image<J: Naming>(
     alloc: Global,
     drive: &mut Drive<J>,
@@ -60,14 +60,18 @@ fn room_for_image<J: Naming>(
     Ok(out)
 }
 
-/// The image of a drive, which stays as it is: its clock, window, floor and next number, its frames with what is used of them, its
-/// rows by ascending object, and the spans that hide its moments from the floor on.
+/// The image of a drive, which stays as it is: its clock, window, floor and next number, its frames
+/// with what is used of them, its rows by ascending object, and the spans that hide its moments
+/// from the floor on.
 ///
 /// NoMemory alone, where the memory for it is refused.
 pub fn save<J: Naming>(alloc: Global, drive: &mut Drive<J>) -> Result<Vec<u8>, Refusal>
     ensures saved { IfOk result (λ bytes. SpellsSaved drive.old bytes.items) }
-    // In the words of the model: what begins with what the bytes tell goes on where this drive ended.
-    ensures promise { IfOk result (λ bytes. (base : Base) → TellsBase bytes.items base → GoesOn (history_of drive.old) (beginning base)) }
+    // In the words of the model: what begins with what the bytes tell goes on where this drive
+    // ended.
+    ensures promise { IfOk result
+        (λ bytes. (base : Base) → TellsBase bytes.items base
+        → GoesOn (history_of drive.old) (beginning base)) }
     ensures refusal { IfErr result (λ e. e ≡ NoMemory) }
     ensures same { drive.new ≡ drive.old }
 {

@@ -1,10 +1,12 @@
 //! The table that the frames of an image tell.
-ghost use Rattle.std.specs.Prelude.{◌≡◌, ◌≢◌, ◌<◌, ◌≤◌, [], length, drop, slice_index_or, slice_set, None, IfOk, IfErr, IfSome, IfNone};
+ghost use Rattle.std.specs.Prelude.{◌≡◌, ◌≢◌, ◌<◌, ◌≤◌, [], length, drop, slice_index_or};
+ghost use Rattle.std.specs.Prelude.{slice_set, None, IfOk, IfErr, IfSome, IfNone};
 ghost use Rattle.s4_types.specs.Pointer.{Place};
 ghost use Rattle.s4_types.specs.Sizes.{IsFrameCount};
 ghost use Rattle.s4_types.specs.declared.refusals.Refusal.TheVariants.{NoMemory};
 ghost use Rattle.codec.specs.Summary.{SpellsSummary};
-ghost use Rattle.image_parts.specs.Frames.{state_of, generation_of, blocks_of, KeepsFrameRules, KeepFrameRules, IsReadOf};
+ghost use Rattle.image_parts.specs.Frames.{state_of, generation_of, blocks_of, KeepsFrameRules};
+ghost use Rattle.image_parts.specs.Frames.{KeepFrameRules, IsReadOf};
 ghost use Rattle.segment_word.specs.Frames.Phase.{Free};
 ghost use Rattle.segment_word.specs.FrameStates.{phase_in};
 ghost use Rattle.segment_word.specs.Layout.{phase_of, frame_at};
@@ -22,7 +24,8 @@ use segment_table::TableBuilder;
 use segment_word::FrameState;
 use std::alloc::Global;
 
-/// States of a frame, in the two low bits of its word: 0 is free, 1 open, 2 sealed, 3 being emptied.
+/// States of a frame, in the two low bits of its word: 0 is free, 1 open, 2 sealed, 3 being
+/// emptied.
 const STATES: u64 = 4;
 
 /// Where the generation begins in a word.
@@ -49,14 +52,19 @@ fn generation_in(word: u64) -> u32
 fn set_used(table: &mut TableBuilder, number: u16, frame: &FramePart<'_>, summary: &Summary)
     requires used { state_of frame.now.word ≢ 0 }
     requires rules { KeepsFrameRules number frame.now }
-    requires spelled { SpellsSummary (drop 1 (blocks_of frame.now.contents)) (slice_index_or (blocks_of frame.now.contents) 0 []) summary.now }
+    requires spelled { SpellsSummary (drop 1 (blocks_of frame.now.contents))
+        (slice_index_or (blocks_of frame.now.contents) 0 []) summary.now }
     requires inside { number < length table.old.seat.frames }
     requires counted { length table.old.slots ≡ length table.old.seat.frames }
     requires free { (frame_at table.old.seat.frames number).phase ≡ Free }
-    requires one_open { state_of frame.now.word ≡ 1 → numbers is_filling 0 table.old.seat.frames ≡ [] }
-    ensures frame { IsFrameOf number frame.now (frame_at table.new.seat.frames number) (slots_at table.new.slots number) }
-    ensures frames { table.new.seat.frames ≡ slice_set table.old.seat.frames number (frame_at table.new.seat.frames number) }
-    ensures slots { table.new.slots ≡ slice_set table.old.slots number (slots_at table.new.slots number) }
+    requires one_open { state_of frame.now.word ≡ 1
+        → numbers is_filling 0 table.old.seat.frames ≡ [] }
+    ensures frame { IsFrameOf number frame.now (frame_at table.new.seat.frames number)
+        (slots_at table.new.slots number) }
+    ensures frames { table.new.seat.frames
+        ≡ slice_set table.old.seat.frames number (frame_at table.new.seat.frames number) }
+    ensures slots { table.new.slots
+        ≡ slice_set table.old.slots number (slots_at table.new.slots number) }
     ensures held { (p : Place) → held_at table.new p ≡ held_at table.old p }
 {
     rules_of_a_summary();
@@ -68,7 +76,8 @@ fn set_used(table: &mut TableBuilder, number: u16, frame: &FramePart<'_>, summar
     table.set_used(number, state_in(frame.word()), summary, whole);
 }
 
-/// Sets a frame that is free in a table, and has no used block, to that of an image of which this was read.
+/// Sets a frame that is free in a table, and has no used block, to that of an image of which this
+/// was read.
 fn set_frame(table: &mut TableBuilder, number: u16, frame: &FramePart<'_>, read: &FrameRead)
     requires rules { KeepsFrameRules number frame.now }
     requires read { IsReadOf frame.now read.now }
@@ -76,10 +85,14 @@ fn set_frame(table: &mut TableBuilder, number: u16, frame: &FramePart<'_>, read:
     requires counted { length table.old.slots ≡ length table.old.seat.frames }
     requires free { (frame_at table.old.seat.frames number).phase ≡ Free }
     requires empty { slots_at table.old.slots number ≡ [] }
-    requires one_open { state_of frame.now.word ≡ 1 → numbers is_filling 0 table.old.seat.frames ≡ [] }
-    ensures frame { IsFrameOf number frame.now (frame_at table.new.seat.frames number) (slots_at table.new.slots number) }
-    ensures frames { table.new.seat.frames ≡ slice_set table.old.seat.frames number (frame_at table.new.seat.frames number) }
-    ensures slots { table.new.slots ≡ slice_set table.old.slots number (slots_at table.new.slots number) }
+    requires one_open { state_of frame.now.word ≡ 1
+        → numbers is_filling 0 table.old.seat.frames ≡ [] }
+    ensures frame { IsFrameOf number frame.now (frame_at table.new.seat.frames number)
+        (slots_at table.new.slots number) }
+    ensures frames { table.new.seat.frames
+        ≡ slice_set table.old.seat.frames number (frame_at table.new.seat.frames number) }
+    ensures slots { table.new.slots
+        ≡ slice_set table.old.slots number (slots_at table.new.slots number) }
     ensures held { (p : Place) → held_at table.new p ≡ held_at table.old p }
 {
     match read {
@@ -88,18 +101,20 @@ fn set_frame(table: &mut TableBuilder, number: u16, frame: &FramePart<'_>, read:
     }
 }
 
-/// The table that an image's frames tell, of which no block is held. None exactly where the frames break a rule: one by itself,
-/// or two are open.
+/// The table that an image's frames tell, of which no block is held. None exactly where the frames
+/// break a rule: one by itself, or two are open.
 ///
-/// Each frame is judged and set in one step, so that its summary is decoded once. NoMemory alone, where memory for the table is
-/// refused.
+/// Each frame is judged and set in one step, so that its summary is decoded once. NoMemory alone,
+/// where memory for the table is refused.
 pub(crate) fn read_frames(
     alloc: Global,
     parts: &ImageParts<'_>,
 ) -> Result<Option<TableBuilder>, Refusal>
     requires counted { IsFrameCount (length parts.now.frames) }
-    ensures table { IfOk result (λ found. IfSome found (λ table. IsTableOf parts.now.frames table)) }
-    ensures nothing { IfOk result (λ found. IfSome found (λ table. (p : Place) → held_at table p ≡ None)) }
+    ensures table { IfOk result
+        (λ found. IfSome found (λ table. IsTableOf parts.now.frames table)) }
+    ensures nothing { IfOk result
+        (λ found. IfSome found (λ table. (p : Place) → held_at table p ≡ None)) }
     ensures rules { IfOk result (λ found. IfSome found (λ table. KeepFrameRules parts.now.frames)) }
     ensures none { IfOk result (λ found. IfNone found (KeepFrameRules parts.now.frames → ⊥)) }
     ensures refusal { IfErr result (λ e. e ≡ NoMemory) }

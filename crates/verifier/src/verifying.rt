@@ -1,5 +1,6 @@
 //! Bytes that are the image of a drive, or not.
-ghost use Rattle.std.specs.Prelude.{◌≡◌, ◌⊎◌, ◌≤◌, Some, None, MatchBool, IfSome, IfNone, IfOk, IfErr, length};
+ghost use Rattle.std.specs.Prelude.{◌≡◌, ◌⊎◌, ◌≤◌, Some, None, MatchBool, IfSome, IfNone, IfOk};
+ghost use Rattle.std.specs.Prelude.{IfErr, length};
 ghost use Rattle.s4_types.specs.Pointer.{Place};
 ghost use Rattle.s4_types.specs.declared.refusals.Cause.{Cause as Found};
 ghost use Rattle.s4_types.specs.declared.refusals.Refusal.TheVariants.{NoMemory, Damaged};
@@ -42,8 +43,8 @@ fn spans_of(alloc: Global, parts: &ImageParts<'_>) -> Result<Vec<Span>, Refusal>
     Ok(spans)
 }
 
-/// The table of an image's frames with what its rows name held, and its objects. None where its chains don't stand. NoMemory
-/// alone.
+/// The table of an image's frames with what its rows name held, and its objects. None where its
+/// chains aren't. NoMemory alone.
 fn read_chains(
     alloc: Global,
     table: TableBuilder,
@@ -51,8 +52,12 @@ fn read_chains(
 ) -> Result<Option<Read>, Refusal>
     requires table { IsTableOf parts.now.frames table }
     requires nothing { (p : Place) → held_at table p ≡ None }
-    ensures frames { IfOk result (λ found. IfSome found (λ read. IsTableOf parts.now.frames read.table)) }
-    ensures rows { IfOk result (λ found. IfSome found (λ read. AreRead read.table parts.now.rows parts.now.clock read.table read.objects.items)) }
+    ensures frames { IfOk result
+        (λ found. IfSome found (λ read. IsTableOf parts.now.frames read.table)) }
+    ensures rows { IfOk result
+        (λ found. IfSome found
+        (λ read. AreRead read.table parts.now.rows parts.now.clock read.table
+        read.objects.items)) }
     ensures none { IfOk result (λ found. IfNone found (ChainsStand parts.now → ⊥)) }
     ensures refusal { IfErr result (λ e. e ≡ NoMemory) }
 {
@@ -68,7 +73,8 @@ fn read_chains(
 fn image_of(parts: &ImageParts<'_>, read: Read, spans: Vec<Span>) -> Image
     requires rules { KeepsRules parts.now }
     requires frames { IsTableOf parts.now.frames read.table }
-    requires rows { AreRead read.table parts.now.rows parts.now.clock read.table read.objects.items }
+    requires rows { AreRead read.table parts.now.rows parts.now.clock read.table
+        read.objects.items }
     requires spans { spans.items ≡ parts.now.spans }
     ensures { IsImageOf parts.now result }
 {
@@ -91,14 +97,18 @@ fn image_of(parts: &ImageParts<'_>, read: Read, spans: Vec<Span>) -> Image
     }
 }
 
-/// The image that parts tell whose header keeps its rules: their frames, spans, rows and chains are tested, in this order.
+/// The image that parts tell whose header keeps its rules: their frames, spans, rows and chains are
+/// tested, in this order.
 ///
-/// Damaged with the cause of the first of these tests that fails; NoMemory where memory was refused.
+/// Damaged with the cause of the first of these tests that fails; NoMemory where memory was
+/// refused.
 fn read_rest(alloc: Global, parts: &ImageParts<'_>) -> Result<Image, Refusal>
     requires { KeepsHeaderRules (header_of parts.now) }
     ensures whole { IfOk result (λ image. FirstRestCause parts.now None) }
     ensures told { IfOk result (λ image. IsImageOf parts.now image) }
-    ensures damaged { IfErr result (λ e. (e ≡ NoMemory) ⊎ ((cause : Found) × (e ≡ Damaged cause) × FirstRestCause parts.now (Some cause))) }
+    ensures damaged { IfErr result
+        (λ e. (e ≡ NoMemory)
+        ⊎ ((cause : Found) × (e ≡ Damaged cause) × FirstRestCause parts.now (Some cause))) }
 {
     let Some(table) = read_frames(alloc, parts)? else {
         return Err(Refusal::Damaged(Cause::Frame));
@@ -116,8 +126,9 @@ fn read_rest(alloc: Global, parts: &ImageParts<'_>) -> Result<Image, Refusal>
     Ok(image_of(parts, read, spans))
 }
 
-/// Whether the bytes have their digest, and the image that their parts tell, as `read_rest` answers it. The digest is computed in
-/// a thread of its own beside all else, or behind it where no thread can be had.
+/// Whether the bytes have their digest, and the image that their parts tell, as `read_rest` answers
+/// it. The digest is computed in a thread of its own beside all else, or after it where no thread
+/// can be had.
 fn read_beside_digest<R: Threads>(
     rt: &R,
     alloc: Global,
@@ -129,7 +140,9 @@ fn read_beside_digest<R: Threads>(
     ensures digest { MatchBool result.0 (HasDigest bytes.now) (HasDigest bytes.now → ⊥) }
     ensures whole { IfOk result.1 (λ image. FirstRestCause parts.now None) }
     ensures told { IfOk result.1 (λ image. IsImageOf parts.now image) }
-    ensures damaged { IfErr result.1 (λ e. (e ≡ NoMemory) ⊎ ((cause : Found) × (e ≡ Damaged cause) × FirstRestCause parts.now (Some cause))) }
+    ensures damaged { IfErr result.1
+        (λ e. (e ≡ NoMemory)
+        ⊎ ((cause : Found) × (e ≡ Damaged cause) × FirstRestCause parts.now (Some cause))) }
 {
     let digest = || -> bool
         requires { 32 ≤ length bytes.now }
@@ -139,23 +152,31 @@ fn read_beside_digest<R: Threads>(
         requires { KeepsHeaderRules (header_of parts.now) }
         ensures whole { IfOk result (λ image. FirstRestCause parts.entry.now None) }
         ensures told { IfOk result (λ image. IsImageOf parts.entry.now image) }
-        ensures damaged { IfErr result (λ e. (e ≡ NoMemory) ⊎ ((cause : Found) × (e ≡ Damaged cause) × FirstRestCause parts.entry.now (Some cause))) }
+        ensures damaged { IfErr result
+            (λ e. (e ≡ NoMemory)
+            ⊎ ((cause : Found) × (e ≡ Damaged cause)
+            × FirstRestCause parts.entry.now (Some cause))) }
     { read_rest(alloc, parts) };
-    // Where there is no thread for the first, it is called behind the second.
+    // Where there is no thread for the first, it is called after the second.
     join(rt, digest, rest)
 }
 
-/// The image of a drive that the bytes spell. All of its tests look at the whole image before the next one does.
+/// The image of a drive that the bytes encode. All of its tests look at the whole image before the
+/// next one does.
 ///
-/// The digest is computed beside all that is read; whatever that comes to, a wrong digest is told first.
+/// The digest is computed beside all that is read; whatever that comes to, a wrong digest is told
+/// first.
 ///
-/// Damaged with the cause of the first test that fails, where the bytes spell no image; NoMemory where memory was refused.
+/// Damaged with the cause of the first test that fails, where the bytes encode no image; NoMemory
+/// where memory was refused.
 pub fn verify<R: Threads>(rt: &R, alloc: Global, bytes: &[u8]) -> Result<Image, Refusal>
     ensures whole { IfOk result (λ image. SpellsDrive bytes.now (image_in bytes.now)) }
     ensures told { IfOk result (λ image. IsImageOf (image_in bytes.now) image) }
     // In one word: what was read is of these bytes.
     ensures promise { IfOk result (λ image. IsReadOf bytes.now image) }
-    ensures damaged { IfErr result (λ e. (e ≡ NoMemory) ⊎ ((cause : Found) × (e ≡ Damaged cause) × FirstFault bytes.now (Some cause))) }
+    ensures damaged { IfErr result
+        (λ e. (e ≡ NoMemory)
+        ⊎ ((cause : Found) × (e ≡ Damaged cause) × FirstFault bytes.now (Some cause))) }
 {
     what_no_test_refuses_is_an_image();
     let parts = match split_parts(bytes) {

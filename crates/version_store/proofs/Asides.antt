@@ -210,7 +210,7 @@ module _ (s : StoreFields) (log : Log) (o : ℕ) (row next : Row) (i : Inode) (m
     few = subst (λ (sides : List Side). length sides ≤ SIDES) (sym next_sides) few_after;
   }
 
--- what was written stands where the names were counted
+-- what was written is where the names were counted
 pub rewrites_on : PlacesAddUp → (s : StoreFields) (log after : Log) (o : ℕ) (row next : Row) (m : ℕ) → after.held ≡ log.held → TakesPlaces 0 log after → Rewrites s log o row next m → Rewrites s after o row next m
 rewrites_on add_up s log after o row next m held takes writes =
     subst (λ (view : Place → Option Stored). Rewrites s (record after { held = view }) o row next m) (sym held) (record {

@@ -1,4 +1,4 @@
--- What stands beside the rows follows them: the present inode of each object, and the index of its entries.
+-- What is beside the rows follows them: the present inode of each object, and the index of its entries.
 use Rattle.std.proofs.Common.{◌≡◌, ℕ, ◌+◌, ◌==◌, ◌++◌, false, cond, List, [], Option, Some, None, refl, sym, ap, subst, ◌∙◌, inl, inr}
 use Rattle.std.specs.Prelude.{option_map}
 use Rattle.std.proofs.lemmas.Bool.{cases_Bool, cond-true, cond-false, eqb-true}
@@ -177,11 +177,11 @@ beside_added values pairs after s log o row same there adds beside =
 
 -- ---- an inode at a moment by the index
 
--- from the moment of its last entry on, an object's inode is the one behind all entries
+-- from the moment of its last entry on, an object's inode is the one after all entries
 abbrev pub LastIsCurrent : Type 0
 LastIsCurrent = (held : Place → Option Stored) (o t : ℕ) (row : Row) → AllBy t (entries_of held o row) → inode_of held o row t ≡ last_inode held o row
 
--- the present inode is the one behind all entries
+-- the present inode is the one after all entries
 pub present_last : LastIsCurrent → (s : StoreFields) (o : ℕ) (row : Row) (present : Inode) → IsStore s → row_of s.rows o ≡ Some row → inode_in s o s.latest ≡ Some present → present ≡ last_inode s.log.held o row
 present_last last s o row present store there is =
     same_Some present (inode_of s.log.held o row s.latest) (sym is ∙ ap (inode_by s.log.held o s.latest) there)

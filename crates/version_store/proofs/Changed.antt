@@ -1,4 +1,4 @@
--- One object's row is changed, added, or goes: in whatever way that was done, the store stays one, and what stands beside its rows follows.
+-- One object's row is changed, added, or goes: in whatever way that was done, the store stays one, and what is beside its rows follows.
 use Rattle.std.proofs.Common.{◌≡◌, inl, inr, ℕ, ◌+◌, ◌^◌, ◌<◌, ◌≤◌, ◌==◌, ◌&&◌, ◌||◌, Bool, false, cond, List, length, Option, Some, None, refl, sym, ap, subst, ◌∙◌, arith}
 use Rattle.std.specs.Prelude.{option_map}
 use Rattle.std.proofs.lemmas.Bool.{cases_Bool, cond-true, cond-false, and_right, eqb-true}
@@ -45,7 +45,7 @@ pub record OthersKeep (s : StoreFields) (o : ℕ) : Type 0 where
   pub nothing : (q : ℕ) → (o == q) ≡ false → row_of s.rows q ≡ None → HasNothing s.log.held q
   pub bounded : s.log.spent + length s.log.ahead < 2 ^ 46
 
--- One object has this next row, or none any more, and so many places were taken for that; all others are as they were.
+-- One object has this next row, or none any more, and this many places were taken for that; all others are as they were.
 pub record Changes (s later : StoreFields) (o count : ℕ) (next : Option Row) : Type 0 where
   pub put : (q : ℕ) → row_of later.rows q ≡ cond (o == q) next (row_of s.rows q)
   pub here : (row : Row) → next ≡ Some row → Keeps later o row
@@ -184,7 +184,7 @@ changed_versions rest s later o count next others c q t = elim (cases_Bool (o ==
       ∙ sym (cond-false (o == q) (version_by later.log.held (inode_by later.log.held o t next)) (version_in s q t) other)
 ]
 
--- ---- what stands beside the rows
+-- ---- what is beside the rows
 
 last_by : LastInodeStays → (held : Place → Option Stored) (o latest t : ℕ) (row : Option Row) → ((r : Row) → row ≡ Some r → IsObject held o r latest) → latest ≤ t → inode_by held o t row ≡ inode_by held o latest row
 last_by last held o latest t None objects le = refl

@@ -22,7 +22,7 @@ use Rattle.version_store.specs.private.Below.{OnePlace}
 
 -- ---- counts over numbers from one on
 
--- how many of so many numbers from one on pass a test
+-- how many of this many numbers from one on pass a test
 abbrev pub tally : (ℕ → Bool) → ℕ → ℕ → ℕ
 tally f a n = count_by f (range_with_len a n)
 
@@ -144,7 +144,7 @@ same_slot-self (Some p) = same_place-self p
 not_differs : (i j : Inode) (k : ℕ) → pointer_at j k ≡ pointer_at i k → differs i j k ≡ false
 not_differs i j k same = not_from_true (same_slot (pointer_at i k) (pointer_at j k)) (ap (same_slot (pointer_at i k)) same ∙ same_slot-self (pointer_at i k))
 
--- a place where nothing was held is another one than each that leads to a block
+-- a place where nothing was held is another one than each that refers to a block
 fresh_slot : OnePlace → (held : Place → Option Stored) (old new : Option Place) (p : Place) → new ≡ Some p → held p ≡ None → ((q : Place) → old ≡ Some q → IsSome (held q)) → same_slot old new ≡ false
 fresh_slot one held None new p is free leads = ap (same_slot None) is
 fresh_slot one held (Some q) new p is free leads =
@@ -196,7 +196,7 @@ touched_some offset len lt = cond-false (len == 0) 0 ((offset + len - 1) / 512 +
 touched_none : (offset len : ℕ) → len ≡ 0 → touched_count offset len ≡ 0
 touched_none offset len e = cond-true (len == 0) 0 ((offset + len - 1) / 512 + 1 - offset / 512) (eq-eqb len 0 e)
 
--- of an object of n blocks a write within it touches so many; n is a variable, since a count up to a number is a sum of so many terms to omega
+-- of an object of n blocks a write within it touches this many; n is a variable, since a count up to a number is a sum of this many terms to omega
 touched_tally : (offset len n : ℕ) → offset + len ≤ 512 * n → tally (is_touched offset len) 0 n ≡ touched_count offset len
 touched_tally offset len n le =
     tally-within (offset / 512) (offset / 512 + touched_count offset len) 0 n

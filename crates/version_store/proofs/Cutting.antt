@@ -84,7 +84,7 @@ by_all t at (e ∷ entries) le = elim (cases_Bool (entry_is_by t e)) [
   | inr past ↦ subst (AllBy at) (sym (cond-false (entry_is_by t e) (e ∷ entries_by t entries) (entries_by t entries) past)) (by_all t at entries le)
 ]
 
--- ---- the inodes behind them
+-- ---- the inodes after them
 
 -- the laws of runs and inodes that this rests on
 pub record Laws : Type 0 where

@@ -64,7 +64,7 @@ hand_is ahead pointers first count within room are =
     let lt : i < count = omega (arith, below, left) in
     get_or-take count (drop first pointers) i None lt ∙ get_or-drop first pointers i None ∙ are i lt ∙ sym (mapped_get ahead count i lt))
 
--- what some of an inode's pointers lead to it leads to
+-- what some of an inode's pointers refer to it refers to
 sub_leads : (j : Inode) (first count : ℕ) (p : Place) → Contains (take count (drop first j.pointers)) (Some p) → LeadsTo j p
 sub_leads j first count p there =
     let among : Contains j.pointers (Some p) =

@@ -161,7 +161,7 @@ rows_with rows after o q row put = elim (cases_Bool (o == q)) [
       ap is_some (put ∙ row_beside rows o q row other) ∙ sym (ap (λ (b : Bool). is_some (rows q) || b) ne ∙ or-false (is_some (rows q)))
 ]
 
--- the blocks of the data, and those of the turn behind it
+-- the blocks of the data, and those of the turn after it
 both_taken : PlacesAddUp → (before between after : Log) (n k m : ℕ) → TakesPlaces n before between → TakesPlaces k between after → n + k ≡ m → TakesPlaces m before after
 both_taken add_up before between after n k m first second sum_is = subst (λ count. TakesPlaces count before after) sum_is (add_up n k before between after first second)
 

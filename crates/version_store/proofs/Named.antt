@@ -25,7 +25,7 @@ pub pointer_is : OnePlace → (p : Place) (x : Option Place) → is_at x p ≡ t
 pointer_is one p None is = absurd (false≢true is)
 pointer_is one p (Some q) is = ap (λ (r : Place). Some r) (one q p is)
 
--- whether one pointer leads to a place, as a number
+-- whether one pointer refers to a place, as a number
 abbrev pub once_led : Place → Option Place → ℕ
 once_led p x = cond (is_at x p) 1 0
 

@@ -1,4 +1,4 @@
--- A store of objects of a drive that was saved: what stands beside its rows.
+-- A store of objects of a drive that was saved: what is beside its rows.
 use Rattle.std.proofs.Common.{◌≡◌, ℕ, ◌<◌, ◌++◌, true, false, Bool, List, [], ◌∷◌, map, length, take, drop, suc, get_or, Option, Some, None, refl, sym, ap, subst, ◌∙◌, ◌⊎◌, inl, inr, arith, take-append-drop, drop-cons}
 use Rattle.std.specs.Prelude.{option_map}
 use Rattle.std.specs.List.{All}
@@ -54,7 +54,7 @@ map_same : {X : Type 0} (xs : List X) → map (λ y. y) xs ≡ xs
 map_same [] = refl
 map_same (x ∷ xs) = ap (λ ys. x ∷ ys) (map_same xs)
 
--- the items before one, itself, and those behind it
+-- the items before one, itself, and those after it
 pub passed_here : {X : Type 0} (all passed : List X) (x : X) → map (λ y. y) passed ≡ take (length passed) all → (length passed < length all) × (x ≡ get_or all (length passed) x)
     → passed ++ (x ∷ drop (suc (length passed)) all) ≡ all
 passed_here all passed x front here =
@@ -71,7 +71,7 @@ below_here all passed x rows o front here up kept number =
     let ascend = subst (λ (xs : List OpenedFields). NumbersAscend (numbers_opened xs)) (sym (passed_here all passed x front here)) up in
     subst (λ (n : ℕ). AreBelow rows n) (sym number) (subst (λ (r : List (ℕ × Row)). AreBelow r x.object) (sym kept) (all_below passed x rest ascend))
 
--- one more object's row, and what stands beside it
+-- one more object's row, and what is beside it
 pub one_more_row : (passed : List OpenedFields) (x v : OpenedFields) (rows after : List (ℕ × Row)) → v ≡ x → rows ≡ rows_opened passed → after ≡ rows ++ (v.object, v.row) ∷ [] → after ≡ rows_opened (passed ++ x ∷ [])
 one_more_row passed x v rows after same kept is =
     is ∙ ap (λ (r : List (ℕ × Row)). r ++ (v.object, v.row) ∷ []) kept ∙ ap (λ (y : OpenedFields). rows_opened passed ++ (y.object, y.row) ∷ []) same

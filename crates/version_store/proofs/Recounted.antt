@@ -45,7 +45,7 @@ counted_beside before later q row journal checkpoints same counted p =
 
 -- ---- older checkpoints
 
--- what a pointer of an older checkpoint leads to the row leads to
+-- what a pointer of an older checkpoint refers to the row refers to
 side_leads : (held : Place → Option Stored) (o : ℕ) (row : Row) (sides : List Side) → AllByRecursion (IsSide held o row) sides → (p : Place) → Contains (pointers_of_sides held o sides) (Some p) → Contains (pointers_of held o row) (Some p)
 side_leads held o row [] all p (n, below, at) = absurd (omega (arith, below))
 side_leads held o row (side ∷ sides) all p there = elim (Contains-append_cases (pointers_kept (checkpoint_held held o side.place)) (pointers_of_sides held o sides) (Some p) there) [
@@ -69,7 +69,7 @@ slot_led held o pointers leads (Some p) there = leads p there
 pub told_led : (held : Place → Option Stored) (o : ℕ) (pointers : List (Option Place)) → ((p : Place) → Contains pointers (Some p) → IsSome (of_kind Data o held p)) → All (IsLed held o) pointers
 told_led held o pointers leads = All-weaker (Contains pointers) (IsLed held o) (slot_led held o pointers leads) pointers (All-contains_itself pointers)
 
--- so they lead to data of the object
+-- so they refer to data of the object
 pub aside_led : (held : Place → Option Stored) (o : ℕ) (row : Row) → IsRow held o row → All (IsLed held o) (pointers_of held o row) → All (IsLed held o) (pointers_aside held o row)
 aside_led held o row stands led = told_led held o (pointers_aside held o row) (λ p there. led_there held o (pointers_of held o row) p led (side_leads held o row row.sides stands.sides p there))
 
@@ -119,7 +119,7 @@ aside_few held o row (side ∷ sides) all tidy =
     let rest = aside_few held o row sides all.1 tidy in
     omega (arith, both, is, count, rest)
 
--- a row has so many pointers that name data at most
+-- a row has this many pointers that name data at most
 pub pointers_few : (held : Place → Option Stored) (o : ℕ) (row : Row) (latest : ℕ) → IsObject held o row latest → length row.sides ≤ SIDES → length (pointers_named held o row) ≤ 12144
 pointers_few held o row latest object few =
     let kept : List (Option Place) = pointers_kept (checkpoint_of held o row) in

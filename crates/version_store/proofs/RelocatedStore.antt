@@ -216,7 +216,7 @@ relocated_versions laws s rows log o count row next copies r store there w chang
     ∙ sym (ap (λ (x : Option Row). version_by s.log.held (inode_by s.log.held o t x)) there))
     ∙ own_or_other o q (λ n. version_in s n t)
 
--- a data block that is there stood there, or was put at a place that was taken
+-- a data block that is there was there, or was put at a place that was taken
 data_taken : (before later : Log) (o n : ℕ) (r : RenamingFields) (p : Place) → TakesPlaces n before later → IsSome (of_kind Data o later.held p) → IsOldOrNew o r before.held later.held p
     → (of_kind Data o later.held p ≡ of_kind Data o before.held p) ⊎ Contains (take n before.ahead) p
 data_taken before later o n r p takes some (inl old) = inl old.0

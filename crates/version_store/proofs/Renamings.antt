@@ -71,7 +71,7 @@ module _ (before between : Log) (o : ℕ) (row : Row) (copies : List CopiedBlock
   was_copied : (p : Place) → IsCopied copies p → IsSome (of_kind Data o before.held p)
   was_copied p copied = copied_held before between between (record between { held = λ q. cond (stood_at q copies) None (between.held q) }) o copies r dropped p copied
 
-  -- ---- all pointers lead to data
+  -- ---- all pointers refer to data
 
   pub copied_led : All (IsLed between.held o) (places_copied copies)
   copied_led = told_led between.held o (places_copied copies) (λ p there. stays p (was_copied p (copied_contained copies p there)))
@@ -166,7 +166,7 @@ module _ (before between : Log) (o : ℕ) (row : Row) (copies : List CopiedBlock
 
   -- ---- names once they were counted anew
 
-  -- a pointer that leads to a block of the object leads to one, once it is renamed
+  -- a pointer that refers to a block of the object leads to one, once it is renamed
   goes_on : (p q : Place) → Contains (pointers_of before.held o row) (Some p) → renamed r p ≡ q → 0 < times_led q (map (renamed_slot r) (pointers_of before.held o row))
   goes_on p q among leads =
       contained_times q (map (renamed_slot r) (pointers_of before.held o row))
@@ -235,7 +235,7 @@ module _ (before between : Log) (o : ℕ) (row : Row) (copies : List CopiedBlock
       pub moved_led : All (IsLed moved.held o) (places_copied copies)
       moved_led = told_led moved.held o (places_copied copies) (λ p there. subst (λ (view : Place → Option (List ℕ)). IsSome (view p)) (sym same_data) (stays p (was_copied p (copied_contained copies p there))))
 
-      -- no renamed pointer leads to what was copied
+      -- no renamed pointer refers to what was copied
       none_back : (p : Place) → IsCopied copies p → times_led p (map (renamed_slot r) (pointers_of before.held o row)) ≡ 0
       none_back p copied = elim (cases_lt 0 (times_led p (map (renamed_slot r) (pointers_of before.held o row)))) [
         | inl some ↦

@@ -52,7 +52,7 @@ pub last_within : (low high : ℕ) (entries : List EntryFields) → 0 < length e
 last_within low high [] some all = absurd (omega (arith, some))
 last_within low high (e ∷ entries) some all = last_from_to low high e.moment entries all.0 all.1
 
--- behind all entries the inode is the present one
+-- after all entries the inode is the present one
 pub led_last : AllAreDone → RunsEnd → (present : Inode) (entries : List EntryFields) (t : ℕ) → Run (undone_all entries present) entries present → AllBy t entries → inode_led present entries t ≡ present
 led_last done end present entries t run by = done (undone_all entries present) entries t by ∙ sym (end (undone_all entries present) present entries run)
 
@@ -91,7 +91,7 @@ known done end s o row present entries m store there can is =
 
 -- ---- the blocks
 
--- what became of a table's blocks: of an object's data what the new row leads to stays, and no other is held
+-- what became of a table's blocks: of an object's data what the new row refers to stays, and no other is held
 pub record Swaps (held later : Place → Option Stored) (o : ℕ) (present : Inode) (entries : List EntryFields) : Type 0 where
   pub kept : (p : Place) → Contains (pointers_told present entries) (Some p) → of_kind Data o later p ≡ of_kind Data o held p
   pub named : (p : Place) → IsSome (of_kind Data o later p) → Contains (pointers_told present entries) (Some p)

@@ -58,7 +58,7 @@ store_over s log same named spent bounded store =
       apart = store.apart;
     }))
 
--- what stands beside the rows does so over the other log
+-- what is beside the rows does so over the other log
 pub beside_over : (values : List (ℕ × Present)) (pairs : List (CacheKey × Inode)) (s : StoreFields) (log : Log) → log.held ≡ s.log.held → IsBeside values pairs s → IsBeside values pairs (over s log)
 beside_over values pairs s log held beside = record {
   inodes = λ o. beside.inodes o ∙ sym (ap (λ (h : Place → Option Stored). inode_by h o s.latest (row_of s.rows o)) held);

@@ -31,6 +31,6 @@ none_taken log = record {
   among = λ p none some. absurd (not_both (log.held p) none some);
 }
 
--- nothing and so many are so many
+-- nothing and this many are this many
 pub none_more : (n : ℕ) → 0 + n ≡ n
 none_more n = omega arith

@@ -23,7 +23,7 @@ use Rattle.version_store.specs.Tallies.{places_named, times_at, times_in, times_
 use Rattle.version_store.specs.private.Below.{OnePlace, CheckpointsHaveBlocks}
 use Rattle.version_store.proofs.Naming.{checkpoints_there}
 
--- the blocks of a checkpoint stand at places apart
+-- the blocks of a checkpoint are at places apart
 abbrev pub CheckpointsStandOnce : Type 0
 CheckpointsStandOnce = (held : Place → Option Stored) (o : ℕ) (p q : Place) → IsSome (checkpoint_held held o p) → times_at q (checkpoint_places held o p) ≤ 1
 
@@ -56,7 +56,7 @@ sum_single f first (suc count) o others low high = sum_by-cons f first (range_wi
       omega (arith, here, rest)
 ]
 
--- the first n numbers and those behind them
+-- the first n numbers and those after them
 range_joined : (f : ℕ → ℕ) (first n m : ℕ) → sum_by f (range_with_len first (n + m)) ≡ sum_by f (range_with_len first n) + sum_by f (range_with_len (first + n) m)
 range_joined f first zero m = ap (λ (k : ℕ). sum_by f (range_with_len first k)) (let e : zero + m ≡ m = omega arith in e) ∙ ap (λ (k : ℕ). sum_by f (range_with_len k m)) (let e : first ≡ first + zero = omega arith in e)
     ∙ (let none : sum_by f (range_with_len first zero) ≡ 0 = refl in omega (arith, none))
@@ -117,7 +117,7 @@ times_is one q (p ∷ places) =
     let first = at_first q p places in
     omega (arith, here, rest, first)
 
--- pointers lead to a place as often as it is one of those that they lead to
+-- pointers refer to a place as often as it is one of those that they refer to
 pub pointers_at : (q : Place) (pointers : List (Option Place)) → times_at q (flat_map option_to_list pointers) ≡ times_led q pointers
 pointers_at q [] = refl
 pointers_at q (None ∷ pointers) =
@@ -195,7 +195,7 @@ module _ (have : CheckpointsHaveBlocks) (once : CheckpointsStandOnce) (apart : C
 
 -- ---- an object's row
 
--- what an object adds where this is held, and so many names of data are counted
+-- what an object adds where this is held, and this many names of data are counted
 abbrev pub adds : ℕ → Option Stored → ℕ → ℕ
 adds o None n = 0
 adds o (Some block) n = cond (block.object == o) (held_names (Some block) n) 0

@@ -90,7 +90,7 @@ mapped_times q (p ∷ places) =
     let here = at_first q p places in
     omega (arith, rest, first, here)
 
--- the pointers of a row lead to a place as often as the row names it
+-- the pointers of a row refer to a place as often as the row names it
 pointers_times : (held : Place → Option Stored) (o : ℕ) (row : Row) (q : Place) → times_led q (pointers_to held o row) ≡ times_at q (places_named held o row)
 pointers_times held o row q =
     let chain : List Place = chain_places (of_kind Journal o held) o row.head in
@@ -172,7 +172,7 @@ split i (suc n) below = elim (cases_lt i (15 * n)) [
   | inr past ↦ record { frame = n; block = i - 15 * n; inside = omega arith; few = omega (arith, below, past); is = omega (arith, past) }
 ]
 
--- a list that fills its place is all that is taken of it and what stands behind
+-- a list that fills its place is all that is taken of it and what comes after
 pub all_taken : (n : ℕ) (xs ys : List ℕ) → length xs ≡ n → xs ≡ take n (xs ++ ys)
 all_taken n xs ys full = sym (take-append-le n xs ys (omega (arith, full)) ∙ take_all n xs (omega (arith, full)))
 
@@ -285,7 +285,7 @@ module _ (one : OnePlace) (have : CheckpointsHaveBlocks) (once : CheckpointsStan
       subst (λ (m : ℕ). All (IsWithin m) pointers) (sym count) (subst (All (IsWithin (15 * length v.table.seat.frames))) (sym is)
       (All-weaker (Contains all) (IsWithin (15 * length v.table.seat.frames)) (λ x there. within_one x (pointer_placed o x there)) all (All-contains_itself all)))
 
-  -- the pointers of an object lead to the place of a number as often as the object's row names it
+  -- the pointers of an object refer to the place of a number as often as the object's row names it
   times_numbered : (o f b : ℕ) → b < 15 → times_on (15 * f + b) (pointers_by (log_of v.table).held o (row_of v.rows o)) ≡ times_named (fields_of log_of v) (place_at v.table f (b + 1)) o
   times_numbered o f b few =
       on_is one v.table f b few (pointers_by (log_of v.table).held o (row_of v.rows o)) (pointer_placed o)

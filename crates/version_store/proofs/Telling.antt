@@ -1,4 +1,4 @@
--- The pointers that a row leads to: where they come from, and that those of each inode are among them.
+-- The pointers that a row refers to: where they come from, and that those of each inode are among them.
 use Rattle.std.proofs.Common.{◌≡◌, ◌⊎◌, ℕ, zero, suc, List, [], ◌∷◌, ◌++◌, get_or, replicate, Option, Some, None, MatchOption, IsSome, unwrap_or, refl, sym, ap, subst, ◌∙◌, inl, inr, arith}
 use Rattle.std.specs.List.{All, Contains, AllByRecursion}
 use Rattle.std.proofs.Math.ListN.{set}
@@ -39,7 +39,7 @@ blank_points : (created n : ℕ) (p : Place) → pointer_at (blank created) n �
 unfolding blank holes
 blank_points created n p at = hole_there OBJECT_BLOCKS n p at
 
--- a pointer that was put there, or one that stood there
+-- a pointer that was put there, or one that was there
 set_cases : (pointers : List (Option Place)) (i n : ℕ) (slot : Option Place) (p : Place) → get_or (set pointers i slot) n None ≡ Some p → (slot ≡ Some p) ⊎ (get_or pointers n None ≡ Some p)
 set_cases [] i n slot p at = inr at
 set_cases (q ∷ pointers) zero zero slot p at = inl at
@@ -120,7 +120,7 @@ first_told created moment entries (Some c) n p at = elim (undone_cases (entries_
   | inr kept ↦ Contains-append_left c.inode.pointers (sides_told entries) (Some p) (slot_there c.inode.pointers n p kept)
 ]
 
--- a row leads to all that its object's inode points to, at each moment
+-- a row refers to all that its object's inode points to, at each moment
 pub inode_told : (held : Place → Option Stored) (o : ℕ) (row : Row) (t n : ℕ) (p : Place) → pointer_at (inode_of held o row t) n ≡ Some p → Contains (pointers_of held o row) (Some p)
 unfolding inode_of
 inode_told held o row t n p at = elim (redone_cases (entries_by t (entries_of held o row)) (first_of held o row) n p at) [
@@ -177,7 +177,7 @@ leads_front held o front back leads = All-weaker (Contains front) (IsLed held o)
 pub leads_back : (held : Place → Option Stored) (o : ℕ) (front back : List (Option Place)) → Leads held o (front ++ back) → Leads held o back
 leads_back held o front back leads = All-weaker (Contains back) (IsLed held o) (λ x there. All-contains (IsLed held o) (front ++ back) x leads (Contains-append_right front back x there)) back (All-contains_itself back)
 
--- so a place that a pointer leads to is held
+-- so a place that a pointer refers to is held
 pub led_there : (held : Place → Option Stored) (o : ℕ) (pointers : List (Option Place)) (p : Place) → Leads held o pointers → Contains pointers (Some p) → IsSome (of_kind Data o held p)
 led_there held o pointers p leads there = All-contains (IsLed held o) pointers (Some p) leads there
 
@@ -208,7 +208,7 @@ same_checkpoint held later o place same = ap (λ (v : BlockView). place >>= λ p
 pub grown_sides : (held later : Place → Option Stored) (o : ℕ) (row next : Row) (new : List EntryFields) → Grows held later o row next new → sides_told (entries_of later o next) ≡ sides_told (entries_of held o row) ++ sides_told new
 grown_sides held later o row next new grows = ap sides_told grows.entries ∙ flat_map-append (λ (e : EntryFields). sides_of e.triples) (entries_of held o row) new
 
--- the row leads to all that it led to
+-- the row refers to all that it led to
 pub grown_leads_to : (held later : Place → Option Stored) (o : ℕ) (row next : Row) (new : List EntryFields) (x : Option Place) → Grows held later o row next new → Contains (pointers_of held o row) x → Contains (pointers_of later o next) x
 grown_leads_to held later o row next new x grows there =
     let kept : List (Option Place) = pointers_kept (checkpoint_of held o row) in

@@ -224,7 +224,7 @@ module _ (s : StoreFields) (log : Log) (o : ℕ) (row next : Row) (new : List En
     few = subst (λ (sides : List Side). length sides ≤ SIDES) (sym is.sides) (is.store.few o row is.there);
   }
 
--- the pointers of the new triples lead to data, since both inodes' do
+-- the pointers of the new triples refer to data, since both inodes' do
 pub turned_led : (s : StoreFields) (log : Log) (o : ℕ) (i j : Inode) (hand : List (Option Place)) (m : ℕ) (row next : Row) → ((i j : Inode) (m : ℕ) → AllByRecursion (λ e. AreOf i j e.triples) (entries_between i j m)) → CanTurn s o i j hand m → row_of s.rows o ≡ Some row
     → OnlyJournalChanged o s.log.held log.held → All (IsLed log.held o) (sides_told (entries_between i j m))
 turned_led s log o i j hand m row next tell can there others =

@@ -16,6 +16,6 @@ MakingsAscend rows = (o q : ℕ) (first second : Row) → o < q → row_of rows 
 abbrev pub ShareNoMoment : List EntryFields → List EntryFields → Type 0
 ShareNoMoment entries others = (e f : EntryFields) → Contains entries e → Contains others f → e.moment ≡ f.moment → ⊥
 
--- no moment stands in the chains of two objects
+-- no moment is in the chains of two objects
 abbrev pub ChainsShareNoMoment : (Place → Option Stored) → List (ℕ × Row) → Type 0
 ChainsShareNoMoment held rows = (o q : ℕ) (first second : Row) → o < q → row_of rows o ≡ Some first → row_of rows q ≡ Some second → ShareNoMoment (entries_of held o first) (entries_of held q second)

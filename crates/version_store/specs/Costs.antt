@@ -32,11 +32,11 @@ subject_row s o m = row_or_fresh m (row_of s.rows o)
 abbrev pub subject_inode : StoreFields → ℕ → ℕ → Inode
 subject_inode s o m = inode_of s.log.held o (subject_row s o m) s.latest
 
--- whether the block of an index stands past a size, and isn't a hole
+-- whether the block of an index is past a size, and isn't a hole
 abbrev pub is_past : Inode → ℕ → ℕ → Bool
 is_past i size k = nat_le size (512 * k) && is_some (pointer_at i k)
 
--- how many blocks of an inode stand past a size
+-- how many blocks of an inode are past a size
 unfoldable pub past_count : Inode → ℕ → ℕ
 past_count i size = count_by (is_past i size) (range_with_len 0 OBJECT_BLOCKS)
 

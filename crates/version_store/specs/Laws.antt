@@ -44,7 +44,7 @@ abbrev pub ChangesBeginWithThePresent : Type 0
 ChangesBeginWithThePresent = (s : StoreFields) (o m : ℕ)
     → ((i : Inode) → inode_in s o s.latest ≡ Some i → subject_inode s o m ≡ i) × (row_of s.rows o ≡ None → subject_inode s o m ≡ blank m)
 
--- The inode that a change begins with stands for the present version of its object.
+-- The inode that a change begins with represents the present version of its object.
 abbrev pub ChangesBeginWithThePresentVersion : Type 0
 ChangesBeginWithThePresentVersion = (s : StoreFields) (o m : ℕ) → meaning (contents_of s.log.held) (subject_inode s o m) ≡ version_in s o s.latest
 
@@ -64,7 +64,7 @@ EachHeldBlockIsNamed = (s : StoreFields) (p : Place) (block : Stored) → IsStor
 abbrev pub InodesPointToWhatRowsName : Type 0
 InodesPointToWhatRowsName = (s : StoreFields) (o t n : ℕ) (i : Inode) (p : Place) → inode_in s o t ≡ Some i → pointer_at i n ≡ Some p → IsNamed s o Data p
 
--- A row has so many pointers at most: OBJECT_BLOCKS in each of its checkpoints, of which it has SIDES and one more, and fewer in its
+-- A row has this many pointers at most: OBJECT_BLOCKS in each of its checkpoints, of which it has SIDES and one more, and fewer in its
 -- journal than its entries have bytes, CHAIN_ENTRY_BYTES at most.
 abbrev pub RowsHaveFewPointers : Type 0
 RowsHaveFewPointers = (held : Place → Option Stored) (o : ℕ) (row : Row) (latest : ℕ) → IsObject held o row latest → length row.sides ≤ SIDES → length (pointers_named held o row) ≤ 12144

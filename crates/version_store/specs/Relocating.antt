@@ -1,4 +1,4 @@
--- What a store is once blocks of an object stand at other places.
+-- What a store is once blocks of an object are at other places.
 use Rattle.std.specs.Prelude.{◌≡◌, ◌⊎◌, ◌↔◌, ℕ, suc, ◌+◌, Bool, true, ◌&&◌, nat_le, List, [], ◌∷◌, length, map, take, Option, Some, None, IsSome, option_map}
 use Rattle.std.specs.List.{AllByRecursion, Contains}
 use Rattle.s4_types.specs.Pointer.{Place}
@@ -45,7 +45,7 @@ pub record AreCopies (held : Place → Option Stored) (o : ℕ) (copies : List C
   pub ascending : blocks_ascend_from 1 copies ≡ true
   pub bytes : AllByRecursion (λ c. of_kind Data o held c.place ≡ Some c.bytes) copies
 
--- a copied block stood at the place
+-- a copied block was at the place
 abbrev pub IsCopied : List CopiedBlock → Place → Type 0
 IsCopied copies p = (c : CopiedBlock) × (Contains copies c × (c.place ≡ p))
 
@@ -60,10 +60,10 @@ renamed_checkpoint r c = record c { inode = renamed_inode r c.inode }
 
 -- ---- what a store is then
 
--- An object of this row was relocated: its copied blocks stand at the first places ahead, in order, and no block is held
+-- An object of this row was relocated: its copied blocks are at the first places ahead, in order, and no block is held
 -- where they stood. Its checkpoint, if it has one, and its journal were written anew, as of the moments that they had, with
 -- each pointer to a copied block renamed; no older checkpoint is left, and its row was changed once more. Each block of the
--- object that is held is a data block that stood at its place before, or stands at one of so many places that were taken; all
+-- object that is held is a data block that was at its place before, or is at one of this many places that were taken; all
 -- other rows and blocks are as they were, and so is the last change.
 pub record IsRelocated (s : StoreFields) (o : ℕ) (row : Row) (copies : List CopiedBlock) (later : StoreFields) : Type 0 where
   pub next : Row

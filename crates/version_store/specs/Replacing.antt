@@ -42,7 +42,7 @@ pub record IsRemoved (s : StoreFields) (o : ℕ) (later : StoreFields) : Type 0 
 abbrev pub inode_led : Inode → List EntryFields → ℕ → Inode
 inode_led present entries t = inode_after (undone_all entries present) entries t
 
--- all pointers of an inode, and behind them both sides of each triple of entries, the oldest entry first
+-- all pointers of an inode, and after them both sides of each triple of entries, the oldest entry first
 abbrev pub pointers_told : Inode → List EntryFields → List (Option Place)
 pointers_told present entries = present.pointers ++ sides_told entries
 
@@ -52,7 +52,7 @@ IsMomentOf entries m = (e : EntryFields) × (Contains entries e × (e.moment ≡
 
 -- The journal of an object of this row can be replaced by these entries, which lead to this present inode. There is a
 -- journal; the entries are a run in groups, each is of a moment of one that stands, and they aren't too long. They are in order, of
--- an object made when the row tells. Each inode that they lead to is tidy, and what the present one and they point to the row
+-- an object made when the row tells. Each inode that they refer to is tidy, and what the present one and they point to the row
 -- led to.
 pub record CanReplace (s : StoreFields) (o : ℕ) (row : Row) (present : Inode) (entries : List EntryFields) : Type 0 where
   pub journal : 0 < length (entries_of s.log.held o row)
@@ -96,7 +96,7 @@ abbrev pub AJournalCanBeCut : Type 0
 AJournalCanBeCut = (s : StoreFields) (o t : ℕ) (row : Row) → IsStore s → row_of s.rows o ≡ Some row → 0 < length (entries_past t (entries_of s.log.held o row))
     → CanReplace s o row (inode_of s.log.held o row s.latest) (entries_past t (entries_of s.log.held o row))
 
--- From that moment on they lead to the inodes that the object has.
+-- From that moment on they refer to the inodes that the object has.
 abbrev pub ACutJournalShowsTheSame : Type 0
 ACutJournalShowsTheSame = (s : StoreFields) (o t at : ℕ) (row : Row) → IsStore s → row_of s.rows o ≡ Some row → t ≤ at
     → inode_led (inode_of s.log.held o row s.latest) (entries_past t (entries_of s.log.held o row)) at ≡ inode_of s.log.held o row at

@@ -50,7 +50,7 @@ abbrev pub pointers_kept : Option CheckpointFields → List (Option Place)
 pointers_kept None = []
 pointers_kept (Some c) = c.inode.pointers
 
--- All pointers to data that an object's row leads to, holes among them: those of its checkpoint, and behind them both
+-- All pointers to data that an object's row refers to, holes among them: those of its checkpoint, and after them both
 -- sides of each triple of its chain, the oldest entry first.
 abbrev pub pointers_of : (Place → Option Stored) → ℕ → Row → List (Option Place)
 pointers_of held o row = pointers_kept (checkpoint_of held o row) ++ sides_told (entries_of held o row)
@@ -63,17 +63,17 @@ pointers_of_sides held o sides = flat_map (λ side. pointers_kept (checkpoint_he
 abbrev pub pointers_aside : (Place → Option Stored) → ℕ → Row → List (Option Place)
 pointers_aside held o row = pointers_of_sides held o row.sides
 
--- Every pointer by which an object's row names data, as often as it does, holes among them: all that it leads to, and behind
+-- Every pointer by which an object's row names data, as often as it does, holes among them: all that it refers to, and after
 -- them those of its older checkpoints.
 abbrev pub pointers_named : (Place → Option Stored) → ℕ → Row → List (Option Place)
 pointers_named held o row = pointers_of held o row ++ pointers_aside held o row
 
--- whether a pointer leads to this place
+-- whether a pointer refers to this place
 abbrev pub is_at : Option Place → Place → Bool
 is_at None q = false
 is_at (Some p) q = same_place p q
 
--- how many of the pointers lead to a place
+-- how many of the pointers refer to a place
 abbrev pub times_led : Place → List (Option Place) → ℕ
 times_led q pointers = count_by (λ pointer. is_at pointer q) pointers
 
@@ -81,17 +81,17 @@ times_led q pointers = count_by (λ pointer. is_at pointer q) pointers
 abbrev pub named_of : ℕ → Log → Place → ℕ
 named_of o log p = if is_some (of_kind Data o log.held p) then log.named p else 0
 
--- each data block of an object has as many names as of these pointers lead to it
+-- each data block of an object has as many names as of these pointers refer to it
 abbrev pub IsNamedBy : ℕ → Log → List (Option Place) → Type 0
 IsNamedBy o log pointers = (p : Place) → named_of o log p ≡ times_led p pointers
 
--- a pointer is a hole, or leads to a data block of the object
+-- a pointer is a hole, or refers to a data block of the object
 abbrev pub IsLed : (Place → Option Stored) → ℕ → Option Place → Type 0
 IsLed held o pointer = IfSome pointer (λ p. IsSome (of_kind Data o held p))
 
 -- An object of this row is held: nothing that the row tells of is later than the last change, each pointer that the row
--- leads to is a hole or leads to a data block of the object, and at each moment the object's inode is tidy, and its
--- pointers lead to such blocks too.
+-- leads to is a hole or refers to a data block of the object, and at each moment the object's inode is tidy, and its
+-- pointers refer to such blocks too.
 pub record IsObject (held : Place → Option Stored) (o : ℕ) (row : Row) (latest : ℕ) : Type 0 where
   pub stands : IsRow held o row
   pub by : IsBy held o row latest
@@ -99,7 +99,7 @@ pub record IsObject (held : Place → Option Stored) (o : ℕ) (row : Row) (late
   pub tidy : (t : ℕ) → Tidy (contents_of held) (inode_of held o row t)
   pub pointers : (t : ℕ) → PointersHeld held o (inode_of held o row t)
 
--- each data block of an object of this row that is held is one that a pointer of the row leads to
+-- each data block of an object of this row that is held is one that a pointer of the row refers to
 abbrev pub DataIsNamed : (Place → Option Stored) → ℕ → Row → Type 0
 DataIsNamed held o row = (p : Place) → IsSome (of_kind Data o held p) → Contains (pointers_of held o row) (Some p)
 
@@ -111,7 +111,7 @@ HasNothing held o = (kind : BlockKind) (p : Place) → of_kind kind o held p ≡
 -- pointer by which the row names it, older checkpoints' among them; nothing but held data has names; and of an object without a
 -- row no block is held. A row has at most SIDES older checkpoints, and was changed no more often than places were ever taken: each
 -- change takes one. The places that were ever taken and those ahead are fewer than 2^46.
--- Across rows: of two objects the one with the greater number was made later, and no moment stands in the chains of both.
+-- Across rows: of two objects the one with the greater number was made later, and no moment is in the chains of both.
 pub record IsStore (s : StoreFields) : Type 0 where
   pub objects : (o : ℕ) (row : Row) → row_of s.rows o ≡ Some row → IsObject s.log.held o row s.latest
   pub orderly : (o : ℕ) (row : Row) → row_of s.rows o ≡ Some row → IsOrderly s.log.held o row s.latest
@@ -124,7 +124,7 @@ pub record IsStore (s : StoreFields) : Type 0 where
   pub ascending : MakingsAscend s.rows
   pub apart : ChainsShareNoMoment s.log.held s.rows
 
--- A row names an object's block of this kind at a place: it stands in the object's chain, once; or it is a block of one of the
+-- A row names an object's block of this kind at a place: it is in the object's chain, once; or it is a block of one of the
 -- row's checkpoints; or the newest checkpoint has a pointer to it, or a triple of the chain has, on either side.
 abbrev pub Names : (Place → Option Stored) → ℕ → Row → BlockKind → Place → Type 0
 Names held o row Journal p = times p (chain_places (of_kind Journal o held) o row.head) ≡ 1

@@ -64,7 +64,7 @@ data_by contents (SetWindow window) i = []
 data_by contents (Flush first last) i = []
 data_by contents (FlushO object first last) i = []
 
--- Data blocks of an object with these bytes were appended, and then so many blocks in all were taken, by changing nothing
+-- Data blocks of an object with these bytes were appended, and then this many blocks in all were taken, by changing nothing
 -- but the object's journal.
 pub record Appends (object : ℕ) (data_bytes : List (List ℕ)) (count : ℕ) (before after : Log) : Type 0 where
   pub between : Log

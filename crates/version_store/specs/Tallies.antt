@@ -43,7 +43,7 @@ NoRowFrom s n = (q : ℕ) → n ≤ q → row_of s.rows q ≡ None
 abbrev pub CountsAreOfRows : Type 0
 CountsAreOfRows = (s : StoreFields) (n : ℕ) (p : Place) → IsStore s → NoRowFrom s n → log_names s.log p ≡ named_below s n p
 
--- These are 15 numbers for each of so many frames, those of frame 0 first: how often the rows of all objects below a number
+-- These are 15 numbers for each of this many frames, those of frame 0 first: how often the rows of all objects below a number
 -- name each of its blocks, from block 1 on, at the frame's generation.
 pub record AreTallies (t : Table) (s : StoreFields) (n : ℕ) (tallies : List ℕ) : Type 0 where
   pub count : length tallies ≡ 15 * length t.seat.frames

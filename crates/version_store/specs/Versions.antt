@@ -45,7 +45,7 @@ distance_by held o t (Some row) = Some (least_distance held o row t)
 abbrev pub distance_in : StoreFields → ℕ → ℕ → Option ℕ
 distance_in s o t = distance_by s.log.held o t (row_of s.rows o)
 
--- the version that an inode stands for over the blocks that are held; Absent for none
+-- the version that an inode represents over the blocks that are held; Absent for none
 abbrev pub version_by : (Place → Option Stored) → Option Inode → Version
 version_by held None = Absent
 version_by held (Some i) = meaning (contents_of held) i

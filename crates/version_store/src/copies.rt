@@ -32,7 +32,8 @@ fn frame_of(copies: &[CopiedBlock]) -> Renaming
     }
 }
 
-/// Appends a copy of a data block of an object where a place is ahead, and puts its new place into the renaming.
+/// Appends a copy of a data block of an object where a place is ahead, and puts its new place into
+/// the renaming.
 fn append_copy<B: Blocks>(
     table: &mut B,
     object: ObjectId,
@@ -56,7 +57,8 @@ fn append_copy<B: Blocks>(
     renaming.insert(copy.place.block(), place);
 }
 
-/// Appends copies of data blocks of an object in their order where there is room, and answers where each stands now.
+/// Appends copies of data blocks of an object in their order where there is room, and answers where
+/// each stands now.
 pub(crate) fn append_copies<B: Blocks>(
     table: &mut B,
     object: ObjectId,
@@ -65,7 +67,8 @@ pub(crate) fn append_copies<B: Blocks>(
     requires object { 1 ≤ object }
     requires copies { AreCopies (B.log table.old).held object copies.now }
     requires room { length copies.now ≤ length (B.log table.old).ahead }
-    ensures appending { Appending object copies.now (B.log table.old) (B.log table.new) result [] (length copies.now) }
+    ensures appending { Appending object copies.now (B.log table.old) (B.log table.new) result []
+        (length copies.now) }
 {
     no_change_takes_no_place();
     moves_are_put_in_one_by_one();

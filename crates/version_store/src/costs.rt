@@ -1,12 +1,17 @@
 //! What a change takes of a store, counted from its object's inode before anything is written.
 
-ghost use Rattle.std.specs.Prelude.{◌≡◌, ◌+◌, ◌≤◌, length, sum, None, Some, IfOk, OnOk, MatchResult};
-ghost use Rattle.s4_types.specs.declared.limits.TheConstants.{OBJECT_BLOCKS, OBJECT_BYTES, ATTRIBUTE_PAIR_BYTES, CHANGE_ENTRY_BYTES, JOURNAL_ENTRY_BYTES};
+ghost use Rattle.std.specs.Prelude.{◌≡◌, ◌+◌, ◌≤◌, length, sum, None, Some, IfOk, OnOk};
+ghost use Rattle.std.specs.Prelude.{MatchResult};
+ghost use Rattle.s4_types.specs.declared.limits.TheConstants.{OBJECT_BLOCKS, OBJECT_BYTES};
+ghost use Rattle.s4_types.specs.declared.limits.TheConstants.{ATTRIBUTE_PAIR_BYTES};
+ghost use Rattle.s4_types.specs.declared.limits.TheConstants.{CHANGE_ENTRY_BYTES};
+ghost use Rattle.s4_types.specs.declared.limits.TheConstants.{JOURNAL_ENTRY_BYTES};
 ghost use Rattle.std.specs.List.{AllByRecursion};
 ghost use Rattle.s4_model.specs.Limits.{Fits};
 ghost use Rattle.codec.specs.Entry.{pair_length};
 ghost use Rattle.undo_redo.specs.Between.{pair_between};
-ghost use Rattle.version_store.specs.Costs.{past_count, pointers_moved, data_blocks, attribute_by, sizes_by, blocks_by, refusal_by};
+ghost use Rattle.version_store.specs.Costs.{past_count, pointers_moved, data_blocks, attribute_by};
+ghost use Rattle.version_store.specs.Costs.{sizes_by, blocks_by, refusal_by};
 ghost use Rattle.s4_model.specs.Effect.{object_of};
 
 use codec::Inode;
@@ -34,7 +39,7 @@ pub(crate) fn object_of(change: &Change) -> ObjectId
     }
 }
 
-/// How many blocks of an inode stand past a size.
+/// How many blocks of an inode are past a size.
 #[tactic(auto, using(crate::proofs::Costing::past_all, crate::proofs::Counting::tally_most))]
 fn blocks_past(inode: &Inode, size: u64) -> usize
     requires size { size ≤ OBJECT_BYTES }
@@ -83,7 +88,8 @@ fn data_blocks(change: &Change, inode: &Inode) -> usize
     }
 }
 
-/// How many bytes two attributes take in an entry: none where they are equal, else both with a byte each for their length.
+/// How many bytes two attributes take in an entry: none where they are equal, else both with a byte
+/// each for their length.
 #[tactic(auto, using(crate::proofs::Costing::pair_found, crate::proofs::Costing::pair_other))]
 fn pair_bytes(before: &[u8], after: &[u8]) -> usize
     requires before { length before.now ≤ 64 }
@@ -101,7 +107,8 @@ fn pair_bytes(before: &[u8], after: &[u8]) -> usize
 #[tactic(auto, using(crate::proofs::Costing::pair_same))]
 fn attribute_bytes(change: &Change, inode: &Inode) -> usize
     requires { Fits change.now }
-    ensures exact { result ≡ pair_length (pair_between inode.now.attribute (attribute_by change.now inode.now)) }
+    ensures exact { result
+        ≡ pair_length (pair_between inode.now.attribute (attribute_by change.now inode.now)) }
     ensures most { result ≤ ATTRIBUTE_PAIR_BYTES }
 {
     let before = inode.attribute.as_slice();
@@ -140,9 +147,9 @@ fn total(sizes: &[usize]) -> usize
     total
 }
 
-/// How many bytes the journal's entries of a change of an inode have, where its object has this row and so many blocks may be
-/// appended. ChainFull where all of the journal's would be more than `CHAIN_ENTRY_BYTES`, else NoSpace where the change needs
-/// more blocks.
+/// How many bytes the journal's entries of a change of an inode have, where its object has this row
+/// and this many blocks may be appended. ChainFull where all of the journal's would be more than
+/// `CHAIN_ENTRY_BYTES`, else NoSpace where the change needs more blocks.
 pub(crate) fn bytes_of_entries(
     space: usize,
     change: &Change,
@@ -153,8 +160,10 @@ pub(crate) fn bytes_of_entries(
     requires size { inode.now.size ≤ OBJECT_BYTES }
     requires count { length inode.now.pointers ≡ OBJECT_BLOCKS }
     ensures bytes { IfOk result (λ bytes. bytes ≡ sum (sizes_by change.now inode.now)) }
-    ensures fit { OnOk result (AllByRecursion (λ size. size ≤ JOURNAL_ENTRY_BYTES) (sizes_by change.now inode.now)) }
-    ensures answer { MatchResult result (λ _. refusal_by space change.now row.now inode.now ≡ None) (λ e. refusal_by space change.now row.now inode.now ≡ Some e) }
+    ensures fit { OnOk result
+        (AllByRecursion (λ size. size ≤ JOURNAL_ENTRY_BYTES) (sizes_by change.now inode.now)) }
+    ensures answer { MatchResult result (λ _. refusal_by space change.now row.now inode.now ≡ None)
+        (λ e. refusal_by space change.now row.now inode.now ≡ Some e) }
 {
     few_blocks_are_needed();
     let sizes = sizes_of(change, inode);

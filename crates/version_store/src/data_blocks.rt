@@ -1,4 +1,4 @@
-//! The data blocks that pointers lead to: listed, and dropped with all else of an object.
+//! The data blocks that pointers refer to: listed, and dropped with all else of an object.
 ghost use Rattle.std.specs.Prelude.{◌≡◌, ◌<◌, ◌^◌, ◌++◌, None, IfOk, IfErr, OnOk};
 ghost use Rattle.std.specs.List.{All};
 ghost use Rattle.s4_types.specs.Pointer.{Place};
@@ -8,7 +8,8 @@ ghost use Rattle.block_log.specs.Log.{of_kind};
 ghost use Rattle.block_log.specs.Taken.{TakesPlaces};
 ghost use Rattle.journal_chain.specs.Chain.{OnlyJournalChanged};
 ghost use Rattle.time_read.specs.Rows.{IsRow, checkpoint_of, entries_of};
-ghost use Rattle.version_store.specs.Store.{IsLed, IsNamedBy, HasNothing, sides_of, sides_told, pointers_kept, pointers_of};
+ghost use Rattle.version_store.specs.Store.{IsLed, IsNamedBy, HasNothing, sides_of, sides_told};
+ghost use Rattle.version_store.specs.Store.{pointers_kept, pointers_of};
 ghost use Rattle.version_store.specs.Replacing.{OtherObjectsStay, pointers_told};
 ghost use Rattle.version_store.specs.private.Recounting.{Uncounts};
 
@@ -27,7 +28,8 @@ use time_read::laws::{a_row_is_its_own_blocks, a_row_tells_a_chain};
 
 /// Adds both pointers of each triple of an entry.
 fn add_sides(pointers: &mut Vec<Option<Ptr>>, entry: &Entry) -> Result<(), Refusal>
-    ensures added { OnOk result (pointers.new.items ≡ pointers.old.items ++ sides_of entry.now.triples) }
+    ensures added { OnOk result
+        (pointers.new.items ≡ pointers.old.items ++ sides_of entry.now.triples) }
     ensures refusal { IfErr result (λ e. e ≡ NoMemory) }
 {
     for triple in entry.triples() {
@@ -38,7 +40,8 @@ fn add_sides(pointers: &mut Vec<Option<Ptr>>, entry: &Entry) -> Result<(), Refus
 
 /// Adds both pointers of each triple of entries, those of the first entry first.
 fn add_told(pointers: &mut Vec<Option<Ptr>>, entries: &[Entry]) -> Result<(), Refusal>
-    ensures added { OnOk result (pointers.new.items ≡ pointers.old.items ++ sides_told entries.now) }
+    ensures added { OnOk result
+        (pointers.new.items ≡ pointers.old.items ++ sides_told entries.now) }
     ensures refusal { IfErr result (λ e. e ≡ NoMemory) }
 {
     for entry in entries {
@@ -55,7 +58,8 @@ fn pointers_kept<B: Blocks>(
     row: &Row,
 ) -> Result<Vec<Option<Ptr>>, Refusal>
     requires { IsRow (B.log table.old).held object row.now }
-    ensures kept { IfOk result (λ kept. kept.items ≡ pointers_kept (checkpoint_of (B.log table.old).held object row.now)) }
+    ensures kept { IfOk result
+        (λ kept. kept.items ≡ pointers_kept (checkpoint_of (B.log table.old).held object row.now)) }
     ensures refusal { IfErr result (λ e. e ≡ NoMemory) }
     ensures same { B.log table.new ≡ B.log table.old }
 {
@@ -71,7 +75,8 @@ fn pointers_kept<B: Blocks>(
     Ok(kept)
 }
 
-/// All pointers to data that an object's row leads to, by these entries, which are those of its journal.
+/// All pointers to data that an object's row refers to, by these entries, which are those of its
+/// journal.
 ///
 /// NoMemory alone, where the memory for them is refused.
 pub(crate) fn pointers_by<B: Blocks>(
@@ -83,7 +88,8 @@ pub(crate) fn pointers_by<B: Blocks>(
 ) -> Result<Vec<Option<Ptr>>, Refusal>
     requires row { IsRow (B.log table.old).held object row.now }
     requires entries { entries.now ≡ entries_of (B.log table.old).held object row.now }
-    ensures pointers { IfOk result (λ pointers. pointers.items ≡ pointers_of (B.log table.old).held object row.now) }
+    ensures pointers { IfOk result
+        (λ pointers. pointers.items ≡ pointers_of (B.log table.old).held object row.now) }
     ensures refusal { IfErr result (λ e. e ≡ NoMemory) }
     ensures same { B.log table.new ≡ B.log table.old }
 {
@@ -92,7 +98,7 @@ pub(crate) fn pointers_by<B: Blocks>(
     Ok(pointers)
 }
 
-/// All pointers to data that an object's row leads to.
+/// All pointers to data that an object's row refers to.
 ///
 /// NoMemory alone, where the memory for them or for the entries of its journal is refused.
 pub(crate) fn pointers_of<B: Blocks>(
@@ -102,7 +108,8 @@ pub(crate) fn pointers_of<B: Blocks>(
     row: &Row,
 ) -> Result<Vec<Option<Ptr>>, Refusal>
     requires { IsRow (B.log table.old).held object row.now }
-    ensures pointers { IfOk result (λ pointers. pointers.items ≡ pointers_of (B.log table.old).held object row.now) }
+    ensures pointers { IfOk result
+        (λ pointers. pointers.items ≡ pointers_of (B.log table.old).held object row.now) }
     ensures refusal { IfErr result (λ e. e ≡ NoMemory) }
     ensures same { B.log table.new ≡ B.log table.old }
 {
@@ -110,7 +117,7 @@ pub(crate) fn pointers_of<B: Blocks>(
     pointers_by(alloc, table, object, row, entries.as_slice())
 }
 
-/// All pointers of an inode, and behind them both sides of each triple of entries.
+/// All pointers of an inode, and after them both sides of each triple of entries.
 ///
 /// NoMemory alone, where the memory for them is refused.
 pub(crate) fn pointers_told(

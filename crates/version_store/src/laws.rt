@@ -1,6 +1,11 @@
 //! Laws of stores, for the layers above: each function does nothing, and its contract is the law.
 
-ghost use Rattle.version_store.specs.Laws.{ObjectsStay, InodesStay, VersionsStay, ThePresentStays, AnInodeAtAllMomentsOrNone, ChangesBeginWithThePresent, ChangesBeginWithThePresentVersion, TheAliveAreThere, HeldIsWhatRowsName, EachHeldBlockIsNamed, InodesPointToWhatRowsName, RowsHaveFewPointers, PlacesHaveFewNames};
+ghost use Rattle.version_store.specs.Laws.{ObjectsStay, InodesStay, VersionsStay, ThePresentStays};
+ghost use Rattle.version_store.specs.Laws.{AnInodeAtAllMomentsOrNone, ChangesBeginWithThePresent};
+ghost use Rattle.version_store.specs.Laws.{ChangesBeginWithThePresentVersion, TheAliveAreThere};
+ghost use Rattle.version_store.specs.Laws.{HeldIsWhatRowsName, EachHeldBlockIsNamed};
+ghost use Rattle.version_store.specs.Laws.{InodesPointToWhatRowsName, RowsHaveFewPointers};
+ghost use Rattle.version_store.specs.Laws.{PlacesHaveFewNames};
 ghost use Rattle.version_store.specs.Replacing.{AJournalCanBeCut, ACutJournalShowsTheSame};
 ghost use Rattle.version_store.specs.Stamps.{EachStepTells};
 ghost use Rattle.version_store.specs.Tallies.{CountsAreOfRows};
@@ -23,8 +28,9 @@ use undo_redo::laws::{
     the_inode_at_a_moment_stands_in_the_run,
 };
 
-/// What an object is at each moment rests on its own blocks alone: where its journal and its checkpoints are the same, and
-/// each of its data blocks is still held, it is an object with the same inodes and the same versions.
+/// What an object is at each moment rests on its own blocks alone: where its journal and its
+/// checkpoints are the same, and each of its data blocks is still held, it is an object with the
+/// same inodes and the same versions.
 pub fn versions_rest_on_their_objects_blocks()
     ensures object { ObjectsStay }
     ensures inode { InodesStay }
@@ -48,15 +54,16 @@ pub fn an_object_has_an_inode_at_all_moments_or_at_none()
     ensures { AnInodeAtAllMomentsOrNone }
 {}
 
-/// A change of an object begins with its present inode, and with the blank one where the object has no row.
+/// A change of an object begins with its present inode, and with the blank one where the object has
+/// no row.
 pub fn changes_begin_with_the_present()
     ensures { ChangesBeginWithThePresent }
 {
     a_fresh_row_stands();
 }
 
-/// The inode that a change of an object begins with stands for the object's present version, so the object is there exactly
-/// where that inode is alive.
+/// The inode that a change of an object begins with represents the object's present version, so the
+/// object is there exactly where that inode is alive.
 pub fn changes_begin_with_the_present_version()
     ensures version { ChangesBeginWithThePresentVersion }
     ensures there { TheAliveAreThere }
@@ -64,9 +71,10 @@ pub fn changes_begin_with_the_present_version()
     a_fresh_row_stands();
 }
 
-/// What is held is exactly what rows name: an object's journal blocks are those of its chain, its blocks of checkpoints are
-/// those of the one that its row names, and its data blocks are those that a pointer of that checkpoint, or either side of a
-/// triple of that chain, leads to. Nothing else is held, and no object without a row has a block.
+/// What is held is exactly what rows name: an object's journal blocks are those of its chain, its
+/// blocks of checkpoints are those of the one that its row names, and its data blocks are those
+/// that a pointer of that checkpoint, or either side of a triple of that chain, leads to. Nothing
+/// else is held, and no object without a row has a block.
 pub fn what_is_held_is_what_rows_name()
     ensures exact { HeldIsWhatRowsName }
     ensures block { EachHeldBlockIsNamed }
@@ -75,22 +83,23 @@ pub fn what_is_held_is_what_rows_name()
     a_checkpoint_has_its_blocks();
 }
 
-/// Each data block that an inode of an object points to, at whatever moment, is one that the object's row names. A row may
-/// name more: a block that stands in no inode but between two entries of one moment.
+/// Each data block that an inode of an object points to, at whatever moment, is one that the
+/// object's row names. A row may name more: a block that is in no inode but between two entries of
+/// one moment.
 pub fn inodes_point_to_what_rows_name()
     ensures { InodesPointToWhatRowsName }
 {}
 
-/// No row has more than 12,144 pointers that name data, and no data block more names, and what is not data has none: so a count of
-/// names fits 32 bits, and one more does.
+/// No row has more than 12,144 pointers that name data, and no data block more names, and what is
+/// not data has none: so a count of names fits 32 bits, and one more does.
 pub fn places_have_few_names()
     ensures places { PlacesHaveFewNames }
     ensures rows { RowsHaveFewPointers }
 {}
 
-/// What a table counts for a place is how often the rows of all objects name it: a block of a journal or of a checkpoint once, a
-/// data block once for each pointer of a checkpoint and each side of a triple that leads to it. What is held nowhere is named by
-/// no row.
+/// What a table counts for a place is how often the rows of all objects name it: a block of a
+/// journal or of a checkpoint once, a data block once for each pointer of a checkpoint and each
+/// side of a triple that refers to it. What is held nowhere is named by no row.
 pub fn counts_are_of_rows()
     ensures { CountsAreOfRows }
 {
@@ -99,13 +108,14 @@ pub fn counts_are_of_rows()
     checkpoints_of_two_moments_share_no_block();
 }
 
-/// A step of a store lowers no stamp, and where it leaves an object's stamp, it leaves all of the object's blocks. So while
-/// a row has its stamp, its object holds what it held.
+/// A step of a store lowers no stamp, and where it leaves an object's stamp, it leaves all of the
+/// object's blocks. So while a row has its stamp, its object holds what it held.
 pub fn a_step_that_leaves_a_stamp_leaves_the_blocks()
     ensures { EachStepTells }
 {}
 
-/// An object's journal can be replaced by its own later entries, where there are some, with the present inode as it is.
+/// An object's journal can be replaced by its own later entries, where there are some, with the
+/// present inode as it is.
 pub fn a_journal_can_be_cut()
     ensures { AJournalCanBeCut }
 {
@@ -117,8 +127,8 @@ pub fn a_journal_can_be_cut()
     a_row_keeps_the_making();
 }
 
-/// From a moment on an object's inodes are those that its later entries lead to, ending with the present one: also where there
-/// are none, and the present inode is current since.
+/// From a moment on an object's inodes are those that its later entries lead to, ending with the
+/// present one: also where there are none, and the present inode is current since.
 pub fn a_cut_journal_shows_the_same()
     ensures { ACutJournalShowsTheSame }
 {
@@ -130,7 +140,8 @@ pub fn a_cut_journal_shows_the_same()
     a_row_keeps_the_making();
 }
 
-// What the crates below say of rows, inodes and entries, for the functions that change an object or write its checkpoint.
+// What the crates below say of rows, inodes and entries, for the functions that change an object or
+// write its checkpoint.
 pub(crate) fn what_changes_rest_on()
     ensures { ChangesStand }
 {

@@ -12,8 +12,8 @@ use s4_types::{Moment, ObjectId};
 use std::alloc::Global;
 use time_read::{Present, inode_at};
 
-/// Makes of an inode the object's at a moment, led to from the nearest checkpoint. False where the memory for the entries is refused;
-/// then the inode is as it was.
+/// Makes of an inode the object's at a moment, led to from the nearest checkpoint. False where the
+/// memory for the entries is refused; then the inode is as it was.
 fn lead_from_nearest<B: Blocks>(
     alloc: Global,
     table: &mut B,
@@ -39,8 +39,9 @@ fn lead_from_nearest<B: Blocks>(
     }
 }
 
-/// Makes of an object's inode behind all its entries the one at a moment, in its place: by the index of its entries; or where there
-/// is none from the nearest checkpoint; or where the memory for that is refused by a walk of the journal.
+/// Makes of an object's inode after all its entries the one at a moment, in its place: by the index
+/// of its entries; or where there is none from the nearest checkpoint; or where the memory for that
+/// is refused by a walk of the journal.
 pub(crate) fn lead_back<B: Blocks>(
     alloc: Global,
     table: &mut B,
@@ -51,15 +52,17 @@ pub(crate) fn lead_back<B: Blocks>(
     inode: &mut Inode,
 )
     requires row { IsRow (B.log table.old).held object kept.now.row }
-    requires index { IsIndexOf kept.now.value.index (entries_of (B.log table.old).held object kept.now.row) }
+    requires index { IsIndexOf kept.now.value.index
+        (entries_of (B.log table.old).held object kept.now.row) }
     requires cached { IsTrueOf cache.old.pairs (B.log table.old).held object kept.now.row }
     requires present { inode.old ≡ last_inode (B.log table.old).held object kept.now.row }
     ensures inode { inode.new ≡ inode_of (B.log table.old).held object kept.now.row at }
-    ensures added { AddsTrue (B.log table.old).held object kept.now.row cache.old.pairs cache.new.pairs }
+    ensures added { AddsTrue (B.log table.old).held object kept.now.row cache.old.pairs
+        cache.new.pairs }
     ensures same { B.log table.new ≡ B.log table.old }
 {
-    // With an index no inode is made beside the one that is led back. It is led back in one place alone, so that the compiler puts
-    // that call in line.
+    // With an index no inode is made beside the one that is led back. It is led back in one place
+    // alone, so that the compiler puts that call in line.
     if kept.value.index.is_none()
         && lead_from_nearest(alloc, table, cache, object, &kept.row, at, inode)
     {

@@ -8,8 +8,8 @@ use segment_table::SegmentTable;
 use segment_word::Naming;
 use std::marker::{Model, PhantomData};
 
-/// A segment table whose frames are those of the drive that `J` names. That stays so through every call over `Blocks`, since
-/// the type says it. Contracts see the segment table.
+/// A segment table whose frames are those of the drive that `J` names. That stays so through every
+/// call over `Blocks`, since the type says it. Contracts see the segment table.
 #[derive(Drop)]
 pub struct NamedTable<J: Naming> {
     pub(crate) table: SegmentTable,

@@ -4,7 +4,8 @@ ghost use Rattle.s4_types.specs.Pointer.{Place};
 ghost use Rattle.s4_types.specs.declared.refusals.Refusal.TheVariants.{NoMemory};
 ghost use Rattle.block_log.specs.Log.{Stored};
 ghost use Rattle.time_read.specs.Rows.{entries_of, inode_of};
-ghost use Rattle.version_store.specs.Opening.{IndexesEntries, FitsItsRow, numbers_opened, rows_opened, NumbersAscend};
+ghost use Rattle.version_store.specs.Opening.{IndexesEntries, FitsItsRow, numbers_opened};
+ghost use Rattle.version_store.specs.Opening.{rows_opened, NumbersAscend};
 ghost use Rattle.version_store.specs.private.Opening.{presents_opened};
 
 use codec::{Entry, Inode};
@@ -14,7 +15,7 @@ use std::alloc::Global;
 use std::marker::Model;
 use time_read::{Present, index_of};
 
-/// An object of a drive that was saved: its row, and what stands beside it.
+/// An object of a drive that was saved: its row, and what is beside it.
 /// Contracts see its number, its row, its present inode, and what its index tells.
 #[derive(Drop)]
 pub struct OpenedObject {
@@ -32,8 +33,9 @@ impl Model for OpenedObject {
 }
 
 impl OpenedObject {
-    /// The object of a row, with its present inode and an index of its journal's entries. Where memory for the index is refused
-    /// it has none, and the journal is read whenever an earlier inode is asked for.
+    /// The object of a row, with its present inode and an index of its journal's entries. Where
+    /// memory for the index is refused it has none, and the journal is read whenever an earlier
+    /// inode is asked for.
     pub fn new(
         alloc: Global,
         object: ObjectId,
@@ -45,7 +47,9 @@ impl OpenedObject {
         ensures row { result.row ≡ row.now }
         ensures inode { result.inode ≡ present.now }
         ensures entries { IndexesEntries result entries.now }
-        ensures fits { (held : Place → Option Stored) (latest : ℕ) → present.now ≡ inode_of held object row.now latest → entries.now ≡ entries_of held object row.now → FitsItsRow held latest result }
+        ensures fits { (held : Place → Option Stored) (latest : ℕ)
+            → present.now ≡ inode_of held object row.now latest
+            → entries.now ≡ entries_of held object row.now → FitsItsRow held latest result }
     {
         let present = Present {
             inode: *present,

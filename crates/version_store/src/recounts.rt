@@ -1,5 +1,5 @@
-//! The names of an object's data blocks, counted anew where its row comes to lead elsewhere. New names are given before old ones
-//! are taken away, so that a block which has both stays held.
+//! The names of an object's data blocks, counted anew where its row comes to lead elsewhere. New
+//! names are given before old ones are taken away, so that a block which has both stays held.
 ghost use Rattle.std.specs.Prelude.{◌≡◌, ℕ, ◌+◌, ◌^◌, ◌<◌, ◌++◌, length, map, option_copied};
 ghost use Rattle.std.specs.List.{All};
 ghost use Rattle.std.specs.Option.{option_to_list};
@@ -23,8 +23,8 @@ use object_map::Row;
 use s4_types::{ObjectId, Ptr};
 use undo_redo::EntriesBetween;
 
-/// An object's journal has these entries more: both sides of their triples give names, and those that the blocks of these
-/// pointers had so far are taken away.
+/// An object's journal has these entries more: both sides of their triples give names, and those
+/// that the blocks of these pointers had so far are taken away.
 pub(crate) fn count_change<B: Blocks>(
     table: &mut B,
     object: ObjectId,
@@ -33,8 +33,10 @@ pub(crate) fn count_change<B: Blocks>(
 )
     requires told { All (IsLed (B.log table.old).held object) (sides_told entries.now) }
     requires hand { All (IsLed (B.log table.old).held object) hand.now }
-    requires room { (p : Place) → (B.log table.old).named p + length (sides_told entries.now) < 2 ^ 32 }
-    ensures { Recounts object (B.log table.old) (sides_told entries.now) hand.now (B.log table.new) }
+    requires room { (p : Place)
+        → (B.log table.old).named p + length (sides_told entries.now) < 2 ^ 32 }
+    ensures { Recounts object (B.log table.old) (sides_told entries.now) hand.now
+        (B.log table.new) }
 {
     one_place_has_one_name();
     places_taken_add_up();
@@ -47,8 +49,11 @@ pub(crate) fn count_change<B: Blocks>(
 /// The inode of the older checkpoint of a row that goes where a newer one is written, if one goes.
 pub(crate) fn inode_gone<B: Blocks>(table: &mut B, object: ObjectId, row: &Row) -> Option<Inode>
     requires { IsRow (B.log table.old).held object row.now }
-    ensures gone { pointers_in result ≡ pointers_of_sides (B.log table.old).held object (option_to_list (side_gone row.now.sides row.now.checkpoint)) }
-    ensures all { option_to_list (side_gone row.now.sides row.now.checkpoint) ++ sides_after row.now ≡ sides_named row.now }
+    ensures gone { pointers_in result
+        ≡ pointers_of_sides (B.log table.old).held object
+        (option_to_list (side_gone row.now.sides row.now.checkpoint)) }
+    ensures all { option_to_list (side_gone row.now.sides row.now.checkpoint) ++ sides_after row.now
+        ≡ sides_named row.now }
     ensures same { B.log table.new ≡ B.log table.old }
 {
     a_checkpoint_has_its_blocks();
@@ -58,7 +63,8 @@ pub(crate) fn inode_gone<B: Blocks>(table: &mut B, object: ObjectId, row: &Row) 
     Some(*checkpoint.inode())
 }
 
-/// An object has a checkpoint of this inode more, and of its older ones that of the other one less, if one went.
+/// An object has a checkpoint of this inode more, and of its older ones that of the other one less,
+/// if one went.
 pub(crate) fn count_checkpoint<B: Blocks>(
     table: &mut B,
     object: ObjectId,
@@ -68,7 +74,8 @@ pub(crate) fn count_checkpoint<B: Blocks>(
     requires pointers { All (IsLed (B.log table.old).held object) inode.now.pointers }
     requires gone { All (IsLed (B.log table.old).held object) (pointers_in (option_copied gone)) }
     requires room { (p : Place) → (B.log table.old).named p + length inode.now.pointers < 2 ^ 32 }
-    ensures { Recounts object (B.log table.old) inode.now.pointers (pointers_in (option_copied gone.entry)) (B.log table.new) }
+    ensures { Recounts object (B.log table.old) inode.now.pointers
+        (pointers_in (option_copied gone.entry)) (B.log table.new) }
 {
     one_place_has_one_name();
     places_taken_add_up();
@@ -78,7 +85,8 @@ pub(crate) fn count_checkpoint<B: Blocks>(
     table.names();
 }
 
-/// Each block that one of the one pointers leads to is named once more for it, and each that one of the others leads to once less.
+/// Each block that one of the one pointers refers to is named once more for it, and each that one
+/// of the others leads to once less.
 pub(crate) fn recount<B: Blocks>(
     table: &mut B,
     object: ObjectId,
@@ -98,9 +106,9 @@ pub(crate) fn recount<B: Blocks>(
     table.names();
 }
 
-/// These pointers, by which a row leads to its data, give their names where they will lead once they are renamed, and all by which it
-/// names data give theirs no more. Blocks that were copied have one name more, by which they are still held, and their copies no
-/// other names.
+/// These pointers, by which a row refers to its data, give their names where they will lead once
+/// they are renamed, and all by which it names data give theirs no more. Blocks that were copied
+/// have one name more, by which they are still held, and their copies no other names.
 pub(crate) fn count_renaming<B: Blocks>(
     table: &mut B,
     object: ObjectId,
@@ -112,9 +120,13 @@ pub(crate) fn count_renaming<B: Blocks>(
     requires names { All (IsLed (B.log table.old).held object) names.now }
     requires copied { All (IsLed (B.log table.old).held object) (places_copied copies.now) }
     requires new { All (IsLed (B.log table.old).held object) renaming.now.moves }
-    requires renamed { All (IsLed (B.log table.old).held object) (map (renamed_slot renaming.now) led.now) }
-    requires room { (p : Place) → (B.log table.old).named p + (length copies.now + length led.now) < 2 ^ 32 }
-    ensures { Recounts object (B.log table.old) (places_copied copies.now ++ map (renamed_slot renaming.now) led.now) (names.now ++ renaming.now.moves) (B.log table.new) }
+    requires renamed { All (IsLed (B.log table.old).held object)
+        (map (renamed_slot renaming.now) led.now) }
+    requires room { (p : Place)
+        → (B.log table.old).named p + (length copies.now + length led.now) < 2 ^ 32 }
+    ensures { Recounts object (B.log table.old)
+        (places_copied copies.now ++ map (renamed_slot renaming.now) led.now)
+        (names.now ++ renaming.now.moves) (B.log table.new) }
 {
     one_place_has_one_name();
     places_taken_add_up();

@@ -1,4 +1,5 @@
-//! An object's journal and checkpoint, renamed and written at other places together with copies of its data.
+//! An object's journal and checkpoint, renamed and written at other places together with copies of
+//! its data.
 ghost use Rattle.std.specs.Prelude.{◌≡◌, ℕ, ◌≤◌, length, option_map};
 ghost use Rattle.std.specs.List.{All, AllByRecursion};
 ghost use Rattle.s4_types.specs.Pointer.{Place};
@@ -41,12 +42,16 @@ fn rename_checkpoint(checkpoint: &mut Option<Inode>, renaming: &Renaming)
     }
 }
 
-/// Renames all pointers of a journal and its checkpoint: none of the new places may be among those that they name.
+/// Renames all pointers of a journal and its checkpoint: none of the new places may be among those
+/// that they name.
 fn rename(journal: &mut ObjectJournal, renaming: &Renaming)
     requires distinct { HasDistinctPlaces renaming.now }
-    requires apart { AllByRecursion (TellsWithin (IsNotNew renaming.now)) journal.old.entries.items }
-    ensures checkpoint { journal.new.checkpoint ≡ option_map (renamed_inode renaming.now) journal.old.checkpoint }
-    ensures entries { journal.new.entries.items ≡ renamed_entries renaming.now journal.old.entries.items }
+    requires apart { AllByRecursion (TellsWithin (IsNotNew renaming.now))
+        journal.old.entries.items }
+    ensures checkpoint { journal.new.checkpoint
+        ≡ option_map (renamed_inode renaming.now) journal.old.checkpoint }
+    ensures entries { journal.new.entries.items
+        ≡ renamed_entries renaming.now journal.old.entries.items }
 {
     rename_checkpoint(&mut journal.checkpoint, renaming);
     renaming.rename_in_place(journal.entries.as_mut_slice());
@@ -59,8 +64,9 @@ pub(crate) struct Relocated {
     pub(crate) renaming: Renaming,
 }
 
-/// Appends copies of an object's data blocks where there is room, renames the pointers of its journal and its newest checkpoint,
-/// writes these at other places, and drops what was copied, and all older checkpoints.
+/// Appends copies of an object's data blocks where there is room, renames the pointers of its
+/// journal and its newest checkpoint, writes these at other places, and drops what was copied, and
+/// all older checkpoints.
 pub(crate) fn relocate_blocks<B: Blocks>(
     table: &mut B,
     object: ObjectId,
@@ -72,18 +78,23 @@ pub(crate) fn relocate_blocks<B: Blocks>(
 ) -> Relocated
     requires row { IsRow (B.log table.old).held object row.now }
     requires orderly { (latest : ℕ) × IsOrderly (B.log table.old).held object row.now latest }
-    requires led { All (IsLed (B.log table.old).held object) (pointers_of (B.log table.old).held object row.now) }
+    requires led { All (IsLed (B.log table.old).held object)
+        (pointers_of (B.log table.old).held object row.now) }
     requires pointers { led.now ≡ pointers_of (B.log table.old).held object row.now }
     requires names { names.now ≡ pointers_named (B.log table.old).held object row.now }
     requires journal { IsJournalOf (B.log table.old).held object row.now journal.old }
     requires copies { AreCopies (B.log table.old).held object copies.now }
-    requires room { blocks_relocated (B.log table.old).held object row.now copies.now ≤ length (B.log table.old).ahead }
-    requires counted { IsNamedBy object (B.log table.old) (pointers_named (B.log table.old).held object row.now) }
+    requires room { blocks_relocated (B.log table.old).held object row.now copies.now
+        ≤ length (B.log table.old).ahead }
+    requires counted { IsNamedBy object (B.log table.old)
+        (pointers_named (B.log table.old).held object row.now) }
     requires few_names { (p : Place) → (B.log table.old).named p ≤ 12144 }
     requires few { length (pointers_named (B.log table.old).held object row.now) ≤ 12144 }
-    ensures moved { Relocates (B.log table.old) object row.now copies.now result.row (B.log table.new) result.renaming }
+    ensures moved { Relocates (B.log table.old) object row.now copies.now result.row
+        (B.log table.new) result.renaming }
     ensures named { NamesMove (B.log table.old) object row.now result.renaming (B.log table.new) }
-    ensures entries { journal.new.entries.items ≡ renamed_entries result.renaming (entries_of (B.log table.old).held object row.now) }
+    ensures entries { journal.new.entries.items
+        ≡ renamed_entries result.renaming (entries_of (B.log table.old).held object row.now) }
 {
     one_place_has_one_name();
     places_taken_add_up();

@@ -1,14 +1,18 @@
-//! How often the row of an object names each place: by its journal, its checkpoints and its data, all of which are read.
-ghost use Rattle.std.specs.Prelude.{◌≡◌, ℕ, ◌+◌, ◌^◌, ◌<◌, ◌++◌, [], ◌∷◌, length, map, slice_index_or, Some, IfSome, IfOk, IfErr, OnOk};
+//! How often the row of an object names each place: by its journal, its checkpoints and its data,
+//! all of which are read.
+ghost use Rattle.std.specs.Prelude.{◌≡◌, ℕ, ◌+◌, ◌^◌, ◌<◌, ◌++◌, [], ◌∷◌, length, map};
+ghost use Rattle.std.specs.Prelude.{slice_index_or, Some, IfSome, IfOk, IfErr, OnOk};
 ghost use Rattle.std.specs.List.{All};
 ghost use Rattle.s4_types.specs.declared.refusals.Refusal.TheVariants.{NoMemory};
 ghost use Rattle.block_log.specs.declared.kinds.BlockKind.TheVariants.{Journal};
 ghost use Rattle.block_log.specs.Log.{of_kind};
 ghost use Rattle.checkpoint.specs.Held.{checkpoint_held, of_checkpoints, HasItsBlocks};
 ghost use Rattle.journal_chain.specs.Chain.{chain_places};
-ghost use Rattle.time_read.specs.Rows.{entries_of, IsRow, all_places_of, checkpoint_places_of, side_places};
+ghost use Rattle.time_read.specs.Rows.{entries_of, IsRow, all_places_of, checkpoint_places_of};
+ghost use Rattle.time_read.specs.Rows.{side_places};
 ghost use Rattle.version_store.specs.Store.{pointers_kept, pointers_named, pointers_of_sides};
-ghost use Rattle.version_store.specs.private.Tallying.{pointers_to, number_of, times_on, IsWithin, Grows};
+ghost use Rattle.version_store.specs.private.Tallying.{pointers_to, number_of, times_on, IsWithin};
+ghost use Rattle.version_store.specs.private.Tallying.{Grows};
 
 use crate::data_blocks::{pointers_by, pointers_of};
 use block_log::Blocks;
@@ -30,7 +34,12 @@ fn add_journal<B: Blocks>(
     pointers: &mut Vec<Option<Ptr>>,
 ) -> Result<(), Refusal>
     requires { IsRow (B.log table.old).held object row.now }
-    ensures added { OnOk result (pointers.new.items ≡ pointers.old.items ++ map Some (chain_places (of_kind Journal object (B.log table.old).held) object row.now.head)) }
+    ensures added { OnOk result
+        (pointers.new.items
+        ≡ pointers.old.items
+        ++ map Some
+        (chain_places (of_kind Journal object (B.log table.old).held) object
+        row.now.head)) }
     ensures refusal { IfErr result (λ e. e ≡ NoMemory) }
     ensures same { B.log table.new ≡ B.log table.old }
 {
@@ -47,7 +56,10 @@ fn add_newest<B: Blocks>(
     pointers: &mut Vec<Option<Ptr>>,
 ) -> Result<(), Refusal>
     requires { HasItsBlocks (B.log table.old).held object row.now.checkpoint }
-    ensures added { OnOk result (pointers.new.items ≡ pointers.old.items ++ map Some (checkpoint_places_of (B.log table.old).held object row.now)) }
+    ensures added { OnOk result
+        (pointers.new.items
+        ≡ pointers.old.items
+        ++ map Some (checkpoint_places_of (B.log table.old).held object row.now)) }
     ensures refusal { IfErr result (λ e. e ≡ NoMemory) }
     ensures same { B.log table.new ≡ B.log table.old }
 {
@@ -64,8 +76,13 @@ fn add_older<B: Blocks>(
     sides: &[Side],
     pointers: &mut Vec<Option<Ptr>>,
 ) -> Result<(), Refusal>
-    requires { All (λ side. HasItsBlocks (B.log table.old).held object (Some side.place)) sides.now }
-    ensures added { OnOk result (pointers.new.items ≡ pointers.old.items ++ map Some (side_places (of_checkpoints object (B.log table.old).held) sides.now)) }
+    requires { All (λ side. HasItsBlocks (B.log table.old).held object (Some side.place))
+        sides.now }
+    ensures added { OnOk result
+        (pointers.new.items
+        ≡ pointers.old.items
+        ++ map Some
+        (side_places (of_checkpoints object (B.log table.old).held) sides.now)) }
     ensures refusal { IfErr result (λ e. e ≡ NoMemory) }
     ensures same { B.log table.new ≡ B.log table.old }
 {
@@ -83,7 +100,10 @@ fn add_side<B: Blocks>(
     pointers: &mut Vec<Option<Ptr>>,
 ) -> Result<(), Refusal>
     requires { HasItsBlocks (B.log table.old).held object (Some side.now.place) }
-    ensures added { OnOk result (pointers.new.items ≡ pointers.old.items ++ pointers_kept (checkpoint_held (B.log table.old).held object side.now.place)) }
+    ensures added { OnOk result
+        (pointers.new.items
+        ≡ pointers.old.items
+        ++ pointers_kept (checkpoint_held (B.log table.old).held object side.now.place)) }
     ensures refusal { IfErr result (λ e. e ≡ NoMemory) }
     ensures same { B.log table.new ≡ B.log table.old }
 {
@@ -101,8 +121,11 @@ fn add_aside<B: Blocks>(
     sides: &[Side],
     pointers: &mut Vec<Option<Ptr>>,
 ) -> Result<(), Refusal>
-    requires { All (λ side. HasItsBlocks (B.log table.old).held object (Some side.place)) sides.now }
-    ensures added { OnOk result (pointers.new.items ≡ pointers.old.items ++ pointers_of_sides (B.log table.old).held object sides.now) }
+    requires { All (λ side. HasItsBlocks (B.log table.old).held object (Some side.place))
+        sides.now }
+    ensures added { OnOk result
+        (pointers.new.items
+        ≡ pointers.old.items ++ pointers_of_sides (B.log table.old).held object sides.now) }
     ensures refusal { IfErr result (λ e. e ≡ NoMemory) }
     ensures same { B.log table.new ≡ B.log table.old }
 {
@@ -121,7 +144,9 @@ fn add_data<B: Blocks>(
     pointers: &mut Vec<Option<Ptr>>,
 ) -> Result<(), Refusal>
     requires { IsRow (B.log table.old).held object row.now }
-    ensures added { OnOk result (pointers.new.items ≡ pointers.old.items ++ pointers_named (B.log table.old).held object row.now) }
+    ensures added { OnOk result
+        (pointers.new.items
+        ≡ pointers.old.items ++ pointers_named (B.log table.old).held object row.now) }
     ensures refusal { IfErr result (λ e. e ≡ NoMemory) }
     ensures same { B.log table.new ≡ B.log table.old }
 {
@@ -132,7 +157,8 @@ fn add_data<B: Blocks>(
     Ok(())
 }
 
-/// All pointers by which an object's row names data, by these entries, which are those of its journal.
+/// All pointers by which an object's row names data, by these entries, which are those of its
+/// journal.
 ///
 /// NoMemory alone, where the memory for them is refused.
 pub(crate) fn names_by<B: Blocks>(
@@ -144,7 +170,8 @@ pub(crate) fn names_by<B: Blocks>(
 ) -> Result<Vec<Option<Ptr>>, Refusal>
     requires row { IsRow (B.log table.old).held object row.now }
     requires entries { entries.now ≡ entries_of (B.log table.old).held object row.now }
-    ensures names { IfOk result (λ names. names.items ≡ pointers_named (B.log table.old).held object row.now) }
+    ensures names { IfOk result
+        (λ names. names.items ≡ pointers_named (B.log table.old).held object row.now) }
     ensures refusal { IfErr result (λ e. e ≡ NoMemory) }
     ensures same { B.log table.new ≡ B.log table.old }
 {
@@ -162,7 +189,10 @@ fn add_checkpoints<B: Blocks>(
     pointers: &mut Vec<Option<Ptr>>,
 ) -> Result<(), Refusal>
     requires { IsRow (B.log table.old).held object row.now }
-    ensures added { OnOk result (pointers.new.items ≡ pointers.old.items ++ map Some (all_places_of (B.log table.old).held object row.now)) }
+    ensures added { OnOk result
+        (pointers.new.items
+        ≡ pointers.old.items
+        ++ map Some (all_places_of (B.log table.old).held object row.now)) }
     ensures refusal { IfErr result (λ e. e ≡ NoMemory) }
     ensures same { B.log table.new ≡ B.log table.old }
 {
@@ -172,7 +202,8 @@ fn add_checkpoints<B: Blocks>(
     Ok(())
 }
 
-/// All places that an object's row names, as pointers, each as often as it does, and its holes among them.
+/// All places that an object's row names, as pointers, each as often as it does, and its holes
+/// among them.
 ///
 /// NoMemory alone, where the memory for them or for the entries of its journal is refused.
 pub(crate) fn pointers_to<B: Blocks>(
@@ -182,7 +213,8 @@ pub(crate) fn pointers_to<B: Blocks>(
     row: &Row,
 ) -> Result<Vec<Option<Ptr>>, Refusal>
     requires { IsRow (B.log table.old).held object row.now }
-    ensures pointers { IfOk result (λ pointers. pointers.items ≡ pointers_to (B.log table.old).held object row.now) }
+    ensures pointers { IfOk result
+        (λ pointers. pointers.items ≡ pointers_to (B.log table.old).held object row.now) }
     ensures refusal { IfErr result (λ e. e ≡ NoMemory) }
     ensures same { B.log table.new ≡ B.log table.old }
 {
@@ -193,7 +225,7 @@ pub(crate) fn pointers_to<B: Blocks>(
     Ok(pointers)
 }
 
-/// The place that a pointer leads to, if it leads to one, is named once more.
+/// The place that a pointer refers to, if it refers to one, is named once more.
 fn tally_one(tallies: &mut [u32], pointer: Option<Ptr>)
     requires within { IsWithin (length tallies.old) pointer }
     requires room { IfSome pointer (λ p. slice_index_or tallies.old (number_of p) 0 + 1 < 2 ^ 32) }
@@ -205,10 +237,11 @@ fn tally_one(tallies: &mut [u32], pointer: Option<Ptr>)
     }
 }
 
-/// Each place that one of these pointers leads to is named once more for it.
+/// Each place that one of these pointers refers to is named once more for it.
 pub(crate) fn tally(tallies: &mut [u32], pointers: &[Option<Ptr>])
     requires within { All (IsWithin (length tallies.old)) pointers.now }
-    requires room { (i : ℕ) → i < length tallies.old → slice_index_or tallies.old i 0 + times_on i pointers.now < 2 ^ 32 }
+    requires room { (i : ℕ) → i < length tallies.old
+        → slice_index_or tallies.old i 0 + times_on i pointers.now < 2 ^ 32 }
     ensures { Grows tallies.old pointers.now tallies.new }
 {
     for pointer in pointers {

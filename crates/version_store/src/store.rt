@@ -1,5 +1,6 @@
 //! A store of objects: made, looked at and read.
-ghost use Rattle.std.specs.Prelude.{◌≡◌, ℕ, ◌+◌, ◌^◌, ◌≤◌, ◌<◌, Some, None, length, take, drop, IsSome, IfSome, IfNone, IfOk, IfErr, option_copied, option_map};
+ghost use Rattle.std.specs.Prelude.{◌≡◌, ℕ, ◌+◌, ◌^◌, ◌≤◌, ◌<◌, Some, None, length, take, drop};
+ghost use Rattle.std.specs.Prelude.{IsSome, IfSome, IfNone, IfOk, IfErr, option_copied, option_map};
 ghost use Rattle.s4_types.specs.Pointer.{Place};
 ghost use Rattle.s4_types.specs.declared.refusals.Refusal.TheVariants.{NoMemory};
 ghost use Rattle.object_map.specs.Objects.{IsNextAbove};
@@ -37,18 +38,19 @@ use time_read::{Present, inode_at_counted};
 #[derive(Drop)]
 pub struct Store<B: Blocks> {
     alloc: Global,
-    // The present inode and an index of the journal are kept beside each row, so that neither a change nor a read goes through a journal,
-    // unless memory for the index was refused.
-    // An inode takes 672 bytes, its row some 200, the index's own part some 80; with the gaps of the tree these take up to 1,940.
-    // At most 15,300 objects can have a row, each with at least one block of 512 bytes in the table: so at worst this takes
-    // four times the memory of the table's blocks, and the indexes' lists as much as the journals at most, but for growth and
+    // The present inode and an index of the journal are kept beside each row, so that neither a
+    // change nor a read goes through a journal, unless memory for the index was refused. An inode
+    // takes 672 bytes, its row some 200, the index's own part some 80; with the gaps of the tree
+    // these take up to 1,940. At most 15,300 objects can have a row, each with at least one block
+    // of 512 bytes in the table: so at worst this takes four times the memory of the table's
+    // blocks, and the indexes' lists as much as the journals at most, but for growth and
     // attributes.
     objects: ObjectMap<Present>,
     table: B,
     // The moment of the last change, 0 where there was none.
     latest: Moment,
-    // What is kept under a stamp that its row no longer has isn't looked at any more; a row that goes takes all with it, since its
-    // stamps begin anew where its number is given once more.
+    // What is kept under a stamp that its row no longer has isn't looked at any more; a row that
+    // goes takes all with it, since its stamps begin anew where its number is given once more.
     cache: InodeCache,
 }
 
@@ -64,8 +66,9 @@ impl<B: Blocks> Model for Store<B> {
 }
 
 impl<B: Blocks> Store<B> {
-    /// A store without objects, over a table that holds no block; places of it that were taken and those ahead are fewer than 2^46.
-    /// It keeps the inodes of at most `inodes` checkpoints in memory, 1 to `CACHED_INODES`.
+    /// A store without objects, over a table that holds no block; places of it that were taken and
+    /// those ahead are fewer than 2^46. It keeps the inodes of at most `inodes` checkpoints in
+    /// memory, 1 to `CACHED_INODES`.
     ///
     /// NoMemory alone, where the memory for these is refused; the table is let go then.
     #[tactic(auto, using(crate::proofs::Cached::none_true))]
@@ -123,9 +126,11 @@ impl<B: Blocks> Store<B> {
         self.objects.next_above(object)
     }
 
-    /// The present inode of an object, and none where it has no row. It is kept beside the row: no journal is walked.
+    /// The present inode of an object, and none where it has no row. It is kept beside the row: no
+    /// journal is walked.
     pub fn present(&self, object: ObjectId) -> Option<&Inode>
-        ensures { option_copied result ≡ inode_in (fields_of B.log self.now) object self.now.latest }
+        ensures { option_copied result
+            ≡ inode_in (fields_of B.log self.now) object self.now.latest }
     {
         let kept = self.objects.get(object)?;
         Some(&kept.value.inode)
@@ -143,13 +148,15 @@ impl<B: Blocks> Store<B> {
         Some(inode)
     }
 
-    /// Makes of an object's present inode the one at a moment, in its place. For a moment before the store's last change, of
-    /// whatever object, the object's later changes are undone, the newest first, by the index: that takes no memory, and no block
-    /// is read. Where memory for the index was refused, the inode is led to from the nearest checkpoint, or where memory for that
+    /// Makes of an object's present inode the one at a moment, in its place. For a moment before
+    /// the store's last change, of whatever object, the object's later changes are undone, the
+    /// newest first, by the index: that takes no memory, and no block is read. Where memory for the
+    /// index was refused, the inode is led to from the nearest checkpoint, or where memory for that
     /// is refused too by a walk of the journal.
     pub fn lead_back(&mut self, object: ObjectId, at: Moment, inode: &mut Inode)
         requires store { IsStore (fields_of B.log self.old) }
-        requires present { inode_in (fields_of B.log self.old) object self.old.latest ≡ Some inode.old }
+        requires present { inode_in (fields_of B.log self.old) object self.old.latest
+            ≡ Some inode.old }
         ensures inode { inode_in (fields_of B.log self.old) object at ≡ Some inode.new }
         ensures same { fields_of B.log self.new ≡ fields_of B.log self.old }
     {
@@ -172,20 +179,26 @@ impl<B: Blocks> Store<B> {
         );
     }
 
-    /// The inode of an object at a moment, and how many entries of its journal were undone or redone for it: as many as lie between
-    /// the moment's place in the journal and the nearest start, which is one of the checkpoints that its row names, or the blank
-    /// inode before all entries where it names none. None exactly where the object has no row.
+    /// The inode of an object at a moment, and how many entries of its journal were undone or
+    /// redone for it: as many as lie between the moment's place in the journal and the nearest
+    /// start, which is one of the checkpoints that its row names, or the blank inode before all
+    /// entries where it names none. None exactly where the object has no row.
     ///
-    /// The journal is read whole, and the checkpoint, but for the newest one where its inode was kept in memory when it was read
-    /// before. NoMemory alone, where the memory for the entries is refused.
+    /// The journal is read whole, and the checkpoint, but for the newest one where its inode was
+    /// kept in memory when it was read before. NoMemory alone, where the memory for the entries is
+    /// refused.
     pub fn inode_at_counted(
         &mut self,
         object: ObjectId,
         at: Moment,
     ) -> Result<Option<(Inode, u32)>, Refusal>
         requires { IsStore (fields_of B.log self.old) }
-        ensures inode { IfOk result (λ found. option_map (λ pair. pair.0) found ≡ inode_in (fields_of B.log self.old) object at) }
-        ensures count { IfOk result (λ found. option_map (λ pair. pair.1) found ≡ distance_in (fields_of B.log self.old) object at) }
+        ensures inode { IfOk result
+            (λ found. option_map (λ pair. pair.0) found
+            ≡ inode_in (fields_of B.log self.old) object at) }
+        ensures count { IfOk result
+            (λ found. option_map (λ pair. pair.1) found
+            ≡ distance_in (fields_of B.log self.old) object at) }
         ensures refusal { IfErr result (λ e. e ≡ NoMemory) }
         ensures same { fields_of B.log self.new ≡ fields_of B.log self.old }
     {
@@ -208,7 +221,8 @@ impl<B: Blocks> Store<B> {
     /// NoMemory alone, where the memory for them is refused.
     pub fn entries(&mut self, object: ObjectId) -> Result<Vec<Entry>, Refusal>
         requires { IsStore (fields_of B.log self.old) }
-        ensures entries { IfOk result (λ entries. entries.items ≡ entries_of_object (fields_of B.log self.old) object) }
+        ensures entries { IfOk result
+            (λ entries. entries.items ≡ entries_of_object (fields_of B.log self.old) object) }
         ensures refusal { IfErr result (λ e. e ≡ NoMemory) }
         ensures same { fields_of B.log self.new ≡ fields_of B.log self.old }
     {
@@ -218,8 +232,8 @@ impl<B: Blocks> Store<B> {
         time_read::entries(self.alloc, &mut self.table, object, &row)
     }
 
-    /// The bytes of an object at a moment from an offset on, `len` of them or as many as there are; the inode is the
-    /// object's at that moment. Each block is read once.
+    /// The bytes of an object at a moment from an offset on, `len` of them or as many as there are;
+    /// the inode is the object's at that moment. Each block is read once.
     ///
     /// NoMemory alone, where the memory for the bytes is refused.
     pub fn read(
@@ -232,7 +246,10 @@ impl<B: Blocks> Store<B> {
     ) -> Result<Vec<u8>, Refusal>
         requires store { IsStore (fields_of B.log self.old) }
         requires inode { inode_in (fields_of B.log self.old) object at ≡ Some inode.now }
-        ensures bytes { IfOk result (λ bytes. bytes.items ≡ take len (drop offset (bytes_of (contents_of (B.log self.old.table).held) inode.now))) }
+        ensures bytes { IfOk result
+            (λ bytes. bytes.items
+            ≡ take len
+            (drop offset (bytes_of (contents_of (B.log self.old.table).held) inode.now))) }
         ensures refusal { IfErr result (λ e. e ≡ NoMemory) }
         ensures same { fields_of B.log self.new ≡ fields_of B.log self.old }
     {
@@ -240,7 +257,8 @@ impl<B: Blocks> Store<B> {
         inode::read(self.alloc, &mut self.table, inode, offset, len)
     }
 
-    /// The bytes of an object that has a row, as they are now: [`Store::read`] of its present inode, which isn't copied.
+    /// The bytes of an object that has a row, as they are now: [`Store::read`] of its present
+    /// inode, which isn't copied.
     ///
     /// NoMemory alone, where the memory for the bytes is refused.
     pub fn read_present(

@@ -1,4 +1,5 @@
-//! An object's newest checkpoint and its whole journal, written anew once its older checkpoints are dropped.
+//! An object's newest checkpoint and its whole journal, written anew once its older checkpoints are
+//! dropped.
 ghost use Rattle.std.specs.Prelude.{◌≡◌, ◌≤◌, true, length, option_copied};
 ghost use Rattle.s4_types.specs.declared.limits.TheConstants.{CHAIN_ENTRY_BYTES};
 ghost use Rattle.block_log.specs.Taken.{TakesPlaces};
@@ -19,8 +20,8 @@ use object_map::Row;
 use row_changes::{drop_sides, move_row, rewrite_row};
 use s4_types::{Moment, ObjectId};
 
-/// Writes an object's present inode as its checkpoint of a moment, and its whole journal with these entries, where there is room,
-/// in place of all that stood; its older checkpoints are dropped.
+/// Writes an object's present inode as its checkpoint of a moment, and its whole journal with these
+/// entries, where there is room, in place of all that stood; its older checkpoints are dropped.
 pub(crate) fn rewrite_blocks<B: Blocks>(
     table: &mut B,
     object: ObjectId,
@@ -37,9 +38,11 @@ pub(crate) fn rewrite_blocks<B: Blocks>(
     requires created { present.now.created ≡ row.now.created }
     requires rules { checkpoint_rules (record { object = object; moment = moment; inode = present.now }) ≡ true }
     requires room { rewritten_blocks present.now entries.now ≤ length (B.log table.old).ahead }
-    ensures rewritten { Rewrites (B.log table.new) object row.now result present.now entries.now moment }
+    ensures rewritten { Rewrites (B.log table.new) object row.now result present.now entries.now
+        moment }
     ensures others { OnlyMetadataChanged object (B.log table.old).held (B.log table.new).held }
-    ensures takes { TakesPlaces (rewritten_blocks present.now entries.now) (B.log table.old) (B.log table.new) }
+    ensures takes { TakesPlaces (rewritten_blocks present.now entries.now) (B.log table.old)
+        (B.log table.new) }
     ensures named { (B.log table.new).named ≡ (B.log table.old).named }
 {
     places_taken_add_up();
@@ -50,8 +53,8 @@ pub(crate) fn rewrite_blocks<B: Blocks>(
     next
 }
 
-/// Writes an object's newest checkpoint, if it has one, with this inode, and its whole journal with these entries at other
-/// places, where there is room; its older checkpoints are dropped.
+/// Writes an object's newest checkpoint, if it has one, with this inode, and its whole journal with
+/// these entries at other places, where there is room; its older checkpoints are dropped.
 pub(crate) fn move_blocks<B: Blocks>(
     table: &mut B,
     object: ObjectId,
@@ -62,7 +65,8 @@ pub(crate) fn move_blocks<B: Blocks>(
     requires row { IsRow (B.log table.old).held object row.now }
     requires tell { CanTell object row.now (option_copied kept) entries.now }
     requires room { moved_blocks (option_copied kept) entries.now ≤ length (B.log table.old).ahead }
-    ensures moved { Moved (B.log table.old) (B.log table.new) object row.now result (option_copied kept.entry) entries.now }
+    ensures moved { Moved (B.log table.old) (B.log table.new) object row.now result
+        (option_copied kept.entry) entries.now }
     ensures named { (B.log table.new).named ≡ (B.log table.old).named }
 {
     places_taken_add_up();

@@ -30,7 +30,7 @@ before_later : (span : Span) (back : List Span) → AllByRecursion (λ run. span
 before_later span [] all = refl
 before_later span (run ∷ back) all = with_span_before span run back (not_before span run all.0) (before_from span run (inl all.0))
 
--- so what stands behind stays as it is
+-- so what comes after stays as it is
 before_back : (span : Span) (runs back : List Span) → AllByRecursion (λ run. span.object < run.object) back → with_span span (runs ++ back) ≡ with_span span runs ++ back
 before_back span [] back all = before_later span back all
 before_back span (run ∷ runs) back all = elim (cases_Bool (is_before run span)) [
@@ -108,7 +108,7 @@ none_later list (run ∷ runs) all =
     let lt : list < run.object = all.0 in
     cond-false (run.object == list) _ _ (ne_eqb run.object list (λ (e : run.object ≡ list). omega arith)) ∙ none_later list runs all.1
 
--- a list's runs stand in the chunk that holds it
+-- a list's runs are in the chunk that holds it
 pub of_holder : (list low : ℕ) (cs : List Chunk) (c : Chunk) → Parted low cs → holder list cs ≡ Some c → filter (span_is_of list) (flat cs) ≡ filter (span_is_of list) c.runs.items
 of_holder list low [] c parted h = cc
 of_holder list low (d ∷ cs) c parted h = elim (cases_Bool (nat_lt d.up_to list)) [

@@ -1,4 +1,4 @@
--- The runs of one list stand together, and have in them what the list covers.
+-- The runs of one list are together, and have in them what the list covers.
 use Rattle.std.proofs.Common.{◌≡◌, inl, inr, ℕ, zero, suc, Bool, true, false, not, ◌==◌, ◌&&◌, ◌||◌, ◌+◌, ◌-◌, ◌<◌, ◌≤◌, nat_lt, nat_le, List, [], ◌∷◌, length, take, drop, get_or, filter, refl, sym, ap, subst, ◌∙◌, length-drop, arith}
 use Rattle.std.specs.List.{list_any, AllWithin, AllByRecursion}
 use Rattle.std.specs.List.Sorted.{IsNonDecreasingBy, IsPartitionPoint}
@@ -36,7 +36,7 @@ all_pass p (run ∷ runs) all =
     cond-true (p run) _ _ (all 0 run (omega arith) (omega arith))
     ∙ ap (λ rest. run ∷ rest) (all_pass p runs (λ k d low high. all (suc k) d (omega arith) (omega arith)))
 
--- what stands before the point at which a test fails is what passes it
+-- what is before the point at which a test fails is what passes it
 pub front_passes : (p : Span → Bool) (runs : List Span) (i : ℕ) → IsPartitionPoint (λ run. p run ≡ true) (λ run. p run ≡ false) runs i → take i runs ≡ filter p runs
 front_passes p [] zero point = refl
 front_passes p [] (suc i) point = refl
@@ -45,7 +45,7 @@ front_passes p (run ∷ runs) (suc i) point =
     ap (λ rest. run ∷ rest) (front_passes p runs i (λ k d low high. point.0 (suc k) d (omega arith) (omega arith), λ k d low high. point.1 (suc k) d (omega arith) (omega arith)))
     ∙ sym (cond-true (p run) _ _ (point.0 0 run (omega arith) (omega arith)))
 
--- and what stands behind it is what fails
+-- and what comes after it is what fails
 pub back_passes : (p q : Span → Bool) (runs : List Span) (i : ℕ) → ((run : Span) → q run ≡ not (p run)) → IsPartitionPoint (λ run. p run ≡ true) (λ run. p run ≡ false) runs i → drop i runs ≡ filter q runs
 back_passes p q [] zero other point = refl
 back_passes p q [] (suc i) other point = refl

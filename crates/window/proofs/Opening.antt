@@ -27,7 +27,7 @@ sound_opened clock floor end count spans cs ordered from past numbered few in_ea
     let facts : P (flat cs) = subst P (sym divided.0) (ordered, past, numbered, begun_reach floor spans ordered from, counted, in_each) in
     (facts.0, facts.1, facts.2, divided.1, divided.2, facts.3, subst (λ n. AllEndFrom n (flat cs)) (sym ends) (from_told cs divided.2), facts.4, omega arith, facts.5)
 
--- it stands for each state with its numbers and spans
+-- it represents each state with its numbers and spans
 pub stands_opened : (w : Timeline) (s : State) (spans : List Span) → w.clock ≡ s.clock → w.window ≡ s.window → w.floor ≡ s.floor → w.runs ≡ spans → spans_of s ≡ spans → AllByRecursion (IsOfGiven s.next) spans → StandsFor w s
 stands_opened w s spans clock window floor runs is given =
     let P : List Span → Type 0 = λ xs. AllByRecursion (IsOfGiven s.next) xs in

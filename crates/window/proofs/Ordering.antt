@@ -7,7 +7,7 @@ use Rattle.std.proofs.lemmas.List.{take_all, drop_more}
 use Rattle.s4_types.specs.declared.spans.Span.{Span}
 use Rattle.window.specs.Runs.{is_before, IsBeforeAll, Ascend, joined_span, with_span}
 
--- a run stands before another, by numbers
+-- a run is before another, by numbers
 abbrev pub Before : Span → Span → Type 0
 Before x y = (x.object < y.object) ⊎ ((x.object ≡ y.object) × (x.last + 1 < y.first))
 
@@ -136,7 +136,7 @@ later_before span run [] all o h k d lt b = absurd (omega arith)
 later_before span run (next ∷ runs) all o h zero d lt b = before_trans run next span h.0 all.0 b
 later_before span run (next ∷ runs) all o h (suc k) d lt b = later_before span run runs all.1 o h.2 k d (omega arith) b
 
--- the runs before a span stand in front of all others
+-- the runs before a span are in front of all others
 pub before_in_front : (span : Span) (runs : List Span) → Ascend runs → IsPartitionedBy (λ run. is_before run span) runs
 before_in_front span [] h i j d le lt b = absurd (omega arith)
 before_in_front span (run ∷ runs) h zero zero d le lt b = b
@@ -153,11 +153,11 @@ span_behind span (run ∷ runs) (suc i) point =
     ap (λ xs. run ∷ xs) (span_behind span runs i (λ k d low high. point.0 (suc k) d (omega arith) (omega arith), λ k d low high. point.1 (suc k) d (omega arith) (omega arith)))
     ∙ sym (with_span_past span run runs (point.0 0 run (omega arith) (omega arith)))
 
--- no run stands before a span
+-- no run is before a span
 abbrev pub NoneBefore : Span → List Span → Type 0
 NoneBefore span runs = AllByRecursion (λ run. is_before run span ≡ false) runs
 
--- and none of those behind does
+-- and none of those after does
 pub none_before : (span : Span) (runs : List Span) (i : ℕ) → IsPartitionPoint (λ run. is_before run span ≡ true) (λ run. is_before run span ≡ false) runs i → NoneBefore span (drop i runs)
 none_before span [] zero point = tt
 none_before span [] (suc i) point = tt
@@ -174,7 +174,7 @@ not_before_joined : (next span run : Span) (b : Bool) → is_before next (joined
 not_before_joined next span run true is none = absurd (both_ways (is_before next span) none (before_from next span (Before-joined next span run (before_parts next (joined_span span run) is))))
 not_before_joined next span run false is none = refl
 
--- nor does one stand before what the span and a run make
+-- nor does one are before what the span and a run make
 pub none_before_joined : (span run : Span) (runs : List Span) → NoneBefore span runs → NoneBefore (joined_span span run) runs
 none_before_joined span run [] none = tt
 none_before_joined span run (next ∷ runs) none = (not_before_joined next span run (is_before next (joined_span span run)) refl none.0, none_before_joined span run runs none.1)
@@ -190,7 +190,7 @@ span_placed span runs front back all i point in_front behind is = (
 at_next : (behind : List Span) (i : ℕ) (run : Span) → i < length behind → run ≡ get_or behind i run → drop i behind ≡ run ∷ drop (i + 1) behind
 at_next behind i run lt is = drop_more behind i run lt ∙ ap (λ (x : Span). x ∷ drop (i + 1) behind) (sym is)
 
--- a span before the next run stands before all that are left
+-- a span before the next run is before all that are left
 pub span_stops : (added span run : Span) (runs all behind : List Span) (i : ℕ) → i < length behind → run ≡ get_or behind i run → is_before span run ≡ true → all ++ with_span span (drop i behind) ≡ with_span added runs → NoneBefore span (drop i behind)
     → all ++ span ∷ take (length behind - i) (drop i behind) ≡ with_span added runs
 span_stops added span run runs all behind i lt is before made none =

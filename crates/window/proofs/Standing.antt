@@ -114,7 +114,7 @@ stands_took_span w s a span runs chunks moment at is planned ordered given ascen
       owned = subst P (sym planned) (all_given s.next (next_by a.change s.next) (with_span span w.runs) next (all_with_span (IsOfGiven s.next) span w.runs (λ x y p q. p) given stands.owned));
     }
 
--- a state goes on being stood for where the runs below the floor are left out
+-- a state goes on being represented where the runs below the floor are left out
 pub stands_later : (x later : Timeline) (t : State) → StandsFor x t → later.clock ≡ x.clock → later.window ≡ x.window → later.floor ≡ x.floor → later.runs ≡ filter (is_live later.floor) x.runs → StandsFor later t
 stands_later x later t stands clock window floor is =
     let P : List Span → Type 0 = λ xs. AllByRecursion (IsOfGiven t.next) xs in

@@ -22,7 +22,7 @@ abbrev pub Parted : ℕ → List Chunk → Type 0
 Parted low [] = Unit {0}
 Parted low (c ∷ cs) = (low ≤ c.up_to) × AreWithin low c.up_to c.runs.items × Parted (c.up_to + 1) cs
 
--- the chunk that a list's runs stand in
+-- the chunk that a list's runs are in
 abbrev pub holder : ℕ → List Chunk → Option Chunk
 holder list [] = None
 holder list (c ∷ cs) = if nat_lt c.up_to list then holder list cs else Some c
@@ -74,7 +74,7 @@ AreSoundChunks clock floor end count chunks =
     Ascend (flat chunks) × AllEndBefore clock (flat chunks) × AllNumbered (flat chunks) × Parted 0 chunks × AllDated chunks × AllEndFrom floor (flat chunks) × AllEndFrom end (flat chunks)
     × (count ≡ length (flat chunks)) × (count ≤ RUNS_IN_ALL) × AreFewInEachList (flat chunks)
 
--- Runs in order fall in two parts: those of the lists up to a number, which one of them has, and those behind.
+-- Runs in order fall in two parts: those of the lists up to a number, which one of them has, and those after.
 pub record IsCutOff (runs : List Span) (list : ℕ) (part rest : List Span) : Type 0 where
   pub is : runs ≡ part ++ rest
   pub within : AllByRecursion (λ run. run.object ≤ list) part

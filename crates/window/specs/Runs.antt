@@ -10,7 +10,7 @@ use Rattle.s4_model.specs.Sound.{EndsBefore}
 abbrev pub covers : ℕ → ℕ → Span → Bool
 covers list t run = run.object == list && is_within run t
 
--- Whether one run stands before another: its list does, or both are of one list and a moment is left out
+-- Whether one run is before another: its list is, or both are of one list and a moment is left out
 -- between them.
 abbrev pub is_before : Span → Span → Bool
 is_before x y = nat_lt x.object y.object || (x.object == y.object && nat_lt 1 (y.first - x.last))
@@ -18,7 +18,7 @@ is_before x y = nat_lt x.object y.object || (x.object == y.object && nat_lt 1 (y
 abbrev pub IsBeforeAll : Span → List Span → Type 0
 IsBeforeAll x runs = AllByRecursion (λ y. is_before x y ≡ true) runs
 
--- runs in order: none ends before it begins, and each stands before all that follow
+-- runs in order: none ends before it begins, and each is before all that follow
 abbrev pub Ascend : List Span → Type 0
 Ascend [] = Unit {0}
 Ascend (x ∷ runs) = (x.first ≤ x.last) × IsBeforeAll x runs × Ascend runs

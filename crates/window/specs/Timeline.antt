@@ -1,4 +1,4 @@
--- What contracts see of a window, and which states of a history it stands for.
+-- What contracts see of a window, and which states of a history it represents.
 use Rattle.std.specs.Prelude.{◌≡◌, ℕ, ◌-◌, ◌<◌, ◌≤◌, ◌^◌, max, List, length, filter, map, count_by}
 use Rattle.std.specs.List.{list_any, AllByRecursion}
 use Rattle.s4_types.specs.declared.spans.Span.{Span}
@@ -11,7 +11,7 @@ use Rattle.window.specs.declared.chunks.Fresh.{Fresh}
 use Rattle.window.specs.Runs.{covers, with_span, cut, is_live, is_live_in}
 use Rattle.window.specs.Chunks.{flat, Parted, AllDated, renewed}
 
--- the clock, the window, the floor, and the runs of hidden moments of all lists, which stand in chunks
+-- the clock, the window, the floor, and the runs of hidden moments of all lists, which are in chunks
 pub record Timeline : Type 0 where
   pub clock : ℕ
   pub window : ℕ

@@ -1,23 +1,27 @@
-//! Runs of hidden moments in chunks, so that one more span makes one chunk anew and leaves the others.
-ghost use Rattle.std.specs.Prelude.{◌≡◌, ℕ, ◌==◌, ◌≤◌, None, Some, nat_lt, nat_le, true, false, filter, map, IfOk, IfErr, IfSome, MatchOption, length};
+//! Runs of hidden moments in chunks, so that one more span makes one chunk anew and leaves the
+//! others.
+ghost use Rattle.std.specs.Prelude.{◌≡◌, ℕ, ◌==◌, ◌≤◌, None, Some, nat_lt, nat_le, true, false};
+ghost use Rattle.std.specs.Prelude.{filter, map, IfOk, IfErr, IfSome, MatchOption, length};
 ghost use Rattle.std.specs.List.{list_any};
 ghost use Rattle.std.specs.List.Sorted.{IsPartitionPoint};
 ghost use Rattle.window.specs.Runs.{Ascend, AllEndFrom, span_is_of, covers, cut};
 ghost use Rattle.s4_types.specs.declared.limits.TheConstants.{RUNS_IN_ALL};
-ghost use Rattle.window.specs.Chunks.{flat, Parted, AllNumbered, AllDated, told, IsSifted, AllSifted, is_longer, IsCutOff, holder, put, renewed};
+ghost use Rattle.window.specs.Chunks.{flat, Parted, AllNumbered, AllDated, told, IsSifted};
+ghost use Rattle.window.specs.Chunks.{AllSifted, is_longer, IsCutOff, holder, put, renewed};
 ghost use Rattle.s4_types.specs.declared.refusals.Refusal.TheVariants.{NoMemory};
 
 use crate::runs;
 use s4_types::{Moment, ObjectId, Refusal, Span};
 use std::alloc::Global;
 
-/// Runs that a new chunk has at least, where there are as many behind it.
+/// Runs that a new chunk has at least, where there are as many after it.
 const LEAST_RUNS: usize = 64;
 
 /// Most runs of a chunk: where it would have more, all chunks are made anew.
 const MOST_RUNS: usize = 512;
 
-/// All runs of the lists from the chunk before it on, up to one number. None of them ends before `earliest`.
+/// All runs of the lists from the chunk before it on, up to one number. None of them ends before
+/// `earliest`.
 #[derive(Drop)]
 pub struct Chunk {
     pub up_to: ObjectId,
@@ -44,10 +48,11 @@ impl Fresh {
     }
 }
 
-/// How many chunks stand before the one of a list. Logarithmic in the chunks.
+/// How many chunks are before the one of a list. Logarithmic in the chunks.
 fn place(chunks: &[Chunk], list: ObjectId) -> usize
     requires { Parted 0 chunks.now }
-    ensures { IsPartitionPoint (λ c. nat_lt c.up_to list ≡ true) (λ c. nat_lt c.up_to list ≡ false) chunks.now result }
+    ensures { IsPartitionPoint (λ c. nat_lt c.up_to list ≡ true) (λ c. nat_lt c.up_to list ≡ false)
+        chunks.now result }
 {
     chunks.partition_point(|chunk| chunk.up_to < list)
 }
@@ -56,7 +61,8 @@ fn place(chunks: &[Chunk], list: ObjectId) -> usize
 #[tactic(auto, using(crate::proofs::Chunked::held_at, crate::proofs::Chunked::held_nowhere))]
 pub fn holder(chunks: &[Chunk], list: ObjectId) -> Option<&Chunk>
     requires { Parted 0 chunks.now }
-    ensures { MatchOption result (holder list chunks.now ≡ None) (λ c. holder list chunks.now ≡ Some c.now) }
+    ensures { MatchOption result (holder list chunks.now ≡ None)
+        (λ c. holder list chunks.now ≡ Some c.now) }
 {
     chunks.get(place(chunks, list))
 }
@@ -74,7 +80,8 @@ pub fn of_list(chunks: &[Chunk], list: ObjectId) -> &[Span]
     }
 }
 
-/// Whether a run of the list has the moment in it. Logarithmic in all runs, then linear in those of the list.
+/// Whether a run of the list has the moment in it. Logarithmic in all runs, then linear in those of
+/// the list.
 pub fn covers(chunks: &[Chunk], list: ObjectId, at: Moment) -> bool
     requires parted { Parted 0 chunks.now }
     requires ordered { Ascend (flat chunks.now) }
@@ -118,7 +125,8 @@ fn forget_in(chunk: &mut Chunk, floor: Moment)
     }
 }
 
-/// Forgets the runs that end below the floor. Linear in the chunks, and in the runs of those that have such a run.
+/// Forgets the runs that end below the floor. Linear in the chunks, and in the runs of those that
+/// have such a run.
 #[tactic(auto, using(crate::proofs::Forgetting::up_to_dated, crate::proofs::Forgetting::up_to_next, crate::proofs::Forgetting::up_to_end))]
 pub fn forget(chunks: &mut Vec<Chunk>, floor: Moment)
     requires { AllDated chunks.old.items }
@@ -165,7 +173,8 @@ pub fn all_runs(alloc: Global, chunks: &[Chunk]) -> Result<Vec<Span>, Refusal>
     Ok(all)
 }
 
-/// The runs of all chunks, each without its moments below a floor that it reaches. Linear in all runs.
+/// The runs of all chunks, each without its moments below a floor that it reaches. Linear in all
+/// runs.
 pub fn cut_runs(alloc: Global, chunks: &[Chunk], floor: Moment) -> Result<Vec<Span>, Refusal>
     ensures ok { IfOk result (λ all. all.items ≡ map (cut floor) (flat chunks.now)) }
     ensures err { IfErr result (λ refusal. refusal ≡ NoMemory) }
@@ -180,7 +189,8 @@ pub fn cut_runs(alloc: Global, chunks: &[Chunk], floor: Moment) -> Result<Vec<Sp
 /// A chunk of runs.
 #[tactic(auto, using(crate::proofs::Live::from_earliest))]
 fn new_chunk(up_to: ObjectId, runs: Vec<Span>) -> Chunk
-    ensures { (result.up_to ≡ up_to) × (result.runs ≡ runs) × AllEndFrom result.earliest runs.items }
+    ensures { (result.up_to ≡ up_to) × (result.runs ≡ runs)
+        × AllEndFrom result.earliest runs.items }
 {
     let earliest = runs::earliest(runs.as_slice());
     Chunk {
@@ -192,7 +202,8 @@ fn new_chunk(up_to: ObjectId, runs: Vec<Span>) -> Chunk
 
 /// A chunk with a copy of runs.
 fn chunk_of(alloc: Global, up_to: ObjectId, runs: &[Span]) -> Result<Chunk, Refusal>
-    ensures ok { IfOk result (λ c. (c.up_to ≡ up_to) × (c.runs.items ≡ runs.now) × AllEndFrom c.earliest c.runs.items) }
+    ensures ok { IfOk result
+        (λ c. (c.up_to ≡ up_to) × (c.runs.items ≡ runs.now) × AllEndFrom c.earliest c.runs.items) }
     ensures err { IfErr result (λ refusal. refusal ≡ NoMemory) }
 {
     let mut copy = Vec::with_capacity(alloc, runs.len())?;
@@ -200,16 +211,18 @@ fn chunk_of(alloc: Global, up_to: ObjectId, runs: &[Span]) -> Result<Chunk, Refu
     Ok(new_chunk(up_to, copy))
 }
 
-/// How many runs stand before those behind a list. Logarithmic in the runs.
+/// How many runs are before those after a list. Logarithmic in the runs.
 fn end_of(runs: &[Span], list: ObjectId) -> usize
     requires { Ascend runs.now }
-    ensures point { IsPartitionPoint (λ run. nat_le run.object list ≡ true) (λ run. nat_le run.object list ≡ false) runs.now result }
+    ensures point { IsPartitionPoint (λ run. nat_le run.object list ≡ true)
+        (λ run. nat_le run.object list ≡ false) runs.now result }
     ensures bound { result ≤ length runs.now }
 {
     runs.partition_point(|run| run.object <= list)
 }
 
-/// The number up to which a next chunk of these runs reaches, the runs of that chunk, and those behind it.
+/// The number up to which a next chunk of these runs reaches, the runs of that chunk, and those
+/// after it.
 fn first_part(runs: &[Span]) -> Option<(ObjectId, &[Span], &[Span])>
     requires { Ascend runs.now }
     ensures { IfSome result (λ p. IsCutOff runs.now p.0 p.1.now p.2.now) }
@@ -235,7 +248,8 @@ pub fn last_list(runs: &[Span]) -> Option<u64>
 pub fn divide(alloc: Global, runs: &[Span]) -> Result<Vec<Chunk>, Refusal>
     requires ordered { Ascend runs.now }
     requires numbered { AllNumbered runs.now }
-    ensures ok { IfOk result (λ all. (flat all.items ≡ runs.now) × Parted 0 all.items × AllDated all.items) }
+    ensures ok { IfOk result
+        (λ all. (flat all.items ≡ runs.now) × Parted 0 all.items × AllDated all.items) }
     ensures err { IfErr result (λ refusal. refusal ≡ NoMemory) }
 {
     let mut chunks = Vec::new(alloc);

@@ -1,14 +1,17 @@
 //! Runs of hidden moments in order, of all lists in one slice.
-ghost use Rattle.std.specs.Prelude.{◌≡◌, ℕ, ◌==◌, ◌≤◌, ◌||◌, nat_le, nat_lt, count_by, true, false, ◌∷◌, ◌++◌, filter, map, length, IfOk, IfErr, MatchBool, MatchOption};
+ghost use Rattle.std.specs.Prelude.{◌≡◌, ℕ, ◌==◌, ◌≤◌, ◌||◌, nat_le, nat_lt, count_by, true, false};
+ghost use Rattle.std.specs.Prelude.{◌∷◌, ◌++◌, filter, map, length, IfOk, IfErr, MatchBool};
+ghost use Rattle.std.specs.Prelude.{MatchOption};
 ghost use Rattle.std.specs.List.Sorted.{IsPartitionPoint};
 ghost use Rattle.s4_model.specs.Visible.{is_within};
-ghost use Rattle.window.specs.Runs.{is_before, Ascend, AllEndFrom, cut, joined_span, with_span, is_live, earliest, span_is_of, cover, BeginInOrder, IsLeft};
+ghost use Rattle.window.specs.Runs.{is_before, Ascend, AllEndFrom, cut, joined_span, with_span};
+ghost use Rattle.window.specs.Runs.{is_live, earliest, span_is_of, cover, BeginInOrder, IsLeft};
 ghost use Rattle.s4_types.specs.declared.refusals.Refusal.TheVariants.{NoMemory};
 
 use s4_types::{Moment, ObjectId, Refusal, Span};
 use std::alloc::Global;
 
-/// Whether one run stands before another: its list does, or both are of one list and a moment is left out
+/// Whether one run is before another: its list is, or both are of one list and a moment is left out
 /// between them.
 fn is_before(x: &Span, y: &Span) -> bool
     ensures { result ≡ is_before x.now y.now }
@@ -30,7 +33,7 @@ fn joined(x: &Span, y: &Span) -> Span
     }
 }
 
-// Runs with a span and others behind them.
+// Runs with a span and others after them.
 fn ended(mut all: Vec<Span>, span: Span, behind: &[Span]) -> Result<Vec<Span>, Refusal>
     ensures ok { IfOk result (λ ended. ended.items ≡ all.items ++ span ∷ behind.now) }
     ensures err { IfErr result (λ refusal. refusal ≡ NoMemory) }
@@ -40,17 +43,18 @@ fn ended(mut all: Vec<Span>, span: Span, behind: &[Span]) -> Result<Vec<Span>, R
     Ok(all)
 }
 
-/// How many runs stand before a span. Logarithmic in the runs.
+/// How many runs are before a span. Logarithmic in the runs.
 fn count_before(runs: &[Span], span: &Span) -> usize
     requires { Ascend runs.now }
     ensures bound { result ≤ length runs.now }
-    ensures point { IsPartitionPoint (λ run. is_before run span.now ≡ true) (λ run. is_before run span.now ≡ false) runs.now result }
+    ensures point { IsPartitionPoint (λ run. is_before run span.now ≡ true)
+        (λ run. is_before run span.now ≡ false) runs.now result }
 {
     runs.partition_point(|run| is_before(run, span))
 }
 
-/// Runs with one more span, joined with those that it overlaps or touches. The others are copied at once, and memory is taken
-/// once.
+/// Runs with one more span, joined with those that it overlaps or touches. The others are copied at
+/// once, and memory is taken once.
 pub fn with_span(alloc: Global, runs: &[Span], added: &Span) -> Result<Vec<Span>, Refusal>
     requires { Ascend runs.now }
     ensures ok { IfOk result (λ all. all.items ≡ with_span added.now runs.now) }
@@ -77,7 +81,8 @@ pub fn sift(runs: &mut Vec<Span>, floor: Moment)
     runs.retain(|run| lowest <= run.last.number());
 }
 
-/// Leaves out the runs that end below the floor: there is none where a span that was added to them reaches it.
+/// Leaves out the runs that end below the floor: there is none where a span that was added to them
+/// reaches it.
 pub fn sift_with(runs: &mut Vec<Span>, added: &Span, floor: Moment)
     requires { floor ≤ added.now.last → AllEndFrom floor runs.old.items }
     ensures { runs.new.items ≡ filter (is_live floor) runs.old.items }
@@ -98,7 +103,8 @@ fn cut(run: &Span, floor: Moment) -> Span
     }
 }
 
-/// Puts runs behind others, each without its moments below a floor that it reaches. Linear in the runs.
+/// Puts runs after others, each without its moments below a floor that it reaches. Linear in the
+/// runs.
 pub fn push_cut(all: &mut Vec<Span>, runs: &[Span], floor: Moment) -> Result<(), Refusal>
     ensures ok { IfOk result (λ _. all.new.items ≡ all.old.items ++ map (cut floor) runs.now) }
     ensures err { IfErr result (λ refusal. refusal ≡ NoMemory) }
@@ -146,7 +152,7 @@ fn up_to_list(runs: &[Span], list: ObjectId) -> &[Span]
     &runs[..count]
 }
 
-/// The runs of one list, which stand together. Logarithmic in the runs.
+/// The runs of one list, which are together. Logarithmic in the runs.
 pub fn of_list(runs: &[Span], list: ObjectId) -> &[Span]
     requires { Ascend runs.now }
     ensures { result.now ≡ filter (span_is_of list) runs.now }
@@ -169,10 +175,12 @@ pub fn cover(runs: &[Span], at: Moment) -> bool
     runs.iter().any(|run| is_within(run, at))
 }
 
-/// The first of these runs and the others, if it begins by a moment. If not, no run has that moment in it.
+/// The first of these runs and the others, if it begins by a moment. If not, no run has that moment
+/// in it.
 fn begun(runs: &[Span], at: Moment) -> Option<(&Span, &[Span])>
     requires { BeginInOrder runs.now }
-    ensures { MatchOption result (cover runs.now at ≡ false) (λ p. (runs.now ≡ p.0.now ∷ p.1.now) × (p.0.now.first ≤ at)) }
+    ensures { MatchOption result (cover runs.now at ≡ false)
+        (λ p. (runs.now ≡ p.0.now ∷ p.1.now) × (p.0.now.first ≤ at)) }
 {
     let (run, rest) = runs.split_first()?;
     if run.first.number() <= at.number() {
@@ -182,12 +190,14 @@ fn begun(runs: &[Span], at: Moment) -> Option<(&Span, &[Span])>
     }
 }
 
-/// Whether some moment from one to another is in no run of two lists. Goes through both once, side by side.
+/// Whether some moment from one to another is in no run of two lists. Goes through both once, side
+/// by side.
 pub fn is_any_left(all: &[Span], own: &[Span], from: Moment, to: Moment) -> bool
     requires ordered { from ≤ to }
     requires of_all { BeginInOrder all.now }
     requires of_one { BeginInOrder own.now }
-    ensures { MatchBool result (IsLeft all.now own.now from to) (IsLeft all.now own.now from to → ⊥) }
+    ensures { MatchBool result (IsLeft all.now own.now from to)
+        (IsLeft all.now own.now from to → ⊥) }
 {
     let (mut all_left, mut own_left, mut at) = (all, own, from);
     loop {

@@ -1,18 +1,23 @@
 //! The window of a drive: what can be read, and each step of clock, floor and hidden runs.
-ghost use Rattle.std.specs.Prelude.{◌≡◌, ◌⊎◌, ℕ, true, false, ◌+◌, ◌-◌, ◌<◌, ◌≤◌, max, Some, MatchBool, MatchResult, IfOk, IfErr, filter, length, List};
+ghost use Rattle.std.specs.Prelude.{◌≡◌, ◌⊎◌, ℕ, true, false, ◌+◌, ◌-◌, ◌<◌, ◌≤◌, max, Some};
+ghost use Rattle.std.specs.Prelude.{MatchBool, MatchResult, IfOk, IfErr, filter, length, List};
 ghost use Rattle.std.specs.List.{AllByRecursion};
 ghost use Rattle.s4_types.specs.declared.limits.TheConstants.{RUNS_IN_ALL};
 ghost use Rattle.s4_types.specs.declared.changes.Accepted.{Accepted};
 ghost use Rattle.s4_types.specs.declared.changes.Change.TheVariants.{SetWindow};
 ghost use Rattle.s4_types.specs.declared.requests.Request.TheVariants.{Flush, FlushO};
-ghost use Rattle.s4_types.specs.declared.refusals.Refusal.TheVariants.{NoMemory, BadSpan, TooManySpans};
+ghost use Rattle.s4_types.specs.declared.refusals.Refusal.TheVariants.{NoMemory, BadSpan};
+ghost use Rattle.s4_types.specs.declared.refusals.Refusal.TheVariants.{TooManySpans};
 ghost use Rattle.s4_model.specs.State.{State, state_of, new_history, seen, took};
-ghost use Rattle.s4_model.specs.Refusals.{last_number, is_bad_span, is_one_span_too_many, moment_refusal};
+ghost use Rattle.s4_model.specs.Refusals.{last_number, is_bad_span, is_one_span_too_many};
+ghost use Rattle.s4_model.specs.Refusals.{moment_refusal};
 ghost use Rattle.s4_model.specs.Visible.{span_of, spans_of, IsVisible, IsSeenBetween, is_hidden};
 ghost use Rattle.s4_model.specs.Sound.{IsOfGiven};
 ghost use Rattle.window.specs.Chunks.{holder, is_longer, AllNumbered};
-ghost use Rattle.window.specs.Timeline.{StandsFor, CoverAlike, spans_kept, IsMade, IsPlanned, HasMoved};
-ghost use Rattle.window.specs.Runs.{is_live, with_span, Ascend, AllBeginFrom, AllEndBefore, AreFewInEachList};
+ghost use Rattle.window.specs.Timeline.{StandsFor, CoverAlike, spans_kept, IsMade, IsPlanned};
+ghost use Rattle.window.specs.Timeline.{HasMoved};
+ghost use Rattle.window.specs.Runs.{is_live, with_span, Ascend, AllBeginFrom, AllEndBefore};
+ghost use Rattle.window.specs.Runs.{AreFewInEachList};
 ghost use Rattle.s4_model.specs.Effect.{is_of_versions};
 
 use crate::chunks::{self, Chunk, Fresh};
@@ -24,14 +29,15 @@ use std::marker::Model;
 
 /// The clock, the window, the floor and the runs of hidden moments of a drive.
 ///
-/// Contracts speak of every state of a history that the window stands for.
+/// Contracts speak of every state of a history that the window represents.
 #[derive(Drop)]
 pub struct Window {
     alloc: Global,
     clock: Moment,
     window: u64,
     floor: Moment,
-    /// All runs reach the floor and end before the clock, and no list has more than `RUNS_IN_A_LIST`.
+    /// All runs reach the floor and end before the clock, and no list has more than
+    /// `RUNS_IN_A_LIST`.
     chunks: Vec<Chunk>,
     /// How many runs there are.
     count: usize,
@@ -95,9 +101,9 @@ impl Window {
         }
     }
 
-    /// The window of a drive that was saved: its clock, how many moments it reaches back, its floor, and the runs
-    /// that were hidden from the floor on, as [`Window::spans`] gives them. `NoMemory` where a growth was refused,
-    /// and no other error. Linear in the runs.
+    /// The window of a drive that was saved: its clock, how many moments it reaches back, its
+    /// floor, and the runs that were hidden from the floor on, as [`Window::spans`] gives them.
+    /// `NoMemory` where a growth was refused, and no other error. Linear in the runs.
     pub fn from_parts(
         alloc: Global,
         clock: Moment,
@@ -110,7 +116,8 @@ impl Window {
         requires past { AllEndBefore clock spans.now }
         requires few { length spans.now ≤ RUNS_IN_ALL }
         requires few_in_each_list { AreFewInEachList spans.now }
-        ensures numbers { IfOk result (λ w. (w.clock ≡ clock) × (w.window ≡ window) × (w.floor ≡ floor)) }
+        ensures numbers { IfOk result
+            (λ w. (w.clock ≡ clock) × (w.window ≡ window) × (w.floor ≡ floor)) }
         ensures runs { IfOk result (λ w. w.runs ≡ spans.now) }
         ensures saved_again { IfOk result (λ w. spans_kept w ≡ spans.now) }
         ensures stands { IfOk result (λ w. (s : State) → s.clock ≡ clock → s.window ≡ window → s.floor ≡ floor → spans_of s ≡ spans.now
@@ -132,9 +139,9 @@ impl Window {
         })
     }
 
-    /// What is saved of the hidden runs: those of all lists without their moments below the floor, by list and first
-    /// moment. [`Window::from_parts`] makes this window of them again. `NoMemory` where a growth was refused, and no
-    /// other error. Linear in the runs.
+    /// What is saved of the hidden runs: those of all lists without their moments below the floor,
+    /// by list and first moment. [`Window::from_parts`] makes this window of them again. `NoMemory`
+    /// where a growth was refused, and no other error. Linear in the runs.
     pub fn spans(&self, alloc: Global) -> Result<Vec<Span>, Refusal>
         ensures exact { IfOk result (λ v. v.items ≡ spans_kept self.now) }
         ensures ordered { IfOk result (λ v. Ascend v.items) }
@@ -144,7 +151,8 @@ impl Window {
         ensures few { IfOk result (λ v. length v.items ≤ RUNS_IN_ALL) }
         ensures few_in_each_list { IfOk result (λ v. AreFewInEachList v.items) }
         ensures alike { IfOk result (λ v. CoverAlike self.now.floor v.items self.now.runs) }
-        ensures given { IfOk result (λ v. (s : State) → StandsFor self.now s → AllByRecursion (IsOfGiven s.next) v.items) }
+        ensures given { IfOk result
+            (λ v. (s : State) → StandsFor self.now s → AllByRecursion (IsOfGiven s.next) v.items) }
         ensures refusal { IfErr result (λ e. e ≡ NoMemory) }
     {
         chunks::cut_runs(alloc, self.chunks.as_slice(), self.floor)
@@ -178,33 +186,37 @@ impl Window {
         self.set_clock(self.clock.max(now));
     }
 
-    /// The moment of a change that neither sets the window nor hides moments: the greater of `now` and the
-    /// clock plus one, which is then the clock.
+    /// The moment of a change that neither sets the window nor hides moments: the greater of `now`
+    /// and the clock plus one, which is then the clock.
     pub fn stamp(&mut self, now: Moment) -> Moment
         requires { self.old.clock < last_number }
         ensures moment { result ≡ max now (self.old.clock + 1) }
-        ensures taken { (s : State) (a : Accepted) → StandsFor self.old s → a.moment ≡ result → is_of_versions a.change ≡ true → StandsFor self.new (took s a) }
+        ensures taken { (s : State) (a : Accepted) → StandsFor self.old s → a.moment ≡ result
+            → is_of_versions a.change ≡ true → StandsFor self.new (took s a) }
     {
         self.advance(now)
     }
 
-    /// Sets the window, at a moment as [`Window::stamp`] gives it. The floor is taken with the new window,
-    /// and a larger one never lowers it.
+    /// Sets the window, at a moment as [`Window::stamp`] gives it. The floor is taken with the new
+    /// window, and a larger one never lowers it.
     pub fn set(&mut self, window: u64, now: Moment) -> Moment
         requires { self.old.clock < last_number }
         ensures moment { result ≡ max now (self.old.clock + 1) }
-        ensures taken { (s : State) (a : Accepted) → StandsFor self.old s → a.moment ≡ result → a.change ≡ SetWindow window → StandsFor self.new (took s a) }
+        ensures taken { (s : State) (a : Accepted) → StandsFor self.old s → a.moment ≡ result
+            → a.change ≡ SetWindow window → StandsFor self.new (took s a) }
     {
         self.window = window;
         self.advance(now)
     }
 
-    /// Whether a span may be hidden at all: `BadSpan` where it ends before it begins, or after the clock.
+    /// Whether a span may be hidden at all: `BadSpan` where it ends before it begins, or after the
+    /// clock.
     pub fn check_span(&self, first: Moment, last: Moment) -> Result<(), Refusal>
         ensures ok { IfOk result (λ _. (first ≤ last) × (last ≤ self.now.clock)) }
         ensures of_all { (s : State) → StandsFor self.now s → MatchResult result (λ _. is_bad_span s (Flush first last) ≡ false)
             (λ refusal. (refusal ≡ BadSpan) × (is_bad_span s (Flush first last) ≡ true)) }
-        ensures of_one { (s : State) (object : ℕ) → StandsFor self.now s → is_bad_span s (FlushO object first last) ≡ is_bad_span s (Flush first last) }
+        ensures of_one { (s : State) (object : ℕ) → StandsFor self.now s
+            → is_bad_span s (FlushO object first last) ≡ is_bad_span s (Flush first last) }
     {
         if first <= last && last <= self.clock {
             Ok(())
@@ -213,18 +225,20 @@ impl Window {
         }
     }
 
-    /// Judges a span, of all objects under number 0 or of one object, and takes the memory that hiding it
-    /// needs; nothing is hidden yet. `TooManySpans` where its list would have more than `RUNS_IN_A_LIST` that reach the
-    /// floor, or all lists together more than `RUNS_IN_ALL`; `NoMemory` where a growth was refused. Costs a search
-    /// and the at most 512 runs that stand in one chunk with the span's list; in one of 384 flushes or more, where
-    /// they become more, all runs.
+    /// Judges a span, of all objects under number 0 or of one object, and takes the memory that
+    /// hiding it needs; nothing is hidden yet. `TooManySpans` where its list would have more than
+    /// `RUNS_IN_A_LIST` that reach the floor, or all lists together more than `RUNS_IN_ALL`;
+    /// `NoMemory` where a growth was refused. Costs a search and the at most 512 runs that are in
+    /// one chunk with the span's list; in one of 384 flushes or more, where they become more, all
+    /// runs.
     pub fn plan_flush(&self, span: Span) -> Result<FlushPlan, Refusal>
         requires ordered { span.first ≤ span.last }
         requires past { span.last ≤ self.now.clock }
         ensures planned { IfOk result (λ plan. (plan.span ≡ span) × IsPlanned self.now plan) }
         ensures judged { (s : State) → StandsFor self.now s → span.object < s.next → MatchResult result
             (λ _. is_one_span_too_many s span ≡ false)
-            (λ refusal. (refusal ≡ NoMemory) ⊎ ((refusal ≡ TooManySpans) × (is_one_span_too_many s span ≡ true))) }
+            (λ refusal. (refusal ≡ NoMemory)
+            ⊎ ((refusal ≡ TooManySpans) × (is_one_span_too_many s span ≡ true))) }
     {
         // Reading a field shows what a window keeps.
         let _ = &self.alloc;
@@ -290,7 +304,9 @@ impl Window {
 
     // All runs that reach the floor, one more span among them. Linear in all runs.
     fn live_with(&self, span: &Span) -> Result<Vec<Span>, Refusal>
-        ensures ok { IfOk result (λ runs. runs.items ≡ filter (is_live self.now.floor) (with_span span.now self.now.runs)) }
+        ensures ok { IfOk result
+            (λ runs. runs.items
+            ≡ filter (is_live self.now.floor) (with_span span.now self.now.runs)) }
         ensures err { IfErr result (λ refusal. refusal ≡ NoMemory) }
     {
         let all = chunks::all_runs(self.alloc, self.chunks.as_slice())?;
@@ -323,7 +339,9 @@ impl Window {
         requires clock { self.old.clock < last_number }
         requires planned { IsPlanned self.old plan }
         ensures moment { result ≡ max now (self.old.clock + 1) }
-        ensures taken { (s : State) (a : Accepted) → StandsFor self.old s → plan.span.object < s.next → a.moment ≡ result → span_of a ≡ Some plan.span → StandsFor self.new (took s a) }
+        ensures taken { (s : State) (a : Accepted) → StandsFor self.old s
+            → plan.span.object < s.next → a.moment ≡ result → span_of a ≡ Some plan.span
+            → StandsFor self.new (took s a) }
     {
         let span = plan.span;
         // The span may end at the clock as it was, and each run that is kept ends before the clock.
@@ -336,10 +354,12 @@ impl Window {
         moment
     }
 
-    /// Whether a moment of an object can be read: `Future` above the clock, `Expired` below the floor,
-    /// `Flushed` where a span hides it, the first of these that applies.
+    /// Whether a moment of an object can be read: `Future` above the clock, `Expired` below the
+    /// floor, `Flushed` where a span hides it, the first of these that applies.
     pub fn visible(&self, object: ObjectId, at: Moment) -> Result<(), Refusal>
-        ensures { (s : State) → StandsFor self.now s → MatchResult result (λ _. IsVisible s object at) (λ refusal. moment_refusal s object at ≡ Some refusal) }
+        ensures { (s : State) → StandsFor self.now s
+            → MatchResult result (λ _. IsVisible s object at)
+            (λ refusal. moment_refusal s object at ≡ Some refusal) }
     {
         if self.clock < at {
             return Err(Refusal::Future);
@@ -353,10 +373,12 @@ impl Window {
         Ok(())
     }
 
-    /// Whether some moment of an object, of those from `first` to `last`, can be read. Logarithmic in all runs,
-    /// and then linear in those of the list of all objects and of the object's own.
+    /// Whether some moment of an object, of those from `first` to `last`, can be read. Logarithmic
+    /// in all runs, and then linear in those of the list of all objects and of the object's own.
     pub fn sees(&self, object: ObjectId, first: Moment, last: Moment) -> bool
-        ensures { (s : State) → StandsFor self.now s → MatchBool result (IsSeenBetween s object first last) (IsSeenBetween s object first last → ⊥) }
+        ensures { (s : State) → StandsFor self.now s
+            → MatchBool result (IsSeenBetween s object first last)
+            (IsSeenBetween s object first last → ⊥) }
     {
         let from = Moment::new(first.number().max(self.floor.number()));
         let to = Moment::new(last.number().min(self.clock.number()));
@@ -372,7 +394,8 @@ impl Window {
 
     /// Whether the list of all objects or the object's own covers a moment.
     fn is_hidden(&self, object: ObjectId, at: Moment) -> bool
-        ensures { (s : State) → StandsFor self.now s → s.floor ≤ at → result ≡ is_hidden s object at }
+        ensures { (s : State) → StandsFor self.now s → s.floor ≤ at
+            → result ≡ is_hidden s object at }
     {
         let chunks = self.chunks.as_slice();
         chunks::covers(chunks, ObjectId::new(0), at) || chunks::covers(chunks, object, at)
@@ -397,7 +420,8 @@ impl Window {
         moment
     }
 
-    /// Sets the clock, which never falls, the floor by it, and forgets the runs that end below the floor.
+    /// Sets the clock, which never falls, the floor by it, and forgets the runs that end below the
+    /// floor.
     #[tactic(auto, using(crate::proofs::Forgetting::sound_later))]
     fn set_clock(&mut self, clock: Moment)
         requires { self.old.clock ≤ clock }
@@ -409,10 +433,11 @@ impl Window {
         self.raise_floor(floor);
     }
 
-    /// Sets the floor, and forgets the runs that end below it. Looks at the chunks only when the floor passes the
-    /// earliest end of a run, and at the runs of those that have such a run.
+    /// Sets the floor, and forgets the runs that end below it. Looks at the chunks only when the
+    /// floor passes the earliest end of a run, and at the runs of those that have such a run.
     fn raise_floor(&mut self, floor: Moment)
-        ensures kept { (self.new.clock ≡ self.old.clock) × (self.new.window ≡ self.old.window) × (self.new.floor ≡ floor) }
+        ensures kept { (self.new.clock ≡ self.old.clock)
+            × (self.new.window ≡ self.old.window) × (self.new.floor ≡ floor) }
         ensures forgot { self.new.runs ≡ filter (is_live floor) self.old.runs }
     {
         self.floor = floor;

@@ -24,12 +24,12 @@ abbrev pub LeadsTo : Option KeptChain → Span → Type 0
 LeadsTo None s = ⊤
 LeadsTo (Some chain) s = MayLead chain.last s
 
--- what is joined so far, with a kept inode behind it
+-- what is joined so far, with a kept inode after it
 abbrev pub joined : Option KeptChain → Span → KeptChain
 joined None s = record { first = s.inode; entries = []; last = s.inode }
 joined (Some chain) s = record { first = chain.first; entries = chain.entries ++ step chain.last s; last = led chain.last s.inode }
 
--- what is joined so far, with all kept ones behind it
+-- what is joined so far, with all kept ones after it
 abbrev pub continued : Option KeptChain → List Span → Option KeptChain
 continued None spans = chain_of spans
 continued (Some chain) spans = Some (record { first = chain.first; entries = chain.entries ++ entries_over chain.last spans; last = end_over chain.last spans })

@@ -16,7 +16,7 @@ pub record IsFirstDiffering (a b : List ℕ) (start at : ℕ) : Type 0 where
   pub alike : (i : ℕ) → start ≤ i → i < at → IsAlikeAt a b i
   pub differs : DiffersAt a b at
 
--- Two lists differ from a position to this one, both included, and are alike behind it.
+-- Two lists differ from a position to this one, both included, and are alike after it.
 pub record IsRunEnd (a b : List ℕ) (first last : ℕ) : Type 0 where
   pub ordered : first ≤ last
   pub within : last < max (length a) (length b)

@@ -12,13 +12,13 @@ use Rattle.history_diff.specs.Diffing.{ObjectDifference, IsPassed, IsDifferenceA
 abbrev pub row_of : ℕ → Version → Version → Difference → ObjectDifference
 row_of o before after difference = record { object = o; before = before; after = after; told = told_of difference }
 
--- The output has the lines of a difference behind it.
+-- The output has the lines of a difference after it.
 pub record WritesLines (c : Comparison) (row : ObjectDifference) (output output' : Option (List ℕ)) : Type 0 where
   pub text : List ℕ
   pub lines : AreLinesOf c row text
   pub wrote : Appends output output' text
 
--- Two versions of an object aren't alike, and the output has the lines of what differs behind it.
+-- Two versions of an object aren't alike, and the output has the lines of what differs after it.
 pub record WritesRow (c : Comparison) (o : ℕ) (before after : Version) (output output' : Option (List ℕ)) : Type 0 where
   pub row : ObjectDifference
   pub object : row.object ≡ o
@@ -32,7 +32,7 @@ abbrev pub WritesBetween : Comparison → ℕ → Version → Version → Bool �
 WritesBetween c o before after false output output' = AreAlike before after × Appends output output' []
 WritesBetween c o before after true output output' = WritesRow c o before after output output'
 
--- The output has the lines of what differs of an object behind it.
+-- The output has the lines of what differs of an object after it.
 pub record WritesDifference (s : State) (c : Comparison) (o : ℕ) (output output' : Option (List ℕ)) : Type 0 where
   pub row : ObjectDifference
   pub object : row.object ≡ o

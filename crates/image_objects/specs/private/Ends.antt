@@ -6,7 +6,7 @@ use Rattle.codec.specs.declared.inodes.Inode.{Inode}
 use Rattle.codec.specs.Checkpoint.{pointer_at}
 use Rattle.inode.specs.Contents.{byte_in}
 
--- the bytes behind a slot are zeros from this index on
+-- the bytes that a slot refers to are zeros from this index on
 abbrev pub HasZerosFrom : (Place → List ℕ) → Option Place → ℕ → Type 0
 HasZerosFrom contents slot first = (n : ℕ) → first ≤ n → n < BLOCK_BYTES → byte_in contents slot n ≡ 0
 

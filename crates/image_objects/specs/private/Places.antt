@@ -10,7 +10,7 @@ use Rattle.image_objects.specs.declared.rows.ImageRow.{ImageRow}
 use Rattle.image_objects.specs.Inodes.{checkpoint_places_used}
 use Rattle.image_objects.specs.Objects.{pointers_used}
 
--- the places that slots lead to, in order
+-- the places that slots refer to, in order
 abbrev pub places_in : List (Option Place) → List Place
 places_in slots = flat_map option_to_list slots
 
@@ -18,6 +18,6 @@ places_in slots = flat_map option_to_list slots
 abbrev pub places_of_chain : (Place → Option Stored) → ImageRow → List Place
 places_of_chain used row = chain_places (of_kind Journal row.object used) row.object row.head
 
--- the row's chain, its checkpoint, and all that its pointers lead to
+-- the row's chain, its checkpoint, and all that its pointers refer to
 abbrev pub places_named : (Place → Option Stored) → ImageRow → List Place
 places_named used row = places_of_chain used row ++ checkpoint_places_used used row ++ places_in (pointers_used used row)

@@ -1,10 +1,12 @@
-//! Records with one byte changed: how many of them are records again. That was counted from the tables of the format alone: of a
-//! pointer the frame may be any other, the block one of fourteen, and so on.
+//! Records with one byte changed: how many of them are records again. That was counted from the
+//! tables of the format alone: of a pointer the frame may be any other, the block one of fourteen,
+//! and so on.
 ghost use Rattle.std.specs.Prelude.{◌≤◌, length};
 
 use codec::{decode_checkpoint, decode_journal};
 
-/// The journal block of an object that was made at moment 10 and written at 11: its head and two entries.
+/// The journal block of an object that was made at moment 10 and written at 11: its head and two
+/// entries.
 const JOURNAL: [u8; 109] = [
     1, 2, 0, 0x55, 0, 0, 0, 0, 0, 0, 0, 0, 0, 0, 0, 1, // two entries, of 85 bytes, of object 1
     0, 0, 0, 0, 0, 0, 0, 0, // no block before it
@@ -33,7 +35,7 @@ enum Kind {
     Checkpoint,
 }
 
-/// The bytes, and zeros behind them.
+/// The bytes, and zeros after them.
 fn block_of(front: &[u8]) -> [u8; 512]
     requires { length front.now ≤ 512 }
 {

@@ -22,8 +22,8 @@ fn pinned(frames: &Frames, drive: &mut DriveSeat) -> Result<Pin, Refusal>
     Ok(pin)
 }
 
-/// The word of frame 0 when it is opened, sealed, counted on twice, once, marked, refused to its release, counted on no more,
-/// and released.
+/// The word of frame 0 when it is opened, sealed, counted on twice, once, marked, refused to its
+/// release, counted on no more, and released.
 const WORDS: [u64; 8] = [
     0x0000_0001_0000_0001,
     0x0000_0001_0000_0002,
@@ -89,9 +89,11 @@ fn fill(drive: &mut DriveSeat, frame: usize)
     requires inside { (frame < length drive.old.frames) × (frame < 8) }
     requires free { (frame_at drive.old.frames frame).phase ≡ Free }
     requires goes_on { (frame_at drive.old.frames frame).generation + 1 < 2 ^ 32 }
-    ensures table { (drive.new.table ≡ drive.old.table) × (length drive.new.frames ≡ length drive.old.frames) }
+    ensures table { (drive.new.table ≡ drive.old.table)
+        × (length drive.new.frames ≡ length drive.old.frames) }
     ensures sealed { (frame_at drive.new.frames frame).phase ≡ Sealed }
-    ensures others { (g : ℕ) → g ≢ frame → frame_at drive.new.frames g ≡ frame_at drive.old.frames g }
+    ensures others { (g : ℕ) → g ≢ frame
+        → frame_at drive.new.frames g ≡ frame_at drive.old.frames g }
 {
     drive.open(frame);
     for block in 0..16 {
@@ -125,7 +127,9 @@ fn reads_while_another_frame_is_written(rt: HostRuntime) -> Result<(), Fail> {
             requires { 0 < pins_in 0 pin.pins }
         { is_intact(pin, 0) },
         move || -> DriveSeat
-            requires { (1 < length drive.frames) × ((frame_at drive.frames 1).phase ≡ Free) × ((frame_at drive.frames 1).generation ≡ 1) }
+            requires { (1 < length drive.frames)
+                × ((frame_at drive.frames 1).phase ≡ Free)
+                × ((frame_at drive.frames 1).generation ≡ 1) }
             ensures { 1 < length result.frames }
         {
             fill(&mut drive, 1);

@@ -32,7 +32,8 @@ fn roles() -> BlockRoles {
     roles
 }
 
-/// Whether the block has these bytes: of the head, of the last role with the first zero behind it, and the digest.
+/// Whether the block has these bytes: of the head, of the last role with the first zero after it,
+/// and the digest.
 fn is_spelled(block: &Block) -> bool {
     block[..12] == [0x53, 0x34, 0x73, 0x67, 255, 255, 15, 0, 255, 255, 255, 254][..]
         && block[142..152] == [3, 255, 255, 255, 255, 255, 255, 255, 241, 0][..]

@@ -1,4 +1,5 @@
-//! Frames by the calls that no program here makes. What they give is proved, and here they give something.
+//! Frames by the calls that no program here makes. What they give is proved, and here they give
+//! something.
 use rpc::{Item, decode_reply, encode_reply, encode_request, read_all};
 use s4_types::{Moment, Refusal, Reply, Request};
 use std::alloc::Global;

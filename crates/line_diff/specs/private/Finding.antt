@@ -15,7 +15,7 @@ pub record IsFirstShown (rows : List TextRow) (start at : ℕ) : Type 0 where
   pub near : is_near rows at ≡ true
   pub hidden : (i : ℕ) → start ≤ i → i < at → is_near rows i ≡ false
 
--- Rows are shown from one to this one, both included, and the row behind it isn't, if there is one.
+-- Rows are shown from one to this one, both included, and the row after it isn't, if there is one.
 pub record IsRunEnd (rows : List TextRow) (first last : ℕ) : Type 0 where
   pub ordered : first ≤ last
   pub within : last < length rows

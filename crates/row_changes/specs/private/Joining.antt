@@ -1,4 +1,4 @@
--- What is known of entries of a later moment that come behind those of an object's row. No public clause cites this file.
+-- What is known of entries of a later moment that come after those of an object's row. No public clause cites this file.
 use Rattle.std.specs.Prelude.{◌≡◌, ℕ, ◌≤◌, true, List, ◌++◌, Option}
 use Rattle.s4_types.specs.declared.limits.TheConstants.{JOURNAL_ENTRY_BYTES}
 use Rattle.s4_types.specs.Pointer.{Place}

@@ -1,4 +1,4 @@
--- Reading a body from left to right: what a reader answers, and None where the bytes spell nothing.
+-- Reading a body from left to right: what a reader answers, and None where the bytes encode nothing.
 use Rattle.std.specs.Prelude.{◌≡◌, ℕ, zero, suc, ◌-◌, List, [], ◌∷◌, length, take, drop, Option, Some, None, Result, Ok, Err, nat_lt, ◌==◌, if◌then◌else◌}
 use Rattle.std.specs.Int.{Width, w32, w64, byte_len, from_be_bytes}
 use Rattle.s4_types.specs.RefusalNumber.{number_of}
@@ -30,7 +30,7 @@ Gives view (Err e) read = Fails e read
 abbrev pub wire_number_at : Width → List ℕ → Option (ℕ × List ℕ)
 wire_number_at w bytes = if nat_lt (length bytes) (byte_len w) then None else Some (from_be_bytes w (take (byte_len w) bytes), drop (byte_len w) bytes)
 
--- a text of at most so many bytes behind its length, and the bytes after it
+-- a text of at most this many bytes after its length, and the bytes after it
 unfoldable pub wire_text_at : ℕ → List ℕ → Option (List ℕ × List ℕ)
 wire_text_at limit [] = None
 wire_text_at limit (len ∷ bytes) = if nat_lt limit len then None else (if nat_lt (length bytes) len then None else Some (take len bytes, drop len bytes))
@@ -44,7 +44,7 @@ wire_moment_at (suc zero ∷ rest) = do
   Some (Some n.0, n.1)
 wire_moment_at (suc (suc b) ∷ rest) = None
 
--- all of the bytes, at most so many
+-- all of the bytes, at most this many
 unfoldable pub tail_at : ℕ → List ℕ → Option (List ℕ)
 tail_at limit bytes = if nat_lt limit (length bytes) then None else Some bytes
 
@@ -53,7 +53,7 @@ unfoldable pub ended_at : List ℕ → Option (Unit {0})
 ended_at [] = Some tt
 ended_at (_ ∷ _) = None
 
--- a request of each kind, behind its first byte
+-- a request of each kind, after its first byte
 unfoldable pub create_at : List ℕ → Option Request
 create_at bytes = do
   attribute ← wire_text_at 255 bytes
@@ -66,7 +66,7 @@ delete_at bytes = do
   end ← ended_at object.1
   Some (Delete object.0)
 
--- what stands behind the offset of a read
+-- what comes after the offset of a read
 abbrev pub behind_offset : ℕ → ℕ → List ℕ → Option Request
 behind_offset object offset bytes = do
   len ← wire_number_at w32 bytes
@@ -164,7 +164,7 @@ first_with number (refusal ∷ others) = if number_of refusal == number then Som
 unfoldable pub refusal_of_code : ℕ → Option Refusal
 refusal_of_code number = if number == 16 then None else first_with number refusals
 
--- a reply of each kind, behind its first byte
+-- a reply of each kind, after its first byte
 unfoldable pub refused_at : List ℕ → Option Reply
 refused_at [] = None
 refused_at (number ∷ rest) = do
@@ -190,7 +190,7 @@ data_at bytes = do
   found ← tail_at READ_BYTES bytes
   Some (Data found)
 
--- what stands behind the moments of a reply with attributes
+-- what comes after the moments of a reply with attributes
 abbrev pub behind_changed : ℕ → ℕ → ℕ → List ℕ → Option Reply
 behind_changed size created changed bytes = do
   attribute ← wire_text_at ATTRIBUTE_BYTES bytes

@@ -24,7 +24,8 @@ fn part(alloc: Global, content: &[u8], offset: u64, length: u32) -> Result<Bytes
 
 /// The reply to what was answered.
 pub fn reply_of(answered: Result<Reply, Refusal>) -> Reply
-    ensures { MatchResult answered (λ reply. result ≡ reply) (λ refusal. result ≡ Reply.Refused refusal) }
+    ensures { MatchResult answered (λ reply. result ≡ reply)
+        (λ refusal. result ≡ Reply.Refused refusal) }
 {
     match answered {
         Ok(reply) => reply,
@@ -36,7 +37,8 @@ impl PlainDrive {
     /// The moment that is asked for, if it can be read.
     fn check_moment(&self, object: ObjectId, at: Option<Moment>) -> Result<Moment, Refusal>
         ensures { MatchResult result
-            (λ moment. (moment ≡ asked self.now at) × (moment_refusal self.now object moment ≡ None))
+            (λ moment. (moment ≡ asked self.now at)
+            × (moment_refusal self.now object moment ≡ None))
             (λ refusal. moment_refusal self.now object (asked self.now at) ≡ Some refusal) }
     {
         let moment = at.unwrap_or(self.clock);
@@ -60,7 +62,8 @@ impl PlainDrive {
         length: u32,
         at: Option<Moment>,
     ) -> Result<Reply, Refusal>
-        ensures answer { (role : TheRole) → Answers self.now role (Request.Read object offset length at) result }
+        ensures answer { (role : TheRole)
+            → Answers self.now role (Request.Read object offset length at) result }
         ensures fits { IfOk result IsPlain }
     {
         if u64::from(length) > READ_BYTES || offset > u64::MAX - u64::from(length) {
@@ -82,7 +85,8 @@ impl PlainDrive {
         object: ObjectId,
         at: Option<Moment>,
     ) -> Result<Reply, Refusal>
-        ensures answer { (role : TheRole) → Answers self.now role (Request.GetAttr object at) result }
+        ensures answer { (role : TheRole)
+            → Answers self.now role (Request.GetAttr object at) result }
         ensures fits { IfOk result IsPlain }
     {
         let moment = self.check_moment(object, at)?;

@@ -1,6 +1,8 @@
 //! The checks of a change, each request's in the order in which refusals are looked at.
-ghost use Rattle.std.specs.Prelude.{◌≡◌, ◌↔◌, ◌+◌, ◌<◌, ◌≤◌, None, MatchResult, IfOk, IfErr, IsTrue};
-ghost use Rattle.s4_model.specs.Refusals.{present, last_number, live_size_of, is_client, is_one_span_too_many, is_bad_span};
+ghost use Rattle.std.specs.Prelude.{◌≡◌, ◌↔◌, ◌+◌, ◌<◌, ◌≤◌, None, MatchResult, IfOk, IfErr};
+ghost use Rattle.std.specs.Prelude.{IsTrue};
+ghost use Rattle.s4_model.specs.Refusals.{present, last_number, live_size_of, is_client};
+ghost use Rattle.s4_model.specs.Refusals.{is_one_span_too_many, is_bad_span};
 ghost use Rattle.s4_model.specs.Plain.{Judges, IsChange, IsRefusedBy, live_refusal};
 ghost use Rattle.s4_types.specs.declared.limits.TheConstants.{OBJECT_BYTES};
 ghost use Rattle.s4_types.specs.declared.requests.Role.{Role as TheRole};
@@ -20,7 +22,7 @@ fn is_client(role: Role) -> bool
     }
 }
 
-/// Whether a write of so many bytes at an offset ends past the largest object.
+/// Whether a write of this many bytes at an offset ends past the largest object.
 fn ends_past_limit(offset: u64, length: usize) -> bool
     ensures { IsTrue result ↔ (OBJECT_BYTES < offset + length) }
 {
@@ -50,7 +52,8 @@ impl PlainDrive {
     /// The change, unless its object is absent or the clock is at its end.
     fn judge_live(&self, object: ObjectId, change: Change) -> Result<Change, Refusal>
         ensures { MatchResult result
-            (λ judged. (judged ≡ change) × (live_refusal self.now object ≡ None) × (self.now.clock < last_number))
+            (λ judged. (judged ≡ change)
+            × (live_refusal self.now object ≡ None) × (self.now.clock < last_number))
             (IsRefusedBy (live_refusal self.now object)) }
     {
         if self.present_size(object)?.is_none() {
@@ -84,7 +87,8 @@ impl PlainDrive {
     }
 
     fn judge_write(&self, object: ObjectId, offset: u64, bytes: Bytes) -> Result<Change, Refusal>
-        ensures { (role : TheRole) → Judges self.now role (Request.Write object offset bytes) result }
+        ensures { (role : TheRole)
+            → Judges self.now role (Request.Write object offset bytes) result }
     {
         if ends_past_limit(offset, bytes.len()) {
             return Err(Refusal::TooLarge);
@@ -130,7 +134,8 @@ impl PlainDrive {
     }
 
     fn judge_set_attr(&self, object: ObjectId, attribute: Bytes) -> Result<Change, Refusal>
-        ensures { (role : TheRole) → Judges self.now role (Request.SetAttr object attribute) result }
+        ensures { (role : TheRole)
+            → Judges self.now role (Request.SetAttr object attribute) result }
     {
         if attribute.len() > ATTRIBUTE_BYTES {
             return Err(Refusal::BadAttr);

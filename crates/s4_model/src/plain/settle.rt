@@ -41,7 +41,8 @@ fn next_by(change: &Change, next: ObjectId) -> ObjectId
 }
 
 impl PlainDrive {
-    /// Stamps a change and keeps it. `NoMemory`, and nothing changed, where the list could not grow.
+    /// Stamps a change and keeps it. `NoMemory`, and nothing changed, where the list could not
+    /// grow.
     fn take(&mut self, change: Change, now: Moment) -> Result<Reply, Refusal>
         requires { IsTakeable self.old change }
         ensures { MatchResult result

@@ -33,7 +33,7 @@ pub record IsLowestIn (t : Table) (f o : ℕ) : Type 0 where
   pub life : IsLife (frame_at t.seat.frames f).generation
   pub tells : IsLowestTo t f 15 o
 
--- A survey is of a frame below n that a move can be made out of, and that goes before all others below n: so many of its blocks are held,
+-- A survey is of a frame below n that a move can be made out of, and that goes before all others below n: this many of its blocks are held,
 -- and the least object that one of them is of.
 pub record GoesFirst (t : Table) (n : ℕ) (s : Survey) : Type 0 where
   pub lowest : IsLowestIn t s.frame s.lowest

@@ -4,7 +4,7 @@ use Rattle.segment_word.specs.Frames.{Frame}
 use Rattle.segment_word.specs.Layout.{frame_at, block_bytes}
 
 -- The first n of these blocks were stored in frame f, and have 512 bytes each; of the frame nothing else has changed but blocks
--- behind them, and no other frame has.
+-- after them, and no other frame has.
 pub record AreStored (f n : ℕ) (blocks : List (List ℕ)) (old new : List Frame) : Type 0 where
   pub alone : new ≡ slice_set old f (frame_at new f)
   pub phase : (frame_at new f).phase ≡ (frame_at old f).phase

@@ -10,7 +10,7 @@ use Rattle.segment_word.specs.Counting.{numbers_of}
 use Rattle.segment_word.specs.Handles.{IsPinSeat, AllInside}
 
 -- The seat of a pin is at this table, and the numbers are those of the frames that it counts on, each of which has its
--- place in the table; its perch is one of so many.
+-- place in the table; its perch is one of this many.
 abbrev pub IsSoundPin : TableId → Seat (Unit {0}) View → List ℕ → ℕ → ℕ → Type 0
 IsSoundPin table seat numbers perch perches =
     (seat.table_id ≡ table) × IsPinSeat seat × (numbers ≡ numbers_of seat.me.0.pins) × AllInside seat.table_id seat.me.0.pins × (perch < perches)

@@ -67,7 +67,8 @@ impl Accepts {
         })
     }
 
-    /// The seats for sessions, and the drive's seat, whose history is just the base that the name says.
+    /// The seats for sessions, and the drive's seat, whose history is just the base that the name
+    /// says.
     pub fn named<J: Naming>(self) -> (Sessions<J>, HistorySeat<J>)
         requires { self ≡ J.accepts }
         ensures { result.1 ≡ begun J.base }

@@ -2,7 +2,8 @@
 ghost use Rattle.std.specs.Prelude.{◌≡◌, ◌+◌, ◌^◌, ◌<◌, length};
 ghost use mathlib.Core.List.{IsPrefix};
 ghost use Rattle.s4_types.specs.History.{accepted};
-ghost use Rattle.segment_word.specs.AcceptViews.{count_of, with_change, with_moment, credited, caught_up};
+ghost use Rattle.segment_word.specs.AcceptViews.{count_of, with_change, with_moment, credited};
+ghost use Rattle.segment_word.specs.AcceptViews.{caught_up};
 ghost use Rattle.segment_word.specs.AcceptRule.{FitsLedger, ShareNone, AreNumbered};
 
 use crate::accepts::board::AcceptBoard;
@@ -15,8 +16,8 @@ use std::alloc::Global;
 use std::marker::{Brand, Model, PhantomData};
 use std::sync::Arc;
 
-/// The drive's seat at the accept word. Contracts see its ledger: the history, and for which seat each change in it was
-/// accepted. There is one, and only it makes the history grow.
+/// The drive's seat at the accept word. Contracts see its ledger: the history, and for which seat
+/// each change in it was accepted. There is one, and only it makes the history grow.
 #[derive(Drop)]
 pub struct HistorySeat<J: Naming> {
     pub(crate) board: Arc<AcceptBoard, Global>,
@@ -68,8 +69,9 @@ impl<J: Naming> HistorySeat<J> {
         meet(word, &mut self.seat, &mut session.seat);
     }
 
-    /// The change that `C` names is accepted for the session, at its moment: the history grows by just that. The session
-    /// has seen all accepted changes afterwards, this one as its own. Gives the number of the change, counted from 1.
+    /// The change that `C` names is accepted for the session, at its moment: the history grows by
+    /// just that. The session has seen all accepted changes afterwards, this one as its own. Gives
+    /// the number of the change, counted from 1.
     pub fn accept<C: Taking>(&mut self, session: &mut SessionSeat<J>) -> u64
         requires room { count_of self.old + 1 < 2 ^ 64 }
         ensures history { self.new ≡ with_change self.old session.old.seat C.moment C.change }
@@ -83,8 +85,8 @@ impl<J: Naming> HistorySeat<J> {
         accept::<C>(word, &mut self.seat, &mut session.seat)
     }
 
-    /// Ends a session, and gives its seat back. No number is its own and also that of the session that
-    /// stays, which is as before.
+    /// Ends a session, and gives its seat back. No number is its own and also that of the session
+    /// that stays, which is as before.
     pub fn end_beside(&self, stays: &mut SessionSeat<J>, ends: SessionSeat<J>)
         ensures none { ShareNone stays.old ends }
         ensures same { stays.new ≡ stays.old }

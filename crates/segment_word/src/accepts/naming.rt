@@ -1,7 +1,8 @@
 //! Names that exist in proofs alone: which drive it is, and which change is accepted.
 use std::marker::Brand;
 
-/// Which drive it is: its two tables, and the base of its history. Each call that makes a drive picks it, with `Brand`.
+/// Which drive it is: its two tables, and the base of its history. Each call that makes a drive
+/// picks it, with `Brand`.
 pub trait Naming {
     ghost use Rattle.atomic_table.specs.Seated.{TableId};
     ghost use Rattle.s4_types.specs.History.{Base};

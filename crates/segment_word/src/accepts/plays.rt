@@ -1,6 +1,9 @@
-//! What each step on the accept word tells its seat, and how what a session was told goes from one seat to another.
+//! What each step on the accept word tells its seat, and how what a session was told goes from one
+//! seat to another.
 ghost use Rattle.segment_word.specs.AcceptViews.{Spent};
-ghost use Rattle.segment_word.specs.AcceptSteps.{TakesChange, Learns, Notes, CountsChanges, Begins, Comes, Sheds, unlent, copied, joined_accepts, absorbed};
+ghost use Rattle.segment_word.specs.AcceptSteps.{TakesChange, Learns, Notes, CountsChanges, Begins};
+ghost use Rattle.segment_word.specs.AcceptSteps.{Comes, Sheds, unlent, copied, joined_accepts};
+ghost use Rattle.segment_word.specs.AcceptSteps.{absorbed};
 
 use crate::accepts::naming::{Naming, Passing, Taking};
 use crate::accepts::rule::Known;
@@ -71,7 +74,8 @@ impl Join<Known> for Absorb {
     ghost spent = { Spent };
 }
 
-/// What a session was told goes to a seat of its own: a copy off the session's seat, the lent one off the drive's.
+/// What a session was told goes to a seat of its own: a copy off the session's seat, the lent one
+/// off the drive's.
 pub struct Hand;
 
 impl Split<Known> for Hand {

@@ -32,8 +32,8 @@ pub struct Sessions<J: Naming> {
     ghost of_drive: { (arc_value board).table.shared.table_id ≡ J.accepts },
 }
 
-/// A session's seat at the accept word: what the session was told. Contracts see it as that. Dropping it gives the seat
-/// back.
+/// A session's seat at the accept word: what the session was told. Contracts see it as that.
+/// Dropping it gives the seat back.
 #[derive(Drop)]
 pub struct SessionSeat<J: Naming> {
     pub(crate) seat: Place,
@@ -53,7 +53,8 @@ impl<J: Naming> Model for SessionSeat<J> {
 }
 
 impl<J: Naming> Sessions<J> {
-    /// A seat for a session that has seen nothing yet. `SEATS` can be had at a time, and one that was dropped again.
+    /// A seat for a session that has seen nothing yet. `SEATS` can be had at a time, and one that
+    /// was dropped again.
     ///
     /// Busy where all are in use, or where the count of those that share the memory is full.
     pub fn seat(&self) -> Result<SessionSeat<J>, Refusal>

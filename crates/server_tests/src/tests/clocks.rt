@@ -18,7 +18,8 @@ fn moment_of<B: Backend>(session: &mut B) -> Option<Moment> {
     }
 }
 
-/// Two sessions draw from one count, which stops at the last moment: nothing is accepted behind that.
+/// Two sessions draw from one count, which stops at the last moment: nothing is accepted after
+/// that.
 pub(super) fn tick<J: Running, R: Abort + Wait>(
     rt: &R,
     alloc: Global,

@@ -13,7 +13,8 @@ use std::sync::{Mutex, Wait};
 use std::test::Fail;
 use std::thread::Threads;
 
-/// The frames of a Create, of a Write of "abc" to object 1, and of two Reads of it, now and at the first moment.
+/// The frames of a Create, of a Write of "abc" to object 1, and of two Reads of it, now and at the
+/// first moment.
 static CREATE: [u8; 6] = *b"\0\0\0\x02\x01\0";
 
 static WRITE: [u8; 24] = *b"\0\0\0\x14\x04\0\0\0\0\0\0\0\x01\0\0\0\0\0\0\0\0abc";
@@ -30,7 +31,7 @@ static REPLIES: [u8; 47] =
 /// Where each of the replies ends.
 const ENDS: [usize; 4] = [21, 34, 42, 47];
 
-/// A stream that takes so many bytes more, and then fails.
+/// A stream that takes this many bytes more, and then fails.
 #[derive(Drop)]
 struct FailAfter {
     taken: Vec<u8>,
@@ -105,8 +106,9 @@ impl Gate for Asked {
     fn upkeep(&self, _step: UpkeepStep) {}
 }
 
-/// Serves the four requests to a writer that takes `room` bytes of the replies, fewer than there are. Of each request that was
-/// asked a byte was still to be written, and the Write stays once it was asked.
+/// Serves the four requests to a writer that takes `room` bytes of the replies, fewer than there
+/// are. Of each request that was asked a byte was still to be written, and the Write stays once it
+/// was asked.
 fn serve_failing<J: Running, R: Abort + Wait, W: Sink>(
     rt: &R,
     alloc: Global,

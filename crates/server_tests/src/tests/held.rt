@@ -16,7 +16,8 @@ use std::sync::{Mutex, Wait};
 use std::test::Fail;
 use std::thread::{Threads, yield_now};
 
-/// Bytes of 13 blocks: with the creation's and one of the journal they fill a frame, which is sealed then.
+/// Bytes of 13 blocks: with the creation's and one of the journal they fill a frame, which is
+/// sealed then.
 static SEALED: [u8; 6656] = [b'a'; 6656];
 
 /// What they are replaced by.
@@ -34,8 +35,8 @@ static DATA: [u8; 5] = *b"\0\0\x1a\x01\x03";
 /// The frame of the reply to the Write, at moment 5.
 static CHANGED: [u8; 13] = *b"\0\0\0\x09\x01\0\0\0\0\0\0\0\x05";
 
-/// The first session's read is held once it is planned, until the second's change is answered; the second session's first read is
-/// held until then.
+/// The first session's read is held once it is planned, until the second's change is answered; the
+/// second session's first read is held until then.
 #[derive(Drop)]
 struct Turns {
     planned: AtomicBool,

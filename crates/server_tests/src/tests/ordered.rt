@@ -15,7 +15,8 @@ use std::test::Fail;
 use std::thread::Threads;
 use std::time::{Clock, Duration};
 
-/// Steps of the cleaner, of the copier and of the sessions: those of one row are taken by one thread.
+/// Steps of the cleaner, of the copier and of the sessions: those of one row are taken by one
+/// thread.
 static STEPS: [&[UpkeepStep]; 3] = [
     &[
         UpkeepStep::RoundBegins,
@@ -32,7 +33,8 @@ static STEPS: [&[UpkeepStep]; 3] = [
     &[UpkeepStep::SessionsEnd, UpkeepStep::SessionsReturn],
 ];
 
-/// How long a thread is held at most, in milliseconds: where the order can come, and where it can't.
+/// How long a thread is held at most, in milliseconds: where the order can come, and where it
+/// can't.
 const MOST_MILLISECONDS: u64 = 20_000;
 
 const FORBIDDEN_MILLISECONDS: u64 = 300;
@@ -63,7 +65,8 @@ struct Seen {
     gave_up: bool,
 }
 
-/// A gate at which whoever comes first to the one step is held until somebody has come to the other.
+/// A gate at which whoever comes first to the one step is held until somebody has come to the
+/// other.
 #[derive(Drop)]
 struct Order<'a, R: Wait + Clock> {
     rt: &'a R,

@@ -23,7 +23,7 @@ abbrev pub nearest_with : List EntryFields → ℕ → Start → List Side → S
 nearest_with entries to best [] = best
 nearest_with entries to best (side ∷ sides) = nearer to (nearest_with entries to best sides) (start_at entries side)
 
--- An object's row names a checkpoint: it tells the inode of its moment, which is not behind that of the newest.
+-- An object's row names a checkpoint: it tells the inode of its moment, which is not after that of the newest.
 pub record IsNamed (held : Place → Option Stored) (o : ℕ) (row : Row) (side : Side) : Type 0 where
   pub told : checkpoint_held held o side.place ≡ Some (record { object = o; moment = side.moment; inode = inode_of held o row side.moment })
   pub by : side.moment ≤ row.checkpoint_moment

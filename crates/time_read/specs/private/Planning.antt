@@ -22,7 +22,7 @@ pub record CountsOn (t : Table) (p : Place) (before after : PlanFields) : Type 0
   pub bytes : block_bytes (contents_pinned p.frame (pins_held after.pin)) p.block ≡ contents_of (held_at t) p
   pub rest : after ≡ record before { pin = after.pin }
 
--- A plan has by its pin the bytes of the block behind a slot, where that is pinned.
+-- A plan has by its pin the bytes of the block that a slot refers to, where that is pinned.
 pub record Locates (t : Table) (slot : Option Place) (before after : PlanFields) : Type 0 where
   pub keeps : Keeps t before.pin after.pin
   pub frames : (f : ℕ) → (0 < pins_in f (pins_held after.pin)) ↔ ((0 < pins_in f (pins_held before.pin)) ⊎ (is_pinned_in f (piece_of t slot) ≡ true))
@@ -30,7 +30,7 @@ pub record Locates (t : Table) (slot : Option Place) (before after : PlanFields)
   pub idle : is_pinned (piece_of t slot) ≡ false → after.pin ≡ before.pin
   pub rest : after ≡ record before { pin = after.pin }
 
--- It has the piece of the slot besides, behind the others.
+-- It has the piece of the slot besides, after the others.
 pub record AddsPiece (t : Table) (slot : Option Place) (before after : PlanFields) : Type 0 where
   pub located : Locates t slot before (record before { pin = after.pin })
   pub rest : after ≡ record before { pieces = before.pieces ++ piece_of t slot ∷ []; pin = after.pin }

@@ -19,15 +19,15 @@ use Rattle.verifier.specs.Rows.{SpellsRow}
 use Rattle.verifier.specs.Reading.{IsKept, NamesAreCapped}
 use Rattle.verifier.specs.private.Holding.{IsUsedAlike}
 
--- a version chain has what is kept of a row: its entries, the two counts of their bytes, and the inode behind them all
+-- a version chain has what is kept of a row: its entries, the two counts of their bytes, and the inode after them all
 pub record TellsOfRow (used : Place → Option Stored) (row : ImageRow) (versions : VersionChain) : Type 0 where
   pub entries : versions.chain.entries.items ≡ entries_used used row
   pub bytes : versions.chain.journal_bytes ≡ entries_length (entries_used used row)
   pub head : versions.chain.head_bytes ≡ filled_bytes (packed (entries_used used row))
   pub present : versions.present ≡ present_used used row
 
--- The row of this part of an image was read: its bytes spell one row alone, its object stands, it is kept behind the objects
--- that were read before, its moments stand behind theirs, and what it names is held beside what they name, data by one name more for
+-- The row of this part of an image was read: its bytes encode one row alone, its object stands, it is kept after the objects
+-- that were read before, its moments come after theirs, and what it names is held beside what they name, data by one name more for
 -- each of its pointers.
 pub record IsRowRead (used : Place → Option Stored) (part : RowPart) (clock : ℕ) (old new : ReadRows) : Type 0 where
   pub row : ImageRow
@@ -42,7 +42,7 @@ pub record IsRowRead (used : Place → Option Stored) (part : RowPart) (clock : 
   pub named : (rows : List ImageRow) → NamesAreCapped used (named_at old.table) rows → NamesAreCapped used (named_at new.table) (rows ++ row ∷ [])
   pub alike : IsUsedAlike old.table new.table
 
--- a row of an image stands: its bytes spell one of which the object stands
+-- a row of an image stands: its bytes encode one of which the object stands
 pub record PartStands (used : Place → Option Stored) (part : RowPart) (clock : ℕ) : Type 0 where
   pub row : ImageRow
   pub spelled : SpellsRow part row

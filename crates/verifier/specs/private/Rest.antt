@@ -9,7 +9,7 @@ use Rattle.image_parts.specs.Image.{Image, header_of}
 use Rattle.image_parts.specs.Causes.{Tested}
 use Rattle.verifier.specs.Rows.{ChainsStand}
 
--- the cause of the first test behind that of the digest which fails, or none where all of them hold
+-- the cause of the first test after that of the digest which fails, or none where all of them hold
 abbrev pub FirstRestCause : Image → Option Cause → Type 0
 FirstRestCause image found =
     Tested (KeepFrameRules image.frames) Frame (

@@ -1,4 +1,4 @@
--- What stands beside the rows of a store. No public clause cites this file.
+-- What is beside the rows of a store. No public clause cites this file.
 use Rattle.std.specs.Prelude.{◌≡◌, ℕ, ◌≤◌, List, Option, Some, option_map}
 use Rattle.std.specs.List.{Contains}
 use Rattle.s4_types.specs.Pointer.{Place}

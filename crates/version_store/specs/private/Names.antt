@@ -8,11 +8,11 @@ use Rattle.version_store.specs.declared.copies.CopiedBlock.{CopiedBlock}
 use Rattle.time_read.specs.declared.journals.ObjectJournal.{ObjectJournal}
 use Rattle.version_store.specs.Store.{sides_told, times_led}
 
--- a pointer is a hole, or leads to a data block
+-- a pointer is a hole, or refers to a data block
 abbrev pub IsOfData : (Place → Option Stored) → Option Place → Type 0
 IsOfData held pointer = IfSome pointer (λ p. is_data (held p) ≡ true)
 
--- a pointer is a hole, or leads to a data block, or to nothing
+-- a pointer is a hole, or refers to a data block, or to nothing
 abbrev pub IsOfDataOrNothing : (Place → Option Stored) → Option Place → Type 0
 IsOfDataOrNothing held pointer = IfSome pointer (λ p. (is_data (held p) ≡ true) ⊎ (held p ≡ None))
 
@@ -33,13 +33,13 @@ places_copied copies = map (λ c. Some c.place) copies
 abbrev pub held_named : (Place → Option Stored) → (Place → ℕ) → Place → Option Stored
 held_named held named q = if is_data (held q) && named q == 0 then None else held q
 
--- The data block that each of these pointers leads to was named once more for it.
+-- The data block that each of these pointers refers to was named once more for it.
 pub record Gives (before : Log) (pointers : List (Option Place)) (after : Log) : Type 0 where
   pub named : (q : Place) → after.named q ≡ times_led q pointers + before.named q
   pub held : after.held ≡ before.held
   pub takes : TakesPlaces 0 before after
 
--- The data block that each of these pointers leads to was named once less for it, and is held no longer without any name.
+-- The data block that each of these pointers refers to was named once less for it, and is held no longer without any name.
 pub record TakesAway (before : Log) (pointers : List (Option Place)) (after : Log) : Type 0 where
   pub named : (q : Place) → after.named q ≡ before.named q - times_led q pointers
   pub held : (q : Place) → after.held q ≡ held_named before.held after.named q

@@ -1,4 +1,4 @@
--- What stands beside the rows of objects of a drive that was saved. No public clause cites this file.
+-- What is beside the rows of objects of a drive that was saved. No public clause cites this file.
 use Rattle.std.specs.Prelude.{ℕ, List, map}
 use Rattle.time_read.specs.declared.presents.Present.{Present}
 use Rattle.version_store.specs.Opening.{OpenedFields}

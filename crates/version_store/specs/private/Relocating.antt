@@ -76,7 +76,7 @@ pub record NamesMove (before : Log) (o : ℕ) (row : Row) (r : RenamingFields) (
   pub here : IsNamedBy o later (map (renamed_slot r) (pointers_of before.held o row))
   pub beside : (q : ℕ) (p : Place) → (o == q) ≡ false → named_of q later p ≡ named_of q before p
 
--- whether one of these blocks stood at the place
+-- whether one of these blocks was at the place
 abbrev pub stood_at : Place → List CopiedBlock → Bool
 stood_at p copies = list_any (λ c. same_place c.place p) copies
 
@@ -84,7 +84,7 @@ stood_at p copies = list_any (λ c. same_place c.place p) copies
 abbrev pub IsOldOrNew : ℕ → RenamingFields → (Place → Option Stored) → (Place → Option Stored) → Place → Type 0
 IsOldOrNew o r held later p = ((of_kind Data o later p ≡ of_kind Data o held p) × (new_place r p ≡ None)) ⊎ ((held p ≡ None) × IsNewPlace r p)
 
--- An object's copied blocks went to the first places ahead, and its journal was renamed and written behind them.
+-- An object's copied blocks went to the first places ahead, and its journal was renamed and written after them.
 pub record Relocates (before : Log) (o : ℕ) (row : Row) (copies : List CopiedBlock) (next : Row) (later : Log) (r : RenamingFields) : Type 0 where
   pub exact : r ≡ renaming_by copies before.ahead
   pub stands : IsRow later.held o next

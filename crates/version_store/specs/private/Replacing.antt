@@ -59,7 +59,7 @@ RunsJoin = (i : Inode) (front back : List EntryFields) → redone_all (front ++ 
 abbrev pub InodesJoin : Type 0
 InodesJoin = (i : Inode) (front back : List EntryFields) (t : ℕ) → inode_after i (front ++ back) t ≡ inode_after (inode_after i front t) back t
 
--- entries whose moments don't descend are those up to a moment and the later ones behind them
+-- entries whose moments don't descend are those up to a moment and the later ones after them
 abbrev pub EntriesPart : Type 0
 EntriesPart = (entries : List EntryFields) (low t : ℕ) → moments_ascend_from low entries ≡ true → entries ≡ entries_by t entries ++ entries_past t entries
 

@@ -22,20 +22,20 @@ pointers_by held o (Some row) = pointers_to held o row
 abbrev pub number_of : Place → ℕ
 number_of p = 15 * p.frame + (p.block - 1)
 
--- whether a pointer leads to the place of this number
+-- whether a pointer refers to the place of this number
 abbrev pub is_on : ℕ → Option Place → Bool
 is_on i None = false
 is_on i (Some p) = number_of p == i
 
--- how many of these pointers lead to the place of this number
+-- how many of these pointers refer to the place of this number
 abbrev pub times_on : ℕ → List (Option Place) → ℕ
 times_on i pointers = count_by (λ pointer. is_on i pointer) pointers
 
--- a pointer is a hole, or leads to a place of a number below this one
+-- a pointer is a hole, or refers to a place of a number below this one
 abbrev pub IsWithin : ℕ → Option Place → Type 0
 IsWithin n pointer = IfSome pointer (λ p. number_of p < n)
 
--- Each tally has grown by how many of these pointers lead to the place of its number.
+-- Each tally has grown by how many of these pointers refer to the place of its number.
 pub record Grows (old : List ℕ) (pointers : List (Option Place)) (new : List ℕ) : Type 0 where
   pub count : length new ≡ length old
   pub each : (i : ℕ) → i < length old → slice_index_or new i 0 ≡ slice_index_or old i 0 + times_on i pointers

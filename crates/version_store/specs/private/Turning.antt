@@ -33,7 +33,7 @@ pub record CanTake (s : StoreFields) (change : Change) (m : ℕ) (present : Inod
   pub free : change_refusal s change m ≡ None
   pub fit : AllByRecursion (λ size. size ≤ JOURNAL_ENTRY_BYTES) (sizes_by change present)
 
--- some pointer of an inode leads to this place
+-- some pointer of an inode refers to this place
 abbrev pub LeadsTo : Inode → Place → Type 0
 LeadsTo i p = (k : ℕ) × (pointer_at i k ≡ Some p)
 
@@ -76,7 +76,7 @@ pub record CanTurn (s : StoreFields) (o : ℕ) (i j : Inode) (hand : List (Optio
 abbrev pub blocks_turned : StoreFields → ℕ → Inode → Inode → ℕ → ℕ
 blocks_turned s o i j m = pushed_blocks (chain_of o (subject_row s o m)) (entries_between i j m)
 
--- From a moment on, which is then the latest, an object has this inode; all other versions are as they were, and so many
+-- From a moment on, which is then the latest, an object has this inode; all other versions are as they were, and this many
 -- blocks were taken for its journal alone.
 pub record Turns (s : StoreFields) (o m : ℕ) (i : Inode) (count : ℕ) (later : StoreFields) : Type 0 where
   pub store : IsStore later

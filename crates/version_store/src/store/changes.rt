@@ -1,6 +1,9 @@
 //! A change of an object, from the count of what it takes to its row.
-ghost use Rattle.std.specs.Prelude.{◌≡◌, ◌⊎◌, ℕ, ◌+◌, ◌<◌, ◌≤◌, ◌==◌, ◌||◌, Some, None, IfOk, IfErr, OnOk, OnErr, MatchResult, is_some, length, take, drop, sum};
-ghost use Rattle.s4_types.specs.declared.changes.Change.TheVariants.{Create, Delete, Write, Truncate, SetAttr};
+ghost use Rattle.std.specs.Prelude.{◌≡◌, ◌⊎◌, ℕ, ◌+◌, ◌<◌, ◌≤◌, ◌==◌, ◌||◌, Some, None, IfOk};
+ghost use Rattle.std.specs.Prelude.{IfErr, OnOk, OnErr, MatchResult, is_some, length, take, drop};
+ghost use Rattle.std.specs.Prelude.{sum};
+ghost use Rattle.s4_types.specs.declared.changes.Change.TheVariants.{Create, Delete, Write};
+ghost use Rattle.s4_types.specs.declared.changes.Change.TheVariants.{Truncate, SetAttr};
 ghost use Rattle.s4_types.specs.declared.refusals.Refusal.TheVariants.{NoMemory};
 ghost use Rattle.undo_redo.specs.Runs.{blank};
 ghost use Rattle.undo_redo.specs.Between.{entries_between};
@@ -13,7 +16,8 @@ ghost use Rattle.std.specs.List.{AllByRecursion};
 ghost use Rattle.s4_types.specs.declared.limits.TheConstants.{JOURNAL_ENTRY_BYTES};
 ghost use Rattle.s4_model.specs.Effect.{object_of};
 ghost use Rattle.version_store.specs.Taking.{Takes, RowChanges, AppendsBy};
-ghost use Rattle.version_store.specs.private.Turning.{CanTake, CanTurn, Turns, IsTaken, blocks_turned};
+ghost use Rattle.version_store.specs.private.Turning.{CanTake, CanTurn, Turns, IsTaken};
+ghost use Rattle.version_store.specs.private.Turning.{blocks_turned};
 
 use crate::costs::{bytes_of_entries, object_of};
 use crate::laws::{changes_begin_with_the_present, what_changes_rest_on};
@@ -41,7 +45,7 @@ fn attribute_of(bytes: &[u8]) -> Attribute
     Attribute::new(bytes).unwrap()
 }
 
-/// The pointers of an inode to the blocks that were appended for it: so many from an index on.
+/// The pointers of an inode to the blocks that were appended for it: this many from an index on.
 fn appended(inode: &Inode, first: usize, count: usize) -> &[Option<Ptr>]
     requires { first + count ≤ length inode.now.pointers }
     ensures { result.now ≡ take count (drop first inode.now.pointers) }
@@ -50,16 +54,16 @@ fn appended(inode: &Inode, first: usize, count: usize) -> &[Option<Ptr>]
     &pointers[first..first + count]
 }
 
-/// What a change of an object begins with: its present row and inode, and a fresh row and the blank inode of the change's moment where
-/// it has none.
+/// What a change of an object begins with: its present row and inode, and a fresh row and the blank
+/// inode of the change's moment where it has none.
 #[derive(Drop)]
 struct Subject {
     row: Row,
     inode: Inode,
 }
 
-/// A change of an object that nothing refuses any more: the row and the inode that it begins with, and how many bytes its journal
-/// entries have. All is found and counted once.
+/// A change of an object that nothing refuses any more: the row and the inode that it begins with,
+/// and how many bytes its journal entries have. All is found and counted once.
 #[derive(Drop)]
 struct PlannedChange {
     row: Row,
@@ -68,7 +72,8 @@ struct PlannedChange {
 }
 
 impl<B: Blocks> Store<B> {
-    /// What a change of an object at a moment begins with. One search of the map finds the row and the inode.
+    /// What a change of an object at a moment begins with. One search of the map finds the row and
+    /// the inode.
     fn subject(&self, object: ObjectId, moment: Moment) -> Subject
         ensures row { result.row ≡ subject_row (fields_of B.log self.now) object moment }
         ensures inode { result.inode ≡ subject_inode (fields_of B.log self.now) object moment }
@@ -86,14 +91,19 @@ impl<B: Blocks> Store<B> {
         }
     }
 
-    /// How many bytes the journal entries of a change at a moment have. ChainFull or NoSpace, where it is refused.
+    /// How many bytes the journal entries of a change at a moment have. ChainFull or NoSpace, where
+    /// it is refused.
     fn count(&self, change: &Change, subject: &Subject, moment: Moment) -> Result<usize, Refusal>
         requires store { IsStore (fields_of B.log self.now) }
         requires takes { Takes (fields_of B.log self.now) change.now }
-        requires row { subject.now.row ≡ subject_row (fields_of B.log self.now) (object_of change.now) moment }
-        requires inode { subject.now.inode ≡ subject_inode (fields_of B.log self.now) (object_of change.now) moment }
+        requires row { subject.now.row
+            ≡ subject_row (fields_of B.log self.now) (object_of change.now) moment }
+        requires inode { subject.now.inode
+            ≡ subject_inode (fields_of B.log self.now) (object_of change.now) moment }
         ensures bytes { IfOk result (λ bytes. bytes ≡ sum (sizes_by change.now subject.now.inode)) }
-        ensures fit { OnOk result (AllByRecursion (λ size. size ≤ JOURNAL_ENTRY_BYTES) (sizes_by change.now subject.now.inode)) }
+        ensures fit { OnOk result
+            (AllByRecursion (λ size. size ≤ JOURNAL_ENTRY_BYTES)
+            (sizes_by change.now subject.now.inode)) }
         ensures answer { MatchResult result (λ _. change_refusal (fields_of B.log self.now) change.now moment ≡ None)
             (λ e. change_refusal (fields_of B.log self.now) change.now moment ≡ Some e) }
     {
@@ -106,10 +116,16 @@ impl<B: Blocks> Store<B> {
     fn plan_change(&self, change: &Change, moment: Moment) -> Result<PlannedChange, Refusal>
         requires store { IsStore (fields_of B.log self.now) }
         requires takes { Takes (fields_of B.log self.now) change.now }
-        ensures row { IfOk result (λ plan. plan.row ≡ subject_row (fields_of B.log self.now) (object_of change.now) moment) }
-        ensures inode { IfOk result (λ plan. plan.inode ≡ subject_inode (fields_of B.log self.now) (object_of change.now) moment) }
+        ensures row { IfOk result
+            (λ plan. plan.row
+            ≡ subject_row (fields_of B.log self.now) (object_of change.now) moment) }
+        ensures inode { IfOk result
+            (λ plan. plan.inode
+            ≡ subject_inode (fields_of B.log self.now) (object_of change.now) moment) }
         ensures bytes { IfOk result (λ plan. plan.bytes ≡ sum (sizes_by change.now plan.inode)) }
-        ensures fit { IfOk result (λ plan. AllByRecursion (λ size. size ≤ JOURNAL_ENTRY_BYTES) (sizes_by change.now plan.inode)) }
+        ensures fit { IfOk result
+            (λ plan. AllByRecursion (λ size. size ≤ JOURNAL_ENTRY_BYTES)
+            (sizes_by change.now plan.inode)) }
         ensures answer { MatchResult result (λ _. change_refusal (fields_of B.log self.now) change.now moment ≡ None)
             (λ e. change_refusal (fields_of B.log self.now) change.now moment ≡ Some e) }
     {
@@ -122,8 +138,9 @@ impl<B: Blocks> Store<B> {
         })
     }
 
-    /// From a moment on an object has another inode: the entries that lead there are appended to its journal, and its row is
-    /// changed. Data blocks that were appended for it have the names of these pointers, which go once the journal gives them names.
+    /// From a moment on an object has another inode: the entries that lead there are appended to
+    /// its journal, and its row is changed. Data blocks that were appended for it have the names of
+    /// these pointers, which go once the journal gives them names.
     fn turn(
         &mut self,
         object: ObjectId,
@@ -132,10 +149,14 @@ impl<B: Blocks> Store<B> {
         hand: &[Option<Ptr>],
         moment: Moment,
     )
-        requires can { CanTurn (fields_of B.log self.old) object plan.now.inode after.now hand.now moment }
+        requires can { CanTurn (fields_of B.log self.old) object plan.now.inode after.now hand.now
+            moment }
         requires row { row_of self.old.rows object ≡ Some plan.now.row }
-        requires bytes { plan.now.bytes ≡ entries_length (entries_between plan.now.inode after.now moment) }
-        ensures { Turns (fields_of B.log self.old) object moment after.now (blocks_turned (fields_of B.log self.old) object plan.now.inode after.now moment) (fields_of B.log self.new) }
+        requires bytes { plan.now.bytes
+            ≡ entries_length (entries_between plan.now.inode after.now moment) }
+        ensures { Turns (fields_of B.log self.old) object moment after.now
+            (blocks_turned (fields_of B.log self.old) object plan.now.inode after.now moment)
+            (fields_of B.log self.new) }
     {
         what_changes_rest_on();
         let entries = EntriesBetween::new(&plan.inode, after, moment);
@@ -159,7 +180,8 @@ impl<B: Blocks> Store<B> {
         requires can { CanTake (fields_of B.log self.old) (Delete object) moment plan.now.inode }
         requires row { plan.now.row ≡ subject_row (fields_of B.log self.old) object moment }
         requires bytes { plan.now.bytes ≡ sum (sizes_by (Delete object) plan.now.inode) }
-        ensures { IsTaken (fields_of B.log self.old) (Delete object) moment plan.now.inode (fields_of B.log self.new) }
+        ensures { IsTaken (fields_of B.log self.old) (Delete object) moment plan.now.inode
+            (fields_of B.log self.new) }
     {
         what_changes_rest_on();
         let after = deleted(&plan.inode);
@@ -174,10 +196,13 @@ impl<B: Blocks> Store<B> {
         plan: &PlannedChange,
         moment: Moment,
     )
-        requires can { CanTake (fields_of B.log self.old) (SetAttr object attribute.now) moment plan.now.inode }
+        requires can { CanTake (fields_of B.log self.old) (SetAttr object attribute.now) moment
+            plan.now.inode }
         requires row { plan.now.row ≡ subject_row (fields_of B.log self.old) object moment }
-        requires bytes { plan.now.bytes ≡ sum (sizes_by (SetAttr object attribute.now) plan.now.inode) }
-        ensures { IsTaken (fields_of B.log self.old) (SetAttr object attribute.now) moment plan.now.inode (fields_of B.log self.new) }
+        requires bytes { plan.now.bytes
+            ≡ sum (sizes_by (SetAttr object attribute.now) plan.now.inode) }
+        ensures { IsTaken (fields_of B.log self.old) (SetAttr object attribute.now) moment
+            plan.now.inode (fields_of B.log self.new) }
     {
         what_changes_rest_on();
         let attribute = attribute_of(attribute);
@@ -194,10 +219,13 @@ impl<B: Blocks> Store<B> {
         plan: &PlannedChange,
         moment: Moment,
     )
-        requires can { CanTake (fields_of B.log self.old) (Write object offset bytes.now) moment plan.now.inode }
+        requires can { CanTake (fields_of B.log self.old) (Write object offset bytes.now) moment
+            plan.now.inode }
         requires row { plan.now.row ≡ subject_row (fields_of B.log self.old) object moment }
-        requires bytes { plan.now.bytes ≡ sum (sizes_by (Write object offset bytes.now) plan.now.inode) }
-        ensures { IsTaken (fields_of B.log self.old) (Write object offset bytes.now) moment plan.now.inode (fields_of B.log self.new) }
+        requires bytes { plan.now.bytes
+            ≡ sum (sizes_by (Write object offset bytes.now) plan.now.inode) }
+        ensures { IsTaken (fields_of B.log self.old) (Write object offset bytes.now) moment
+            plan.now.inode (fields_of B.log self.new) }
     {
         what_changes_rest_on();
         let after = write(&mut self.table, object, &plan.inode, moment, offset, bytes);
@@ -209,10 +237,12 @@ impl<B: Blocks> Store<B> {
 
     /// Takes a truncation.
     fn truncate(&mut self, object: ObjectId, size: u64, plan: &PlannedChange, moment: Moment)
-        requires can { CanTake (fields_of B.log self.old) (Truncate object size) moment plan.now.inode }
+        requires can { CanTake (fields_of B.log self.old) (Truncate object size) moment
+            plan.now.inode }
         requires row { plan.now.row ≡ subject_row (fields_of B.log self.old) object moment }
         requires bytes { plan.now.bytes ≡ sum (sizes_by (Truncate object size) plan.now.inode) }
-        ensures { IsTaken (fields_of B.log self.old) (Truncate object size) moment plan.now.inode (fields_of B.log self.new) }
+        ensures { IsTaken (fields_of B.log self.old) (Truncate object size) moment plan.now.inode
+            (fields_of B.log self.new) }
     {
         what_changes_rest_on();
         let after = truncate(&mut self.table, object, &plan.inode, moment, size as u32);
@@ -222,11 +252,15 @@ impl<B: Blocks> Store<B> {
         self.turn(object, plan, &after, hand, moment);
     }
 
-    /// Gives an object its first row, and its inode beside it. NoMemory where they couldn't be stored; then nothing has changed.
+    /// Gives an object its first row, and its inode beside it. NoMemory where they couldn't be
+    /// stored; then nothing has changed.
     fn add_object(&mut self, object: ObjectId, first: &Inode, moment: Moment) -> Result<(), Refusal>
         requires none { row_of self.old.rows object ≡ None }
         requires first { first.now ≡ blank moment }
-        ensures added { OnOk result ((q : ℕ) → row_of self.new.rows q ≡ with_row (row_of self.old.rows) object (fresh_row moment) q) }
+        ensures added { OnOk result
+            ((q : ℕ)
+            → row_of self.new.rows q
+            ≡ with_row (row_of self.old.rows) object (fresh_row moment) q) }
         ensures same { OnOk result (fields_of B.log self.new ≡ record (fields_of B.log self.old) { rows = self.new.rows }) }
         ensures refusal { IfErr result (λ e. e ≡ NoMemory) }
         ensures unchanged { OnErr result (fields_of B.log self.new ≡ fields_of B.log self.old) }
@@ -240,7 +274,8 @@ impl<B: Blocks> Store<B> {
         Ok(())
     }
 
-    /// Takes a creation. NoMemory where its row and its inode couldn't be stored; then nothing has changed.
+    /// Takes a creation. NoMemory where its row and its inode couldn't be stored; then nothing has
+    /// changed.
     #[tactic(auto, using(crate::proofs::Across::above_has_none))]
     fn create(
         &mut self,
@@ -249,10 +284,14 @@ impl<B: Blocks> Store<B> {
         plan: &PlannedChange,
         moment: Moment,
     ) -> Result<(), Refusal>
-        requires can { CanTake (fields_of B.log self.old) (Create object attribute.now) moment plan.now.inode }
+        requires can { CanTake (fields_of B.log self.old) (Create object attribute.now) moment
+            plan.now.inode }
         requires row { plan.now.row ≡ subject_row (fields_of B.log self.old) object moment }
-        requires bytes { plan.now.bytes ≡ sum (sizes_by (Create object attribute.now) plan.now.inode) }
-        ensures taken { OnOk result (IsTaken (fields_of B.log self.old) (Create object attribute.now) moment plan.now.inode (fields_of B.log self.new)) }
+        requires bytes { plan.now.bytes
+            ≡ sum (sizes_by (Create object attribute.now) plan.now.inode) }
+        ensures taken { OnOk result
+            (IsTaken (fields_of B.log self.old) (Create object attribute.now) moment plan.now.inode
+            (fields_of B.log self.new)) }
         ensures refusal { IfErr result (λ e. e ≡ NoMemory) }
         ensures unchanged { OnErr result (fields_of B.log self.new ≡ fields_of B.log self.old) }
     {
@@ -264,7 +303,8 @@ impl<B: Blocks> Store<B> {
         Ok(())
     }
 
-    /// Takes a change that isn't refused. NoMemory of a creation alone, and then nothing has changed.
+    /// Takes a change that isn't refused. NoMemory of a creation alone, and then nothing has
+    /// changed.
     #[tactic(auto, using(crate::proofs::Across::above_has_none))]
     fn perform(
         &mut self,
@@ -273,10 +313,14 @@ impl<B: Blocks> Store<B> {
         moment: Moment,
     ) -> Result<(), Refusal>
         requires can { CanTake (fields_of B.log self.old) change.now moment plan.now.inode }
-        requires row { plan.now.row ≡ subject_row (fields_of B.log self.old) (object_of change.now) moment }
+        requires row { plan.now.row
+            ≡ subject_row (fields_of B.log self.old) (object_of change.now) moment }
         requires bytes { plan.now.bytes ≡ sum (sizes_by change.now plan.now.inode) }
-        ensures taken { OnOk result (IsTaken (fields_of B.log self.old) change.now moment plan.now.inode (fields_of B.log self.new)) }
-        ensures refusal { IfErr result (λ e. (e ≡ NoMemory) × (row_of self.old.rows (object_of change.now) ≡ None)) }
+        ensures taken { OnOk result
+            (IsTaken (fields_of B.log self.old) change.now moment plan.now.inode
+            (fields_of B.log self.new)) }
+        ensures refusal { IfErr result
+            (λ e. (e ≡ NoMemory) × (row_of self.old.rows (object_of change.now) ≡ None)) }
         ensures unchanged { OnErr result (fields_of B.log self.new ≡ fields_of B.log self.old) }
     {
         match change {
@@ -300,27 +344,40 @@ impl<B: Blocks> Store<B> {
         Ok(())
     }
 
-    /// Takes a change of an object at a moment later than that of each change before; a creation is of an object whose number
-    /// is above that of each object that has a row. From the moment on the object's version is what the model makes of it; the
-    /// versions of all other moments and objects stay. Data blocks are appended by ascending index, and after them the
-    /// journal's.
+    /// Takes a change of an object at a moment later than that of each change before; a creation is
+    /// of an object whose number is above that of each object that has a row. From the moment on
+    /// the object's version is what the model makes of it; the versions of all other moments and
+    /// objects stay. Data blocks are appended by ascending index, and after them the journal's.
     ///
-    /// ChainFull exactly where the journal's entries would have more than `CHAIN_ENTRY_BYTES`; else NoSpace exactly where the
-    /// change appends more blocks than there is room for beside the reserve; else NoMemory where a creation's row and its
-    /// inode couldn't be stored. Then nothing has changed.
+    /// ChainFull exactly where the journal's entries would have more than `CHAIN_ENTRY_BYTES`; else
+    /// NoSpace exactly where the change appends more blocks than there is room for beside the
+    /// reserve; else NoMemory where a creation's row and its inode couldn't be stored. Then nothing
+    /// has changed.
     pub fn take(&mut self, change: &Change, moment: Moment) -> Result<(), Refusal>
         requires store { IsStore (fields_of B.log self.old) }
         requires later { self.old.latest < moment }
         requires takes { Takes (fields_of B.log self.old) change.now }
         ensures store { IsStore (fields_of B.log self.new) }
-        ensures taken { OnOk result ((o t : ℕ) → version_in (fields_of B.log self.new) o t ≡ version_taken (fields_of B.log self.old) change.now moment o t) }
+        ensures taken { OnOk result
+            ((o t : ℕ)
+            → version_in (fields_of B.log self.new) o t
+            ≡ version_taken (fields_of B.log self.old) change.now moment o t) }
         ensures latest { OnOk result (self.new.latest ≡ moment) }
-        ensures rows { OnOk result ((o : ℕ) → is_some (row_of self.new.rows o) ≡ (is_some (row_of self.old.rows o) || o == object_of change.now)) }
-        ensures row { OnOk result (RowChanges (fields_of B.log self.old) (object_of change.now) moment self.new.rows) }
-        ensures blocks { OnOk result (AppendsBy (fields_of B.log self.old) change.now moment (B.log self.new.table)) }
+        ensures rows { OnOk result
+            ((o : ℕ)
+            → is_some (row_of self.new.rows o)
+            ≡ (is_some (row_of self.old.rows o) || o == object_of change.now)) }
+        ensures row { OnOk result
+            (RowChanges (fields_of B.log self.old) (object_of change.now) moment self.new.rows) }
+        ensures blocks { OnOk result
+            (AppendsBy (fields_of B.log self.old) change.now moment (B.log self.new.table)) }
         ensures answer { MatchResult result (λ _. change_refusal (fields_of B.log self.old) change.now moment ≡ None)
-            (λ e. (e ≡ NoMemory) ⊎ (change_refusal (fields_of B.log self.old) change.now moment ≡ Some e)) }
-        ensures memory { IfErr result (λ e. e ≡ NoMemory → (change_refusal (fields_of B.log self.old) change.now moment ≡ None) × (row_of self.old.rows (object_of change.now) ≡ None)) }
+            (λ e. (e ≡ NoMemory)
+            ⊎ (change_refusal (fields_of B.log self.old) change.now moment ≡ Some e)) }
+        ensures memory { IfErr result
+            (λ e. e ≡ NoMemory
+            → (change_refusal (fields_of B.log self.old) change.now moment ≡ None)
+            × (row_of self.old.rows (object_of change.now) ≡ None)) }
         ensures unchanged { OnErr result (fields_of B.log self.new ≡ fields_of B.log self.old) }
     {
         let plan = self.plan_change(change, moment)?;

@@ -1,8 +1,9 @@
-//! A store of objects that stand in a table already.
+//! A store of objects that are in a table already.
 ghost use Rattle.std.specs.Prelude.{◌≡◌, IfOk, IfErr};
 ghost use Rattle.std.specs.List.{All};
 ghost use Rattle.s4_types.specs.declared.refusals.Refusal.TheVariants.{NoMemory};
-ghost use Rattle.version_store.specs.Opening.{numbers_opened, rows_opened, NumbersAscend, FitsItsRow};
+ghost use Rattle.version_store.specs.Opening.{numbers_opened, rows_opened, NumbersAscend};
+ghost use Rattle.version_store.specs.Opening.{FitsItsRow};
 ghost use Rattle.version_store.specs.Store.{fields_of, IsStore};
 
 use crate::opened::{OpenedObject, map_of};
@@ -13,10 +14,11 @@ use s4_types::{Moment, Refusal};
 use std::alloc::Global;
 
 impl<B: Blocks> Store<B> {
-    /// A store of the objects whose blocks a table holds, as they were up to the moment of the last change. In the table each data
-    /// block has as many names as the rows give it.
+    /// A store of the objects whose blocks a table holds, as they were up to the moment of the last
+    /// change. In the table each data block has as many names as the rows give it.
     ///
-    /// NoMemory alone, where memory for the rows, or for the inodes that are kept of checkpoints, is refused; the table is let go then.
+    /// NoMemory alone, where memory for the rows, or for the inodes that are kept of checkpoints,
+    /// is refused; the table is let go then.
     pub fn from_parts(
         alloc: Global,
         table: B,

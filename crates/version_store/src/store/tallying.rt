@@ -19,13 +19,15 @@ use segment_table::OverFrames;
 use segment_word::Naming;
 
 impl<B: Blocks> Store<B> {
-    /// All places that an object's row names, as pointers, each as often as it does, and its holes among them; none where it has
-    /// no row.
+    /// All places that an object's row names, as pointers, each as often as it does, and its holes
+    /// among them; none where it has no row.
     ///
     /// NoMemory alone, where the memory for them or for the entries of its journal is refused.
     fn pointers_to(&mut self, object: ObjectId) -> Result<Vec<Option<Ptr>>, Refusal>
         requires { IsStore (fields_of B.log self.old) }
-        ensures pointers { IfOk result (λ pointers. pointers.items ≡ pointers_by (B.log self.old.table).held object (row_of self.old.rows object)) }
+        ensures pointers { IfOk result
+            (λ pointers. pointers.items
+            ≡ pointers_by (B.log self.old.table).held object (row_of self.old.rows object)) }
         ensures refusal { IfErr result (λ e. e ≡ NoMemory) }
         ensures same { fields_of B.log self.new ≡ fields_of B.log self.old }
     {
@@ -39,21 +41,27 @@ impl<B: Blocks> Store<B> {
 impl<J: Naming> Store<NamedTable<J>> {
     /// 15 numbers for each frame, all 0. NoMemory alone.
     fn no_tallies(&self) -> Result<Vec<u32>, Refusal>
-        ensures zeros { IfOk result (λ tallies. tallies.items ≡ replicate (15 * length self.now.table.seat.frames) 0) }
+        ensures zeros { IfOk result
+            (λ tallies. tallies.items ≡ replicate (15 * length self.now.table.seat.frames) 0) }
         ensures refusal { IfErr result (λ e. e ≡ NoMemory) }
     {
         let count = PAYLOAD_BLOCKS * self.frame_count() as usize;
         Ok(vec![in self.alloc; 0u32; count]?)
     }
 
-    /// How often rows name each block of each frame, at the frame's generation: 15 numbers for each frame, those of frame 0 first,
-    /// and of each frame block 1 first. They are counted anew: of each object that has a row, all blocks of its journal and of its
-    /// checkpoints are read, and nothing that the table counts. So it is a check of what the table counts.
+    /// How often rows name each block of each frame, at the frame's generation: 15 numbers for each
+    /// frame, those of frame 0 first, and of each frame block 1 first. They are counted anew: of
+    /// each object that has a row, all blocks of its journal and of its checkpoints are read, and
+    /// nothing that the table counts. So it is a check of what the table counts.
     ///
-    /// NoMemory alone, where the memory for the numbers is refused, or that for what an object's row names.
+    /// NoMemory alone, where the memory for the numbers is refused, or that for what an object's
+    /// row names.
     pub fn recount(&mut self) -> Result<Vec<u32>, Refusal>
         requires { IsStore (fields_of log_of self.old) }
-        ensures tallies { IfOk result (λ tallies. (n : ℕ) → NoRowFrom (fields_of log_of self.old) n → AreTallies self.old.table (fields_of log_of self.old) n tallies.items) }
+        ensures tallies { IfOk result
+            (λ tallies. (n : ℕ)
+            → NoRowFrom (fields_of log_of self.old) n
+            → AreTallies self.old.table (fields_of log_of self.old) n tallies.items) }
         ensures refusal { IfErr result (λ e. e ≡ NoMemory) }
         ensures same { fields_of log_of self.new ≡ fields_of log_of self.old }
     {

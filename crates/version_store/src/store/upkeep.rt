@@ -1,5 +1,5 @@
-//! The upkeep of the frames below a store: the open one is sealed; one that holds nothing more is marked, and released once no
-//! reader counts on it.
+//! The upkeep of the frames below a store: the open one is sealed; one that holds nothing more is
+//! marked, and released once no reader counts on it.
 ghost use Rattle.std.specs.Prelude.{◌≡◌, OnErr};
 ghost use Rattle.segment_table.specs.Changes.{SealsFrame, MarksFrame, ReleasesFrame};
 ghost use Rattle.segment_table.specs.Room.{log_of};
@@ -13,8 +13,9 @@ use segment_table::OverFrames;
 use segment_word::Naming;
 
 impl<J: Naming> Store<NamedTable<J>> {
-    /// Seals the open frame of the table, after which none is open; without effect where none was. What is held, and with
-    /// it each inode and each version, is as it was; the frame's unused blocks are ahead no longer.
+    /// Seals the open frame of the table, after which none is open; without effect where none was.
+    /// What is held, and with it each inode and each version, is as it was; the frame's unused
+    /// blocks are ahead no longer.
     pub fn seal(&mut self)
         requires { IsStore (fields_of log_of self.old) }
         ensures store { IsStore (fields_of log_of self.new) }
@@ -25,10 +26,11 @@ impl<J: Naming> Store<NamedTable<J>> {
         self.table.table.seal_open();
     }
 
-    /// A sealed frame of which no block is held is being emptied from now on. Its readers and its pins stay, and so does
-    /// all that the store holds.
+    /// A sealed frame of which no block is held is being emptied from now on. Its readers and its
+    /// pins stay, and so does all that the store holds.
     ///
-    /// InUse exactly where the frame isn't sealed or isn't there, or where one of its blocks is held. Nothing has changed then.
+    /// InUse exactly where the frame isn't sealed or isn't there, or where one of its blocks is
+    /// held. Nothing has changed then.
     pub fn mark(&mut self, frame: u16) -> Result<(), Refusal>
         ensures frame { MarksFrame frame self.old.table result self.new.table }
         ensures refused { OnErr result (self.new ≡ self.old) }
@@ -37,12 +39,14 @@ impl<J: Naming> Store<NamedTable<J>> {
         self.table.table.mark(frame)
     }
 
-    /// A frame that is being emptied and has no reader is free at its next generation: its 15 payload blocks are ahead again,
-    /// in their order. One that reaches the last generation, 2^32 - 1, is retired instead. What is held, and with it each
-    /// inode and each version, is as it was; no fewer places than before were ever taken.
+    /// A frame that is being emptied and has no reader is free at its next generation: its 15
+    /// payload blocks are ahead again, in their order. One that reaches the last generation, 2^32 -
+    /// 1, is retired instead. What is held, and with it each inode and each version, is as it was;
+    /// no fewer places than before were ever taken.
     ///
-    /// InUse where the frame isn't being emptied or isn't there, and nothing has changed then; or where its word counted a
-    /// reader at the one exchange that was tried, which is noted, and no frame or block has changed.
+    /// InUse where the frame isn't being emptied or isn't there, and nothing has changed then; or
+    /// where its word counted a reader at the one exchange that was tried, which is noted, and no
+    /// frame or block has changed.
     pub fn release(&mut self, frame: u16) -> Result<(), Refusal>
         requires { IsStore (fields_of log_of self.old) }
         ensures store { IsStore (fields_of log_of self.new) }

@@ -12,7 +12,7 @@ row_with part checkpoint head = record { object = part.object; created = part.cr
 none_is_some : {A P : Type 0} (x : A) → ◌≡◌ {A = Option A} None (Some x) → P
 none_is_some x e = absurd (cc)
 
--- a row that the part spells has the pointers that were read
+-- a row that the part encodes has the pointers that were read
 same_row : (part : RowPart) (row : ImageRow) (checkpoint head : Option Place) → SpellsRow part row → Some checkpoint ≡ Some row.checkpoint → Some head ≡ Some row.head → Some (row_with part checkpoint head) ≡ Some row
 same_row part row checkpoint head spells at_checkpoint at_head =
     let first : checkpoint ≡ row.checkpoint = cc in

@@ -6,15 +6,15 @@ use Rattle.s4.specs.Performing.{IsUsage}
 use Rattle.s4.proofs.Undone.{undone_on}
 use Rattle.s4.proofs.performing.perform.Goals as goal
 
--- the words spell the command that isn't done, or is
+-- the words give the command that isn't done, or is
 pub returns-in-Ok-clause-kept : goal.returns-in-Ok-clause-kept
 returns-in-Ok-clause-kept g c = λ failed. undone_on _ _ _ _ (λ done. inl (c.in-Ok.command, c.in-Ok.ensures.spelled, done)) (c.perform_command.ensures.kept failed)
 
--- they spell the command that status 1 says something of
+-- they encode the command that status 1 says something of
 pub returns-in-Ok-clause-differs : goal.returns-in-Ok-clause-differs
 returns-in-Ok-clause-differs g c = λ one. inl (c.in-Ok.command, c.in-Ok.ensures.spelled, c.perform_command.ensures.differs one)
 
--- they spell none, and ask for help or the version
+-- they give none, and ask for help or the version
 pub returns-in-Err-Asked-clause-done : goal.returns-in-Err-Asked-clause-done
 returns-in-Err-Asked-clause-done g c = λ done.
     let why = subst (IsAskedAmong (fault_of line (map g.S.AsStr.text c.args.words.now))) c.in-Err-Asked.field-0-is c.in-Err-Asked.ensures.asked in

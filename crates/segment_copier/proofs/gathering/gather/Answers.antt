@@ -11,7 +11,7 @@ use Rattle.segment_copier.specs.Gathering.{free_count, most_to_empty, IsUnmade}
 use Rattle.segment_copier.proofs.Gathered.{not_gathered}
 use Rattle.segment_copier.proofs.gathering.gather.Goals as goal
 
--- the chosen object has a row, so that its move is kept back for want of memory, of a pin or of room
+-- the chosen object has a row, so that its move is kept back for lack of memory, of a pin or of room
 pub returns-in_err-move_now-clause-refusal : goal.returns-in_err-move_now-clause-refusal
 returns-in_err-move_now-clause-refusal g c =
     let p = err_from_is_err_and c.from_residual-in_err-move_now.result c.from_residual-in_err-move_now.ensures.1 in

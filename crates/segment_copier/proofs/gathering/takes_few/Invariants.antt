@@ -1,4 +1,4 @@
--- As far as the loop has come, what was counted and what is behind it come to all.
+-- As far as the loop has come, what was counted and what comes after it come to all.
 use Rattle.std.proofs.Common.{◌≡◌, ◌≤◌, ◌+◌, ◌*◌, drop}
 use Rattle.segment_table.specs.Room.{whole_of}
 use Rattle.segment_copier.specs.Gathering.{most_to_move, most_to_empty}

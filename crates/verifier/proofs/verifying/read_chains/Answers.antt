@@ -8,7 +8,7 @@ use Rattle.verifier.specs.Reading.{AreRead}
 use Rattle.verifier.proofs.Retold.{chains_fall, table_held, read_over}
 use Rattle.verifier.proofs.verifying.read_chains.Goals as goal
 
--- over any other table of the frames, rows stand where they do over this one
+-- over any other table of the frames, rows are where they do over this one
 pub returns-in_default-clause-none : goal.returns-in_default-clause-none
 returns-in_default-clause-none c =
     let parts = c.args.parts.now in
