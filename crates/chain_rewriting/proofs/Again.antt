@@ -10,12 +10,10 @@ use Rattle.undo_redo.specs.Between.{entries_between}
 use Rattle.chain_rewriting.specs.Cleaned.{Span, KeptChain, span_of, stays, kept, any_live, led, step, entries_over, end_over, chain_of, cleaned}
 use Rattle.chain_rewriting.specs.CleaningLaws.{FitsSight, CleaningAgainChangesNothing}
 use Rattle.chain_rewriting.specs.private.Leading.{AllLead, LeadsOn}
-use Rattle.chain_rewriting.proofs.Leading.{Redoes, led_live, led_dead, kept_stays, kept_goes, or_false, chain_leads}
-use Rattle.chain_rewriting.proofs.Moments.{AllOfOne}
-use Rattle.chain_rewriting.proofs.Grouped.{GroupsAscend, of_cleaned}
+use Rattle.chain_rewriting.proofs.Leading.{led_live, led_dead, kept_stays, kept_goes, or_false, chain_leads}
+use Rattle.chain_rewriting.proofs.Grouped.{of_cleaned}
 use Rattle.chain_rewriting.proofs.Ordered.{BetweenSome, LiveOver, LiveSpans, BeginSpans, led_alive, live_same, start_begins}
-use Rattle.chain_rewriting.proofs.Runs.{BetweenRuns}
-use Rattle.chain_rewriting.proofs.Showing.{Ends}
+use Rattle.chain_rewriting.specs.private.Resting.{AllOfOne, BetweenRuns, Ends, GroupsAscend, Redoes}
 
 -- the laws of the layer below
 pub record Facts : Type 0 where

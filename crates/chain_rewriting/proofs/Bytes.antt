@@ -19,8 +19,9 @@ use Rattle.undo_redo.specs.Sizes.{later_sizes, entry_sizes}
 use Rattle.chain_rewriting.specs.Cleaned.{Span, KeptChain, span_of, stays, kept, led, step, entries_over, chain_of}
 use Rattle.chain_rewriting.specs.Chains.{IsChain}
 use Rattle.chain_rewriting.specs.CleaningLaws.{AKeptChainTakesNoMoreBytes}
-use Rattle.chain_rewriting.proofs.Leading.{Redoes, Onward, begun, led_live, led_dead, kept_stays, kept_goes}
+use Rattle.chain_rewriting.proofs.Leading.{Onward, begun, led_live, led_dead, kept_stays, kept_goes}
 use Rattle.chain_rewriting.proofs.Grouped.{of_step, of_cleaned}
+use Rattle.chain_rewriting.specs.private.Resting.{Redoes}
 
 -- ---- attributes
 

@@ -13,8 +13,8 @@ use Rattle.undo_redo.specs.Between.{CanLead, entries_between}
 use Rattle.chain_rewriting.specs.Cleaned.{Span, KeptChain, stays, kept, any_live, led, step, entries_over, chain_of, cleaned}
 use Rattle.chain_rewriting.specs.CleaningLaws.{AKeptChainHasOldMoments, TheMomentsOfAKeptChainAreOld, AKeptChainIsGrouped}
 use Rattle.chain_rewriting.specs.private.Leading.{MayLead, AllLead, LeadsOn}
-use Rattle.chain_rewriting.proofs.Leading.{Redoes, kept_stays, kept_goes, chain_leads}
-use Rattle.chain_rewriting.proofs.Moments.{AllOfOne}
+use Rattle.chain_rewriting.proofs.Leading.{kept_stays, kept_goes, chain_leads}
+use Rattle.chain_rewriting.specs.private.Resting.{AllOfOne, GroupsAscend, Redoes}
 
 -- ---- moments
 
@@ -82,9 +82,6 @@ BetweenGroups = (i j : Inode) (m : ℕ) → CanLead i j m → grouped (entries_b
 
 abbrev pub GroupsJoin : Type 0
 GroupsJoin = (m : ℕ) (front back : List EntryFields) → grouped front ≡ true → grouped back ≡ true → AllBy m front → AllPast m back → grouped (front ++ back) ≡ true
-
-abbrev pub GroupsAscend : Type 0
-GroupsAscend = (entries : List EntryFields) → grouped entries ≡ true → moments_ascend_from 0 entries ≡ true
 
 -- what holds of the entries between two and of none holds of each step
 pub of_step : (P : List EntryFields → Type 0) (p : Inode) (s : Span) → P [] → ((p.alive || s.inode.alive) ≡ true → P (entries_between p (led p s.inode) s.from)) → P (step p s)

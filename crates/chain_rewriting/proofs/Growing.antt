@@ -12,12 +12,11 @@ use Rattle.undo_redo.specs.Between.{entries_between}
 use Rattle.time_read.specs.Orderly.{IsFromTo, inode_behind}
 use Rattle.chain_rewriting.specs.Chains.{IsChain}
 use Rattle.chain_rewriting.specs.CleaningLaws.{ACreationIsAChain, AChainGoesOn, AChainIsOneLater}
-use Rattle.chain_rewriting.proofs.Leading.{Redoes, Onward, begun}
-use Rattle.chain_rewriting.proofs.Moments.{AllOfOne}
+use Rattle.chain_rewriting.proofs.Leading.{Onward, begun}
 use Rattle.chain_rewriting.proofs.Grouped.{BetweenGroups, GroupsJoin, at_past}
 use Rattle.chain_rewriting.proofs.Ordered.{Live, LaterLive, BetweenRules, BetweenSome, join_all, join_later, group_live, begin_live, all_changed, all_between, some_live, begun_of}
-use Rattle.chain_rewriting.proofs.Runs.{BetweenRuns, RunsJoin}
-use Rattle.chain_rewriting.proofs.Showing.{Ends}
+use Rattle.chain_rewriting.proofs.Runs.{RunsJoin}
+use Rattle.chain_rewriting.specs.private.Resting.{AllOfOne, BetweenRuns, Ends, Redoes}
 
 -- the laws of the layer below
 pub record Facts : Type 0 where

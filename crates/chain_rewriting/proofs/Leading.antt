@@ -15,6 +15,7 @@ use Rattle.time_read.specs.Orderly.{inode_behind}
 use Rattle.chain_rewriting.specs.Cleaned.{Span, KeptChain, span_of, stays, kept, any_live, led, step, entries_over, end_over, chain_of, cleaned}
 use Rattle.chain_rewriting.specs.Chains.{IsChain}
 use Rattle.chain_rewriting.specs.private.Leading.{MayLead, AllLead, LeadsOn, LeadsTo, joined, continued}
+use Rattle.chain_rewriting.specs.private.Resting.{Redoes}
 
 -- what the rules of an entry tell of the two inodes that it ties
 pub record Rules (e : EntryFields) : Type 0 where
@@ -150,9 +151,6 @@ start_leads c sees clock i from e entries created l r o rest = elim (cases_Bool 
 later_leads : (c : ℕ) (sees : ℕ → ℕ → Bool) (clock : ℕ) (i : Inode) (from : ℕ) (entries : List EntryFields) → i.created ≡ c → Onward i entries → LeadsOn None (kept sees clock i from entries)
 later_leads c sees clock i from [] created o = tt
 later_leads c sees clock i from (e ∷ entries) created o = start_leads c sees clock i from e entries created o.1 o.2 o.3 (later_leads c sees clock (redone e i) e.moment entries (sym o.1.created ∙ created) o.3)
-
-abbrev pub Redoes : Type 0
-Redoes = (i j : Inode) (e : EntryFields) → Linked i e j → j ≡ redone e i
 
 onward_of : Redoes → (i : Inode) (entries : List EntryFields) (last : Inode) → Run i entries last → AllByRecursion (λ e. entry_rules e ≡ true) entries → ((n : ℕ) → n < length entries → (inode_behind i entries n).alive ≡ true) → Onward i entries
 onward_of redoes i [] last r h live = tt

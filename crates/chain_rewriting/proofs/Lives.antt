@@ -9,9 +9,10 @@ use Rattle.undo_redo.specs.Runs.{inode_after, moments_ascend_from}
 use Rattle.chain_rewriting.specs.Cleaned.{Span, KeptChain, stays, kept, any_live, chain_of}
 use Rattle.chain_rewriting.specs.CleaningLaws.{FitsSight, AKeptChainIsSeenAlive}
 use Rattle.chain_rewriting.proofs.Leading.{kept_stays, kept_goes}
-use Rattle.chain_rewriting.proofs.Showing.{Facts, chain_still, goes_on}
+use Rattle.chain_rewriting.proofs.Showing.{chain_still, goes_on}
 use Rattle.chain_rewriting.proofs.Seen.{By, seen_there, by_clock}
 use Rattle.chain_rewriting.proofs.Grouped.{of_cleaned}
+use Rattle.chain_rewriting.specs.private.Resting.{Facts}
 
 -- a chain shows a live inode at a visible moment, from one on
 abbrev Lives : (ℕ → Bool) → Inode → ℕ → List EntryFields → Type 0

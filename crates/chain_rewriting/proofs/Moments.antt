@@ -11,9 +11,7 @@ use Rattle.undo_redo.specs.Between.{entries_between}
 use Rattle.chain_rewriting.specs.Cleaned.{Span, KeptChain, stays, kept, any_live, led, step, entries_over, chain_of}
 use Rattle.chain_rewriting.specs.CleaningLaws.{AKeptChainHasOldMoments}
 use Rattle.chain_rewriting.proofs.Leading.{kept_stays, kept_goes}
-
-abbrev pub AllOfOne : Type 0
-AllOfOne = (i j : Inode) (m : ℕ) → AllAt m (entries_between i j m)
+use Rattle.chain_rewriting.specs.private.Resting.{AllOfOne}
 
 abbrev pub Within : (ℕ → Bool) → List EntryFields → Type 0
 Within within entries = AllByRecursion (λ e. within e.moment ≡ true) entries

@@ -15,11 +15,10 @@ use Rattle.chain_rewriting.specs.Cleaned.{Span, KeptChain, stays, kept, any_live
 use Rattle.chain_rewriting.specs.Chains.{IsChain}
 use Rattle.chain_rewriting.specs.CleaningLaws.{AKeptChainIsARun, AKeptChainHasOldMoments, AKeptChainIsGrouped, AKeptChainIsInOrder, AKeptChainIsAChain}
 use Rattle.chain_rewriting.specs.private.Leading.{AllLead, LeadsOn}
-use Rattle.chain_rewriting.proofs.Leading.{Redoes, Onward, rules_of, begun, kept_stays, kept_goes, or_false, chain_leads}
-use Rattle.chain_rewriting.proofs.Moments.{AllOfOne}
+use Rattle.chain_rewriting.proofs.Leading.{Onward, rules_of, begun, kept_stays, kept_goes, or_false, chain_leads}
 use Rattle.chain_rewriting.proofs.Grouped.{BetweenGroups, of_step, of_cleaned, step_at, step_grouped}
-use Rattle.chain_rewriting.proofs.Runs.{BetweenRuns, RunsJoin, step_run, run_over}
-use Rattle.chain_rewriting.proofs.Showing.{Ends}
+use Rattle.chain_rewriting.proofs.Runs.{RunsJoin, step_run, run_over}
+use Rattle.chain_rewriting.specs.private.Resting.{AllOfOne, BetweenRuns, Ends, Redoes}
 
 abbrev pub Ruled : List EntryFields → Type 0
 Ruled entries = AllByRecursion (λ e. entry_rules e ≡ true) entries

@@ -13,9 +13,9 @@ use Rattle.undo_redo.specs.Between.{entries_between, AreOf}
 use Rattle.chain_rewriting.specs.Cleaned.{Span, kept, led, step, entries_over, end_over, chain_of}
 use Rattle.chain_rewriting.specs.CleaningLaws.{IsPlaceOf, PointsWithin, TellsWithin, HasPlacesWithin, AKeptChainPointsToOldPlaces}
 use Rattle.chain_rewriting.proofs.Leading.{led_live, led_dead}
-use Rattle.chain_rewriting.proofs.Showing.{Facts}
 use Rattle.chain_rewriting.proofs.Shown.{kept_each}
 use Rattle.chain_rewriting.proofs.Grouped.{of_step, of_cleaned}
+use Rattle.chain_rewriting.specs.private.Resting.{Facts}
 
 abbrev pub BetweenTells : Type 0
 BetweenTells = (i j : Inode) (m : ℕ) → AllByRecursion (λ e. AreOf i j e.triples) (entries_between i j m)

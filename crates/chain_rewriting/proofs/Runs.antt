@@ -9,10 +9,8 @@ use Rattle.undo_redo.specs.Between.{CanLead, entries_between}
 use Rattle.chain_rewriting.specs.Cleaned.{Span, KeptChain, kept, any_live, led, step, entries_over, end_over, chain_of}
 use Rattle.chain_rewriting.specs.CleaningLaws.{AKeptChainIsARun}
 use Rattle.chain_rewriting.specs.private.Leading.{MayLead, AllLead, LeadsOn}
-use Rattle.chain_rewriting.proofs.Leading.{Redoes, led_dead, chain_leads}
-
-abbrev pub BetweenRuns : Type 0
-BetweenRuns = (i j : Inode) (m : ℕ) → CanLead i j m → Run i (entries_between i j m) j
+use Rattle.chain_rewriting.proofs.Leading.{led_dead, chain_leads}
+use Rattle.chain_rewriting.specs.private.Resting.{BetweenRuns, Redoes}
 
 abbrev pub RunsJoin : Type 0
 RunsJoin = (i j k : Inode) (front back : List EntryFields) → Run i front j → Run j back k → Run i (front ++ back) k

@@ -12,8 +12,8 @@ use Rattle.time_read.specs.Orderly.{IsFromTo}
 use Rattle.chain_rewriting.specs.Cleaned.{Span, KeptChain, stays, kept, any_live, led, step, entries_over, chain_of}
 use Rattle.chain_rewriting.specs.CleaningLaws.{FitsSight, AKeptChainHasSeenInodesAlone}
 use Rattle.chain_rewriting.proofs.Leading.{kept_stays, kept_goes}
-use Rattle.chain_rewriting.proofs.Moments.{AllOfOne}
-use Rattle.chain_rewriting.proofs.Grouped.{GroupsAscend, step_at}
+use Rattle.chain_rewriting.proofs.Grouped.{step_at}
+use Rattle.chain_rewriting.specs.private.Resting.{AllOfOne, GroupsAscend}
 
 -- Spans after a moment: between the first moments of two neighbours there is a visible one.
 abbrev Parted : (ℕ → Bool) → ℕ → ℕ → List Span → Type 0

@@ -18,7 +18,8 @@ use Rattle.chain_rewriting.specs.Cleaned.{KeptChain, cleaned}
 use Rattle.chain_rewriting.specs.Chains.{IsChain}
 use Rattle.chain_rewriting.specs.CleaningLaws.{ShowsAlike, IsPlaceOf, IsSeenPlaceOf, PointsWithin, TellsWithin, HasPlacesWithin, TellsOfPlacesWithin, AKeptChainIsARun, AKeptChainIsAChain, AKeptChainShowsTheSame, AKeptChainIsSeenAlive, AKeptChainHasSeenInodesAlone, AKeptChainPointsToOldPlaces, CleaningAgainChangesNothing, AKeptChainTellsOfSeenPlacesAlone, AKeptChainShowsALiveInode}
 use Rattle.chain_rewriting.proofs.Leading.{Onward, rules_of, begun}
-use Rattle.chain_rewriting.proofs.Showing.{Facts, chain_still, goes_on}
+use Rattle.chain_rewriting.proofs.Showing.{chain_still, goes_on}
+use Rattle.chain_rewriting.specs.private.Resting.{Facts}
 
 abbrev pub HolesAlone : Type 0
 HolesAlone = (created n : ℕ) → pointer_at (blank created) n ≡ None

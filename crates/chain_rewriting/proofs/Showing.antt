@@ -9,33 +9,10 @@ use Rattle.undo_redo.specs.Runs.{Run, redone_all, inode_after, entries_by, AllBy
 use Rattle.chain_rewriting.specs.Cleaned.{Span, KeptChain, span_of, stays, kept, any_live, led, step, entries_over, chain_of}
 use Rattle.chain_rewriting.specs.CleaningLaws.{FitsSight, ShowsAlike, AKeptChainShowsTheSame, NoKeptChainShowsNothing}
 use Rattle.chain_rewriting.specs.private.Leading.{MayLead, AllLead, LeadsOn}
-use Rattle.chain_rewriting.proofs.Leading.{Redoes, led_live, led_dead, kept_stays, kept_goes, chain_leads}
-use Rattle.chain_rewriting.proofs.Moments.{AllOfOne, Within, step_within, over_within, kept_within}
-use Rattle.chain_rewriting.proofs.Grouped.{GroupsAscend}
-use Rattle.chain_rewriting.proofs.Runs.{BetweenRuns, step_run}
-
-abbrev pub Ends : Type 0
-Ends = (i j : Inode) (entries : List EntryFields) → Run i entries j → j ≡ redone_all entries i
-
-abbrev pub Done : Type 0
-Done = (i : Inode) (entries : List EntryFields) (t : ℕ) → AllBy t entries → inode_after i entries t ≡ redone_all entries i
-
-abbrev pub Later : Type 0
-Later = (i : Inode) (entries later : List EntryFields) (t : ℕ) → AllPast t later → inode_after i (entries ++ later) t ≡ inode_after i entries t
-
-abbrev pub Joined : Type 0
-Joined = (i : Inode) (front back : List EntryFields) (t : ℕ) → inode_after i (front ++ back) t ≡ inode_after (inode_after i front t) back t
-
--- the laws of the layer below
-pub record Facts : Type 0 where
-  pub redoes : Redoes
-  pub one : AllOfOne
-  pub between : BetweenRuns
-  pub ends : Ends
-  pub done : Done
-  pub later : Later
-  pub joined : Joined
-  pub ascend : GroupsAscend
+use Rattle.chain_rewriting.proofs.Leading.{led_live, led_dead, kept_stays, kept_goes, chain_leads}
+use Rattle.chain_rewriting.proofs.Moments.{Within, step_within, over_within, kept_within}
+use Rattle.chain_rewriting.proofs.Runs.{step_run}
+use Rattle.chain_rewriting.specs.private.Resting.{AllOfOne, BetweenRuns, Facts, GroupsAscend, Redoes}
 
 led_alike : (p i : Inode) → ShowsAlike i (led p i)
 led_alike p i = elim (cases_Bool i.alive) [

@@ -11,8 +11,9 @@ use Rattle.chain_rewriting.specs.Cleaned.{Span, KeptChain, span_of, stays, kept,
 use Rattle.chain_rewriting.specs.CleaningLaws.{IsOneShown, AKeptChainShowsOldInodes}
 use Rattle.chain_rewriting.specs.private.Leading.{AllLead, LeadsOn}
 use Rattle.chain_rewriting.proofs.Leading.{led_live, led_dead, kept_stays, kept_goes, chain_leads}
-use Rattle.chain_rewriting.proofs.Showing.{Facts, chain_still, over_still, goes_on, over_first}
+use Rattle.chain_rewriting.proofs.Showing.{chain_still, over_still, goes_on, over_first}
 use Rattle.chain_rewriting.proofs.Grouped.{of_cleaned}
+use Rattle.chain_rewriting.specs.private.Resting.{Facts}
 
 -- each inode that a chain shows from a moment on is such a one
 abbrev Shows : (Inode → Type 0) → Inode → ℕ → List EntryFields → Type 0

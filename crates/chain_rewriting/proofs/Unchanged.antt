@@ -11,8 +11,8 @@ use Rattle.chain_rewriting.specs.Chains.{IsChain}
 use Rattle.chain_rewriting.specs.CleaningLaws.{FitsSight, AKeptChainIsARun, AKeptChainHasSeenInodesAlone, AnUnchangedChainIsTheKeptOne}
 use Rattle.chain_rewriting.proofs.Leading.{rules_of, kept_stays}
 use Rattle.chain_rewriting.proofs.Grouped.{of_cleaned}
-use Rattle.chain_rewriting.proofs.Showing.{Ends}
 use Rattle.chain_rewriting.proofs.SeenPlaces.{Throughout}
+use Rattle.chain_rewriting.specs.private.Resting.{Ends}
 
 -- no entry is of moment 0
 none_at_first : (entries : List EntryFields) → AllByRecursion (λ e. entry_rules e ≡ true) entries → entries_by 0 entries ≡ []

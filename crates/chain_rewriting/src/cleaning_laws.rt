@@ -16,6 +16,7 @@ ghost use Rattle.chain_rewriting.specs.CleaningLaws.{AKeptChainIsAChain};
 ghost use Rattle.chain_rewriting.specs.CleaningLaws.{CleaningAgainChangesNothing};
 ghost use Rattle.chain_rewriting.specs.CleaningLaws.{AKeptChainTakesNoMoreBytes, ACreationIsAChain};
 ghost use Rattle.chain_rewriting.specs.CleaningLaws.{AChainGoesOn, AChainIsOneLater};
+ghost use Rattle.chain_rewriting.specs.private.Resting.{Facts};
 
 use codec::journal_laws::entry_bytes_add_up;
 use undo_redo::laws::{
@@ -23,6 +24,17 @@ use undo_redo::laws::{
     a_run_has_one_end_and_one_beginning, groups_join_and_part, runs_join_and_part,
     the_entries_between_two_inodes, the_inode_at_a_moment,
 };
+
+/// The laws of the layer below that the laws of kept chains rest on.
+fn what_kept_chains_rest_on()
+    ensures { Facts }
+{
+    a_link_is_an_entry_redone_or_undone();
+    a_run_has_one_end_and_one_beginning();
+    groups_join_and_part();
+    the_inode_at_a_moment();
+    the_entries_between_two_inodes();
+}
 
 /// The entries of a kept chain lead from its first inode to its last.
 pub fn a_kept_chain_is_a_run()
@@ -46,22 +58,14 @@ pub fn a_kept_chain_shows_the_same()
     ensures same { AKeptChainShowsTheSame }
     ensures none { NoKeptChainShowsNothing }
 {
-    a_link_is_an_entry_redone_or_undone();
-    a_run_has_one_end_and_one_beginning();
-    groups_join_and_part();
-    the_inode_at_a_moment();
-    the_entries_between_two_inodes();
+    what_kept_chains_rest_on();
 }
 
 /// There is a kept chain only where the old one shows a live inode at some visible moment.
 pub fn a_kept_chain_is_seen_alive()
     ensures { AKeptChainIsSeenAlive }
 {
-    a_link_is_an_entry_redone_or_undone();
-    a_run_has_one_end_and_one_beginning();
-    groups_join_and_part();
-    the_inode_at_a_moment();
-    the_entries_between_two_inodes();
+    what_kept_chains_rest_on();
 }
 
 /// At each moment, visible or not, a kept chain shows an inode that the old one shows at some
@@ -69,11 +73,7 @@ pub fn a_kept_chain_is_seen_alive()
 pub fn a_kept_chain_shows_old_inodes()
     ensures { AKeptChainShowsOldInodes }
 {
-    a_link_is_an_entry_redone_or_undone();
-    a_run_has_one_end_and_one_beginning();
-    groups_join_and_part();
-    the_inode_at_a_moment();
-    the_entries_between_two_inodes();
+    what_kept_chains_rest_on();
 }
 
 /// Each entry of a kept chain is of the moment of an old one.
@@ -146,10 +146,7 @@ pub fn a_kept_chain_takes_no_more_bytes()
 pub fn a_kept_chain_points_to_old_places()
     ensures { AKeptChainPointsToOldPlaces }
 {
-    a_link_is_an_entry_redone_or_undone();
-    a_run_has_one_end_and_one_beginning();
-    groups_join_and_part();
-    the_inode_at_a_moment();
+    what_kept_chains_rest_on();
     the_entries_between_two_inodes();
 }
 
@@ -159,11 +156,7 @@ pub fn a_kept_chain_tells_of_seen_places_alone()
     ensures places { AKeptChainTellsOfSeenPlacesAlone }
     ensures live { AKeptChainShowsALiveInode }
 {
-    a_link_is_an_entry_redone_or_undone();
-    a_run_has_one_end_and_one_beginning();
-    groups_join_and_part();
-    the_inode_at_a_moment();
-    the_entries_between_two_inodes();
+    what_kept_chains_rest_on();
     a_blank_inode_has_holes_alone();
     a_kept_chain_is_a_run();
     a_kept_chain_is_a_chain();

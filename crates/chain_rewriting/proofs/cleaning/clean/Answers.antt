@@ -1,6 +1,7 @@
 use Rattle.std.proofs.Common.{ℕ, false, None, sym, subst}
-use Rattle.chain_rewriting.proofs.Leading.{Walks, Redoes, walk_begins}
+use Rattle.chain_rewriting.proofs.Leading.{Walks, walk_begins}
 use Rattle.chain_rewriting.proofs.cleaning.clean.Goals as goal
+use Rattle.chain_rewriting.specs.private.Resting.{Redoes}
 
 pub loop-entry-init : goal.loop-entry-init
 loop-entry-init g c =

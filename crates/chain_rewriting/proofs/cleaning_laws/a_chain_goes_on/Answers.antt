@@ -1,6 +1,6 @@
-use Rattle.chain_rewriting.proofs.Leading.{Redoes}
 use Rattle.chain_rewriting.proofs.Growing.{Facts, goes_on}
 use Rattle.chain_rewriting.proofs.cleaning_laws.a_chain_goes_on.Goals as goal
+use Rattle.chain_rewriting.specs.private.Resting.{Redoes}
 
 pub returns : goal.returns
 returns c =

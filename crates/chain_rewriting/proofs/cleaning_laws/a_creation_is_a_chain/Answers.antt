@@ -1,6 +1,6 @@
-use Rattle.chain_rewriting.proofs.Leading.{Redoes}
 use Rattle.chain_rewriting.proofs.Growing.{Facts, creation}
 use Rattle.chain_rewriting.proofs.cleaning_laws.a_creation_is_a_chain.Goals as goal
+use Rattle.chain_rewriting.specs.private.Resting.{Redoes}
 
 pub returns : goal.returns
 returns c =

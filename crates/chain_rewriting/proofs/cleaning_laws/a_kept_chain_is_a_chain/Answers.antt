@@ -1,6 +1,6 @@
-use Rattle.chain_rewriting.proofs.Leading.{Redoes}
 use Rattle.chain_rewriting.proofs.Ordered.{cleaned_chain}
 use Rattle.chain_rewriting.proofs.cleaning_laws.a_kept_chain_is_a_chain.Goals as goal
+use Rattle.chain_rewriting.specs.private.Resting.{Redoes}
 
 pub returns : goal.returns
 returns c =

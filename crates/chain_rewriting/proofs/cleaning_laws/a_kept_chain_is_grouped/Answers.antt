@@ -1,6 +1,6 @@
-use Rattle.chain_rewriting.proofs.Leading.{Redoes}
 use Rattle.chain_rewriting.proofs.Grouped.{cleaned_grouped}
 use Rattle.chain_rewriting.proofs.cleaning_laws.a_kept_chain_is_grouped.Goals as goal
+use Rattle.chain_rewriting.specs.private.Resting.{Redoes}
 
 pub returns : goal.returns
 returns c =

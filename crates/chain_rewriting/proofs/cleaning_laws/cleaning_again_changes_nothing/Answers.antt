@@ -1,6 +1,6 @@
-use Rattle.chain_rewriting.proofs.Leading.{Redoes}
 use Rattle.chain_rewriting.proofs.Again.{Facts, cleaned_again}
 use Rattle.chain_rewriting.proofs.cleaning_laws.cleaning_again_changes_nothing.Goals as goal
+use Rattle.chain_rewriting.specs.private.Resting.{Redoes}
 
 pub returns : goal.returns
 returns c =
