@@ -6,7 +6,7 @@ use Rattle.s4_model.specs.Visible.{is_hidden}
 use Rattle.s4_model.specs.Refusals.{present}
 
 -- Every version up to the clock is what it was, and no moment is hidden or shown that wasn't. The clock doesn't fall, the window stays, and
--- the floor rises by the clock alone: to where the window reaches back from it. No number is given twice.
+-- the floor doesn't fall and rises at most to where the window reaches back from the clock. No number is given twice.
 pub record LeavesPast (s later : State) : Type 0 where
   pub versions : (o t : ℕ) → t ≤ s.clock → version_of later o t ≡ version_of s o t
   pub hidden : (o t : ℕ) → is_hidden later o t ≡ is_hidden s o t

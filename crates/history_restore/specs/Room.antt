@@ -13,7 +13,7 @@ abbrev pub HidesBetween : State → ℕ → ℕ → ℕ → State → Type 0
 HidesBetween s o first last later = (q t : ℕ) → is_hidden later q t ≡ (is_hidden s q t || (o == q && (nat_le first t && nat_le t last)))
 
 -- All objects are what they were, now and at every moment up to the clock; of all objects but one no moment is hidden or shown that wasn't.
--- The clock doesn't fall, the window stays, the floor rises to where the window reaches back from the clock alone, and no number is given.
+-- The clock doesn't fall, the window stays, the floor rises at most to where the window reaches back from the clock, and no number is given.
 pub record LeavesObjects (s : State) (o : ℕ) (later : State) : Type 0 where
   pub objects : (q : ℕ) → present later q ≡ present s q
   pub versions : (q t : ℕ) → t ≤ s.clock → version_of later q t ≡ version_of s q t

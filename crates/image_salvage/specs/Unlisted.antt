@@ -51,7 +51,7 @@ abbrev pub ObjectsAscend : ℕ → List Unlisted → Type 0
 ObjectsAscend low [] = ⊤
 ObjectsAscend low (u ∷ found) = (low < u.object) × ObjectsAscend u.object found
 
--- These are the rows that aren't outdated, and the live objects that none of them gives, with the inode of each, ascending: by the newest
+-- These are the rows that aren't outdated, and the objects that none of them gives and whose found blocks end with a live inode, with that inode, ascending: by the newest
 -- checkpoint of each object, and by the newest row that its blocks make, of all frames that a drive can have.
 pub record FindsUnlisted (used : Place → Option Stored) (there rows : List RowPart) (found : List Unlisted) : Type 0 where
   pub checkpoints : ℕ → Option Note

@@ -26,7 +26,7 @@ use Rattle.s4_restore.specs.Images.{PerformsRestore}
 use Rattle.s4_compact.specs.Compacting.{Compacts}
 
 -- A command is done, by what is known of the files before and after it, by what an export of a drive is and a salvage of a file's bytes, and by what
--- the output has then. `diff` is where nothing differs, and `salvage` where nothing is lost.
+-- the output has then. `diff` is where nothing that it compares differs (an object with a hidden moment is passed over), and `salvage` where nothing is lost.
 abbrev pub IsDoneOver : (files files' : List ℕ → Option (List ℕ)) → (Exported : DriveFields → ExportAsked → Type 0) → (Salvaged : Option (List ℕ) → SalvageAsked → (output output' : Option (List ℕ)) → Type 0) → (output output' : Option (List ℕ)) → Command → Type 0
 IsDoneOver files files' Exported Salvaged output output' (command.List list) = OverImage (files list.image.now) (λ d. Lists d list output output')
 IsDoneOver files files' Exported Salvaged output output' (command.Log log) = OverImage (files log.image.now) (λ d. Logs d log output output')

@@ -128,7 +128,8 @@ pub fn run_sessions<
     requires parts { All (λ c. c.part ≡ Some one_part) clients.old }
     requires readers { All (λ c. S.failures c.reader + 1 < 2 ^ 64) clients.old }
     requires writers { All (λ c. W.failures c.writer + 1 < 2 ^ 64) clients.old }
-    // Each session was answered by steps of the shared drive, or the drive had no seat for it.
+    // Each session was answered by steps of histories that begin with the drive's base, each after
+    // all that the session had seen; or the drive had no seat for it.
     ensures attended { (i : ℕ) (d : _) → i < length clients.old
         → IsAttendedClient S.remaining W.passed S.failures W.failures J.base J.clock
         (slice_index_or clients.old i d) (slice_index_or clients.new i d) }
@@ -155,7 +156,8 @@ pub(crate) fn run_beside<
     requires parts { All (λ c. c.part ≡ Some one_part) clients.old }
     requires readers { All (λ c. S.failures c.reader + 1 < 2 ^ 64) clients.old }
     requires writers { All (λ c. W.failures c.writer + 1 < 2 ^ 64) clients.old }
-    // Each session was answered by steps of the shared drive, or the drive had no seat for it.
+    // Each session was answered by steps of histories that begin with the drive's base, each after
+    // all that the session had seen; or the drive had no seat for it.
     ensures attended { (i : ℕ) (d : _) → i < length clients.old
         → IsAttendedClient S.remaining W.passed S.failures W.failures J.base J.clock
         (slice_index_or clients.old i d) (slice_index_or clients.new i d) }

@@ -209,7 +209,8 @@ pub fn run_with_upkeep<
     ensures round { IsLastRound J.base result.1.round }
     ensures moves { MatchResult result.1.moves (IsMoving J.base) (λ e. e ≡ Busy) }
     ensures count { vec_len result.0 ≡ vec_len clients }
-    // Each session was answered by steps of the shared drive, or the drive had no seat for it.
+    // Each session was answered by steps of histories that begin with the drive's base, each after
+    // all that the session had seen; or the drive had no seat for it.
     ensures attended { (i : ℕ) (d : _) → i < vec_len clients
         → IsAttendedClient S.remaining W.passed S.failures W.failures J.base J.clock
         (slice_index_or clients.items i d) (slice_index_or result.0.items i d) }
