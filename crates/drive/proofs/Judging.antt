@@ -7,8 +7,9 @@ use Rattle.s4_types.specs.declared.changes.Change.{Change}
 use Rattle.s4_types.specs.declared.changes.Change.TheVariants as change
 use Rattle.s4_types.specs.declared.limits.TheConstants.{OBJECT_BYTES, ATTRIBUTE_BYTES}
 use Rattle.s4_types.specs.declared.requests.Role.TheVariants.{Admin}
-use Rattle.s4_types.specs.declared.requests.Request.{Request}
-use Rattle.s4_types.specs.declared.requests.Request.TheVariants.{Create, Delete, Read, Write, Append, Truncate, GetAttr, SetAttr, SetWindow, Flush, FlushO}
+use Rattle.s4_types.specs.declared.requests.ObjectRequest.{ObjectRequest}
+use Rattle.s4_types.specs.declared.requests.Request.TheVariants.{Update}
+use Rattle.s4_types.specs.declared.requests.ObjectRequest.TheVariants.{Create, Delete, Write, Append, Truncate, SetAttr}
 use Rattle.s4_types.specs.declared.refusals.Refusal.{Refusal}
 use Rattle.s4_types.specs.declared.refusals.Refusal.TheVariants.{TooLarge, BadAttr}
 use Rattle.s4_types.specs.declared.versions.Version.{Version}
@@ -25,7 +26,7 @@ use Rattle.version_store.specs.Versions.{inode_in, version_in, version_by}
 use Rattle.version_store.specs.Taking.{Takes, IsReadyFor, IsAboveAll, IsThere}
 use Rattle.version_store.specs.Laws.{ThePresentStays}
 use Rattle.window.specs.Timeline.{Timeline}
-use Rattle.drive.specs.Later.{later_refusal, IsWithin, IsOfVersions, IsAllowed, HasSize, object_asked}
+use Rattle.drive.specs.Later.{later_refusal, IsWithin, IsAllowed, HasSize, object_asked}
 use Rattle.s4_model.specs.Effect.{object_of}
 use Rattle.drive.specs.Keeping.{IsKeptDrive}
 use Rattle.drive.specs.Answering.{size_by}
@@ -69,24 +70,19 @@ there_is store o found is h = subst (λ (i : Option Inode). is_absent (version_b
 
 -- ---- the checks
 
-pub has_size : (s : State) (request : Request) (next : ℕ) (size : Option ℕ) → IsOfVersions request → live_size_of (present s (object_asked next request)) ≡ size → HasSize s request size
-has_size s (Create attribute) next size of h = tt
-has_size s (Delete object) next size of h = h
-has_size s (Write object offset bytes) next size of h = h
-has_size s (Append object bytes) next size of h = h
-has_size s (Truncate object n) next size of h = h
-has_size s (SetAttr object attribute) next size of h = h
-has_size s (Read object offset len at) next size of h = absurd of
-has_size s (GetAttr object at) next size of h = absurd of
-has_size s (SetWindow window) next size of h = absurd of
-has_size s (Flush first last) next size of h = absurd of
-has_size s (FlushO object first last) next size of h = absurd of
+pub has_size : (s : State) (update : ObjectRequest) (next : ℕ) (size : Option ℕ) → live_size_of (present s (object_asked next (Update update))) ≡ size → HasSize s update size
+has_size s (Create attribute) next size h = tt
+has_size s (Delete object) next size h = h
+has_size s (Write object offset bytes) next size h = h
+has_size s (Append object bytes) next size h = h
+has_size s (Truncate object n) next size h = h
+has_size s (SetAttr object attribute) next size h = h
 
 -- the size that the present inode tells is that of the object that is asked of
-pub size_asked : TheSizeCountsTheBytes → ThePresentStays → (s : State) (store : StoreFields) (w : Timeline) (next o at : ℕ) (found : Option Inode) (request : Request) (size : Option ℕ)
-    → IsKeptDrive s store w next → IsOfVersions request → o ≡ object_asked next request → at ≡ store.latest → found ≡ inode_in store o at → size ≡ size_by found → HasSize s request size
-size_asked count stays s store w next o at found request size kept of is now inode tells =
-    has_size s request next size of
+pub size_asked : TheSizeCountsTheBytes → ThePresentStays → (s : State) (store : StoreFields) (w : Timeline) (next o at : ℕ) (found : Option Inode) (update : ObjectRequest) (size : Option ℕ)
+    → IsKeptDrive s store w next → o ≡ object_asked next (Update update) → at ≡ store.latest → found ≡ inode_in store o at → size ≡ size_by found → HasSize s update size
+size_asked count stays s store w next o at found update size kept is now inode tells =
+    has_size s update next size
     (ap (λ (x : ℕ). live_size_of (present s x)) (sym is)
     ∙ size_is count stays s store w next o found kept (inode ∙ ap (λ (t : ℕ). inode_in store o t) now)
     ∙ sym tells)
@@ -94,19 +90,14 @@ size_asked count stays s store w next o at found request size kept of is now ino
 passes : (limit n : ℕ) (r : Refusal) (rest : Option Refusal) → n ≤ limit → cond (nat_lt limit n) (Some r) rest ≡ rest
 passes limit n r rest le = ap (λ (b : Bool). cond b (Some r) rest) (le-ltb limit n le)
 
--- an administrator's request within the limits is refused by the later checks alone
-pub admin_is_later : (s : State) (request : Request) → IsWithin request → IsOfVersions request → first_refusal s Admin request ≡ later_refusal s request
-admin_is_later s (Create attribute) within of = passes ATTRIBUTE_BYTES (length attribute) BadAttr _ within
-admin_is_later s (Delete object) within of = refl
-admin_is_later s (Write object offset bytes) within of = passes OBJECT_BYTES (offset + length bytes) TooLarge _ within
-admin_is_later s (Append object bytes) within of = refl
-admin_is_later s (Truncate object n) within of = passes OBJECT_BYTES n TooLarge _ within
-admin_is_later s (SetAttr object attribute) within of = passes ATTRIBUTE_BYTES (length attribute) BadAttr _ within
-admin_is_later s (Read object offset len at) within of = absurd of
-admin_is_later s (GetAttr object at) within of = absurd of
-admin_is_later s (SetWindow window) within of = absurd of
-admin_is_later s (Flush first last) within of = absurd of
-admin_is_later s (FlushO object first last) within of = absurd of
+-- an administrator's change of an object within the limits is refused by the later checks alone
+pub admin_is_later : (s : State) (update : ObjectRequest) → IsWithin (Update update) → first_refusal s Admin (Update update) ≡ later_refusal s (Update update)
+admin_is_later s (Create attribute) within = passes ATTRIBUTE_BYTES (length attribute) BadAttr _ within
+admin_is_later s (Delete object) within = refl
+admin_is_later s (Write object offset bytes) within = passes OBJECT_BYTES (offset + length bytes) TooLarge _ within
+admin_is_later s (Append object bytes) within = refl
+admin_is_later s (Truncate object n) within = passes OBJECT_BYTES n TooLarge _ within
+admin_is_later s (SetAttr object attribute) within = passes ATTRIBUTE_BYTES (length attribute) BadAttr _ within
 
 -- ---- what a store takes
 

@@ -10,7 +10,10 @@ use Rattle.s4_types.specs.declared.changes.Change.{Change}
 use Rattle.s4_types.specs.declared.changes.Change.TheVariants as change
 use Rattle.s4_types.specs.declared.requests.Role.{Role}
 use Rattle.s4_types.specs.declared.requests.Request.{Request}
-use Rattle.s4_types.specs.declared.requests.Request.TheVariants.{Create, Delete, Read, Write, Append, Truncate, GetAttr, SetAttr, SetWindow, Flush, FlushO}
+use Rattle.s4_types.specs.declared.requests.Request.TheVariants.{Update, Query, Control}
+use Rattle.s4_types.specs.declared.requests.Question.TheVariants.{Read, GetAttr}
+use Rattle.s4_types.specs.declared.requests.ObjectRequest.TheVariants.{Create, Delete, Write, Append, Truncate, SetAttr}
+use Rattle.s4_types.specs.declared.requests.AdminRequest.TheVariants.{SetWindow, Flush, FlushO}
 use Rattle.s4_types.specs.declared.replies.Reply.{Reply}
 use Rattle.s4_types.specs.declared.replies.Reply.TheVariants.{Refused, Changed, Created, Data, Attr}
 use Rattle.s4_types.specs.declared.refusals.Refusal.{Refusal}
@@ -21,14 +24,13 @@ use Rattle.s4_model.specs.State.{State, state_of, grown}
 use Rattle.s4_model.specs.VersionAt.{version_of}
 use Rattle.s4_model.specs.Refusals.{first_refusal, applies, checks, asked}
 use Rattle.s4_model.specs.Step.{Step, Refuses, MayRefuse, AsFirst, ForMemory, AsOpen, IsLeftOpen, judged, change_of, stamp, reply_at, reply_to_read, data_of, attributes_of}
-use Rattle.s4_model.specs.Plain.{IsChange}
 use Rattle.segment_word.specs.AcceptViews.{Ledger, with_moment, credited, caught_up}
 use Rattle.segment_word.specs.AcceptRule.{FitsLedger}
 use Rattle.version_store.specs.Store.{StoreFields}
 use Rattle.drive.specs.Fields.{DriveFields, SessionFields, store_of, state_in, history_of}
 use Rattle.drive.specs.Refusing.{or_then, want_of, refusal_of, MayLackMemory, WantsPin, RefusesBy, IsRefusal, IsJudgedOut, IsUnplanned}
 use Rattle.time_read.specs.Plans.{PlanFields, bytes_planned}
-use Rattle.drive.specs.Answering.{is_acceptance, told_after, owners_after, StoresChange, Leaves, TakesChange, RefusesChange, IsRead, reply_planned}
+use Rattle.drive.specs.Answering.{is_acceptance, told_after, owners_after, StoresChange, Leaves, TakesChange, RefusesChange, ComesTo, Sees, IsSettled, IsServed, reply_planned}
 use Rattle.drive.proofs.Stepping.{open_of_want, or_then_some, may_refuse, step_accepts, step_refuses, step_tells, judged_as_it_was}
 
 -- ---- which replies are of accepted changes
@@ -79,17 +81,10 @@ attributes_are_told Absent reply is = absurd (none-some reply is)
 attributes_are_told (Live content attribute created changed) reply is = subst IsTold (same_Some _ reply is) tt
 
 read_is_told : (s : State) (request : Request) (reply : Reply) → reply_to_read s request ≡ Some reply → IsTold reply
-read_is_told s (Read object offset len at) reply is = data_is_told (version_of s object (asked s at)) offset len reply is
-read_is_told s (GetAttr object at) reply is = attributes_are_told (version_of s object (asked s at)) reply is
-read_is_told s (Create attribute) reply is = absurd (none-some reply is)
-read_is_told s (Delete object) reply is = absurd (none-some reply is)
-read_is_told s (Write object offset bytes) reply is = absurd (none-some reply is)
-read_is_told s (Append object bytes) reply is = absurd (none-some reply is)
-read_is_told s (Truncate object n) reply is = absurd (none-some reply is)
-read_is_told s (SetAttr object attribute) reply is = absurd (none-some reply is)
-read_is_told s (SetWindow window) reply is = absurd (none-some reply is)
-read_is_told s (Flush first last) reply is = absurd (none-some reply is)
-read_is_told s (FlushO object first last) reply is = absurd (none-some reply is)
+read_is_told s (Query (Read object offset len at)) reply is = data_is_told (version_of s object (asked s at)) offset len reply is
+read_is_told s (Query (GetAttr object at)) reply is = attributes_are_told (version_of s object (asked s at)) reply is
+read_is_told s (Update update) reply is = absurd (none-some reply is)
+read_is_told s (Control control) reply is = absurd (none-some reply is)
 
 told_accepts_nothing : (reply : Reply) → IsTold reply → is_acceptance reply ≡ false
 told_accepts_nothing (Data bytes) told = refl
@@ -194,17 +189,16 @@ busy_lacks e = let same : number_of refusal.NoMemory ≡ number_of refusal.Busy 
 
 first_lacks : (first want : Option Refusal) (request : Request) → MayLackMemory (or_then first want) request → MayLackMemory first request
 first_lacks (Some r) want request lacks = lacks
-first_lacks None want (Create attribute) lacks = refl
-first_lacks None want (Read object offset len at) lacks = refl
-first_lacks None want (GetAttr object at) lacks = refl
-first_lacks None want (Flush first last) lacks = tt
-first_lacks None want (FlushO object first last) lacks = tt
-first_lacks None want (Delete object) lacks = absurd lacks
-first_lacks None want (Write object offset bytes) lacks = absurd lacks
-first_lacks None want (Append object bytes) lacks = absurd lacks
-first_lacks None want (Truncate object size) lacks = absurd lacks
-first_lacks None want (SetAttr object attribute) lacks = absurd lacks
-first_lacks None want (SetWindow window) lacks = absurd lacks
+first_lacks None want (Update (Create attribute)) lacks = refl
+first_lacks None want (Query question) lacks = refl
+first_lacks None want (Control (Flush first last)) lacks = tt
+first_lacks None want (Control (FlushO object first last)) lacks = tt
+first_lacks None want (Update (Delete object)) lacks = absurd lacks
+first_lacks None want (Update (Write object offset bytes)) lacks = absurd lacks
+first_lacks None want (Update (Append object bytes)) lacks = absurd lacks
+first_lacks None want (Update (Truncate object size)) lacks = absurd lacks
+first_lacks None want (Update (SetAttr object attribute)) lacks = absurd lacks
+first_lacks None want (Control (SetWindow window)) lacks = absurd lacks
 
 lacked_by : (first want : Option Refusal) (d : DriveFields) (request : Request) → (or_then first want ≡ Some refusal.NoMemory → ⊥) → RefusesBy (or_then first want) d request (Refused refusal.NoMemory) → MayLackMemory first request
 lacked_by first want d request never (inl h) = first_lacks first want request h.1
@@ -220,17 +214,6 @@ lacked store s role d request now given refused is =
 
 -- ---- the whole
 
--- All that a request came to.
-pub record IsServed (d later : DriveFields) (before after : SessionFields) (request : Request) (now : ℕ) (given : Reply) : Type 0 where
-  pub step : Step (history_of d) before.role request now given (history_of later)
-  pub refused : RefusesBy (refusal_of (store_of d) (judged (history_of d) request now) before.role request now) later request given
-  pub stored : Leaves (store_of d) (state_in d) request now given (store_of later)
-  pub fits : ReplyFits given
-  pub session : after ≡ record before { told = told_after given later.ledger before.told }
-  pub owners : later.ledger.owners ≡ owners_after given before.told.seat d.ledger.owners
-  pub true_before : FitsLedger d.ledger before.told
-  pub true_after : FitsLedger later.ledger after.told
-
 same_change : (asked : Option Change) (c other : Change) → asked ≡ Some c → asked ≡ Some other → c ≡ other
 same_change asked c other is also = same_Some c other (sym is ∙ also)
 
@@ -240,7 +223,7 @@ leaves_change b P Q e p = subst (λ (x : Bool). MatchBool x P Q) (sym e) p
 leaves_all : (b : Bool) (P Q : Type 0) → b ≡ false → Q → MatchBool b P Q
 leaves_all b P Q e q = subst (λ (x : Bool). MatchBool x P Q) (sym e) q
 
-pub served_change : (d later : DriveFields) (before after : SessionFields) (request : Request) (now : ℕ) (given : Reply) → TakesChange (first_refusal (state_in d) before.role request) d later before after request now given → IsServed d later before after request now given
+served_change : (d later : DriveFields) (before after : SessionFields) (request : Request) (now : ℕ) (given : Reply) → TakesChange (first_refusal (state_in d) before.role request) d later before after request now given → IsServed d later before after request now given
 served_change d later before after request now given is =
     let accepts : is_acceptance given ≡ true = ap (λ (r : Reply). is_acceptance r) is.reply ∙ accepts_change is.change (stamp (state_in d) now) in
     let as_it_was : judged (history_of d) request now ≡ state_in d = judged_as_it_was (history_of d) request now is.change is.asked in
@@ -253,27 +236,9 @@ served_change d later before after request now given is =
       fits = subst ReplyFits (sym is.reply) (accepted_fits is.change (stamp (state_in d) now));
       session = is.told ∙ ap (λ (b : Bool). record before { told = cond b (credited later.ledger before.told) (caught_up later.ledger before.told) }) (sym accepts);
       owners = ap (λ (l : Ledger). l.owners) is.ledger ∙ ap (λ (b : Bool). cond b (d.ledger.owners ++ before.told.seat ∷ []) d.ledger.owners) (sym accepts);
-      true_before = is.true_before;
-      true_after = is.true_after;
+      fits_before = is.true_before;
+      fits_after = is.true_after;
     }
-
-change_is_judged : (h : History) (request : Request) (now : ℕ) → IsChange request → judged h request now ≡ state_of h
-change_is_judged h (Read object offset len at) now is = absurd is
-change_is_judged h (GetAttr object at) now is = absurd is
-change_is_judged h (Create attribute) now is = refl
-change_is_judged h (Delete object) now is = refl
-change_is_judged h (Write object offset bytes) now is = refl
-change_is_judged h (Append object bytes) now is = refl
-change_is_judged h (Truncate object n) now is = refl
-change_is_judged h (SetAttr object attribute) now is = refl
-change_is_judged h (SetWindow window) now is = refl
-change_is_judged h (Flush first last) now is = refl
-change_is_judged h (FlushO object first last) now is = refl
-
--- what a session has after a moment was seen
-abbrev pub Sees : DriveFields → DriveFields → SessionFields → SessionFields → ℕ → Type 0
-Sees d later before after now =
-    (later.ledger ≡ with_moment d.ledger now) × (store_of later ≡ store_of d) × (after ≡ record before { told = caught_up later.ledger before.told }) × FitsLedger d.ledger before.told × FitsLedger later.ledger after.told
 
 -- a refused request, from the drive and the session that it leaves
 served_refused : (d later : DriveFields) (before after : SessionFields) (request : Request) (now : ℕ) (e : Refusal)
@@ -286,16 +251,16 @@ served_refused d later before after request now e why sees = record {
   fits = refusal_fits (judged (history_of d) request now) before.role (store_of d) request now e why;
   session = sees.2;
   owners = ap (λ (l : Ledger). l.owners) sees.0;
-  true_before = sees.3;
-  true_after = sees.4;
+  fits_before = sees.3;
+  fits_after = sees.4;
 }
 
 -- a change that was refused, and whose moment was seen then
-pub served_refusal : (d middle later : DriveFields) (before between after : SessionFields) (request : Request) (now : ℕ) (e : Refusal) → IsChange request
+served_refusal : (d middle later : DriveFields) (before between after : SessionFields) (request : Request) (now : ℕ) (e : Refusal) → judged (history_of d) request now ≡ state_in d
     → RefusesChange (first_refusal (state_in d) before.role request) d middle before between request now e
     → Sees middle later between after now → IsServed d later before after request now (Refused e)
-served_refusal d middle later before between after request now e change is sees =
-    let as_it_was : state_in d ≡ judged (history_of d) request now = sym (change_is_judged (history_of d) request now change) in
+served_refusal d middle later before between after request now e judging is sees =
+    let as_it_was : state_in d ≡ judged (history_of d) request now = sym judging in
     let ledger : later.ledger ≡ with_moment d.ledger now = sees.0 ∙ ap (λ (l : Ledger). with_moment l now) is.ledger in
     let store : store_of later ≡ store_of d = sees.1 ∙ is.store in
     let told : after ≡ record before { told = caught_up later.ledger before.told } = sees.2 ∙ ap (λ (x : SessionFields). record x { told = caught_up later.ledger x.told }) is.session in
@@ -304,31 +269,31 @@ served_refusal d middle later before between after request now e change is sees 
     (subst (λ (s : State). IsRefusal (first_refusal s before.role request) (store_of d) s request now e) as_it_was is.why)
     (ledger, store, told, fits, sees.4)
 
+-- a request for a change, once it was settled
+pub served_settled : (d middle later : DriveFields) (before between after : SessionFields) (request : Request) (now : ℕ) (done : Result Reply Refusal) (given : Reply) → judged (history_of d) request now ≡ state_in d
+    → ComesTo (first_refusal (state_in d) before.role request) d middle before between request now done → IsSettled middle later between after now done given → IsServed d later before after request now given
+served_settled d middle later before between after request now (Ok reply) given judging takes settled =
+    subst (λ (r : Reply). IsServed d later before after request now r) (sym settled.0)
+    (subst (λ (x : DriveFields). IsServed d x before after request now reply) (sym settled.1)
+    (subst (λ (x : SessionFields). IsServed d middle before x request now reply) (sym settled.2) (served_change d middle before between request now reply takes)))
+served_settled d middle later before between after request now (Err e) given judging refuses settled =
+    subst (λ (r : Reply). IsServed d later before after request now r) (sym settled.0)
+    (served_refusal d middle later before between after request now e judging refuses settled.1)
+
+-- a request that asks for no change
+abbrev pub IsRead : Request → Type 0
+IsRead (Query question) = Unit {0}
+IsRead _ = ⊥
+
 read_is_judged : (h : History) (request : Request) (now : ℕ) → IsRead request → state_of (grown h (Seen now)) ≡ judged h request now
-read_is_judged h (Read object offset len at) now is = refl
-read_is_judged h (GetAttr object at) now is = refl
-read_is_judged h (Create attribute) now is = absurd is
-read_is_judged h (Delete object) now is = absurd is
-read_is_judged h (Write object offset bytes) now is = absurd is
-read_is_judged h (Append object bytes) now is = absurd is
-read_is_judged h (Truncate object n) now is = absurd is
-read_is_judged h (SetAttr object attribute) now is = absurd is
-read_is_judged h (SetWindow window) now is = absurd is
-read_is_judged h (Flush first last) now is = absurd is
-read_is_judged h (FlushO object first last) now is = absurd is
+read_is_judged h (Query question) now is = refl
+read_is_judged h (Update update) now is = absurd is
+read_is_judged h (Control control) now is = absurd is
 
 read_wants_nothing : (store : StoreFields) (s : State) (request : Request) (now : ℕ) → IsRead request → want_of store s request now ≡ None
-read_wants_nothing store s (Read object offset len at) now is = refl
-read_wants_nothing store s (GetAttr object at) now is = refl
-read_wants_nothing store s (Create attribute) now is = absurd is
-read_wants_nothing store s (Delete object) now is = absurd is
-read_wants_nothing store s (Write object offset bytes) now is = absurd is
-read_wants_nothing store s (Append object bytes) now is = absurd is
-read_wants_nothing store s (Truncate object n) now is = absurd is
-read_wants_nothing store s (SetAttr object attribute) now is = absurd is
-read_wants_nothing store s (SetWindow window) now is = absurd is
-read_wants_nothing store s (Flush first last) now is = absurd is
-read_wants_nothing store s (FlushO object first last) now is = absurd is
+read_wants_nothing store s (Query question) now is = refl
+read_wants_nothing store s (Update update) now is = absurd is
+read_wants_nothing store s (Control control) now is = absurd is
 
 or_then_none_is : (first : Option Refusal) → or_then first None ≡ first
 or_then_none_is None = refl
@@ -353,8 +318,8 @@ served_busy d later before after request now e read is free wants sees =
       fits = open_is_whole e left;
       session = sees.2;
       owners = ap (λ (l : Ledger). l.owners) sees.0;
-      true_before = sees.3;
-      true_after = sees.4;
+      fits_before = sees.3;
+      fits_after = sees.4;
     }
 
 -- a moment that was seen, and a drive and a ledger that stay then
@@ -399,8 +364,8 @@ served_told d seen_at later before after request now given read sees ledger stor
       session = sees.2 ∙ ap (λ (l : Ledger). record before { told = caught_up l before.told }) (sym ledger)
           ∙ ap (λ (b : Bool). record before { told = cond b (credited later.ledger before.told) (caught_up later.ledger before.told) }) (sym nothing);
       owners = ap (λ (l : Ledger). l.owners) (ledger ∙ sees.0) ∙ ap (λ (b : Bool). cond b (d.ledger.owners ++ before.told.seat ∷ []) d.ledger.owners) (sym nothing);
-      true_before = sees.3;
-      true_after = subst (λ (l : Ledger). FitsLedger l after.told) (sym ledger) sees.4;
+      fits_before = sees.3;
+      fits_after = subst (λ (l : Ledger). FitsLedger l after.told) (sym ledger) sees.4;
     }
 
 -- so of a read, whatever was told

@@ -7,7 +7,10 @@ use Rattle.s4_types.specs.declared.changes.Change.{Change}
 use Rattle.s4_types.specs.declared.requests.Role.{Role}
 use Rattle.s4_types.specs.declared.requests.Role.TheVariants.{Client}
 use Rattle.s4_types.specs.declared.requests.Request.{Request}
-use Rattle.s4_types.specs.declared.requests.Request.TheVariants.{Create, Delete, Read, Write, Append, Truncate, GetAttr, SetAttr, SetWindow, Flush, FlushO}
+use Rattle.s4_types.specs.declared.requests.Request.TheVariants.{Update, Query, Control}
+use Rattle.s4_types.specs.declared.requests.Question.TheVariants.{Read, GetAttr}
+use Rattle.s4_types.specs.declared.requests.ObjectRequest.TheVariants.{Create, Delete, Write, Append, Truncate, SetAttr}
+use Rattle.s4_types.specs.declared.requests.AdminRequest.TheVariants.{SetWindow, Flush, FlushO}
 use Rattle.s4_types.specs.declared.replies.Reply.{Reply}
 use Rattle.s4_types.specs.declared.replies.Reply.TheVariants.{Refused}
 use Rattle.s4_types.specs.declared.refusals.Refusal.{Refusal}
@@ -88,17 +91,17 @@ none_wants None second request is = tt
 none_wants (Some r) second request is = absurd (none-some r (sym is))
 
 may_want : (first second : Option Refusal) (request : Request) → MayLackMemory (or_then first second) request → MayWantMemory first request
-may_want first second (Create attribute) lacks = none_wants first second (Create attribute) lacks
-may_want first second (Read object offset len at) lacks = none_wants first second (Read object offset len at) lacks
-may_want first second (GetAttr object at) lacks = none_wants first second (GetAttr object at) lacks
-may_want first second (Flush from to) lacks = found_later_wants first second (Flush from to) lacks
-may_want first second (FlushO object from to) lacks = found_later_wants first second (FlushO object from to) lacks
-may_want first second (Delete object) lacks = absurd lacks
-may_want first second (Write object offset bytes) lacks = absurd lacks
-may_want first second (Append object bytes) lacks = absurd lacks
-may_want first second (Truncate object size) lacks = absurd lacks
-may_want first second (SetAttr object attribute) lacks = absurd lacks
-may_want first second (SetWindow window) lacks = absurd lacks
+may_want first second (Update (Create attribute)) lacks = none_wants first second (Update (Create attribute)) lacks
+may_want first second (Query (Read object offset len at)) lacks = none_wants first second (Query (Read object offset len at)) lacks
+may_want first second (Query (GetAttr object at)) lacks = none_wants first second (Query (GetAttr object at)) lacks
+may_want first second (Control (Flush from to)) lacks = found_later_wants first second (Control (Flush from to)) lacks
+may_want first second (Control (FlushO object from to)) lacks = found_later_wants first second (Control (FlushO object from to)) lacks
+may_want first second (Update (Delete object)) lacks = absurd lacks
+may_want first second (Update (Write object offset bytes)) lacks = absurd lacks
+may_want first second (Update (Append object bytes)) lacks = absurd lacks
+may_want first second (Update (Truncate object size)) lacks = absurd lacks
+may_want first second (Update (SetAttr object attribute)) lacks = absurd lacks
+may_want first second (Control (SetWindow window)) lacks = absurd lacks
 
 pub may_refuse : (first : Option Refusal) (store : StoreFields) (s : State) (request : Request) (now : ℕ) (e : Refusal) → IsRefusal first store s request now e → MayRefuse first request e
 may_refuse first store s request now e (inl h) = ForMemory h.0 (may_want first (want_of store s request now) request h.1)
@@ -113,17 +116,9 @@ step_refuses h store role request now e is = Refuses e refl (may_refuse (first_r
 
 -- what asks for a change is judged by the history as it was
 pub judged_as_it_was : (h : History) (request : Request) (now : ℕ) (change : Change) → change_of (state_of h) request ≡ Some change → judged h request now ≡ state_of h
-judged_as_it_was h (Read object offset len at) now change asked = absurd (none-some change asked)
-judged_as_it_was h (GetAttr object at) now change asked = absurd (none-some change asked)
-judged_as_it_was h (Create attribute) now change asked = refl
-judged_as_it_was h (Delete object) now change asked = refl
-judged_as_it_was h (Write object offset bytes) now change asked = refl
-judged_as_it_was h (Append object bytes) now change asked = refl
-judged_as_it_was h (Truncate object size) now change asked = refl
-judged_as_it_was h (SetAttr object attribute) now change asked = refl
-judged_as_it_was h (SetWindow window) now change asked = refl
-judged_as_it_was h (Flush first last) now change asked = refl
-judged_as_it_was h (FlushO object first last) now change asked = refl
+judged_as_it_was h (Query question) now change asked = absurd (none-some change asked)
+judged_as_it_was h (Update update) now change asked = refl
+judged_as_it_was h (Control control) now change asked = refl
 
 -- an accepted change is a step that takes it
 pub step_takes : (h : History) (role : Role) (request : Request) (now : ℕ) (change : Change) → first_refusal (state_of h) role request ≡ None → change_of (state_of h) request ≡ Some change
@@ -150,7 +145,7 @@ some_or_none false request = tt
 -- a moment seen keeps a history sound, since a refusal is a step
 pub sound_seen : EveryStepKeepsSoundness → (h : History) (now : ℕ) → IsSound (state_of h) → IsSound (state_of (grown h (Seen now)))
 sound_seen keeps h now sound =
-    keeps h (grown h (Seen now)) Client (Create []) now (Refused NoMemory) sound (Refuses NoMemory refl (ForMemory refl (some_or_none _ (Create []))) refl)
+    keeps h (grown h (Seen now)) Client (Update (Create [])) now (Refused NoMemory) sound (Refuses NoMemory refl (ForMemory refl (some_or_none _ (Update (Create [])))) refl)
 
 -- so does an accepted change
 pub sound_taken : EveryStepKeepsSoundness → (h : History) (role : Role) (request : Request) (now : ℕ) (change : Change) → IsSound (state_of h) → first_refusal (state_of h) role request ≡ None → change_of (state_of h) request ≡ Some change

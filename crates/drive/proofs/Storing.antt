@@ -9,7 +9,9 @@ use Rattle.s4_types.specs.declared.changes.Accepted.{Accepted}
 use Rattle.s4_types.specs.declared.changes.Change.{Change}
 use Rattle.s4_types.specs.declared.changes.Change.TheVariants as change
 use Rattle.s4_types.specs.declared.requests.Request.{Request}
-use Rattle.s4_types.specs.declared.requests.Request.TheVariants.{Create, Delete, Read, GetAttr, Write, Append, Truncate, SetAttr, SetWindow, Flush, FlushO}
+use Rattle.s4_types.specs.declared.requests.Request.TheVariants.{Update, Query, Control}
+use Rattle.s4_types.specs.declared.requests.ObjectRequest.TheVariants.{Create, Delete, Write, Append, Truncate, SetAttr}
+use Rattle.s4_types.specs.declared.requests.AdminRequest.TheVariants.{SetWindow, Flush, FlushO}
 use Rattle.s4_types.specs.declared.refusals.Refusal.{Refusal}
 use Rattle.s4_types.specs.declared.refusals.Refusal.TheVariants.{NoMemory}
 use Rattle.s4_model.specs.Numbers.{next_by}
@@ -100,17 +102,16 @@ creation_of : (c other : Change) → Some other ≡ Some c → IsCreation c → 
 creation_of c other is creation = subst IsCreation (sym (same_Some other c is)) creation
 
 lacks_creating : (why : Option Refusal) (s : State) (request : Request) (c : Change) → change_of s request ≡ Some c → IsCreation c → why ≡ None → MayLackMemory why request
-lacks_creating why s (Read object offset len at) c asked creation free = absurd (none-some c asked)
-lacks_creating why s (GetAttr object at) c asked creation free = absurd (none-some c asked)
-lacks_creating why s (Create attribute) c asked creation free = free
-lacks_creating why s (Delete object) c asked creation free = absurd (creation_of c _ asked creation)
-lacks_creating why s (Write object offset bytes) c asked creation free = absurd (creation_of c _ asked creation)
-lacks_creating why s (Append object bytes) c asked creation free = absurd (creation_of c _ asked creation)
-lacks_creating why s (Truncate object size) c asked creation free = absurd (creation_of c _ asked creation)
-lacks_creating why s (SetAttr object attribute) c asked creation free = absurd (creation_of c _ asked creation)
-lacks_creating why s (SetWindow window) c asked creation free = absurd (creation_of c _ asked creation)
-lacks_creating why s (Flush first last) c asked creation free = absurd (creation_of c _ asked creation)
-lacks_creating why s (FlushO object first last) c asked creation free = absurd (creation_of c _ asked creation)
+lacks_creating why s (Query question) c asked creation free = absurd (none-some c asked)
+lacks_creating why s (Update (Create attribute)) c asked creation free = free
+lacks_creating why s (Update (Delete object)) c asked creation free = absurd (creation_of c _ asked creation)
+lacks_creating why s (Update (Write object offset bytes)) c asked creation free = absurd (creation_of c _ asked creation)
+lacks_creating why s (Update (Append object bytes)) c asked creation free = absurd (creation_of c _ asked creation)
+lacks_creating why s (Update (Truncate object size)) c asked creation free = absurd (creation_of c _ asked creation)
+lacks_creating why s (Update (SetAttr object attribute)) c asked creation free = absurd (creation_of c _ asked creation)
+lacks_creating why s (Control (SetWindow window)) c asked creation free = absurd (creation_of c _ asked creation)
+lacks_creating why s (Control (Flush first last)) c asked creation free = absurd (creation_of c _ asked creation)
+lacks_creating why s (Control (FlushO object first last)) c asked creation free = absurd (creation_of c _ asked creation)
 
 none_where : (b : Bool) (r : Option Refusal) → r ≡ None → cond b r None ≡ None
 none_where true r is = is

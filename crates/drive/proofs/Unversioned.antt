@@ -8,7 +8,8 @@ use Rattle.s4_types.specs.declared.changes.Change.{Change}
 use Rattle.s4_types.specs.declared.changes.Change.TheVariants as change
 use Rattle.s4_types.specs.declared.requests.Role.TheVariants.{Admin}
 use Rattle.s4_types.specs.declared.requests.Request.{Request}
-use Rattle.s4_types.specs.declared.requests.Request.TheVariants.{Flush, FlushO}
+use Rattle.s4_types.specs.declared.requests.Request.TheVariants.{Control}
+use Rattle.s4_types.specs.declared.requests.AdminRequest.TheVariants.{Flush, FlushO}
 use Rattle.s4_types.specs.declared.spans.Span.{Span}
 use Rattle.s4_types.specs.declared.refusals.Refusal.{Refusal}
 use Rattle.s4_types.specs.declared.refusals.Refusal.TheVariants.{NoObject, BadSpan, TooManySpans, ClockEnd, NoMemory}
@@ -65,14 +66,14 @@ pub planned : (w : Timeline) (s : State) (span : Span) → StandsFor w s → is_
 planned w s span stands few lt = ap (λ (b : Bool). span_tests b (end_refusal s.clock)) few ∙ window_free w.clock s.clock stands.clock lt
 
 -- the checks of a span that isn't bad
-pub span_later : (s : State) (first last : ℕ) → is_bad_span s (Flush first last) ≡ false → later_refusal s (Flush first last) ≡ span_refusal s (record { object = 0; first = first; last = last })
+pub span_later : (s : State) (first last : ℕ) → is_bad_span s (Control (Flush first last)) ≡ false → later_refusal s (Control (Flush first last)) ≡ span_refusal s (record { object = 0; first = first; last = last })
 span_later s first last good = ap (λ (b : Bool). cond b (Some BadSpan) (span_refusal s (record { object = 0; first = first; last = last }))) good
 
-pub span_bad : (s : State) (first last : ℕ) → is_bad_span s (Flush first last) ≡ true → later_refusal s (Flush first last) ≡ Some BadSpan
+pub span_bad : (s : State) (first last : ℕ) → is_bad_span s (Control (Flush first last)) ≡ true → later_refusal s (Control (Flush first last)) ≡ Some BadSpan
 span_bad s first last bad = ap (λ (b : Bool). cond b (Some BadSpan) (span_refusal s (record { object = 0; first = first; last = last }))) bad
 
 -- a planned span of all objects is refused by nothing
-pub flush_free : (s : State) (object first last : ℕ) → object ≡ 0 → is_bad_span s (Flush first last) ≡ false → span_refusal s (record { object = object; first = first; last = last }) ≡ None → later_refusal s (Flush first last) ≡ None
+pub flush_free : (s : State) (object first last : ℕ) → object ≡ 0 → is_bad_span s (Control (Flush first last)) ≡ false → span_refusal s (record { object = object; first = first; last = last }) ≡ None → later_refusal s (Control (Flush first last)) ≡ None
 flush_free s object first last is good free = span_later s first last good ∙ subst (λ (o : ℕ). span_refusal s (record { object = o; first = first; last = last }) ≡ None) is free
 
 -- and is the one that the change hides
@@ -95,13 +96,13 @@ object_given object first last next at span is lt e =
 abbrev pub object_tests : Bool → Bool → Option Refusal → Option Refusal
 object_tests bad absent rest = cond bad (Some BadSpan) (cond absent (Some NoObject) rest)
 
-pub object_bad : (s : State) (span : Span) → is_bad_span s (FlushO span.object span.first span.last) ≡ true → later_refusal s (FlushO span.object span.first span.last) ≡ Some BadSpan
+pub object_bad : (s : State) (span : Span) → is_bad_span s (Control (FlushO span.object span.first span.last)) ≡ true → later_refusal s (Control (FlushO span.object span.first span.last)) ≡ Some BadSpan
 object_bad s span bad = ap (λ (b : Bool). object_tests b (span.object == 0 || nat_le s.next span.object) (span_refusal s span)) bad
 
 given_there : (object next : ℕ) → 1 ≤ object → object < next → (object == 0 || nat_le next object) ≡ false
 given_there object next low lt = or_from (object == 0) (nat_le next object) (ne_eqb object 0 (λ e. absurd (omega arith))) (lt-leb next object lt)
 
-pub object_later : (s : State) (span : Span) (next : ℕ) → next ≡ s.next → is_bad_span s (FlushO span.object span.first span.last) ≡ false → 1 ≤ span.object → span.object < next → later_refusal s (FlushO span.object span.first span.last) ≡ span_refusal s span
+pub object_later : (s : State) (span : Span) (next : ℕ) → next ≡ s.next → is_bad_span s (Control (FlushO span.object span.first span.last)) ≡ false → 1 ≤ span.object → span.object < next → later_refusal s (Control (FlushO span.object span.first span.last)) ≡ span_refusal s span
 object_later s span next is good low lt =
     ap (λ (b : Bool). object_tests b (span.object == 0 || nat_le s.next span.object) (span_refusal s span)) good
     ∙ ap (λ (b : Bool). object_tests false b (span_refusal s span)) (given_there span.object s.next low (omega arith))

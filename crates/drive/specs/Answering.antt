@@ -4,7 +4,6 @@ use Rattle.std.specs.List.{list_any}
 use Rattle.s4_types.specs.declared.changes.Change.{Change}
 use Rattle.s4_types.specs.declared.refusals.Refusal.{Refusal}
 use Rattle.s4_types.specs.declared.requests.Request.{Request}
-use Rattle.s4_types.specs.declared.requests.Request.TheVariants.{Read, GetAttr}
 use Rattle.s4_types.specs.declared.replies.Reply.{Reply}
 use Rattle.s4_types.specs.declared.replies.Reply.TheVariants.{Changed, Created, Data, Refused}
 use Rattle.s4_types.specs.declared.refusals.Refusal.TheVariants.{NoObject}
@@ -12,8 +11,9 @@ use Rattle.s4_types.specs.declared.versions.Version.TheVariants.{Live}
 use Rattle.s4_model.specs.State.{State}
 use Rattle.s4_model.specs.VersionAt.{version_of}
 use Rattle.s4_model.specs.Refusals.{moment_refusal, is_absent, asked}
-use Rattle.s4_model.specs.Step.{change_of, stamp, reply_to_change, reply_to_read}
-use Rattle.segment_word.specs.AcceptViews.{Ledger, Told, with_change, caught_up, credited}
+use Rattle.s4_types.specs.Sizes.{ReplyFits}
+use Rattle.s4_model.specs.Step.{Step, change_of, stamp, reply_to_change, reply_to_read}
+use Rattle.segment_word.specs.AcceptViews.{Ledger, Told, with_change, with_moment, caught_up, credited}
 use Rattle.codec.specs.declared.inodes.Inode.{Inode}
 use Rattle.inode.specs.Contents.{contents_of, bytes_of}
 use Rattle.version_store.specs.Store.{StoreFields}
@@ -25,8 +25,8 @@ use Rattle.segment_word.specs.Handles.{Held}
 use Rattle.atomic_table.specs.Seated.{TableId}
 use Rattle.time_read.specs.Plans.{PlanFields, IsAt, bytes_planned, pieces_of, pins_held, is_pinned, is_pinned_in}
 use Rattle.version_store.specs.Versions.{inode_in}
-use Rattle.drive.specs.Fields.{DriveFields, SessionFields, store_of, state_in}
-use Rattle.drive.specs.Refusing.{or_then, want_of, IsRefusal}
+use Rattle.drive.specs.Fields.{DriveFields, SessionFields, history_of, store_of, state_in}
+use Rattle.drive.specs.Refusing.{or_then, want_of, RefusesExactly, IsRefusal}
 
 -- a reply to an accepted change
 abbrev pub is_acceptance : Reply → Bool
@@ -85,11 +85,28 @@ abbrev pub ComesTo : Option Refusal → DriveFields → DriveFields → SessionF
 ComesTo first d later before after request now result =
     MatchResult result (TakesChange first d later before after request now) (RefusesChange first d later before after request now)
 
--- a request that asks for no change
-abbrev pub IsRead : Request → Type 0
-IsRead (Read object offset len at) = Unit {0}
-IsRead (GetAttr object at) = Unit {0}
-IsRead _ = ⊥
+-- a moment was seen, and the session has seen all accepted changes
+abbrev pub Sees : DriveFields → DriveFields → SessionFields → SessionFields → ℕ → Type 0
+Sees d later before after now =
+    (later.ledger ≡ with_moment d.ledger now) × (store_of later ≡ store_of d) × (after ≡ record before { told = caught_up later.ledger before.told }) × FitsLedger d.ledger before.told × FitsLedger later.ledger after.told
+
+-- what a request for a change came to is answered: where it was refused, its moment was seen
+abbrev pub IsSettled : DriveFields → DriveFields → SessionFields → SessionFields → ℕ → Result Reply Refusal → Reply → Type 0
+IsSettled d later before after now done given =
+    MatchResult done
+    (λ reply. (given ≡ reply) × (later ≡ d) × (after ≡ before))
+    (λ e. (given ≡ Refused e) × Sees d later before after now)
+
+-- All that a request came to.
+pub record IsServed (d later : DriveFields) (before after : SessionFields) (request : Request) (now : ℕ) (given : Reply) : Type 0 where
+  pub step : Step (history_of d) before.role request now given (history_of later)
+  pub refused : RefusesExactly d before.role request now given later
+  pub stored : Leaves (store_of d) (state_in d) request now given (store_of later)
+  pub fits : ReplyFits given
+  pub session : after ≡ record before { told = told_after given later.ledger before.told }
+  pub owners : later.ledger.owners ≡ owners_after given before.told.seat d.ledger.owners
+  pub fits_before : FitsLedger d.ledger before.told
+  pub fits_after : FitsLedger later.ledger after.told
 
 -- the size that an inode tells of its object, in bytes: none where there is no inode, or a dead one
 abbrev pub size_by : Option Inode → Option ℕ

@@ -4,7 +4,11 @@ use Rattle.std.specs.List.{find}
 use Rattle.s4_types.specs.declared.limits.TheConstants.{OBJECT_BYTES, READ_BYTES, ATTRIBUTE_BYTES}
 use Rattle.s4_types.specs.declared.requests.Role.TheVariants.{Admin}
 use Rattle.s4_types.specs.declared.requests.Request.{Request}
-use Rattle.s4_types.specs.declared.requests.Request.TheVariants.{Create, Delete, Read, Write, Append, Truncate, GetAttr, SetAttr, SetWindow, Flush, FlushO}
+use Rattle.s4_types.specs.declared.requests.Request.TheVariants.{Update, Query, Control}
+use Rattle.s4_types.specs.declared.requests.Question.TheVariants.{Read, GetAttr}
+use Rattle.s4_types.specs.declared.requests.ObjectRequest.{ObjectRequest}
+use Rattle.s4_types.specs.declared.requests.ObjectRequest.TheVariants.{Create, Delete, Write, Append, Truncate, SetAttr}
+use Rattle.s4_types.specs.declared.requests.AdminRequest.TheVariants.{SetWindow, Flush, FlushO}
 use Rattle.s4_types.specs.declared.changes.Change.{Change}
 use Rattle.s4_types.specs.declared.changes.Change.TheVariants as change
 use Rattle.s4_types.specs.declared.refusals.Refusal.{Refusal}
@@ -19,45 +23,36 @@ later_checks = BadSpan ∷ Future ∷ Expired ∷ Flushed ∷ NoObject ∷ TooMa
 -- The first refusal of a request whose role and own numbers allow it: an Append's size, which rests on the state, and then
 -- the later checks.
 abbrev pub later_refusal : State → Request → Option Refusal
-later_refusal s (Append object bytes) = if is_too_large s (Append object bytes) then Some TooLarge else find (applies s Admin (Append object bytes)) later_checks
+later_refusal s (Update (Append object bytes)) = if is_too_large s (Update (Append object bytes)) then Some TooLarge else find (applies s Admin (Update (Append object bytes))) later_checks
 later_refusal s request = find (applies s Admin request) later_checks
 
 -- a request's own numbers are within the limits
 abbrev pub IsWithin : Request → Type 0
-IsWithin (Create attribute) = length attribute ≤ ATTRIBUTE_BYTES
-IsWithin (SetAttr object attribute) = length attribute ≤ ATTRIBUTE_BYTES
-IsWithin (Write object offset bytes) = offset + length bytes ≤ OBJECT_BYTES
-IsWithin (Truncate object size) = size ≤ OBJECT_BYTES
-IsWithin (Read object offset len at) = (len ≤ READ_BYTES) × (offset + len ≤ last_number)
+IsWithin (Update (Create attribute)) = length attribute ≤ ATTRIBUTE_BYTES
+IsWithin (Update (SetAttr object attribute)) = length attribute ≤ ATTRIBUTE_BYTES
+IsWithin (Update (Write object offset bytes)) = offset + length bytes ≤ OBJECT_BYTES
+IsWithin (Update (Truncate object size)) = size ≤ OBJECT_BYTES
+IsWithin (Query (Read object offset len at)) = (len ≤ READ_BYTES) × (offset + len ≤ last_number)
 IsWithin _ = Unit {0}
 
--- a request that would make a version of an object
-abbrev pub IsOfVersions : Request → Type 0
-IsOfVersions (Read object offset len at) = ⊥
-IsOfVersions (GetAttr object at) = ⊥
-IsOfVersions (SetWindow window) = ⊥
-IsOfVersions (Flush first last) = ⊥
-IsOfVersions (FlushO object first last) = ⊥
-IsOfVersions _ = Unit {0}
-
--- the object that such a request is of: a Create's is the next one
+-- the object that a request is of: a Create's is the next one, and 0 is that of SetWindow and Flush
 abbrev pub object_asked : ℕ → Request → ℕ
-object_asked next (Create attribute) = next
-object_asked next (Delete object) = object
-object_asked next (Read object offset len at) = object
-object_asked next (Write object offset bytes) = object
-object_asked next (Append object bytes) = object
-object_asked next (Truncate object size) = object
-object_asked next (GetAttr object at) = object
-object_asked next (SetAttr object attribute) = object
-object_asked next (SetWindow window) = 0
-object_asked next (Flush first last) = 0
-object_asked next (FlushO object first last) = object
+object_asked next (Update (Create attribute)) = next
+object_asked next (Update (Delete object)) = object
+object_asked next (Query (Read object offset len at)) = object
+object_asked next (Update (Write object offset bytes)) = object
+object_asked next (Update (Append object bytes)) = object
+object_asked next (Update (Truncate object size)) = object
+object_asked next (Query (GetAttr object at)) = object
+object_asked next (Update (SetAttr object attribute)) = object
+object_asked next (Control (SetWindow window)) = 0
+object_asked next (Control (Flush first last)) = 0
+object_asked next (Control (FlushO object first last)) = object
 
--- this is the present size of the object that a request is of, none where it is absent; a Create's isn't looked at
-abbrev pub HasSize : State → Request → Option ℕ → Type 0
+-- this is the present size of the object that a change is of, none where it is absent; a Create's isn't looked at
+abbrev pub HasSize : State → ObjectRequest → Option ℕ → Type 0
 HasSize s (Create attribute) size = Unit {0}
-HasSize s request size = live_size_of (present s (object_asked 0 request)) ≡ size
+HasSize s update size = live_size_of (present s (object_asked 0 (Update update))) ≡ size
 
 -- A change that the numbers allow: it makes a version; a Create's object is the next one and a further number is left; each
 -- other's object has a size.

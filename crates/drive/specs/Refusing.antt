@@ -6,7 +6,10 @@ use Rattle.s4_types.specs.declared.changes.Change.{Change}
 use Rattle.s4_types.specs.declared.spans.Span.{Span}
 use Rattle.s4_types.specs.declared.requests.Role.{Role}
 use Rattle.s4_types.specs.declared.requests.Request.{Request}
-use Rattle.s4_types.specs.declared.requests.Request.TheVariants.{Create, Read, GetAttr, Flush, FlushO}
+use Rattle.s4_types.specs.declared.requests.Request.TheVariants.{Update, Query, Control}
+use Rattle.s4_types.specs.declared.requests.Question.TheVariants.{Read}
+use Rattle.s4_types.specs.declared.requests.ObjectRequest.TheVariants.{Create}
+use Rattle.s4_types.specs.declared.requests.AdminRequest.TheVariants.{Flush, FlushO}
 use Rattle.s4_types.specs.declared.refusals.Refusal.{Refusal}
 use Rattle.s4_types.specs.declared.refusals.Refusal.TheVariants.{NoMemory, Busy, TooManySpans, ClockEnd}
 use Rattle.s4_types.specs.declared.replies.Reply.{Reply}
@@ -50,11 +53,10 @@ IsFoundLater (Some _) = ⊥
 -- or reads takes memory only where nothing else refuses it; one that hides moments takes it before its runs are counted and the
 -- clock is looked at. No change of the window or of an object that is there takes any.
 abbrev pub MayLackMemory : Option Refusal → Request → Type 0
-MayLackMemory why (Create attribute) = why ≡ None
-MayLackMemory why (Read object offset length at) = why ≡ None
-MayLackMemory why (GetAttr object at) = why ≡ None
-MayLackMemory why (Flush first last) = IsFoundLater why
-MayLackMemory why (FlushO object first last) = IsFoundLater why
+MayLackMemory why (Update (Create attribute)) = why ≡ None
+MayLackMemory why (Query question) = why ≡ None
+MayLackMemory why (Control (Flush first last)) = IsFoundLater why
+MayLackMemory why (Control (FlushO object first last)) = IsFoundLater why
 MayLackMemory why _ = ⊥
 
 -- The bytes that a read asks for, of an object that is there at the moment asked for, need a block of a frame that isn't open.
@@ -65,7 +67,7 @@ pub record NeedsPin (d : DriveFields) (object offset len : ℕ) (at : Option ℕ
 
 -- a request that needs a pin: such a read
 abbrev pub WantsPin : DriveFields → Request → Type 0
-WantsPin d (Read object offset len at) = NeedsPin d object offset len at
+WantsPin d (Query (Read object offset len at)) = NeedsPin d object offset len at
 WantsPin d _ = ⊥
 
 -- The reply is a refusal where there is one, and that one; or lack of memory, where that may be answered; or lack of a pin

@@ -1,13 +1,14 @@
 //! Changes of objects: judged by the present inode, then stored and accepted.
 ghost use Rattle.std.specs.Prelude.{◌≡◌, ◌+◌, ◌<◌, max, None, Some, option_copied, IfOk, IfErr};
 ghost use Rattle.std.specs.Prelude.{OnOk};
+ghost use Rattle.s4_types.specs.declared.requests.Request.TheVariants.{Update};
 ghost use Rattle.s4_model.specs.Numbers.{next_by};
 ghost use Rattle.s4_model.specs.State.{took};
 ghost use Rattle.s4_model.specs.Refusals.{last_number};
 ghost use Rattle.s4_model.specs.Step.{change_of, stamp, accepted_record, reply_at};
 ghost use Rattle.s4_model.specs.Sound.{IsSound};
 ghost use Rattle.s4_model.specs.Plain.{HasNext};
-ghost use Rattle.drive.specs.Later.{later_refusal, IsWithin, IsOfVersions};
+ghost use Rattle.drive.specs.Later.{later_refusal, IsWithin};
 ghost use Rattle.version_store.specs.Taking.{Takes};
 ghost use Rattle.drive.specs.Fields.{state_in, store_of};
 ghost use Rattle.drive.specs.Answering.{ComesTo, size_by};
@@ -19,7 +20,7 @@ use crate::session::Session;
 use codec::Inode;
 use inode::laws::bytes_are_the_blocks_joined;
 use s4_model::laws::{every_history_is_sound, the_state_goes_on_record_by_record};
-use s4_types::{Change, Moment, ObjectId, Refusal, Reply, Request};
+use s4_types::{Change, Moment, ObjectId, ObjectRequest, Refusal, Reply};
 use segment_word::Naming;
 use version_store::laws::the_present_stays;
 
@@ -73,12 +74,11 @@ struct Judged {
 impl<J: Naming> Drive<J> {
     /// Judges a request for a version of an object, by the object's present inode. No memory is
     /// taken.
-    fn judge_object(&self, request: Request, now: Moment) -> Result<Judged, Refusal>
-        requires versions { IsOfVersions request }
-        requires within { IsWithin request }
-        ensures free { OnOk result (later_refusal (state_in self.now) request ≡ None) }
+    fn judge_object(&self, update: ObjectRequest, now: Moment) -> Result<Judged, Refusal>
+        requires within { IsWithin (Update update) }
+        ensures free { OnOk result (later_refusal (state_in self.now) (Update update) ≡ None) }
         ensures asked { IfOk result
-            (λ judged. change_of (state_in self.now) request ≡ Some judged.change) }
+            (λ judged. change_of (state_in self.now) (Update update) ≡ Some judged.change) }
         ensures clock { OnOk result ((state_in self.now).clock < last_number) }
         ensures takes { IfOk result (λ judged. Takes (store_of self.now) judged.change) }
         ensures next { IfOk result (λ judged. HasNext (state_in self.now).next judged.change) }
@@ -87,36 +87,36 @@ impl<J: Naming> Drive<J> {
             (λ judged. IsSound
             (took (state_in self.now)
             (accepted_record (state_in self.now) judged.change now))) }
-        ensures refused { IfErr result (λ e. later_refusal (state_in self.now) request ≡ Some e) }
+        ensures refused { IfErr result
+            (λ e. later_refusal (state_in self.now) (Update update) ≡ Some e) }
     {
         the_present_stays();
         bytes_are_the_blocks_joined();
         every_history_is_sound();
         the_state_goes_on_record_by_record();
-        let object = object_of(self.next, &request);
+        let object = object_of(self.next, &update);
         let found = self.store.present(object);
         let clock = self.window.clock();
-        let change = judge(clock, self.next, size_of(found), request)?;
+        let change = judge(clock, self.next, size_of(found), update)?;
         let moment = moment_after(clock, now);
         Ok(Judged { change, moment })
     }
 
-    /// A request for a version of an object, once `check` let it pass.
+    /// A request for a version of an object, once `check_update` let it pass.
     #[tactic(auto, using(crate::proofs::Storing::stored_version))]
     pub(crate) fn change_object(
         &mut self,
         session: &mut Session<J>,
-        request: Request,
+        update: ObjectRequest,
         now: Moment,
     ) -> Result<Reply, Refusal>
-        requires versions { IsOfVersions request }
-        requires within { IsWithin request }
-        ensures { ComesTo (later_refusal (state_in self.old) request) self.old self.new session.old
-            session.new request now result }
+        requires within { IsWithin (Update update) }
+        ensures { ComesTo (later_refusal (state_in self.old) (Update update)) self.old self.new
+            session.old session.new (Update update) now result }
     {
         the_present_stays();
         the_state_goes_on_record_by_record();
-        let Judged { change, moment } = self.judge_object(request, now)?;
+        let Judged { change, moment } = self.judge_object(update, now)?;
         self.store.take(&change, moment)?;
         self.window.stamp(now);
         self.next = next_after(&change, self.next);

@@ -1,34 +1,25 @@
-//! What a request's role and own numbers decide.
-ghost use Rattle.std.specs.Prelude.{◌≡◌, ℕ, ◌↔◌, ◌⊎◌, ◌+◌, ◌<◌, ◌≤◌, true, false, Option, Some};
+//! What a request's role and own numbers decide. These checks come before all others.
+ghost use Rattle.std.specs.Prelude.{◌≡◌, ℕ, ◌↔◌, ◌⊎◌, ◌+◌, ◌<◌, ◌≤◌, Option, Some};
 ghost use Rattle.std.specs.Prelude.{MatchResult, IfErr, OnOk, IsTrue, length};
 ghost use Rattle.s4_types.specs.declared.limits.TheConstants.{OBJECT_BYTES, ATTRIBUTE_BYTES};
 ghost use Rattle.s4_types.specs.declared.limits.TheConstants.{READ_BYTES};
 ghost use Rattle.s4_types.specs.declared.requests.Role.{Role};
-ghost use Rattle.s4_types.specs.declared.requests.Request.TheVariants.{Read};
-ghost use Rattle.s4_types.specs.declared.refusals.Refusal.TheVariants.{NotAdmin, BadAttr, TooLarge};
+ghost use Rattle.s4_types.specs.declared.requests.AdminRequest.{AdminRequest};
+ghost use Rattle.s4_types.specs.declared.requests.Request.TheVariants.{Query, Update, Control};
+ghost use Rattle.s4_types.specs.declared.requests.Question.TheVariants.{Read};
+ghost use Rattle.s4_types.specs.declared.refusals.Refusal.TheVariants.{BadAttr, TooLarge};
 ghost use Rattle.s4_model.specs.State.{State};
-ghost use Rattle.s4_model.specs.Refusals.{first_refusal, is_client, last_number};
+ghost use Rattle.s4_model.specs.Refusals.{first_refusal, last_number};
 ghost use Rattle.drive.specs.Later.{later_refusal, IsWithin};
 
 use s4_types::limits::{ATTRIBUTE_BYTES, OBJECT_BYTES, READ_BYTES};
-use s4_types::{Bytes, Refusal, Request, Role};
+use s4_types::{Bytes, ObjectRequest, Question, Refusal, Role};
 
 /// Whether a write of this many bytes at an offset ends past the largest object.
 pub(crate) fn ends_past_limit(offset: u64, length: usize) -> bool
     ensures { IsTrue result ↔ (OBJECT_BYTES < offset + length) }
 {
     offset > OBJECT_BYTES || length as u64 > OBJECT_BYTES - offset
-}
-
-/// NotAdmin where a role has a client's rights alone.
-fn check_role(role: Role) -> Result<(), Refusal>
-    ensures { MatchResult result (λ _. is_client role ≡ false)
-        (λ e. (e ≡ NotAdmin) × (is_client role ≡ true)) }
-{
-    match role {
-        Role::Client => Err(Refusal::NotAdmin),
-        Role::Admin => Ok(()),
-    }
 }
 
 /// BadAttr where an attribute is too long.
@@ -61,11 +52,11 @@ pub(crate) fn check_read(offset: u64, length: u32) -> Result<(), Refusal>
         (λ e. (e ≡ TooLarge) × ((READ_BYTES < length) ⊎ (last_number < offset + length))) }
     ensures ok { OnOk result
         ((s : State) (role : Role) (object : ℕ) (at : Option ℕ)
-        → first_refusal s role (Read object offset length at)
-        ≡ later_refusal s (Read object offset length at)) }
+        → first_refusal s role (Query (Read object offset length at))
+        ≡ later_refusal s (Query (Read object offset length at))) }
     ensures refused { IfErr result
         (λ e. (s : State) (role : Role) (object : ℕ) (at : Option ℕ)
-        → first_refusal s role (Read object offset length at) ≡ Some e) }
+        → first_refusal s role (Query (Read object offset length at)) ≡ Some e) }
 {
     if u64::from(length) > READ_BYTES || offset > u64::MAX - u64::from(length) {
         return Err(Refusal::TooLarge);
@@ -73,26 +64,53 @@ pub(crate) fn check_read(offset: u64, length: u32) -> Result<(), Refusal>
     Ok(())
 }
 
-/// The first refusal that a request's role and own numbers decide. These come before all others.
-///
-/// NotAdmin of a client's SetWindow, Flush or FlushO; BadAttr of an attribute of more than
-/// `ATTRIBUTE_BYTES`; TooLarge of a Write that ends past `OBJECT_BYTES`, of a Truncate to more, of
-/// a Read of more than `READ_BYTES`, and of a Read that ends above 2^64 - 1.
-pub(crate) fn check(role: Role, request: &Request) -> Result<(), Refusal>
+/// The first refusal that a question's own numbers decide: TooLarge of a Read of more than
+/// `READ_BYTES`, and of one that ends above 2^64 - 1.
+pub(crate) fn check_question(question: &Question) -> Result<(), Refusal>
     ensures ok { OnOk result
-        ((s : State) → first_refusal s role request.now ≡ later_refusal s request.now) }
-    ensures within { OnOk result (IsWithin request.now) }
-    ensures refused { IfErr result (λ e. (s : State) → first_refusal s role request.now ≡ Some e) }
+        ((s : State) (role : Role)
+        → first_refusal s role (Query question.now) ≡ later_refusal s (Query question.now)) }
+    ensures within { OnOk result (IsWithin (Query question.now)) }
+    ensures refused { IfErr result
+        (λ e. (s : State) (role : Role) → first_refusal s role (Query question.now) ≡ Some e) }
 {
-    match request {
-        Request::SetWindow { .. } | Request::Flush { .. } | Request::FlushO { .. } => {
-            check_role(role)
-        }
-        Request::Create { attribute } => check_attribute(attribute),
-        Request::SetAttr { attribute, .. } => check_attribute(attribute),
-        Request::Write { offset, bytes, .. } => check_end(*offset, bytes.len()),
-        Request::Truncate { size, .. } => check_end(*size, 0),
-        Request::Read { offset, length, .. } => check_read(*offset, *length),
-        Request::Delete { .. } | Request::Append { .. } | Request::GetAttr { .. } => Ok(()),
+    match question {
+        Question::Read { offset, length, .. } => check_read(*offset, *length),
+        Question::GetAttr { .. } => Ok(()),
+    }
+}
+
+/// The first refusal that the own numbers of a change of an object decide: BadAttr of an attribute
+/// of more than `ATTRIBUTE_BYTES`, TooLarge of a Write that ends past `OBJECT_BYTES` and of a
+/// Truncate to more.
+pub(crate) fn check_update(update: &ObjectRequest) -> Result<(), Refusal>
+    ensures ok { OnOk result
+        ((s : State) (role : Role)
+        → first_refusal s role (Update update.now) ≡ later_refusal s (Update update.now)) }
+    ensures within { OnOk result (IsWithin (Update update.now)) }
+    ensures refused { IfErr result
+        (λ e. (s : State) (role : Role) → first_refusal s role (Update update.now) ≡ Some e) }
+{
+    match update {
+        ObjectRequest::Create { attribute } => check_attribute(attribute),
+        ObjectRequest::SetAttr { attribute, .. } => check_attribute(attribute),
+        ObjectRequest::Write { offset, bytes, .. } => check_end(*offset, bytes.len()),
+        ObjectRequest::Truncate { size, .. } => check_end(*size, 0),
+        ObjectRequest::Delete { .. } | ObjectRequest::Append { .. } => Ok(()),
+    }
+}
+
+/// The first refusal of what administrators alone may ask: NotAdmin of a client.
+pub(crate) fn check_role(role: Role) -> Result<(), Refusal>
+    ensures ok { OnOk result
+        ((s : State) (control : AdminRequest)
+        → first_refusal s role (Control control) ≡ later_refusal s (Control control)) }
+    ensures refused { IfErr result
+        (λ e. (s : State) (control : AdminRequest)
+        → first_refusal s role (Control control) ≡ Some e) }
+{
+    match role {
+        Role::Client => Err(Refusal::NotAdmin),
+        Role::Admin => Ok(()),
     }
 }

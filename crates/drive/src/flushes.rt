@@ -1,7 +1,9 @@
 //! Changes that make no version: of the window, and of what is hidden.
 ghost use Rattle.std.specs.Prelude.{◌≡◌, ◌⊎◌, ◌<◌, ◌≤◌, ◌==◌, ◌||◌, nat_le, true, None, Some};
 ghost use Rattle.std.specs.Prelude.{MatchResult, IfOk, OnOk};
-ghost use Rattle.s4_types.specs.declared.requests.Request.TheVariants.{SetWindow, Flush, FlushO};
+ghost use Rattle.s4_types.specs.declared.requests.Request.TheVariants.{Control};
+ghost use Rattle.s4_types.specs.declared.requests.AdminRequest.TheVariants.{SetWindow, Flush};
+ghost use Rattle.s4_types.specs.declared.requests.AdminRequest.TheVariants.{FlushO};
 ghost use Rattle.s4_types.specs.declared.refusals.Refusal.TheVariants.{NoMemory, NoObject};
 ghost use Rattle.s4_model.specs.State.{State};
 ghost use Rattle.s4_model.specs.Refusals.{last_number};
@@ -56,8 +58,8 @@ impl<J: Naming> Drive<J> {
         window: u64,
         now: Moment,
     ) -> Result<Reply, Refusal>
-        ensures { ComesTo (later_refusal (state_in self.old) (SetWindow window)) self.old self.new
-            session.old session.new (SetWindow window) now result }
+        ensures { ComesTo (later_refusal (state_in self.old) (Control (SetWindow window))) self.old self.new
+            session.old session.new (Control (SetWindow window)) now result }
     {
         every_history_is_sound();
         the_state_goes_on_record_by_record();
@@ -80,8 +82,8 @@ impl<J: Naming> Drive<J> {
         last: Moment,
         now: Moment,
     ) -> Result<Reply, Refusal>
-        ensures { ComesTo (later_refusal (state_in self.old) (Flush first last)) self.old self.new
-            session.old session.new (Flush first last) now result }
+        ensures { ComesTo (later_refusal (state_in self.old) (Control (Flush first last))) self.old self.new
+            session.old session.new (Control (Flush first last)) now result }
     {
         every_history_is_sound();
         the_state_goes_on_record_by_record();
@@ -111,8 +113,8 @@ impl<J: Naming> Drive<J> {
         last: Moment,
         now: Moment,
     ) -> Result<Reply, Refusal>
-        ensures { ComesTo (later_refusal (state_in self.old) (FlushO object first last)) self.old
-            self.new session.old session.new (FlushO object first last) now result }
+        ensures { ComesTo (later_refusal (state_in self.old) (Control (FlushO object first last))) self.old
+            self.new session.old session.new (Control (FlushO object first last)) now result }
     {
         every_history_is_sound();
         the_state_goes_on_record_by_record();

@@ -2,34 +2,30 @@
 ghost use Rattle.std.specs.Prelude.{◌≡◌, ◌⊎◌, ◌+◌, ◌<◌, ◌≤◌, None, Some, IsSome, Err, MatchResult};
 ghost use Rattle.std.specs.Prelude.{IfOk, OnOk, unwrap_or, length};
 ghost use Rattle.s4_types.specs.declared.limits.TheConstants.{OBJECT_BYTES};
+ghost use Rattle.s4_types.specs.declared.requests.Request.TheVariants.{Update};
 ghost use Rattle.s4_types.specs.declared.refusals.Refusal.TheVariants.{ClockEnd, NoObject};
 ghost use Rattle.s4_types.specs.declared.refusals.Refusal.TheVariants.{TooLarge};
 ghost use Rattle.s4_model.specs.State.{State};
 ghost use Rattle.s4_model.specs.Refusals.{last_number};
 ghost use Rattle.s4_model.specs.Step.{change_of};
 ghost use Rattle.s4_model.specs.Limits.{Fits};
-ghost use Rattle.drive.specs.Later.{later_refusal, IsWithin, IsOfVersions, IsAllowed, HasSize};
-ghost use Rattle.drive.specs.Later.{object_asked};
+ghost use Rattle.drive.specs.Later.{later_refusal, IsWithin, IsAllowed, HasSize, object_asked};
 ghost use Rattle.s4_model.specs.Effect.{object_of as object_of_change};
 
 use crate::checks::ends_past_limit;
-use s4_types::{Bytes, Change, Moment, ObjectId, Refusal, Request};
+use s4_types::{Bytes, Change, Moment, ObjectId, ObjectRequest, Refusal};
 
-/// The object that a request is of: a Create's is the next one. 0 for SetWindow and Flush.
-pub(crate) fn object_of(next: ObjectId, request: &Request) -> ObjectId
-    ensures { result ≡ object_asked next request.now }
+/// The object that a change is of: a Create's is the next one.
+pub(crate) fn object_of(next: ObjectId, update: &ObjectRequest) -> ObjectId
+    ensures { result ≡ object_asked next (Update update.now) }
 {
-    match request {
-        Request::Create { .. } => next,
-        Request::Delete { object } => *object,
-        Request::Read { object, .. } => *object,
-        Request::Write { object, .. } => *object,
-        Request::Append { object, .. } => *object,
-        Request::Truncate { object, .. } => *object,
-        Request::GetAttr { object, .. } => *object,
-        Request::SetAttr { object, .. } => *object,
-        Request::FlushO { object, .. } => *object,
-        Request::SetWindow { .. } | Request::Flush { .. } => ObjectId::new(0),
+    match update {
+        ObjectRequest::Create { .. } => next,
+        ObjectRequest::Delete { object }
+        | ObjectRequest::Write { object, .. }
+        | ObjectRequest::Append { object, .. }
+        | ObjectRequest::Truncate { object, .. }
+        | ObjectRequest::SetAttr { object, .. } => *object,
     }
 }
 
@@ -119,8 +115,8 @@ fn judge_append(
     )
 }
 
-/// Judges a request for a version of an object, once `check` let it pass: by the clock, the next
-/// object's number and the present size of the request's object, none where it is absent (a
+/// Judges a request for a version of an object, once `check_update` let it pass: by the clock, the
+/// next object's number and the present size of the request's object, none where it is absent (a
 /// Create's isn't looked at).
 ///
 /// The change that it asks for, or the first refusal that is left: TooLarge of an Append that ends
@@ -130,22 +126,24 @@ pub(crate) fn judge(
     clock: Moment,
     next: ObjectId,
     size: Option<u64>,
-    request: Request,
+    update: ObjectRequest,
 ) -> Result<Change, Refusal>
-    requires versions { IsOfVersions request }
-    requires within { IsWithin request }
-    ensures judged { (s : State) → s.clock ≡ clock → s.next ≡ next → HasSize s request size → MatchResult result
-        (λ change. (later_refusal s request ≡ None) × (change_of s request ≡ Some change))
-        (λ e. later_refusal s request ≡ Some e) }
+    requires within { IsWithin (Update update) }
+    ensures judged { (s : State) → s.clock ≡ clock → s.next ≡ next → HasSize s update size
+        → MatchResult result
+        (λ change. (later_refusal s (Update update) ≡ None)
+        × (change_of s (Update update) ≡ Some change))
+        (λ e. later_refusal s (Update update) ≡ Some e) }
     ensures clock { OnOk result (clock < last_number) }
     ensures fits { IfOk result Fits }
     ensures allowed { IfOk result (IsAllowed next size) }
-    ensures object { IfOk result (λ change. object_of_change change ≡ object_asked next request) }
+    ensures object { IfOk result
+        (λ change. object_of_change change ≡ object_asked next (Update update)) }
 {
-    match request {
-        Request::Create { attribute } => judge_create(clock, next, attribute),
-        Request::Delete { object } => judge_there(clock, size, Change::Delete { object }),
-        Request::Write {
+    match update {
+        ObjectRequest::Create { attribute } => judge_create(clock, next, attribute),
+        ObjectRequest::Delete { object } => judge_there(clock, size, Change::Delete { object }),
+        ObjectRequest::Write {
             object,
             offset,
             bytes,
@@ -157,17 +155,12 @@ pub(crate) fn judge(
             };
             judge_there(clock, size, change)
         }
-        Request::Append { object, bytes } => judge_append(clock, size, object, bytes),
-        Request::Truncate { object, size: n } => {
+        ObjectRequest::Append { object, bytes } => judge_append(clock, size, object, bytes),
+        ObjectRequest::Truncate { object, size: n } => {
             judge_there(clock, size, Change::Truncate { object, size: n })
         }
-        Request::SetAttr { object, attribute } => {
+        ObjectRequest::SetAttr { object, attribute } => {
             judge_there(clock, size, Change::SetAttr { object, attribute })
         }
-        Request::Read { .. }
-        | Request::GetAttr { .. }
-        | Request::SetWindow { .. }
-        | Request::Flush { .. }
-        | Request::FlushO { .. } => unreachable!(),
     }
 }

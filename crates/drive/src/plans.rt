@@ -2,7 +2,8 @@
 ghost use Rattle.std.specs.Prelude.{◌≡◌, None, Some, IfOk, IfErr, OnOk};
 ghost use Rattle.s4_types.specs.Sizes.{ReplyFits};
 ghost use Rattle.s4_types.specs.declared.replies.Reply.TheVariants.{Data};
-ghost use Rattle.s4_types.specs.declared.requests.Request.TheVariants.{Read};
+ghost use Rattle.s4_types.specs.declared.requests.Request.TheVariants.{Query};
+ghost use Rattle.s4_types.specs.declared.requests.Question.TheVariants.{Read};
 ghost use Rattle.s4_types.specs.declared.requests.Role.{Role};
 ghost use Rattle.s4_model.specs.Refusals.{first_refusal};
 ghost use Rattle.s4_model.specs.Step.{Step, reply_to_read};
@@ -33,17 +34,17 @@ impl<J: Naming> Drive<J> {
         ensures store { store_of self.new ≡ store_of self.old }
         ensures free { OnOk result
             ((role : Role)
-            → first_refusal (state_in self.old) role (Read object offset length at) ≡ None) }
+            → first_refusal (state_in self.old) role (Query (Read object offset length at)) ≡ None) }
         ensures bytes { IfOk result
-            (λ plan. reply_to_read (state_in self.old) (Read object offset length at)
+            (λ plan. reply_to_read (state_in self.old) (Query (Read object offset length at))
             ≡ Some (Data (bytes_planned plan))) }
         ensures fits { IfOk result (λ plan. ReplyFits (Data (bytes_planned plan))) }
         ensures plan { IfOk result (IsPlanOf self.new object offset length at) }
         ensures refused { IfErr result
             (λ e. (role : Role)
             → IsUnplanned
-            (first_refusal (state_in self.old) role (Read object offset length at)) self.new
-            (Read object offset length at) e) }
+            (first_refusal (state_in self.old) role (Query (Read object offset length at))) self.new
+            (Query (Read object offset length at)) e) }
     {
         check_read(offset, length)?;
         self.planned(object, offset, length, at)
@@ -67,12 +68,12 @@ impl<J: Naming> Drive<J> {
     ) -> Result<ReadPlan, Refusal>
         // The history goes on by the step of that Read, answered with the bytes that the plan
         // names.
-        ensures step { Step (history_of self.old) session.old.role (Read object offset length at)
+        ensures step { Step (history_of self.old) session.old.role (Query (Read object offset length at))
             now (reply_planned result) (history_of self.new) }
-        ensures refused { RefusesExactly self.old session.old.role (Read object offset length at)
+        ensures refused { RefusesExactly self.old session.old.role (Query (Read object offset length at))
             now (reply_planned result) self.new }
         // Lack of memory comes only where no check refuses the Read.
-        ensures memory { LacksMemoryInPlace self.old session.old.role (Read object offset length at)
+        ensures memory { LacksMemoryInPlace self.old session.old.role (Query (Read object offset length at))
             now (reply_planned result) }
         ensures plan { IfOk result (IsPlanOf self.new object offset length at) }
         // Its pin is of the table of frames that `J` names.

@@ -2,7 +2,8 @@
 ghost use Rattle.std.specs.Prelude.{◌≡◌, ◌≤◌, true, None, Some, IfOk, IfErr, OnOk};
 ghost use Rattle.s4_types.specs.Sizes.{ReplyFits};
 ghost use Rattle.s4_types.specs.declared.limits.TheConstants.{READ_BYTES};
-ghost use Rattle.s4_types.specs.declared.requests.Request.TheVariants.{Read, GetAttr};
+ghost use Rattle.s4_types.specs.declared.requests.Request.TheVariants.{Query};
+ghost use Rattle.s4_types.specs.declared.requests.Question.TheVariants.{Read, GetAttr};
 ghost use Rattle.s4_types.specs.declared.refusals.Refusal.TheVariants.{NoMemory};
 ghost use Rattle.s4_model.specs.Refusals.{first_refusal, asked};
 ghost use Rattle.s4_model.specs.Step.{reply_to_read};
@@ -12,14 +13,14 @@ ghost use Rattle.version_store.specs.Versions.{inode_in};
 ghost use Rattle.drive.specs.Fields.{state_in, store_of};
 ghost use Rattle.time_read.specs.Plans.{bytes_planned};
 ghost use Rattle.drive.specs.Refusing.{IsJudgedOut, IsUnplanned};
-ghost use Rattle.drive.specs.Answering.{IsRead, IsPlanOf, IsAnswered, MeansVersion};
+ghost use Rattle.drive.specs.Answering.{IsPlanOf, IsAnswered, MeansVersion};
 ghost use Rattle.drive.specs.Answering.{telling_refusal};
 
-use crate::checks::check;
+use crate::checks::check_question;
 use crate::drive::Drive;
 use codec::Inode;
 use inode::laws::bytes_are_the_blocks_joined;
-use s4_types::{Bytes, Moment, ObjectId, Refusal, Reply, Request, Role};
+use s4_types::{Bytes, Moment, ObjectId, Question, Refusal, Reply, Role};
 use segment_word::Naming;
 use std::alloc::Global;
 use time_read::ReadPlan;
@@ -125,14 +126,14 @@ impl<J: Naming> Drive<J> {
         ensures ledger { self.new.ledger ≡ self.old.ledger }
         ensures store { store_of self.new ≡ store_of self.old }
         ensures free { OnOk result
-            (later_refusal (state_in self.old) (Read object offset length at) ≡ None) }
+            (later_refusal (state_in self.old) (Query (Read object offset length at)) ≡ None) }
         ensures bytes { IfOk result
-            (λ plan. reply_to_read (state_in self.old) (Read object offset length at)
+            (λ plan. reply_to_read (state_in self.old) (Query (Read object offset length at))
             ≡ Some (Reply.Data (bytes_planned plan))) }
         ensures plan { IfOk result (IsPlanOf self.new object offset length at) }
         ensures refused { IfErr result
-            (IsUnplanned (later_refusal (state_in self.old) (Read object offset length at)) self.new
-            (Read object offset length at)) }
+            (IsUnplanned (later_refusal (state_in self.old) (Query (Read object offset length at))) self.new
+            (Query (Read object offset length at))) }
     {
         let moment = self.moment_asked(at);
         if self.store.latest() <= moment {
@@ -159,11 +160,11 @@ impl<J: Naming> Drive<J> {
         ensures store { store_of self.new ≡ store_of self.old }
         ensures fits { IfOk result (λ bytes. ReplyFits (Reply.Data bytes.items)) }
         ensures ok { IfOk result
-            (λ bytes. IsAnswered (later_refusal (state_in self.old) (Read object offset length at))
-            (state_in self.old) (Read object offset length at) (Reply.Data bytes.items)) }
+            (λ bytes. IsAnswered (later_refusal (state_in self.old) (Query (Read object offset length at)))
+            (state_in self.old) (Query (Read object offset length at)) (Reply.Data bytes.items)) }
         ensures refused { IfErr result
-            (IsJudgedOut (later_refusal (state_in self.old) (Read object offset length at))
-            (Read object offset length at)) }
+            (IsJudgedOut (later_refusal (state_in self.old) (Query (Read object offset length at)))
+            (Query (Read object offset length at))) }
     {
         let moment = self.moment_asked(at);
         if self.store.latest() <= moment {
@@ -189,11 +190,11 @@ impl<J: Naming> Drive<J> {
         ensures store { store_of self.new ≡ store_of self.old }
         ensures fits { IfOk result ReplyFits }
         ensures ok { IfOk result
-            (IsAnswered (later_refusal (state_in self.old) (Read object offset length at))
-            (state_in self.old) (Read object offset length at)) }
+            (IsAnswered (later_refusal (state_in self.old) (Query (Read object offset length at)))
+            (state_in self.old) (Query (Read object offset length at))) }
         ensures refused { IfErr result
-            (IsJudgedOut (later_refusal (state_in self.old) (Read object offset length at))
-            (Read object offset length at)) }
+            (IsJudgedOut (later_refusal (state_in self.old) (Query (Read object offset length at)))
+            (Query (Read object offset length at))) }
     {
         let bytes = self.bytes_at(object, offset, length, at)?;
         Ok(Reply::Data(Bytes::from_vec(bytes)))
@@ -205,11 +206,11 @@ impl<J: Naming> Drive<J> {
         ensures store { store_of self.new ≡ store_of self.old }
         ensures fits { IfOk result ReplyFits }
         ensures ok { IfOk result
-            (IsAnswered (later_refusal (state_in self.old) (GetAttr object at)) (state_in self.old)
-            (GetAttr object at)) }
+            (IsAnswered (later_refusal (state_in self.old) (Query (GetAttr object at))) (state_in self.old)
+            (Query (GetAttr object at))) }
         ensures refused { IfErr result
-            (IsJudgedOut (later_refusal (state_in self.old) (GetAttr object at))
-            (GetAttr object at)) }
+            (IsJudgedOut (later_refusal (state_in self.old) (Query (GetAttr object at)))
+            (Query (GetAttr object at))) }
     {
         bytes_are_the_blocks_joined();
         let moment = self.moment_asked(at);
@@ -221,29 +222,27 @@ impl<J: Naming> Drive<J> {
         attributes_of(self.alloc, &inode)
     }
 
-    /// The reply to a read, by the history that has seen its moment.
-    pub(crate) fn tell(&mut self, role: Role, request: &Request) -> Result<Reply, Refusal>
-        requires { IsRead request.now }
+    /// The reply to a question, by the history that has seen its moment.
+    pub(crate) fn tell(&mut self, role: Role, question: &Question) -> Result<Reply, Refusal>
         ensures ledger { self.new.ledger ≡ self.old.ledger }
         ensures store { store_of self.new ≡ store_of self.old }
         ensures fits { IfOk result ReplyFits }
         ensures ok { IfOk result
-            (IsAnswered (first_refusal (state_in self.old) role request.now) (state_in self.old)
-            request.now) }
+            (IsAnswered (first_refusal (state_in self.old) role (Query question.now))
+            (state_in self.old) (Query question.now)) }
         ensures refused { IfErr result
-            (IsUnplanned (first_refusal (state_in self.old) role request.now) self.new
-            request.now) }
+            (IsUnplanned (first_refusal (state_in self.old) role (Query question.now)) self.new
+            (Query question.now)) }
     {
-        check(role, request)?;
-        match request {
-            Request::Read {
+        check_question(question)?;
+        match question {
+            Question::Read {
                 object,
                 offset,
                 length,
                 at,
             } => self.read(*object, *offset, *length, *at),
-            Request::GetAttr { object, at } => self.get_attr(*object, *at),
-            _ => unreachable!(),
+            Question::GetAttr { object, at } => self.get_attr(*object, *at),
         }
     }
 }

@@ -1,28 +1,22 @@
 //! Requests: each is one step of the drive's history.
-ghost use Rattle.std.specs.Prelude.{◌≡◌, MatchBool, MatchResult};
+ghost use Rattle.std.specs.Prelude.{◌≡◌, MatchResult};
 ghost use Rattle.s4_types.specs.Sizes.{ReplyFits};
 ghost use Rattle.s4_model.specs.Refusals.{first_refusal};
 ghost use Rattle.s4_model.specs.Step.{Step};
-ghost use Rattle.s4_model.specs.Plain.{IsChange};
+ghost use Rattle.s4_types.specs.declared.requests.Request.TheVariants.{Query, Update, Control};
 ghost use Rattle.segment_word.specs.AcceptViews.{with_moment, caught_up};
 ghost use Rattle.segment_word.specs.AcceptRule.{FitsLedger};
 ghost use Rattle.drive.specs.Fields.{history_of, state_in, store_of};
 ghost use Rattle.drive.specs.Refusing.{RefusesExactly, LacksMemoryInPlace};
-ghost use Rattle.drive.specs.Answering.{IsRead, Leaves, ComesTo, told_after, owners_after};
+ghost use Rattle.drive.specs.Answering.{Leaves, ComesTo, IsServed, IsSettled};
+ghost use Rattle.drive.specs.Answering.{told_after, owners_after};
 
-use crate::checks::check;
+use crate::checks::{check_role, check_update};
 use crate::drive::Drive;
 use crate::session::Session;
 use s4_model::laws::{every_history_is_sound, the_state_goes_on_record_by_record};
-use s4_types::{Moment, Refusal, Reply, Request};
+use s4_types::{AdminRequest, Moment, ObjectRequest, Question, Refusal, Reply, Request};
 use segment_word::Naming;
-
-/// Whether a request asks for no change.
-fn is_read(request: &Request) -> bool
-    ensures { MatchBool result (IsRead request.now) (IsChange request.now) }
-{
-    matches!(request, Request::Read { .. } | Request::GetAttr { .. })
-}
 
 /// The reply to what was told.
 fn reply_of(told: Result<Reply, Refusal>) -> Reply
@@ -73,12 +67,45 @@ impl<J: Naming> Drive<J> {
         ensures before { FitsLedger self.old.ledger session.old.told }
         ensures after { FitsLedger self.new.ledger session.new.told }
     {
-        if is_read(&request) {
-            self.see(session, now);
-            let role = session.role;
-            return reply_of(self.tell(role, &request));
+        self.serve(session, request, now)
+    }
+
+    /// The same, as one record.
+    fn serve(&mut self, session: &mut Session<J>, request: Request, now: Moment) -> Reply
+        ensures { IsServed self.old self.new session.old session.new request now result }
+    {
+        match request {
+            Request::Query(question) => self.answer(session, question, now),
+            Request::Update(update) => {
+                let done = self.update(session, update, now);
+                self.settle(session, done, now)
+            }
+            Request::Control(control) => {
+                let done = self.control(session, control, now);
+                self.settle(session, done, now)
+            }
         }
-        match self.change(session, request, now) {
+    }
+
+    /// The reply to a question, by the history that has seen its moment.
+    fn answer(&mut self, session: &mut Session<J>, question: Question, now: Moment) -> Reply
+        ensures { IsServed self.old self.new session.old session.new (Query question) now result }
+    {
+        self.see(session, now);
+        let role = session.role;
+        reply_of(self.tell(role, &question))
+    }
+
+    /// The reply to what a request for a change came to: where it was refused, its moment is seen.
+    fn settle(
+        &mut self,
+        session: &mut Session<J>,
+        done: Result<Reply, Refusal>,
+        now: Moment,
+    ) -> Reply
+        ensures { IsSettled self.old self.new session.old session.new now done result }
+    {
+        match done {
             Ok(reply) => reply,
             Err(refusal) => {
                 self.see(session, now);
@@ -102,28 +129,42 @@ impl<J: Naming> Drive<J> {
         self.history.meet(&mut session.seat);
     }
 
-    /// A request for a change: accepted, or refused before anything has changed.
-    fn change(
+    /// A request for a change of an object: accepted, or refused before anything has changed.
+    fn update(
         &mut self,
         session: &mut Session<J>,
-        request: Request,
+        update: ObjectRequest,
         now: Moment,
     ) -> Result<Reply, Refusal>
-        requires { IsChange request }
-        ensures { ComesTo (first_refusal (state_in self.old) session.old.role request) self.old
-            self.new session.old session.new request now result }
+        ensures { ComesTo
+            (first_refusal (state_in self.old) session.old.role (Update update)) self.old
+            self.new session.old session.new (Update update) now result }
+    {
+        check_update(&update)?;
+        self.change_object(session, update, now)
+    }
+
+    /// The same of a request for administrators.
+    fn control(
+        &mut self,
+        session: &mut Session<J>,
+        control: AdminRequest,
+        now: Moment,
+    ) -> Result<Reply, Refusal>
+        ensures { ComesTo
+            (first_refusal (state_in self.old) session.old.role (Control control)) self.old
+            self.new session.old session.new (Control control) now result }
     {
         let role = session.role;
-        check(role, &request)?;
-        match request {
-            Request::SetWindow { window } => self.set_window(session, window, now),
-            Request::Flush { first, last } => self.flush(session, first, last, now),
-            Request::FlushO {
+        check_role(role)?;
+        match control {
+            AdminRequest::SetWindow { window } => self.set_window(session, window, now),
+            AdminRequest::Flush { first, last } => self.flush(session, first, last, now),
+            AdminRequest::FlushO {
                 object,
                 first,
                 last,
             } => self.flush_object(session, object, first, last, now),
-            versions => self.change_object(session, versions, now),
         }
     }
 }

@@ -3,7 +3,7 @@ use Rattle.std.proofs.Common.{◌≡◌, ℕ, true, Option, inl, inr, refl, ap, 
 use Rattle.s4_types.specs.History.{History}
 use Rattle.s4_types.specs.declared.requests.Role.{Role}
 use Rattle.s4_types.specs.declared.requests.Request.{Request}
-use Rattle.s4_types.specs.declared.requests.Request.TheVariants.{Create, Delete, Read, Write, Append, Truncate, GetAttr, SetAttr, SetWindow, Flush, FlushO}
+use Rattle.s4_types.specs.declared.requests.Request.TheVariants.{Update, Query, Control}
 use Rattle.s4_types.specs.declared.refusals.Refusal.{Refusal}
 use Rattle.s4_types.specs.declared.refusals.Refusal.TheVariants.{NoSpace, NoMemory, ChainFull, Busy}
 use Rattle.s4_types.specs.declared.replies.Reply.{Reply}
@@ -12,25 +12,16 @@ use Rattle.s4_model.specs.State.{State, state_of}
 use Rattle.s4_model.specs.Refusals.{first_refusal}
 use Rattle.s4_model.specs.Step.{Step, Refuses, Serves, MayRefuse, AsFirst, ForMemory, AsOpen, IsLeftOpen, judged}
 use Rattle.s4_model.specs.Laws.{is_of_want}
-use Rattle.drive.specs.Later.{IsOfVersions}
 use Rattle.history_restore.specs.Asking.{IsGiven}
-use Rattle.history_restore.proofs.Stepping.{IsNoRead, no_read, accepts_none}
+use Rattle.history_restore.proofs.Stepping.{IsOfVersions, IsNoRead, no_read, accepts_none}
 
 -- ---- what a step refuses
 
 -- a change is judged by the history as it was
 pub judged_as_was : (h : History) (request : Request) (now : ℕ) → IsOfVersions request → judged h request now ≡ state_of h
-judged_as_was h (Create attribute) now of = refl
-judged_as_was h (Delete object) now of = refl
-judged_as_was h (Read object offset len at) now of = absurd of
-judged_as_was h (Write object offset bytes) now of = refl
-judged_as_was h (Append object bytes) now of = refl
-judged_as_was h (Truncate object size) now of = refl
-judged_as_was h (GetAttr object at) now of = absurd of
-judged_as_was h (SetAttr object attribute) now of = refl
-judged_as_was h (SetWindow window) now of = refl
-judged_as_was h (Flush first last) now of = refl
-judged_as_was h (FlushO object first last) now of = refl
+judged_as_was h (Update update) now of = refl
+judged_as_was h (Query question) now of = absurd of
+judged_as_was h (Control control) now of = refl
 
 want_of_open : (e : Refusal) → IsLeftOpen e → is_of_want e ≡ true
 want_of_open ChainFull is = refl

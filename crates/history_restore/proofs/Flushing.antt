@@ -8,7 +8,8 @@ use Rattle.s4_types.specs.declared.changes.Accepted.{Accepted}
 use Rattle.s4_types.specs.declared.changes.Change.{Change}
 use Rattle.s4_types.specs.declared.changes.Change.TheVariants as change
 use Rattle.s4_types.specs.declared.requests.Role.{Role}
-use Rattle.s4_types.specs.declared.requests.Request.TheVariants.{FlushO}
+use Rattle.s4_types.specs.declared.requests.Request.TheVariants.{Control}
+use Rattle.s4_types.specs.declared.requests.AdminRequest.TheVariants.{FlushO}
 use Rattle.s4_types.specs.declared.refusals.Refusal.{Refusal}
 use Rattle.s4_types.specs.declared.replies.Reply.{Reply}
 use Rattle.s4_types.specs.declared.replies.Reply.TheVariants.{Refused}
@@ -33,10 +34,10 @@ objects_of_seen s o now sound = record {
   next = refl;
 }
 
-pub refused_flush : (h after : History) (role : Role) (o first last now : ℕ) (reply : Reply) (e : Refusal) → BySeen → IsSound (state_of h) → reply ≡ Refused e → Step h role (FlushO o first last) now reply after
+pub refused_flush : (h after : History) (role : Role) (o first last now : ℕ) (reply : Reply) (e : Refusal) → BySeen → IsSound (state_of h) → reply ≡ Refused e → Step h role (Control (FlushO o first last)) now reply after
     → LeavesObjects (state_of h) o (state_of after)
 refused_flush h after role o first last now reply e by_seen sound refused step =
-    subst (LeavesObjects (state_of h) o) (sym (ap state_of (refused_saw h after role (FlushO o first last) now reply e (λ s r is. none-some r is) refused step) ∙ by_seen h now)) (objects_of_seen (state_of h) o now sound)
+    subst (LeavesObjects (state_of h) o) (sym (ap state_of (refused_saw h after role (Control (FlushO o first last)) now reply e (λ s r is. none-some r is) refused step) ∙ by_seen h now)) (objects_of_seen (state_of h) o now sound)
 
 -- what another object hides is hidden as before
 hidden_as_before : (b c : Bool) (q o : ℕ) → q ≢ o → (b || (o == q && c)) ≡ b
@@ -87,11 +88,11 @@ flushed s later o first last hides leaves numbers = record {
 }
 
 pub granted_flush : (h after : History) (role : Role) (o first last now : ℕ) (reply : Reply) → ByTook → AFlushOfAnObjectHidesItsSpan → IsSound (state_of h) → ((e : Refusal) → reply ≡ Refused e → ⊥)
-    → Step h role (FlushO o first last) now reply after → FlushLeaves (state_of h) o first last (state_of after)
+    → Step h role (Control (FlushO o first last)) now reply after → FlushLeaves (state_of h) o first last (state_of after)
 granted_flush h after role o first last now reply by_took hides_law sound free step =
     let s : State = state_of h in
-    let taken : IsTaken h (FlushO o first last) now after = granted_took h after role (FlushO o first last) now reply (λ s r is. none-some r is) free step in
+    let taken : IsTaken h (Control (FlushO o first last)) now after = granted_took h after role (Control (FlushO o first last)) now reply (λ s r is. none-some r is) free step in
     let a : Accepted = accepted_record s taken.change now in
-    let both = hides_law h role o first last now reply a sound (subst (λ k. Step h role (FlushO o first last) now reply k) taken.took step) in
+    let both = hides_law h role o first last now reply a sound (subst (λ k. Step h role (Control (FlushO o first last)) now reply k) taken.took step) in
     let numbers : NumbersStay s (took s a) = numbers_by s a o first last (same_Some (change.FlushO o first last) taken.change taken.asked) (omega arith) in
     subst (FlushLeaves s o first last) (sym (ap state_of taken.took)) (flushed s (state_of (grown h (Took a))) o first last both.0 both.1 (subst (NumbersStay s) (sym (by_took h a)) numbers))

@@ -11,7 +11,8 @@ use Rattle.s4_types.specs.declared.changes.Change.{Change}
 use Rattle.s4_types.specs.declared.changes.Change.TheVariants as change
 use Rattle.s4_types.specs.declared.requests.Role.{Role}
 use Rattle.s4_types.specs.declared.requests.Request.{Request}
-use Rattle.s4_types.specs.declared.requests.Request.TheVariants.{Create, Delete, Read, Write, Append, Truncate, GetAttr, SetAttr, SetWindow, Flush, FlushO}
+use Rattle.s4_types.specs.declared.requests.Request.TheVariants.{Update, Query, Control}
+use Rattle.s4_types.specs.declared.requests.ObjectRequest.TheVariants.{Create, Delete, Write, Append, Truncate, SetAttr}
 use Rattle.s4_types.specs.declared.refusals.Refusal.{Refusal}
 use Rattle.s4_types.specs.declared.replies.Reply.{Reply}
 use Rattle.s4_types.specs.declared.replies.Reply.TheVariants.{Refused}
@@ -23,7 +24,7 @@ use Rattle.s4_model.specs.Refusals.{present, size_of}
 use Rattle.s4_model.specs.Step.{Step, Refuses, Serves, Accepts, Alters, Reads, change_of, accepted_record, reply_to_change, reply_to_read, judged}
 use Rattle.s4_model.specs.Sound.{IsSound}
 use Rattle.s4_model.specs.Laws.{ActsAtItsMoment, AChangeActsAtItsMoment}
-use Rattle.drive.specs.Later.{IsOfVersions, object_asked}
+use Rattle.drive.specs.Later.{object_asked}
 use Rattle.history_restore.specs.Content.{content_of}
 use Rattle.history_restore.specs.Keeping.{LeavesPast, LeavesOthers}
 use Rattle.history_restore.specs.Asking.{Makes, Grants}
@@ -64,20 +65,22 @@ pub record IsOfObject (s : State) (o : ℕ) (c : Change) : Type 0 where
   pub object : object_of c ≡ o
   pub alone : (q : ℕ) → is_change_of q c ≡ (o == q)
 
+-- a request for a change of an object
+abbrev pub IsOfVersions : Request → Type 0
+IsOfVersions (Update update) = Unit {0}
+IsOfVersions _ = ⊥
+
 -- the change that is asked for is of the object that is asked for
 of_object : (s : State) (request : Request) (c : Change) → IsOfVersions request → change_of s request ≡ Some c → IsOfObject s (object_asked s.next request) c
-of_object s (Create attribute) c of is = subst (IsOfObject s s.next) (same_Some (change.Create s.next attribute) c is) (record { span = refl; window = refl; next = omega arith; object = refl; alone = λ q. refl })
-of_object s (Delete object) c of is = subst (IsOfObject s object) (same_Some (change.Delete object) c is) (record { span = refl; window = refl; next = omega arith; object = refl; alone = λ q. refl })
-of_object s (Read object offset len at) c of is = absurd of
-of_object s (Write object offset bytes) c of is = subst (IsOfObject s object) (same_Some (change.Write object offset bytes) c is) (record { span = refl; window = refl; next = omega arith; object = refl; alone = λ q. refl })
-of_object s (Append object bytes) c of is =
+of_object s (Update (Create attribute)) c of is = subst (IsOfObject s s.next) (same_Some (change.Create s.next attribute) c is) (record { span = refl; window = refl; next = omega arith; object = refl; alone = λ q. refl })
+of_object s (Update (Delete object)) c of is = subst (IsOfObject s object) (same_Some (change.Delete object) c is) (record { span = refl; window = refl; next = omega arith; object = refl; alone = λ q. refl })
+of_object s (Update (Write object offset bytes)) c of is = subst (IsOfObject s object) (same_Some (change.Write object offset bytes) c is) (record { span = refl; window = refl; next = omega arith; object = refl; alone = λ q. refl })
+of_object s (Update (Append object bytes)) c of is =
     subst (IsOfObject s object) (same_Some (change.Write object (size_of (present s object)) bytes) c is) (record { span = refl; window = refl; next = omega arith; object = refl; alone = λ q. refl })
-of_object s (Truncate object size) c of is = subst (IsOfObject s object) (same_Some (change.Truncate object size) c is) (record { span = refl; window = refl; next = omega arith; object = refl; alone = λ q. refl })
-of_object s (GetAttr object at) c of is = absurd of
-of_object s (SetAttr object attribute) c of is = subst (IsOfObject s object) (same_Some (change.SetAttr object attribute) c is) (record { span = refl; window = refl; next = omega arith; object = refl; alone = λ q. refl })
-of_object s (SetWindow window) c of is = absurd of
-of_object s (Flush first last) c of is = absurd of
-of_object s (FlushO object first last) c of is = absurd of
+of_object s (Update (Truncate object size)) c of is = subst (IsOfObject s object) (same_Some (change.Truncate object size) c is) (record { span = refl; window = refl; next = omega arith; object = refl; alone = λ q. refl })
+of_object s (Query question) c of is = absurd of
+of_object s (Update (SetAttr object attribute)) c of is = subst (IsOfObject s object) (same_Some (change.SetAttr object attribute) c is) (record { span = refl; window = refl; next = omega arith; object = refl; alone = λ q. refl })
+of_object s (Control control) c of is = absurd of
 
 -- one more change without a span adds none
 pub spans_stay : (s : State) (a : Accepted) → span_by a.change ≡ None → spans_of (took s a) ≡ spans_of s
@@ -135,17 +138,9 @@ IsNoRead request = (s : State) (reply : Reply) → reply_to_read s request ≡ S
 
 -- such is one for a change of an object
 pub no_read : (request : Request) → IsOfVersions request → IsNoRead request
-no_read (Create attribute) of s reply is = none-some reply is
-no_read (Delete object) of s reply is = none-some reply is
-no_read (Read object offset len at) of s reply is = of
-no_read (Write object offset bytes) of s reply is = none-some reply is
-no_read (Append object bytes) of s reply is = none-some reply is
-no_read (Truncate object size) of s reply is = none-some reply is
-no_read (GetAttr object at) of s reply is = of
-no_read (SetAttr object attribute) of s reply is = none-some reply is
-no_read (SetWindow window) of s reply is = of
-no_read (Flush first last) of s reply is = of
-no_read (FlushO object first last) of s reply is = of
+no_read (Update update) of s reply is = none-some reply is
+no_read (Query question) of s reply is = of
+no_read (Control control) of s reply is = of
 
 -- what is refused is a moment seen
 pub accepts_none : (h : History) (request : Request) (now : ℕ) (reply : Reply) (r : Record) (e : Refusal) → IsNoRead request → reply ≡ Refused e → Accepts h request now reply r → ⊥

@@ -9,7 +9,8 @@ use Rattle.s4_types.specs.declared.changes.Change.{Change}
 use Rattle.s4_types.specs.declared.changes.Change.TheVariants as change
 use Rattle.s4_types.specs.declared.requests.Role.{Role}
 use Rattle.s4_types.specs.declared.requests.Request.{Request}
-use Rattle.s4_types.specs.declared.requests.Request.TheVariants.{Create, Delete, Read, Write, Append, Truncate, GetAttr, SetAttr, SetWindow, Flush, FlushO}
+use Rattle.s4_types.specs.declared.requests.Request.TheVariants.{Update, Query, Control}
+use Rattle.s4_types.specs.declared.requests.ObjectRequest.TheVariants.{Create, Delete, Write, Append, Truncate, SetAttr}
 use Rattle.s4_types.specs.declared.refusals.Refusal.{Refusal}
 use Rattle.s4_types.specs.declared.refusals.Refusal.TheVariants.{ChainFull, NoMemory, Busy}
 use Rattle.s4_types.specs.declared.replies.Reply.{Reply}
@@ -22,11 +23,10 @@ use Rattle.version_store.specs.Costs.{change_refusal}
 use Rattle.version_store.specs.Store.{StoreFields}
 use Rattle.drive.specs.Answering.{Leaves, StoresChange, StoresVersion, is_acceptance}
 use Rattle.drive.specs.Fields.{DriveFields, history_of, state_in, store_of}
-use Rattle.drive.specs.Later.{IsOfVersions}
 use Rattle.drive.specs.Refusing.{RefusesBy, RefusesExactly, or_then, refusal_of, storing_refusal, want_of}
 use Rattle.history_restore.specs.Asking.{IsFullFor, IsWithinChanges, StoresAsked}
 use Rattle.history_restore.proofs.Denying.{judged_as_was}
-use Rattle.history_restore.proofs.Stepping.{BySeen, ByTook, IsNoRead, IsTaken, granted_took, no_read, refused_saw}
+use Rattle.history_restore.proofs.Stepping.{IsOfVersions, BySeen, ByTook, IsNoRead, IsTaken, granted_took, no_read, refused_saw}
 
 -- ---- refused
 
@@ -96,17 +96,14 @@ is_accepted h after role request now reply unread free (Serves r none accepts af
 
 -- the change that is asked for makes a version
 makes_version : (s : State) (request : Request) (c : Change) → IsOfVersions request → change_of s request ≡ Some c → is_of_versions c ≡ true
-makes_version s (Create attribute) c of is = ap is_of_versions (sym (same_Some (change.Create s.next attribute) c is))
-makes_version s (Delete object) c of is = ap is_of_versions (sym (same_Some (change.Delete object) c is))
-makes_version s (Read object offset len at) c of is = absurd of
-makes_version s (Write object offset bytes) c of is = ap is_of_versions (sym (same_Some (change.Write object offset bytes) c is))
-makes_version s (Append object bytes) c of is = ap is_of_versions (sym (same_Some (change.Write object (size_of (present s object)) bytes) c is))
-makes_version s (Truncate object size) c of is = ap is_of_versions (sym (same_Some (change.Truncate object size) c is))
-makes_version s (GetAttr object at) c of is = absurd of
-makes_version s (SetAttr object attribute) c of is = ap is_of_versions (sym (same_Some (change.SetAttr object attribute) c is))
-makes_version s (SetWindow window) c of is = absurd of
-makes_version s (Flush first last) c of is = absurd of
-makes_version s (FlushO object first last) c of is = absurd of
+makes_version s (Update (Create attribute)) c of is = ap is_of_versions (sym (same_Some (change.Create s.next attribute) c is))
+makes_version s (Update (Delete object)) c of is = ap is_of_versions (sym (same_Some (change.Delete object) c is))
+makes_version s (Query question) c of is = absurd of
+makes_version s (Update (Write object offset bytes)) c of is = ap is_of_versions (sym (same_Some (change.Write object offset bytes) c is))
+makes_version s (Update (Append object bytes)) c of is = ap is_of_versions (sym (same_Some (change.Write object (size_of (present s object)) bytes) c is))
+makes_version s (Update (Truncate object size)) c of is = ap is_of_versions (sym (same_Some (change.Truncate object size) c is))
+makes_version s (Update (SetAttr object attribute)) c of is = ap is_of_versions (sym (same_Some (change.SetAttr object attribute) c is))
+makes_version s (Control control) c of is = absurd of
 
 first_case : (b : Bool) (P Q : Type 0) → b ≡ true → MatchBool b P Q → P
 first_case true P Q is h = h

@@ -9,7 +9,8 @@ use Rattle.s4_types.specs.declared.changes.Accepted.{Accepted}
 use Rattle.s4_types.specs.declared.changes.Change.{Change}
 use Rattle.s4_types.specs.declared.changes.Change.TheVariants as change
 use Rattle.s4_types.specs.declared.requests.Role.{Role}
-use Rattle.s4_types.specs.declared.requests.Request.TheVariants.{SetWindow}
+use Rattle.s4_types.specs.declared.requests.Request.TheVariants.{Control}
+use Rattle.s4_types.specs.declared.requests.AdminRequest.TheVariants.{SetWindow}
 use Rattle.s4_types.specs.declared.refusals.Refusal.{Refusal}
 use Rattle.s4_types.specs.declared.replies.Reply.{Reply}
 use Rattle.s4_types.specs.declared.replies.Reply.TheVariants.{Refused}
@@ -43,25 +44,25 @@ widened_by s a now window is stamped later acts = record {
 }
 
 pub granted_window : (h after : History) (role : Role) (window now : ℕ) (reply : Reply) → ByTook → AChangeActsAtItsMoment → IsSound (state_of h) → ((e : Refusal) → reply ≡ Refused e → ⊥)
-    → Step h role (SetWindow window) now reply after → IsWidened (state_of h) now window (state_of after)
+    → Step h role (Control (SetWindow window)) now reply after → IsWidened (state_of h) now window (state_of after)
 granted_window h after role window now reply by_took acts_law sound free step =
     let s : State = state_of h in
-    let taken : IsTaken h (SetWindow window) now after = granted_took h after role (SetWindow window) now reply (λ s r is. none-some r is) free step in
+    let taken : IsTaken h (Control (SetWindow window)) now after = granted_took h after role (Control (SetWindow window)) now reply (λ s r is. none-some r is) free step in
     let a : Accepted = accepted_record s taken.change now in
-    let acts : ActsAtItsMoment s (took s a) a = subst (λ k. ActsAtItsMoment s k a) (by_took h a) (acts_law h role (SetWindow window) now reply a sound (subst (λ k. Step h role (SetWindow window) now reply k) taken.took step)) in
+    let acts : ActsAtItsMoment s (took s a) a = subst (λ k. ActsAtItsMoment s k a) (by_took h a) (acts_law h role (Control (SetWindow window)) now reply a sound (subst (λ k. Step h role (Control (SetWindow window)) now reply k) taken.took step)) in
     subst (IsWidened s now window) (sym (ap state_of taken.took ∙ by_took h a))
     (widened_by s a now window (sym (same_Some (change.SetWindow window) taken.change taken.asked)) refl (omega arith) acts)
 
-pub refused_window : (h after : History) (role : Role) (window now : ℕ) (reply : Reply) (e : Refusal) → BySeen → reply ≡ Refused e → Step h role (SetWindow window) now reply after → LeavesPast (state_of h) (state_of after)
+pub refused_window : (h after : History) (role : Role) (window now : ℕ) (reply : Reply) (e : Refusal) → BySeen → reply ≡ Refused e → Step h role (Control (SetWindow window)) now reply after → LeavesPast (state_of h) (state_of after)
 refused_window h after role window now reply e by_seen refused step =
     let s : State = state_of h in
-    subst (LeavesPast s) (sym (ap state_of (refused_saw h after role (SetWindow window) now reply e (λ s r is. none-some r is) refused step) ∙ by_seen h now)) (past_of_seen s now)
+    subst (LeavesPast s) (sym (ap state_of (refused_saw h after role (Control (SetWindow window)) now reply e (λ s r is. none-some r is) refused step) ∙ by_seen h now)) (past_of_seen s now)
 
-pub why_refused : (h after : History) (role : Role) (window now : ℕ) (reply : Reply) (e : Refusal) → reply ≡ Refused e → Step h role (SetWindow window) now reply after → IsGiven (first_refusal (state_of h) role (SetWindow window)) e
-why_refused h after role window now reply e refused step = given_as_was h after role (SetWindow window) now reply e refl refused step (λ s r is. none-some r is)
+pub why_refused : (h after : History) (role : Role) (window now : ℕ) (reply : Reply) (e : Refusal) → reply ≡ Refused e → Step h role (Control (SetWindow window)) now reply after → IsGiven (first_refusal (state_of h) role (Control (SetWindow window))) e
+why_refused h after role window now reply e refused step = given_as_was h after role (Control (SetWindow window)) now reply e refl refused step (λ s r is. none-some r is)
 
 -- a request to set the window stores nothing, whatever it is answered
-pub window_stores_none : (b : Bool) (s : State) (window m : ℕ) (store after : StoreFields) → MatchBool b ((c : Change) → change_of s (SetWindow window) ≡ Some c → StoresChange store c m after) (after ≡ store) → after ≡ store
+pub window_stores_none : (b : Bool) (s : State) (window m : ℕ) (store after : StoreFields) → MatchBool b ((c : Change) → change_of s (Control (SetWindow window)) ≡ Some c → StoresChange store c m after) (after ≡ store) → after ≡ store
 window_stores_none true s window m store after leaves = leaves (change.SetWindow window) refl
 window_stores_none false s window m store after leaves = leaves
 

@@ -1,15 +1,16 @@
 //! Requests for changes of objects.
 ghost use Rattle.std.specs.Prelude.{OnOk, IfErr};
+ghost use Rattle.s4_types.specs.declared.requests.Request.TheVariants.{Update};
 ghost use Rattle.s4_model.specs.Refusals.{first_refusal};
 ghost use Rattle.drive.specs.Fields.{state_in, store_of};
-ghost use Rattle.drive.specs.Later.{IsOfVersions, object_asked};
+ghost use Rattle.drive.specs.Later.{object_asked};
 ghost use Rattle.history_restore.specs.Asking.{Grants, IsGiven, IsFullFor, IsWithinChanges};
 ghost use Rattle.history_restore.specs.Asking.{StoresAsked};
 ghost use Rattle.history_restore.specs.Keeping.{LeavesPast, LeavesOthers};
 
 use drive::{Drive, Session};
 use s4_model::laws::{a_change_acts_at_its_moment, the_state_goes_on_record_by_record};
-use s4_types::{Moment, Refusal, Reply, Request};
+use s4_types::{Moment, ObjectRequest, Refusal, Reply, Request};
 use segment_word::Naming;
 
 /// Asks for a change of an object, the next one's creation among them. Nothing but that object
@@ -17,24 +18,27 @@ use segment_word::Naming;
 pub(crate) fn ask<J: Naming>(
     drive: &mut Drive<J>,
     session: &mut Session<J>,
-    request: Request,
+    update: ObjectRequest,
     now: Moment,
 ) -> Result<(), Refusal>
-    requires { IsOfVersions request }
-    ensures granted { OnOk result (Grants (state_in drive.old) request (state_in drive.new)) }
+    ensures granted { OnOk result
+        (Grants (state_in drive.old) (Update update) (state_in drive.new)) }
     ensures refused { IfErr result
-        (IsGiven (first_refusal (state_in drive.old) session.old.role request)) }
+        (IsGiven (first_refusal (state_in drive.old) session.old.role (Update update))) }
     ensures stored { OnOk result
-        (StoresAsked (store_of drive.old) (state_in drive.old) request (store_of drive.new)) }
-    ensures full { IfErr result (IsFullFor (store_of drive.old) (state_in drive.old) request) }
+        (StoresAsked (store_of drive.old) (state_in drive.old) (Update update)
+        (store_of drive.new)) }
+    ensures full { IfErr result
+        (IsFullFor (store_of drive.old) (state_in drive.old) (Update update)) }
     ensures clock { IsWithinChanges (state_in drive.old) now 1 (state_in drive.new) }
-    ensures others { LeavesOthers (object_asked (state_in drive.old).next request)
+    ensures others { LeavesOthers (object_asked (state_in drive.old).next (Update update))
         (state_in drive.old) (state_in drive.new) }
     ensures past { LeavesPast (state_in drive.old) (state_in drive.new) }
 {
     the_state_goes_on_record_by_record();
     a_change_acts_at_its_moment();
     drive.rules();
+    let request = Request::Update(update);
     if let Reply::Refused(refusal) = drive.request(session, request, now) {
         return Err(refusal);
     }

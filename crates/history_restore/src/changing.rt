@@ -19,7 +19,7 @@ ghost use Rattle.history_restore.specs.Keeping.{LeavesPast, LeavesOthers};
 use crate::asking::ask;
 use crate::plans::{Changes, Patch, Plan, patch_between};
 use drive::{Drive, Session};
-use s4_types::{Bytes, Moment, ObjectId, Refusal, Request, Version};
+use s4_types::{Bytes, Moment, ObjectId, ObjectRequest, Refusal, Version};
 use segment_word::Naming;
 use std::alloc::Global;
 
@@ -78,7 +78,12 @@ fn cut<J: Naming>(
 {
     match size {
         None => Ok(()),
-        Some(size) => ask(drive, session, Request::Truncate { object, size }, now),
+        Some(size) => ask(
+            drive,
+            session,
+            ObjectRequest::Truncate { object, size },
+            now,
+        ),
     }
 }
 
@@ -116,12 +121,12 @@ fn write_patch<J: Naming>(
     let Ok(bytes) = Bytes::from_slice(alloc, new) else {
         return Err(Refusal::NoMemory);
     };
-    let request = Request::Write {
+    let update = ObjectRequest::Write {
         object,
         offset: patch.offset,
         bytes,
     };
-    ask(drive, session, request, now)
+    ask(drive, session, update, now)
 }
 
 /// Bytes are written as a patch says, where one is given.
@@ -194,7 +199,12 @@ fn set_attribute<J: Naming>(
     let Ok(attribute) = Bytes::from_slice(alloc, attribute) else {
         return Err(Refusal::NoMemory);
     };
-    ask(drive, session, Request::SetAttr { object, attribute }, now)
+    ask(
+        drive,
+        session,
+        ObjectRequest::SetAttr { object, attribute },
+        now,
+    )
 }
 
 /// The changes of an object that was there and is there.
@@ -273,7 +283,7 @@ fn create<J: Naming>(
     let Ok(attribute) = Bytes::from_slice(alloc, attribute) else {
         return Err(Refusal::NoMemory);
     };
-    ask(drive, session, Request::Create { attribute }, now)?;
+    ask(drive, session, ObjectRequest::Create { attribute }, now)?;
     Ok(number)
 }
 
@@ -352,7 +362,7 @@ pub(crate) fn perform<J: Naming>(
     match plan {
         Plan::Keep => Ok(object),
         Plan::Delete => {
-            ask(drive, session, Request::Delete { object }, now)?;
+            ask(drive, session, ObjectRequest::Delete { object }, now)?;
             Ok(object)
         }
         Plan::Remake(_) => remake(alloc, drive, session, before, now),

@@ -11,7 +11,7 @@ use codec::Entry;
 use drive::{Drive, Session};
 use history_cleaner::clean_object;
 use s4_model::laws::{a_flush_hides_exactly_its_span, the_state_goes_on_record_by_record};
-use s4_types::{Moment, ObjectId, Refusal, Reply, Request, Span};
+use s4_types::{AdminRequest, Moment, ObjectId, Refusal, Reply, Request, Span};
 use segment_word::Naming;
 use std::alloc::Global;
 
@@ -33,11 +33,11 @@ fn flush<J: Naming>(
     the_state_goes_on_record_by_record();
     a_flush_hides_exactly_its_span();
     drive.rules();
-    let request = Request::FlushO {
+    let request = Request::Control(AdminRequest::FlushO {
         object,
         first,
         last,
-    };
+    });
     if let Reply::Refused(refusal) = drive.request(session, request, now) {
         return Err(refusal);
     }

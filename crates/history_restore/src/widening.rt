@@ -1,6 +1,7 @@
 //! The window that keeps a moment in reach until it is restored.
 ghost use Rattle.std.specs.Prelude.{◌≡◌, ◌+◌, IfOk, IfErr, OnOk, OnErr};
-ghost use Rattle.s4_types.specs.declared.requests.Request.TheVariants.{SetWindow};
+ghost use Rattle.s4_types.specs.declared.requests.Request.TheVariants.{Control};
+ghost use Rattle.s4_types.specs.declared.requests.AdminRequest.TheVariants.{SetWindow};
 ghost use Rattle.s4_model.specs.Refusals.{first_refusal};
 ghost use Rattle.drive.specs.Fields.{state_in, store_of};
 ghost use Rattle.history_restore.specs.Asking.{IsGiven};
@@ -9,7 +10,7 @@ ghost use Rattle.history_restore.specs.Widening.{Widens, IsWidened, window_for};
 
 use drive::{Drive, Session};
 use s4_model::laws::{a_change_acts_at_its_moment, the_state_goes_on_record_by_record};
-use s4_types::{Moment, Refusal, Reply, Request};
+use s4_types::{AdminRequest, Moment, Refusal, Reply, Request};
 use segment_word::Naming;
 
 /// The least window that reaches back to a moment from where this many changes may bring the clock.
@@ -29,14 +30,16 @@ fn set_window<J: Naming>(
 ) -> Result<(), Refusal>
     ensures widened { OnOk result (IsWidened (state_in drive.old) now window (state_in drive.new)) }
     ensures refused { IfErr result
-        (IsGiven (first_refusal (state_in drive.old) session.old.role (SetWindow window))) }
+        (IsGiven
+        (first_refusal (state_in drive.old) session.old.role (Control (SetWindow window)))) }
     ensures store { store_of drive.new ≡ store_of drive.old }
     ensures past { OnErr result (LeavesPast (state_in drive.old) (state_in drive.new)) }
 {
     the_state_goes_on_record_by_record();
     a_change_acts_at_its_moment();
     drive.rules();
-    if let Reply::Refused(refusal) = drive.request(session, Request::SetWindow { window }, now) {
+    let request = Request::Control(AdminRequest::SetWindow { window });
+    if let Reply::Refused(refusal) = drive.request(session, request, now) {
         return Err(refusal);
     }
     Ok(())
@@ -60,7 +63,7 @@ pub fn widen_window<J: Naming>(
     ensures refused { IfErr result
         (IsGiven
         (first_refusal (state_in drive.old) session.old.role
-        (SetWindow (window_for (state_in drive.old) now at (changes + 1))))) }
+        (Control (SetWindow (window_for (state_in drive.old) now at (changes + 1)))))) }
     ensures store { store_of drive.new ≡ store_of drive.old }
     ensures past { OnErr result (LeavesPast (state_in drive.old) (state_in drive.new)) }
 {

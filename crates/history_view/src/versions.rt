@@ -3,7 +3,8 @@ ghost use Rattle.std.specs.Prelude.{◌≡◌, ◌⊎◌, true, Some, IfOk, IfEr
 ghost use Rattle.s4_types.specs.declared.limits.TheConstants.{READ_BYTES};
 ghost use Rattle.s4_types.specs.declared.refusals.Refusal.TheVariants.{NoMemory, Busy};
 ghost use Rattle.s4_types.specs.declared.replies.Reply.TheVariants.{Data};
-ghost use Rattle.s4_types.specs.declared.requests.Request.TheVariants.{Read};
+ghost use Rattle.s4_types.specs.declared.requests.Request.TheVariants.{Query};
+ghost use Rattle.s4_types.specs.declared.requests.Question.TheVariants.{Read};
 ghost use Rattle.s4_model.specs.Refusals.{first_refusal, moment_refusal};
 ghost use Rattle.s4_model.specs.Step.{data_of};
 ghost use Rattle.s4_model.specs.VersionAt.{version_of};
@@ -16,7 +17,7 @@ use codec::Inode;
 use drive::{Drive, Session};
 use s4_model::laws::the_state_goes_on_record_by_record;
 use s4_types::limits::READ_BYTES;
-use s4_types::{Bytes, Moment, ObjectId, Refusal, Reply, Request, Version};
+use s4_types::{Bytes, Moment, ObjectId, Question, Refusal, Reply, Request, Version};
 use segment_word::Naming;
 use std::alloc::{AllocError, Global};
 
@@ -108,18 +109,18 @@ fn read_whole<J: Naming>(
         ≡ Some (Data bytes)) }
     ensures refused { IfErr result
         (λ e. (first_refusal (state_in drive.old) session.old.role
-        (Read object 0 READ_BYTES (Some at)) ≡ Some e) ⊎ ((e ≡ NoMemory) ⊎ (e ≡ Busy))) }
+        (Query (Read object 0 READ_BYTES (Some at))) ≡ Some e) ⊎ ((e ≡ NoMemory) ⊎ (e ≡ Busy))) }
     ensures state { state_in drive.new ≡ state_in drive.old }
     ensures store { store_of drive.new ≡ store_of drive.old }
 {
     drive.rules();
     the_state_goes_on_record_by_record();
-    let request = Request::Read {
+    let request = Request::Query(Question::Read {
         object,
         offset: 0,
         length: READ_BYTES as u32,
         at: Some(at),
-    };
+    });
     match drive.request(session, request, Moment::new(0)) {
         Reply::Data(bytes) => Ok(bytes),
         Reply::Refused(refusal) => Err(refusal),

@@ -2,7 +2,8 @@
 use Rattle.std.proofs.Common.{◌≡◌, ◌∙◌, ℕ, zero, suc, All, List, [], ◌∷◌, Option, Some, None, inl, inr, refl, sym, ap, subst, map, arith, slice_get, slice_set}
 use Rattle.s4_types.specs.History.{History}
 use Rattle.s4_types.specs.declared.requests.Request.{Request}
-use Rattle.s4_types.specs.declared.requests.Request.TheVariants.{Read}
+use Rattle.s4_types.specs.declared.requests.Request.TheVariants.{Query}
+use Rattle.s4_types.specs.declared.requests.Question.TheVariants.{Read}
 use Rattle.s4_types.specs.declared.requests.Role.{Role}
 use Rattle.s4_types.specs.declared.requests.Role.TheVariants.{Client}
 use Rattle.s4_types.specs.declared.replies.Reply.{Reply}
@@ -64,9 +65,9 @@ fetched (Some bytes) r s x h = ap (λ (q : Reader). q.role) h.1
 acted : (c : Act) (h after : History) (r s : Reader) (x : Answer) → r.role ≡ Client → ActTells c h r x after s → IsMoved h after × (s.role ≡ Client)
 acted (act.Request request now) h after r s x client is = (moved h after r request now is.reply client is.step, ap (λ (q : Reader). q.role) is.same ∙ client)
 acted (act.Resolve object offset len at now) h after r s x client (inl is) =
-    (moved h after r (Read object offset len at) now (reply.Data is.bytes) client is.step, ap (λ (q : Reader). q.role) is.reader ∙ client)
+    (moved h after r (Query (Read object offset len at)) now (reply.Data is.bytes) client is.step, ap (λ (q : Reader). q.role) is.reader ∙ client)
 acted (act.Resolve object offset len at now) h after r s x client (inr is) =
-    (moved h after r (Read object offset len at) now (reply.Refused is.refusal) client is.step, ap (λ (q : Reader). q.role) is.same ∙ client)
+    (moved h after r (Query (Read object offset len at)) now (reply.Refused is.refusal) client is.step, ap (λ (q : Reader). q.role) is.same ∙ client)
 acted act.Fetch h after r s x client is = (stayed h after is.0, fetched r.named r s x is.1 ∙ client)
 acted act.Meet h after r s x client is = (stayed h after is.0, ap (λ (q : Reader). q.role) is.1 ∙ client)
 acted (act.Plan frame object) h after r s x client is = (stayed h after is.0, ap (λ (q : Reader). q.role) is.1 ∙ client)

@@ -5,7 +5,8 @@ use Rattle.std.proofs.lemmas.List.{map-id, map-set}
 use Rattle.atomic_table.specs.Seated.{TableId}
 use Rattle.s4_types.specs.History.{Base, History}
 use Rattle.s4_types.specs.declared.refusals.Refusal.{Refusal}
-use Rattle.s4_types.specs.declared.requests.Request.TheVariants.{Read}
+use Rattle.s4_types.specs.declared.requests.Request.TheVariants.{Query}
+use Rattle.s4_types.specs.declared.requests.Question.TheVariants.{Read}
 use Rattle.s4_model.specs.Step.{Step as ModelStep}
 use Rattle.segment_word.specs.AcceptViews.{Ledger}
 use Rattle.time_read.specs.Plans.{PlanFields, bytes_planned}
@@ -34,9 +35,9 @@ reader_at (a ∷ actors) (suc n) = reader_at actors n
 
 -- a read that was resolved, or refused
 resolved_so : (object offset len : ℕ) (at : Option ℕ) (now : ℕ) (planned : Result PlanFields Refusal) (h after : History) (r s : Reader) (x : Answer) (older : Option PlanFields)
-    → x ≡ answer_to planned → ModelStep h r.role (Read object offset len at) now (reply_planned planned) after
+    → x ≡ answer_to planned → ModelStep h r.role (Query (Read object offset len at)) now (reply_planned planned) after
     → r.named ≡ named_by older → s ≡ record { role = r.role; named = named_by (plan_after planned older) }
-    → Names (Read object offset len at) now h r x after s ⊎ NamesNothing (Read object offset len at) now h r x after s
+    → Names (Query (Read object offset len at)) now h r x after s ⊎ NamesNothing (Query (Read object offset len at)) now h r x after s
 resolved_so object offset len at now (Ok plan) h after r s x older is moves named same = inl (record { bytes = bytes_planned plan; answer = is; step = moves; reader = same })
 resolved_so object offset len at now (Err refusal) h after r s x older is moves named same =
     inr (record { refusal = refusal; answer = is; step = moves; same = same ∙ ap (λ (n : Option (List ℕ)). record { role = r.role; named = n }) (sym named) })

@@ -3,7 +3,8 @@ use Rattle.std.proofs.Common.{◌≡◌, ℕ, Option, Result, IfOk, refl, ap}
 use Rattle.std.specs.Prelude.{MatchResult}
 use Rattle.s4_types.specs.Sizes.{ReplyFits}
 use Rattle.s4_types.specs.declared.requests.Request.{Request}
-use Rattle.s4_types.specs.declared.requests.Request.TheVariants.{Read}
+use Rattle.s4_types.specs.declared.requests.Request.TheVariants.{Query}
+use Rattle.s4_types.specs.declared.requests.Question.TheVariants.{Read}
 use Rattle.s4_types.specs.declared.replies.Reply.{Reply}
 use Rattle.s4_types.specs.declared.refusals.Refusal.{Refusal}
 use Rattle.s4_model.specs.Step.{Step}
@@ -50,9 +51,9 @@ requested request now d later before after plan moving reply step refused memory
 
 -- what a plan of a read tells of the actor that has its session
 pub resolved : (object offset len : ℕ) (at : Option ℕ) (now : ℕ) (d later : DriveFields) (before after : SessionFields) (plan : Option PlanFields) (moving : Moving) (planned : Result PlanFields Refusal)
-    → Step (history_of d) before.role (Read object offset len at) now (reply_planned planned) (history_of later)
-    → RefusesExactly d before.role (Read object offset len at) now (reply_planned planned) later
-    → LacksMemoryInPlace d before.role (Read object offset len at) now (reply_planned planned)
+    → Step (history_of d) before.role (Query (Read object offset len at)) now (reply_planned planned) (history_of later)
+    → RefusesExactly d before.role (Query (Read object offset len at)) now (reply_planned planned) later
+    → LacksMemoryInPlace d before.role (Query (Read object offset len at)) now (reply_planned planned)
     → IfOk planned (IsPlanOf later object offset len at)
     → ReplyFits (reply_planned planned)
     → later.ledger ≡ with_moment d.ledger now

@@ -3,7 +3,8 @@ use Rattle.std.specs.Prelude.{◌≡◌, ◌⊎◌, ℕ, false, true, Option, No
 use mathlib.Core.List.{IsPrefix}
 use Rattle.s4_types.specs.Sizes.{ReplyFits}
 use Rattle.s4_types.specs.declared.requests.Request.{Request}
-use Rattle.s4_types.specs.declared.requests.Request.TheVariants.{Read}
+use Rattle.s4_types.specs.declared.requests.Request.TheVariants.{Query}
+use Rattle.s4_types.specs.declared.requests.Question.TheVariants.{Read}
 use Rattle.s4_types.specs.declared.replies.Reply.{Reply}
 use Rattle.s4_types.specs.declared.refusals.Refusal.{Refusal}
 use Rattle.s4_types.specs.declared.refusals.Refusal.TheVariants.{NoObject, NoMemory, NoRoom, Busy, Stale}
@@ -61,9 +62,9 @@ plan_after (Err refusal) older = older
 pub record Resolves (object offset len : ℕ) (at : Option ℕ) (now : ℕ) (d : DriveFields) (a : ActorFields) (x : Answer) (later : DriveFields) (b : ActorFields) : Type 0 where
   pub planned : Result PlanFields Refusal
   pub answer : x ≡ answer_to planned
-  pub step : Step (history_of d) a.session.role (Read object offset len at) now (reply_planned planned) (history_of later)
-  pub refused : RefusesExactly d a.session.role (Read object offset len at) now (reply_planned planned) later
-  pub memory : LacksMemoryInPlace d a.session.role (Read object offset len at) now (reply_planned planned)
+  pub step : Step (history_of d) a.session.role (Query (Read object offset len at)) now (reply_planned planned) (history_of later)
+  pub refused : RefusesExactly d a.session.role (Query (Read object offset len at)) now (reply_planned planned) later
+  pub memory : LacksMemoryInPlace d a.session.role (Query (Read object offset len at)) now (reply_planned planned)
   pub plan : IfOk planned (IsPlanOf later object offset len at)
   pub fits : ReplyFits (reply_planned planned)
   pub ledger : later.ledger ≡ with_moment d.ledger now

@@ -5,4 +5,3 @@ pub mod Acting
 pub mod Upkeep
 pub mod Running
 pub mod Telling
-pub mod private

@@ -3,7 +3,8 @@ use Rattle.std.specs.Prelude.{◌≡◌, ◌⊎◌, ℕ, List, [], ◌∷◌, Op
 use Rattle.s4_types.specs.History.{History}
 use Rattle.s4_types.specs.declared.requests.Role.{Role}
 use Rattle.s4_types.specs.declared.requests.Request.{Request}
-use Rattle.s4_types.specs.declared.requests.Request.TheVariants.{Read}
+use Rattle.s4_types.specs.declared.requests.Request.TheVariants.{Query}
+use Rattle.s4_types.specs.declared.requests.Question.TheVariants.{Read}
 use Rattle.s4_types.specs.declared.replies.Reply.{Reply}
 use Rattle.s4_types.specs.declared.replies.Reply.TheVariants as reply
 use Rattle.s4_types.specs.declared.refusals.Refusal.{Refusal}
@@ -61,7 +62,7 @@ GivesBy (Some bytes) r x s = ((x ≡ answer.Bytes bytes) ⊎ (x ≡ answer.Refus
 -- What an actor's act is answered, and what it leaves: all but requests and resolved reads leave the history.
 abbrev pub ActTells : Act → History → Reader → Answer → History → Reader → Type 0
 ActTells (act.Request request now) h r x after s = Asks request now h r x after s
-ActTells (act.Resolve object offset len at now) h r x after s = Names (Read object offset len at) now h r x after s ⊎ NamesNothing (Read object offset len at) now h r x after s
+ActTells (act.Resolve object offset len at now) h r x after s = Names (Query (Read object offset len at)) now h r x after s ⊎ NamesNothing (Query (Read object offset len at)) now h r x after s
 ActTells act.Fetch h r x after s = (after ≡ h) × GivesBy r.named r x s
 ActTells act.Meet h r x after s = (after ≡ h) × (s ≡ r)
 ActTells (act.Plan frame object) h r x after s = (after ≡ h) × (s ≡ r)

@@ -1,9 +1,8 @@
 //! What an actor may do, and copies of it.
-ghost use Rattle.std.specs.Prelude.{◌≡◌, true, IfOk, IfErr, MatchOption};
+ghost use Rattle.std.specs.Prelude.{◌≡◌, IfOk, IfErr};
 ghost use Rattle.s4_types.specs.declared.refusals.Refusal.TheVariants.{NoMemory};
-ghost use Rattle.interleaving.specs.private.Copies.{has_bytes};
 
-use s4_types::{Moment, ObjectId, Refusal, Request};
+use s4_types::{Moment, ObjectId, ObjectRequest, Refusal, Request};
 
 /// A step of an actor. Frames are numbered from 0 on; offsets and lengths are in bytes.
 #[derive(Drop)]
@@ -37,46 +36,37 @@ pub enum Act {
     Commit,
 }
 
-/// A second request that asks for the same; none for one that brings bytes.
-fn copy_brief(request: &Request) -> Option<Request>
-    ensures { MatchOption result (has_bytes request.now ≡ true) (λ copy. copy ≡ request.now) }
+/// A second change of an object that asks for the same.
+fn copy_update(update: &ObjectRequest) -> Result<ObjectRequest, Refusal>
+    ensures copy { IfOk result (λ copy. copy ≡ update.now) }
+    ensures refusal { IfErr result (λ e. e ≡ NoMemory) }
 {
-    match request {
-        Request::Delete { object } => Some(Request::Delete { object: *object }),
-        Request::Read {
+    match update {
+        ObjectRequest::Create { attribute } => Ok(ObjectRequest::Create {
+            attribute: attribute.copy()?,
+        }),
+        ObjectRequest::Delete { object } => Ok(ObjectRequest::Delete { object: *object }),
+        ObjectRequest::Write {
             object,
             offset,
-            length,
-            at,
-        } => Some(Request::Read {
+            bytes,
+        } => Ok(ObjectRequest::Write {
             object: *object,
             offset: *offset,
-            length: *length,
-            at: *at,
+            bytes: bytes.copy()?,
         }),
-        Request::Truncate { object, size } => Some(Request::Truncate {
+        ObjectRequest::Append { object, bytes } => Ok(ObjectRequest::Append {
+            object: *object,
+            bytes: bytes.copy()?,
+        }),
+        ObjectRequest::Truncate { object, size } => Ok(ObjectRequest::Truncate {
             object: *object,
             size: *size,
         }),
-        Request::GetAttr { object, at } => Some(Request::GetAttr {
+        ObjectRequest::SetAttr { object, attribute } => Ok(ObjectRequest::SetAttr {
             object: *object,
-            at: *at,
+            attribute: attribute.copy()?,
         }),
-        Request::SetWindow { window } => Some(Request::SetWindow { window: *window }),
-        Request::Flush { first, last } => Some(Request::Flush {
-            first: *first,
-            last: *last,
-        }),
-        Request::FlushO {
-            object,
-            first,
-            last,
-        } => Some(Request::FlushO {
-            object: *object,
-            first: *first,
-            last: *last,
-        }),
-        _ => None,
     }
 }
 
@@ -85,31 +75,10 @@ fn copy_request(request: &Request) -> Result<Request, Refusal>
     ensures copy { IfOk result (λ copy. copy ≡ request.now) }
     ensures refusal { IfErr result (λ e. e ≡ NoMemory) }
 {
-    if let Some(copy) = copy_brief(request) {
-        return Ok(copy);
-    }
     match request {
-        Request::Create { attribute } => Ok(Request::Create {
-            attribute: attribute.copy()?,
-        }),
-        Request::Write {
-            object,
-            offset,
-            bytes,
-        } => Ok(Request::Write {
-            object: *object,
-            offset: *offset,
-            bytes: bytes.copy()?,
-        }),
-        Request::Append { object, bytes } => Ok(Request::Append {
-            object: *object,
-            bytes: bytes.copy()?,
-        }),
-        Request::SetAttr { object, attribute } => Ok(Request::SetAttr {
-            object: *object,
-            attribute: attribute.copy()?,
-        }),
-        _ => unreachable!(),
+        Request::Query(question) => Ok(Request::Query(*question)),
+        Request::Update(update) => Ok(Request::Update(copy_update(update)?)),
+        Request::Control(control) => Ok(Request::Control(*control)),
     }
 }
 

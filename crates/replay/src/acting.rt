@@ -6,7 +6,9 @@ use crate::stage::{Stage, tell_answer};
 use crate::text::Text;
 use history_cleaner::Turn;
 use interleaving::{Act, Answer, Step};
-use s4_types::{Bytes, Moment, ObjectId, Refusal, Reply, Request, Role};
+use s4_types::{
+    AdminRequest, Bytes, Moment, ObjectId, ObjectRequest, Question, Refusal, Reply, Request, Role,
+};
 use std::alloc::Global;
 
 /// The number of a frame; of one that isn't there where the number is greater than any.
@@ -25,17 +27,17 @@ fn request_with(asking: Asking, asked: &Asked<'_>, bytes: Bytes) -> Request {
     let [number, second, _] = asked.numbers;
     let object = ObjectId::new(number);
     match asking {
-        Asking::Create => Request::Create { attribute: bytes },
-        Asking::Write => Request::Write {
+        Asking::Create => Request::Update(ObjectRequest::Create { attribute: bytes }),
+        Asking::Write => Request::Update(ObjectRequest::Write {
             object,
             offset: second,
             bytes,
-        },
-        Asking::Append => Request::Append { object, bytes },
-        Asking::SetAttr => Request::SetAttr {
+        }),
+        Asking::Append => Request::Update(ObjectRequest::Append { object, bytes }),
+        Asking::SetAttr => Request::Update(ObjectRequest::SetAttr {
             object,
             attribute: bytes,
-        },
+        }),
         _ => request_without(asking, asked),
     }
 }
@@ -45,25 +47,25 @@ fn request_without(asking: Asking, asked: &Asked<'_>) -> Request {
     let [number, second, third] = asked.numbers;
     let object = ObjectId::new(number);
     match asking {
-        Asking::Delete => Request::Delete { object },
-        Asking::Truncate => Request::Truncate {
+        Asking::Delete => Request::Update(ObjectRequest::Delete { object }),
+        Asking::Truncate => Request::Update(ObjectRequest::Truncate {
             object,
             size: second,
-        },
-        Asking::SetWindow => Request::SetWindow { window: number },
-        Asking::Flush => Request::Flush {
+        }),
+        Asking::SetWindow => Request::Control(AdminRequest::SetWindow { window: number }),
+        Asking::Flush => Request::Control(AdminRequest::Flush {
             first: Moment::new(number),
             last: Moment::new(second),
-        },
-        Asking::FlushObject => Request::FlushO {
+        }),
+        Asking::FlushObject => Request::Control(AdminRequest::FlushO {
             object,
             first: Moment::new(second),
             last: Moment::new(third),
-        },
-        Asking::GetAttr => Request::GetAttr {
+        }),
+        Asking::GetAttr => Request::Query(Question::GetAttr {
             object,
             at: asked.at,
-        },
+        }),
         _ => read_of(&reading_of(asked)),
     }
 }
@@ -81,12 +83,12 @@ fn reading_of(asked: &Asked<'_>) -> Reading {
 }
 
 fn read_of(reading: &Reading) -> Request {
-    Request::Read {
+    Request::Query(Question::Read {
         object: reading.object,
         offset: reading.offset,
         length: reading.length,
         at: reading.at,
-    }
+    })
 }
 
 fn resolve_of(reading: &Reading) -> Act {

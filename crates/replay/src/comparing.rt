@@ -7,21 +7,21 @@ use crate::stage::Stage;
 use crate::text::Text;
 use interleaving::{Act, Answer, Step};
 use s4_types::limits::READ_BYTES;
-use s4_types::{Moment, ObjectId, Refusal, Reply, Request, Role};
+use s4_types::{Moment, ObjectId, Question, Refusal, Reply, Request, Role};
 
 /// All bytes of an object at a moment, or its size, moments and attribute.
 fn question(object: u64, at: u64, is_read: bool) -> Request {
     let object = ObjectId::new(object);
     let at = Some(Moment::new(at));
     if !is_read {
-        return Request::GetAttr { object, at };
+        return Request::Query(Question::GetAttr { object, at });
     }
-    Request::Read {
+    Request::Query(Question::Read {
         object,
         offset: 0,
         length: READ_BYTES as u32,
         at,
-    }
+    })
 }
 
 /// What the drive replies to a session's question.

@@ -3,7 +3,7 @@
 use crate::text::Text;
 use interleaving::{Act, Answer, Step};
 use s4_model::PlainDrive;
-use s4_types::{Moment, ObjectId, Refusal, Reply, Request, Role};
+use s4_types::{Moment, ObjectId, Question, Refusal, Reply, Request, Role};
 use std::alloc::Global;
 use std::mem;
 
@@ -135,7 +135,11 @@ impl Stage {
     /// request.
     pub(crate) fn see(&mut self, place: usize, now: Moment) -> Result<(), Refusal> {
         let object = ObjectId::new(1);
-        self.reply(place, Request::GetAttr { object, at: None }, now)?;
+        self.reply(
+            place,
+            Request::Query(Question::GetAttr { object, at: None }),
+            now,
+        )?;
         Ok(())
     }
 
@@ -287,12 +291,12 @@ impl Stage {
                 at,
                 now,
             } => {
-                let read = Request::Read {
+                let read = Request::Query(Question::Read {
                     object,
                     offset,
                     length,
                     at,
-                };
+                });
                 self.compare_resolve(place, read, now, answer)
             }
             Act::Fetch => {
@@ -314,24 +318,10 @@ impl Stage {
     }
 }
 
-/// The same request, where it is a read.
+/// The same request, where it is a question.
 fn read_again(request: &Request) -> Option<Request> {
     match request {
-        Request::Read {
-            object,
-            offset,
-            length,
-            at,
-        } => Some(Request::Read {
-            object: *object,
-            offset: *offset,
-            length: *length,
-            at: *at,
-        }),
-        Request::GetAttr { object, at } => Some(Request::GetAttr {
-            object: *object,
-            at: *at,
-        }),
+        Request::Query(question) => Some(Request::Query(*question)),
         _ => None,
     }
 }

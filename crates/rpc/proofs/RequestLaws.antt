@@ -4,7 +4,10 @@ use Rattle.std.specs.Prelude.{IfSome}
 use Rattle.std.proofs.lemmas.Bool.{eqb-true}
 use Rattle.s4_types.specs.declared.limits.TheConstants.{FRAME_BODY_BYTES}
 use Rattle.s4_types.specs.declared.requests.Request.{Request}
-use Rattle.s4_types.specs.declared.requests.Request.TheVariants.{Create, Delete, Read, Write, Append, Truncate, GetAttr, SetAttr, SetWindow, Flush, FlushO}
+use Rattle.s4_types.specs.declared.requests.Request.TheVariants.{Update, Query, Control}
+use Rattle.s4_types.specs.declared.requests.Question.TheVariants.{Read, GetAttr}
+use Rattle.s4_types.specs.declared.requests.ObjectRequest.TheVariants.{Create, Delete, Write, Append, Truncate, SetAttr}
+use Rattle.s4_types.specs.declared.requests.AdminRequest.TheVariants.{SetWindow, Flush, FlushO}
 use Rattle.rpc.specs.Spelling.{long, word, wire_text, at, SpellsRequest}
 use Rattle.rpc.specs.private.Reading.{create_at, delete_at, read_at, write_at, append_at, truncate_at, get_attr_at, set_attr_at, set_window_at, flush_at, flush_object_at, request_at}
 use Rattle.rpc.proofs.Exact.{IsBytes, bytes_behind, Exact, Then, Last, then_exact, last_exact, tail_exact, word_field, long_field, text_field, moment_field}
@@ -23,49 +26,49 @@ IsShort bytes = length bytes ≤ 255
 
 -- ---- each kind, field by field
 
-create_exact : Exact create_at (Last wire_text IsShort Create)
+create_exact : Exact create_at (Last wire_text IsShort (λ attribute. Update (Create attribute)))
 unfolding create_at
-create_exact = last_exact (text_field 255) Create
+create_exact = last_exact (text_field 255) (λ attribute. Update (Create attribute))
 
-delete_exact : Exact delete_at (Last long IsLong Delete)
+delete_exact : Exact delete_at (Last long IsLong (λ object. Update (Delete object)))
 unfolding delete_at
-delete_exact = last_exact long_field Delete
+delete_exact = last_exact long_field (λ object. Update (Delete object))
 
-read_exact : Exact read_at (Then long IsLong (λ object. Then long IsLong (λ offset. Then word IsWord (λ len. Last at IsAt (Read object offset len)))))
+read_exact : Exact read_at (Then long IsLong (λ object. Then long IsLong (λ offset. Then word IsWord (λ len. Last at IsAt (λ moment. Query (Read object offset len moment))))))
 unfolding read_at
-read_exact = then_exact long_field (λ object. then_exact long_field (λ offset. then_exact word_field (λ len. last_exact moment_field (Read object offset len))))
+read_exact = then_exact long_field (λ object. then_exact long_field (λ offset. then_exact word_field (λ len. last_exact moment_field (λ moment. Query (Read object offset len moment)))))
 
-write_exact : Exact write_at (Then long IsLong (λ object. Then long IsLong (λ offset. Last (λ b. b) (λ b. length b ≤ FRAME_BODY_BYTES - 17) (Write object offset))))
+write_exact : Exact write_at (Then long IsLong (λ object. Then long IsLong (λ offset. Last (λ b. b) (λ b. length b ≤ FRAME_BODY_BYTES - 17) (λ b. Update (Write object offset b)))))
 unfolding write_at
-write_exact = then_exact long_field (λ object. then_exact long_field (λ offset. tail_exact (FRAME_BODY_BYTES - 17) (Write object offset)))
+write_exact = then_exact long_field (λ object. then_exact long_field (λ offset. tail_exact (FRAME_BODY_BYTES - 17) (λ b. Update (Write object offset b))))
 
-append_exact : Exact append_at (Then long IsLong (λ object. Last (λ b. b) (λ b. length b ≤ FRAME_BODY_BYTES - 9) (Append object)))
+append_exact : Exact append_at (Then long IsLong (λ object. Last (λ b. b) (λ b. length b ≤ FRAME_BODY_BYTES - 9) (λ b. Update (Append object b))))
 unfolding append_at
-append_exact = then_exact long_field (λ object. tail_exact (FRAME_BODY_BYTES - 9) (Append object))
+append_exact = then_exact long_field (λ object. tail_exact (FRAME_BODY_BYTES - 9) (λ b. Update (Append object b)))
 
-truncate_exact : Exact truncate_at (Then long IsLong (λ object. Last long IsLong (Truncate object)))
+truncate_exact : Exact truncate_at (Then long IsLong (λ object. Last long IsLong (λ size. Update (Truncate object size))))
 unfolding truncate_at
-truncate_exact = then_exact long_field (λ object. last_exact long_field (Truncate object))
+truncate_exact = then_exact long_field (λ object. last_exact long_field (λ size. Update (Truncate object size)))
 
-get_attr_exact : Exact get_attr_at (Then long IsLong (λ object. Last at IsAt (GetAttr object)))
+get_attr_exact : Exact get_attr_at (Then long IsLong (λ object. Last at IsAt (λ moment. Query (GetAttr object moment))))
 unfolding get_attr_at
-get_attr_exact = then_exact long_field (λ object. last_exact moment_field (GetAttr object))
+get_attr_exact = then_exact long_field (λ object. last_exact moment_field (λ moment. Query (GetAttr object moment)))
 
-set_attr_exact : Exact set_attr_at (Then long IsLong (λ object. Last wire_text IsShort (SetAttr object)))
+set_attr_exact : Exact set_attr_at (Then long IsLong (λ object. Last wire_text IsShort (λ attribute. Update (SetAttr object attribute))))
 unfolding set_attr_at
-set_attr_exact = then_exact long_field (λ object. last_exact (text_field 255) (SetAttr object))
+set_attr_exact = then_exact long_field (λ object. last_exact (text_field 255) (λ attribute. Update (SetAttr object attribute)))
 
-set_window_exact : Exact set_window_at (Last long IsLong SetWindow)
+set_window_exact : Exact set_window_at (Last long IsLong (λ window. Control (SetWindow window)))
 unfolding set_window_at
-set_window_exact = last_exact long_field SetWindow
+set_window_exact = last_exact long_field (λ window. Control (SetWindow window))
 
-flush_exact : Exact flush_at (Then long IsLong (λ first. Last long IsLong (Flush first)))
+flush_exact : Exact flush_at (Then long IsLong (λ first. Last long IsLong (λ last. Control (Flush first last))))
 unfolding flush_at
-flush_exact = then_exact long_field (λ first. last_exact long_field (Flush first))
+flush_exact = then_exact long_field (λ first. last_exact long_field (λ last. Control (Flush first last)))
 
-flush_object_exact : Exact flush_object_at (Then long IsLong (λ object. Then long IsLong (λ first. Last long IsLong (FlushO object first))))
+flush_object_exact : Exact flush_object_at (Then long IsLong (λ object. Then long IsLong (λ first. Last long IsLong (λ last. Control (FlushO object first last)))))
 unfolding flush_object_at
-flush_object_exact = then_exact long_field (λ object. then_exact long_field (λ first. last_exact long_field (FlushO object first)))
+flush_object_exact = then_exact long_field (λ object. then_exact long_field (λ first. last_exact long_field (λ last. Control (FlushO object first last))))
 
 -- ---- a request that was read is encoded
 
@@ -136,9 +139,9 @@ request_found (kind ∷ rest) r h e =
 
 request_again : (bytes : List ℕ) (r : Request) → SpellsRequest bytes r → request_at bytes ≡ Some r
 unfolding request_at
-request_again bytes (Create attribute) s = rw s.1 (create_exact.again _ _ (record { value = attribute; fits = omega (arith, s.0.0); whole = refl; is = refl }))
-request_again bytes (Delete object) s = rw s.1 (delete_exact.again _ _ (record { value = object; fits = s.0.1; whole = refl; is = refl }))
-request_again bytes (Read object offset len moment) s = rw s.1 (read_exact.again _ _ (record {
+request_again bytes (Update (Create attribute)) s = rw s.1 (create_exact.again _ _ (record { value = attribute; fits = omega (arith, s.0.0); whole = refl; is = refl }))
+request_again bytes (Update (Delete object)) s = rw s.1 (delete_exact.again _ _ (record { value = object; fits = s.0.1; whole = refl; is = refl }))
+request_again bytes (Query (Read object offset len moment)) s = rw s.1 (read_exact.again _ _ (record {
   value = object;
   rest = long offset ++ (word len ++ at moment);
   fits = s.0.1.0;
@@ -157,7 +160,7 @@ request_again bytes (Read object offset len moment) s = rw s.1 (read_exact.again
     };
   };
 }))
-request_again bytes (Write object offset written) s = rw s.1 (write_exact.again _ _ (record {
+request_again bytes (Update (Write object offset written)) s = rw s.1 (write_exact.again _ _ (record {
   value = object;
   rest = long offset ++ written;
   fits = s.0.1.0;
@@ -170,43 +173,43 @@ request_again bytes (Write object offset written) s = rw s.1 (write_exact.again 
     after = record { value = written; fits = omega (arith, s.0.0); whole = refl; is = refl };
   };
 }))
-request_again bytes (Append object written) s = rw s.1 (append_exact.again _ _ (record {
+request_again bytes (Update (Append object written)) s = rw s.1 (append_exact.again _ _ (record {
   value = object;
   rest = written;
   fits = s.0.1;
   whole = refl;
   after = record { value = written; fits = omega (arith, s.0.0); whole = refl; is = refl };
 }))
-request_again bytes (Truncate object size) s = rw s.1 (truncate_exact.again _ _ (record {
+request_again bytes (Update (Truncate object size)) s = rw s.1 (truncate_exact.again _ _ (record {
   value = object;
   rest = long size;
   fits = s.0.1.0;
   whole = refl;
   after = record { value = size; fits = s.0.1.1; whole = refl; is = refl };
 }))
-request_again bytes (GetAttr object moment) s = rw s.1 (get_attr_exact.again _ _ (record {
+request_again bytes (Query (GetAttr object moment)) s = rw s.1 (get_attr_exact.again _ _ (record {
   value = object;
   rest = at moment;
   fits = s.0.1.0;
   whole = refl;
   after = record { value = moment; fits = s.0.1.1; whole = refl; is = refl };
 }))
-request_again bytes (SetAttr object attribute) s = rw s.1 (set_attr_exact.again _ _ (record {
+request_again bytes (Update (SetAttr object attribute)) s = rw s.1 (set_attr_exact.again _ _ (record {
   value = object;
   rest = wire_text attribute;
   fits = s.0.1;
   whole = refl;
   after = record { value = attribute; fits = omega (arith, s.0.0); whole = refl; is = refl };
 }))
-request_again bytes (SetWindow window) s = rw s.1 (set_window_exact.again _ _ (record { value = window; fits = s.0.1; whole = refl; is = refl }))
-request_again bytes (Flush first last) s = rw s.1 (flush_exact.again _ _ (record {
+request_again bytes (Control (SetWindow window)) s = rw s.1 (set_window_exact.again _ _ (record { value = window; fits = s.0.1; whole = refl; is = refl }))
+request_again bytes (Control (Flush first last)) s = rw s.1 (flush_exact.again _ _ (record {
   value = first;
   rest = long last;
   fits = s.0.1.0;
   whole = refl;
   after = record { value = last; fits = s.0.1.1; whole = refl; is = refl };
 }))
-request_again bytes (FlushO object first last) s = rw s.1 (flush_object_exact.again _ _ (record {
+request_again bytes (Control (FlushO object first last)) s = rw s.1 (flush_object_exact.again _ _ (record {
   value = object;
   rest = long first ++ long last;
   fits = s.0.1.0;

@@ -3,7 +3,10 @@ use Rattle.std.proofs.Common.{◌≡◌, ℕ, ◌≤◌, List, ◌++◌, length,
 use Rattle.s4_types.specs.Sizes.{ReplyFits}
 use Rattle.s4_types.specs.declared.limits.TheConstants.{FRAME_BODY_BYTES}
 use Rattle.s4_types.specs.declared.requests.Request.{Request}
-use Rattle.s4_types.specs.declared.requests.Request.TheVariants.{Create, Delete, Read, Write, Append, Truncate, GetAttr, SetAttr, SetWindow, Flush, FlushO}
+use Rattle.s4_types.specs.declared.requests.Request.TheVariants.{Update, Query, Control}
+use Rattle.s4_types.specs.declared.requests.Question.TheVariants.{Read, GetAttr}
+use Rattle.s4_types.specs.declared.requests.ObjectRequest.TheVariants.{Create, Delete, Write, Append, Truncate, SetAttr}
+use Rattle.s4_types.specs.declared.requests.AdminRequest.TheVariants.{SetWindow, Flush, FlushO}
 use Rattle.s4_types.specs.declared.replies.Reply.{Reply}
 use Rattle.s4_types.specs.declared.replies.Reply.TheVariants.{Refused, Changed, Created, Data, Attr}
 use Rattle.rpc.specs.Spelling.{at, request_spelling, reply_spelling, RequestFits, IsSpelledRequest, IsSpelledReply, SpellsRequest, SpellsReply}
@@ -23,17 +26,17 @@ at_short None = omega arith
 at_short (Some moment) = omega arith
 
 pub request_short : (r : Request) → RequestFits r → length (request_spelling r) ≤ FRAME_BODY_BYTES
-request_short (Create attribute) fits = omega arith
-request_short (Delete object) fits = omega arith
-request_short (Read object offset len moment) fits = let short = at_short moment in omega (arith, short)
-request_short (Write object offset bytes) fits = omega arith
-request_short (Append object bytes) fits = omega arith
-request_short (Truncate object size) fits = omega arith
-request_short (GetAttr object moment) fits = let short = at_short moment in omega (arith, short)
-request_short (SetAttr object attribute) fits = omega arith
-request_short (SetWindow window) fits = omega arith
-request_short (Flush first last) fits = omega arith
-request_short (FlushO object first last) fits = omega arith
+request_short (Update (Create attribute)) fits = omega arith
+request_short (Update (Delete object)) fits = omega arith
+request_short (Update (Write object offset bytes)) fits = omega arith
+request_short (Update (Append object bytes)) fits = omega arith
+request_short (Update (Truncate object size)) fits = omega arith
+request_short (Update (SetAttr object attribute)) fits = omega arith
+request_short (Query (Read object offset len moment)) fits = let short = at_short moment in omega (arith, short)
+request_short (Query (GetAttr object moment)) fits = let short = at_short moment in omega (arith, short)
+request_short (Control (SetWindow window)) fits = omega arith
+request_short (Control (Flush first last)) fits = omega arith
+request_short (Control (FlushO object first last)) fits = omega arith
 
 pub reply_short : (r : Reply) → ReplyFits r → length (reply_spelling r) ≤ FRAME_BODY_BYTES
 reply_short (Refused refusal) fits = omega arith

@@ -5,7 +5,10 @@ use Rattle.s4_types.specs.RefusalNumber.{number_of}
 pub use Rattle.s4_types.specs.Sizes.{ReplyFits}
 use Rattle.s4_types.specs.declared.limits.TheConstants.{FRAME_BODY_BYTES}
 use Rattle.s4_types.specs.declared.requests.Request.{Request}
-use Rattle.s4_types.specs.declared.requests.Request.TheVariants.{Create, Delete, Read, Write, Append, Truncate, GetAttr, SetAttr, SetWindow, Flush, FlushO}
+use Rattle.s4_types.specs.declared.requests.Request.TheVariants.{Update, Query, Control}
+use Rattle.s4_types.specs.declared.requests.Question.TheVariants.{Read, GetAttr}
+use Rattle.s4_types.specs.declared.requests.ObjectRequest.TheVariants.{Create, Delete, Write, Append, Truncate, SetAttr}
+use Rattle.s4_types.specs.declared.requests.AdminRequest.TheVariants.{SetWindow, Flush, FlushO}
 use Rattle.s4_types.specs.declared.replies.Reply.{Reply}
 use Rattle.s4_types.specs.declared.replies.Reply.TheVariants.{Refused, Changed, Created, Data, Attr}
 
@@ -28,17 +31,17 @@ at (Some moment) = 1 ∷ long moment
 
 -- the body of a request
 abbrev pub request_spelling : Request → List ℕ
-request_spelling (Create attribute) = 1 ∷ wire_text attribute
-request_spelling (Delete object) = 2 ∷ long object
-request_spelling (Read object offset len moment) = 3 ∷ (long object ++ (long offset ++ (word len ++ at moment)))
-request_spelling (Write object offset bytes) = 4 ∷ (long object ++ (long offset ++ bytes))
-request_spelling (Append object bytes) = 5 ∷ (long object ++ bytes)
-request_spelling (Truncate object size) = 6 ∷ (long object ++ long size)
-request_spelling (GetAttr object moment) = 7 ∷ (long object ++ at moment)
-request_spelling (SetAttr object attribute) = 8 ∷ (long object ++ wire_text attribute)
-request_spelling (SetWindow window) = 9 ∷ long window
-request_spelling (Flush first last) = 10 ∷ (long first ++ long last)
-request_spelling (FlushO object first last) = 11 ∷ (long object ++ (long first ++ long last))
+request_spelling (Update (Create attribute)) = 1 ∷ wire_text attribute
+request_spelling (Update (Delete object)) = 2 ∷ long object
+request_spelling (Query (Read object offset len moment)) = 3 ∷ (long object ++ (long offset ++ (word len ++ at moment)))
+request_spelling (Update (Write object offset bytes)) = 4 ∷ (long object ++ (long offset ++ bytes))
+request_spelling (Update (Append object bytes)) = 5 ∷ (long object ++ bytes)
+request_spelling (Update (Truncate object size)) = 6 ∷ (long object ++ long size)
+request_spelling (Query (GetAttr object moment)) = 7 ∷ (long object ++ at moment)
+request_spelling (Update (SetAttr object attribute)) = 8 ∷ (long object ++ wire_text attribute)
+request_spelling (Control (SetWindow window)) = 9 ∷ long window
+request_spelling (Control (Flush first last)) = 10 ∷ (long first ++ long last)
+request_spelling (Control (FlushO object first last)) = 11 ∷ (long object ++ (long first ++ long last))
 
 -- the body of a reply
 abbrev pub reply_spelling : Reply → List ℕ
@@ -51,25 +54,25 @@ reply_spelling (Attr size created changed attribute) = 4 ∷ (word size ++ (long
 -- The request's texts fit their places: an attribute tells its length in one byte, and the bytes of a write
 -- end with the longest body.
 abbrev pub RequestFits : Request → Type 0
-RequestFits (Create attribute) = length attribute < 256
-RequestFits (Write object offset bytes) = length bytes + 17 ≤ FRAME_BODY_BYTES
-RequestFits (Append object bytes) = length bytes + 9 ≤ FRAME_BODY_BYTES
-RequestFits (SetAttr object attribute) = length attribute < 256
+RequestFits (Update (Create attribute)) = length attribute < 256
+RequestFits (Update (Write object offset bytes)) = length bytes + 17 ≤ FRAME_BODY_BYTES
+RequestFits (Update (Append object bytes)) = length bytes + 9 ≤ FRAME_BODY_BYTES
+RequestFits (Update (SetAttr object attribute)) = length attribute < 256
 RequestFits _ = Unit {0}
 
 -- the numbers are numbers of the request's type
 abbrev pub RequestNumbers : Request → Type 0
-RequestNumbers (Create attribute) = Unit {0}
-RequestNumbers (Delete object) = object < 2 ^ 64
-RequestNumbers (Read object offset len moment) = (object < 2 ^ 64) × (offset < 2 ^ 64) × (len < 2 ^ 32) × IfSome moment (λ t. t < 2 ^ 64)
-RequestNumbers (Write object offset bytes) = (object < 2 ^ 64) × (offset < 2 ^ 64)
-RequestNumbers (Append object bytes) = object < 2 ^ 64
-RequestNumbers (Truncate object size) = (object < 2 ^ 64) × (size < 2 ^ 64)
-RequestNumbers (GetAttr object moment) = (object < 2 ^ 64) × IfSome moment (λ t. t < 2 ^ 64)
-RequestNumbers (SetAttr object attribute) = object < 2 ^ 64
-RequestNumbers (SetWindow window) = window < 2 ^ 64
-RequestNumbers (Flush first last) = (first < 2 ^ 64) × (last < 2 ^ 64)
-RequestNumbers (FlushO object first last) = (object < 2 ^ 64) × (first < 2 ^ 64) × (last < 2 ^ 64)
+RequestNumbers (Update (Create attribute)) = Unit {0}
+RequestNumbers (Update (Delete object)) = object < 2 ^ 64
+RequestNumbers (Query (Read object offset len moment)) = (object < 2 ^ 64) × (offset < 2 ^ 64) × (len < 2 ^ 32) × IfSome moment (λ t. t < 2 ^ 64)
+RequestNumbers (Update (Write object offset bytes)) = (object < 2 ^ 64) × (offset < 2 ^ 64)
+RequestNumbers (Update (Append object bytes)) = object < 2 ^ 64
+RequestNumbers (Update (Truncate object size)) = (object < 2 ^ 64) × (size < 2 ^ 64)
+RequestNumbers (Query (GetAttr object moment)) = (object < 2 ^ 64) × IfSome moment (λ t. t < 2 ^ 64)
+RequestNumbers (Update (SetAttr object attribute)) = object < 2 ^ 64
+RequestNumbers (Control (SetWindow window)) = window < 2 ^ 64
+RequestNumbers (Control (Flush first last)) = (first < 2 ^ 64) × (last < 2 ^ 64)
+RequestNumbers (Control (FlushO object first last)) = (object < 2 ^ 64) × (first < 2 ^ 64) × (last < 2 ^ 64)
 
 -- the numbers are numbers of the reply's type
 abbrev pub ReplyNumbers : Reply → Type 0

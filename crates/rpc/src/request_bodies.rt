@@ -4,32 +4,37 @@ ghost use Rattle.rpc.specs.Spelling.{RequestFits, RequestNumbers, request_spelli
 ghost use Rattle.s4_types.specs.declared.limits.TheConstants.{FRAME_BODY_BYTES};
 
 use crate::room::{put, put_at, put_bytes, put_long, put_moment, put_object, put_text, put_word};
-use s4_types::{Bytes, Moment, ObjectId, Request};
+use s4_types::{AdminRequest, Bytes, Moment, ObjectId, ObjectRequest, Question, Request};
 
 fn put_create(out: &mut Vec<u8>, attribute: &Bytes)
-    requires room { HasRoom out.old (length (request_spelling (Request.Create attribute.now))) }
+    requires room { HasRoom out.old
+        (length (request_spelling (Request.Update (ObjectRequest.Create attribute.now)))) }
     requires short { length attribute.now < 256 }
-    ensures bytes { Appended out.old out.new (request_spelling (Request.Create attribute.now)) }
-    ensures range { RequestNumbers (Request.Create attribute.now) }
+    ensures bytes { Appended out.old out.new
+        (request_spelling (Request.Update (ObjectRequest.Create attribute.now))) }
+    ensures range { RequestNumbers (Request.Update (ObjectRequest.Create attribute.now)) }
 {
     put(out, &[1]);
     put_text(out, attribute);
 }
 
 fn put_delete(out: &mut Vec<u8>, object: ObjectId)
-    requires { HasRoom out.old (length (request_spelling (Request.Delete object))) }
-    ensures bytes { Appended out.old out.new (request_spelling (Request.Delete object)) }
-    ensures range { RequestNumbers (Request.Delete object) }
+    requires { HasRoom out.old
+        (length (request_spelling (Request.Update (ObjectRequest.Delete object)))) }
+    ensures bytes { Appended out.old out.new
+        (request_spelling (Request.Update (ObjectRequest.Delete object))) }
+    ensures range { RequestNumbers (Request.Update (ObjectRequest.Delete object)) }
 {
     put(out, &[2]);
     put_object(out, object);
 }
 
 fn put_read(out: &mut Vec<u8>, object: ObjectId, offset: u64, count: u32, at: Option<Moment>)
-    requires { HasRoom out.old (length (request_spelling (Request.Read object offset count at))) }
+    requires { HasRoom out.old
+        (length (request_spelling (Request.Query (Question.Read object offset count at)))) }
     ensures bytes { Appended out.old out.new
-        (request_spelling (Request.Read object offset count at)) }
-    ensures range { RequestNumbers (Request.Read object offset count at) }
+        (request_spelling (Request.Query (Question.Read object offset count at))) }
+    ensures range { RequestNumbers (Request.Query (Question.Read object offset count at)) }
 {
     put(out, &[3]);
     put_object(out, object);
@@ -39,10 +44,11 @@ fn put_read(out: &mut Vec<u8>, object: ObjectId, offset: u64, count: u32, at: Op
 }
 
 fn put_write(out: &mut Vec<u8>, object: ObjectId, offset: u64, bytes: &Bytes)
-    requires { HasRoom out.old (length (request_spelling (Request.Write object offset bytes.now))) }
+    requires { HasRoom out.old
+        (length (request_spelling (Request.Update (ObjectRequest.Write object offset bytes.now)))) }
     ensures bytes { Appended out.old out.new
-        (request_spelling (Request.Write object offset bytes.now)) }
-    ensures range { RequestNumbers (Request.Write object offset bytes.now) }
+        (request_spelling (Request.Update (ObjectRequest.Write object offset bytes.now))) }
+    ensures range { RequestNumbers (Request.Update (ObjectRequest.Write object offset bytes.now)) }
 {
     put(out, &[4]);
     put_object(out, object);
@@ -51,9 +57,11 @@ fn put_write(out: &mut Vec<u8>, object: ObjectId, offset: u64, bytes: &Bytes)
 }
 
 fn put_append(out: &mut Vec<u8>, object: ObjectId, bytes: &Bytes)
-    requires { HasRoom out.old (length (request_spelling (Request.Append object bytes.now))) }
-    ensures bytes { Appended out.old out.new (request_spelling (Request.Append object bytes.now)) }
-    ensures range { RequestNumbers (Request.Append object bytes.now) }
+    requires { HasRoom out.old
+        (length (request_spelling (Request.Update (ObjectRequest.Append object bytes.now)))) }
+    ensures bytes { Appended out.old out.new
+        (request_spelling (Request.Update (ObjectRequest.Append object bytes.now))) }
+    ensures range { RequestNumbers (Request.Update (ObjectRequest.Append object bytes.now)) }
 {
     put(out, &[5]);
     put_object(out, object);
@@ -61,9 +69,11 @@ fn put_append(out: &mut Vec<u8>, object: ObjectId, bytes: &Bytes)
 }
 
 fn put_truncate(out: &mut Vec<u8>, object: ObjectId, size: u64)
-    requires { HasRoom out.old (length (request_spelling (Request.Truncate object size))) }
-    ensures bytes { Appended out.old out.new (request_spelling (Request.Truncate object size)) }
-    ensures range { RequestNumbers (Request.Truncate object size) }
+    requires { HasRoom out.old
+        (length (request_spelling (Request.Update (ObjectRequest.Truncate object size)))) }
+    ensures bytes { Appended out.old out.new
+        (request_spelling (Request.Update (ObjectRequest.Truncate object size))) }
+    ensures range { RequestNumbers (Request.Update (ObjectRequest.Truncate object size)) }
 {
     put(out, &[6]);
     put_object(out, object);
@@ -71,9 +81,11 @@ fn put_truncate(out: &mut Vec<u8>, object: ObjectId, size: u64)
 }
 
 fn put_get_attr(out: &mut Vec<u8>, object: ObjectId, at: Option<Moment>)
-    requires { HasRoom out.old (length (request_spelling (Request.GetAttr object at))) }
-    ensures bytes { Appended out.old out.new (request_spelling (Request.GetAttr object at)) }
-    ensures range { RequestNumbers (Request.GetAttr object at) }
+    requires { HasRoom out.old
+        (length (request_spelling (Request.Query (Question.GetAttr object at)))) }
+    ensures bytes { Appended out.old out.new
+        (request_spelling (Request.Query (Question.GetAttr object at))) }
+    ensures range { RequestNumbers (Request.Query (Question.GetAttr object at)) }
 {
     put(out, &[7]);
     put_object(out, object);
@@ -82,11 +94,11 @@ fn put_get_attr(out: &mut Vec<u8>, object: ObjectId, at: Option<Moment>)
 
 fn put_set_attr(out: &mut Vec<u8>, object: ObjectId, attribute: &Bytes)
     requires room { HasRoom out.old
-        (length (request_spelling (Request.SetAttr object attribute.now))) }
+        (length (request_spelling (Request.Update (ObjectRequest.SetAttr object attribute.now)))) }
     requires short { length attribute.now < 256 }
     ensures bytes { Appended out.old out.new
-        (request_spelling (Request.SetAttr object attribute.now)) }
-    ensures range { RequestNumbers (Request.SetAttr object attribute.now) }
+        (request_spelling (Request.Update (ObjectRequest.SetAttr object attribute.now))) }
+    ensures range { RequestNumbers (Request.Update (ObjectRequest.SetAttr object attribute.now)) }
 {
     put(out, &[8]);
     put_object(out, object);
@@ -94,18 +106,22 @@ fn put_set_attr(out: &mut Vec<u8>, object: ObjectId, attribute: &Bytes)
 }
 
 fn put_set_window(out: &mut Vec<u8>, window: u64)
-    requires { HasRoom out.old (length (request_spelling (Request.SetWindow window))) }
-    ensures bytes { Appended out.old out.new (request_spelling (Request.SetWindow window)) }
-    ensures range { RequestNumbers (Request.SetWindow window) }
+    requires { HasRoom out.old
+        (length (request_spelling (Request.Control (AdminRequest.SetWindow window)))) }
+    ensures bytes { Appended out.old out.new
+        (request_spelling (Request.Control (AdminRequest.SetWindow window))) }
+    ensures range { RequestNumbers (Request.Control (AdminRequest.SetWindow window)) }
 {
     put(out, &[9]);
     put_long(out, window);
 }
 
 fn put_flush(out: &mut Vec<u8>, first: Moment, last: Moment)
-    requires { HasRoom out.old (length (request_spelling (Request.Flush first last))) }
-    ensures bytes { Appended out.old out.new (request_spelling (Request.Flush first last)) }
-    ensures range { RequestNumbers (Request.Flush first last) }
+    requires { HasRoom out.old
+        (length (request_spelling (Request.Control (AdminRequest.Flush first last)))) }
+    ensures bytes { Appended out.old out.new
+        (request_spelling (Request.Control (AdminRequest.Flush first last))) }
+    ensures range { RequestNumbers (Request.Control (AdminRequest.Flush first last)) }
 {
     put(out, &[10]);
     put_moment(out, first);
@@ -113,9 +129,11 @@ fn put_flush(out: &mut Vec<u8>, first: Moment, last: Moment)
 }
 
 fn put_flush_object(out: &mut Vec<u8>, object: ObjectId, first: Moment, last: Moment)
-    requires { HasRoom out.old (length (request_spelling (Request.FlushO object first last))) }
-    ensures bytes { Appended out.old out.new (request_spelling (Request.FlushO object first last)) }
-    ensures range { RequestNumbers (Request.FlushO object first last) }
+    requires { HasRoom out.old
+        (length (request_spelling (Request.Control (AdminRequest.FlushO object first last)))) }
+    ensures bytes { Appended out.old out.new
+        (request_spelling (Request.Control (AdminRequest.FlushO object first last))) }
+    ensures range { RequestNumbers (Request.Control (AdminRequest.FlushO object first last)) }
 {
     put(out, &[11]);
     put_object(out, object);
@@ -131,30 +149,40 @@ pub(crate) fn put_request(out: &mut Vec<u8>, request: &Request)
     ensures range { RequestNumbers request.now }
 {
     match request {
-        Request::Create { attribute } => put_create(out, attribute),
-        Request::Delete { object } => put_delete(out, *object),
-        Request::Read {
-            object,
-            offset,
-            length,
-            at,
-        } => put_read(out, *object, *offset, *length, *at),
-        Request::Write {
-            object,
-            offset,
-            bytes,
-        } => put_write(out, *object, *offset, bytes),
-        Request::Append { object, bytes } => put_append(out, *object, bytes),
-        Request::Truncate { object, size } => put_truncate(out, *object, *size),
-        Request::GetAttr { object, at } => put_get_attr(out, *object, *at),
-        Request::SetAttr { object, attribute } => put_set_attr(out, *object, attribute),
-        Request::SetWindow { window } => put_set_window(out, *window),
-        Request::Flush { first, last } => put_flush(out, *first, *last),
-        Request::FlushO {
-            object,
-            first,
-            last,
-        } => put_flush_object(out, *object, *first, *last),
+        Request::Update(ObjectRequest::Create { attribute }) => put_create(out, attribute),
+        Request::Update(ObjectRequest::Delete { object }) => put_delete(out, *object),
+        Request::Query(
+            Question::Read {
+                object,
+                offset,
+                length,
+                at,
+            },
+        ) => put_read(out, *object, *offset, *length, *at),
+        Request::Update(
+            ObjectRequest::Write {
+                object,
+                offset,
+                bytes,
+            },
+        ) => put_write(out, *object, *offset, bytes),
+        Request::Update(ObjectRequest::Append { object, bytes }) => put_append(out, *object, bytes),
+        Request::Update(ObjectRequest::Truncate { object, size }) => put_truncate(
+            out, *object, *size,
+        ),
+        Request::Query(Question::GetAttr { object, at }) => put_get_attr(out, *object, *at),
+        Request::Update(ObjectRequest::SetAttr { object, attribute }) => put_set_attr(
+            out, *object, attribute,
+        ),
+        Request::Control(AdminRequest::SetWindow { window }) => put_set_window(out, *window),
+        Request::Control(AdminRequest::Flush { first, last }) => put_flush(out, *first, *last),
+        Request::Control(
+            AdminRequest::FlushO {
+                object,
+                first,
+                last,
+            },
+        ) => put_flush_object(out, *object, *first, *last),
     }
 }
 
@@ -174,14 +202,16 @@ pub(crate) fn request_length(request: &Request) -> usize
     ensures bound { result ≤ FRAME_BODY_BYTES }
 {
     match request {
-        Request::Create { attribute } => 2 + attribute.len(),
-        Request::Delete { .. } | Request::SetWindow { .. } => 9,
-        Request::Read { at, .. } => 21 + at_length(*at),
-        Request::Write { bytes, .. } => 17 + bytes.len(),
-        Request::Append { bytes, .. } => 9 + bytes.len(),
-        Request::Truncate { .. } | Request::Flush { .. } => 17,
-        Request::GetAttr { at, .. } => 9 + at_length(*at),
-        Request::SetAttr { attribute, .. } => 10 + attribute.len(),
-        Request::FlushO { .. } => 25,
+        Request::Update(ObjectRequest::Create { attribute }) => 2 + attribute.len(),
+        Request::Update(ObjectRequest::Delete { .. })
+        | Request::Control(AdminRequest::SetWindow { .. }) => 9,
+        Request::Query(Question::Read { at, .. }) => 21 + at_length(*at),
+        Request::Update(ObjectRequest::Write { bytes, .. }) => 17 + bytes.len(),
+        Request::Update(ObjectRequest::Append { bytes, .. }) => 9 + bytes.len(),
+        Request::Update(ObjectRequest::Truncate { .. })
+        | Request::Control(AdminRequest::Flush { .. }) => 17,
+        Request::Query(Question::GetAttr { at, .. }) => 9 + at_length(*at),
+        Request::Update(ObjectRequest::SetAttr { attribute, .. }) => 10 + attribute.len(),
+        Request::Control(AdminRequest::FlushO { .. }) => 25,
     }
 }

@@ -11,7 +11,7 @@ ghost use Rattle.rpc.specs.private.Reading.{request_at};
 use crate::fields::{read_at, read_end, read_long, read_tail, read_text, read_word};
 use crate::unread::Unread;
 use s4_types::limits::FRAME_BODY_BYTES;
-use s4_types::{Moment, ObjectId, Refusal, Request};
+use s4_types::{AdminRequest, Moment, ObjectId, ObjectRequest, Question, Refusal, Request};
 use std::alloc::Global;
 
 fn moment_of(at: Option<u64>) -> Option<Moment>
@@ -29,7 +29,7 @@ fn create_of(alloc: Global, bytes: &[u8]) -> Result<Request, Unread>
 {
     let (attribute, rest) = read_text(alloc, 255, bytes)?;
     read_end(rest)?;
-    Ok(Request::Create { attribute })
+    Ok(Request::Update(ObjectRequest::Create { attribute }))
 }
 
 #[tactic(auto, unfolding(crate::specs::private::Reading::delete_at))]
@@ -38,9 +38,9 @@ fn delete_of(bytes: &[u8]) -> Result<Request, Unread>
 {
     let (object, rest) = read_long(bytes)?;
     read_end(rest)?;
-    Ok(Request::Delete {
+    Ok(Request::Update(ObjectRequest::Delete {
         object: ObjectId::new(object),
-    })
+    }))
 }
 
 // What comes after the offset of a read.
@@ -50,12 +50,12 @@ fn read_behind_offset(object: ObjectId, offset: u64, bytes: &[u8]) -> Result<Req
     let (length, rest) = read_word(bytes)?;
     let (at, rest) = read_at(rest)?;
     read_end(rest)?;
-    Ok(Request::Read {
+    Ok(Request::Query(Question::Read {
         object,
         offset,
         length,
         at: moment_of(at),
-    })
+    }))
 }
 
 #[tactic(auto, unfolding(crate::specs::private::Reading::read_at))]
@@ -74,11 +74,11 @@ fn write_of(alloc: Global, bytes: &[u8]) -> Result<Request, Unread>
     let (object, rest) = read_long(bytes)?;
     let (offset, rest) = read_long(rest)?;
     let bytes = read_tail(alloc, FRAME_BODY_BYTES - 17, rest)?;
-    Ok(Request::Write {
+    Ok(Request::Update(ObjectRequest::Write {
         object: ObjectId::new(object),
         offset,
         bytes,
-    })
+    }))
 }
 
 #[tactic(auto, unfolding(crate::specs::private::Reading::append_at))]
@@ -87,10 +87,10 @@ fn append_of(alloc: Global, bytes: &[u8]) -> Result<Request, Unread>
 {
     let (object, rest) = read_long(bytes)?;
     let bytes = read_tail(alloc, FRAME_BODY_BYTES - 9, rest)?;
-    Ok(Request::Append {
+    Ok(Request::Update(ObjectRequest::Append {
         object: ObjectId::new(object),
         bytes,
-    })
+    }))
 }
 
 #[tactic(auto, unfolding(crate::specs::private::Reading::truncate_at))]
@@ -100,10 +100,10 @@ fn truncate_of(bytes: &[u8]) -> Result<Request, Unread>
     let (object, rest) = read_long(bytes)?;
     let (size, rest) = read_long(rest)?;
     read_end(rest)?;
-    Ok(Request::Truncate {
+    Ok(Request::Update(ObjectRequest::Truncate {
         object: ObjectId::new(object),
         size,
-    })
+    }))
 }
 
 #[tactic(auto, unfolding(crate::specs::private::Reading::get_attr_at))]
@@ -113,10 +113,10 @@ fn get_attr_of(bytes: &[u8]) -> Result<Request, Unread>
     let (object, rest) = read_long(bytes)?;
     let (at, rest) = read_at(rest)?;
     read_end(rest)?;
-    Ok(Request::GetAttr {
+    Ok(Request::Query(Question::GetAttr {
         object: ObjectId::new(object),
         at: moment_of(at),
-    })
+    }))
 }
 
 #[tactic(auto, unfolding(crate::specs::private::Reading::set_attr_at))]
@@ -126,10 +126,10 @@ fn set_attr_of(alloc: Global, bytes: &[u8]) -> Result<Request, Unread>
     let (object, rest) = read_long(bytes)?;
     let (attribute, rest) = read_text(alloc, 255, rest)?;
     read_end(rest)?;
-    Ok(Request::SetAttr {
+    Ok(Request::Update(ObjectRequest::SetAttr {
         object: ObjectId::new(object),
         attribute,
-    })
+    }))
 }
 
 #[tactic(auto, unfolding(crate::specs::private::Reading::set_window_at))]
@@ -138,7 +138,7 @@ fn set_window_of(bytes: &[u8]) -> Result<Request, Unread>
 {
     let (window, rest) = read_long(bytes)?;
     read_end(rest)?;
-    Ok(Request::SetWindow { window })
+    Ok(Request::Control(AdminRequest::SetWindow { window }))
 }
 
 #[tactic(auto, unfolding(crate::specs::private::Reading::flush_at))]
@@ -148,10 +148,10 @@ fn flush_of(bytes: &[u8]) -> Result<Request, Unread>
     let (first, rest) = read_long(bytes)?;
     let (last, rest) = read_long(rest)?;
     read_end(rest)?;
-    Ok(Request::Flush {
+    Ok(Request::Control(AdminRequest::Flush {
         first: Moment::new(first),
         last: Moment::new(last),
-    })
+    }))
 }
 
 #[tactic(auto, unfolding(crate::specs::private::Reading::flush_object_at))]
@@ -162,11 +162,11 @@ fn flush_object_of(bytes: &[u8]) -> Result<Request, Unread>
     let (first, rest) = read_long(rest)?;
     let (last, rest) = read_long(rest)?;
     read_end(rest)?;
-    Ok(Request::FlushO {
+    Ok(Request::Control(AdminRequest::FlushO {
         object: ObjectId::new(object),
         first: Moment::new(first),
         last: Moment::new(last),
-    })
+    }))
 }
 
 /// A request, by its first byte.

@@ -9,7 +9,8 @@ use Rattle.s4_types.specs.declared.changes.Change.TheVariants as change
 use Rattle.s4_types.specs.declared.replies.Reply.{Reply}
 use Rattle.s4_types.specs.declared.requests.Role.{Role}
 use Rattle.s4_types.specs.declared.requests.Request.{Request}
-use Rattle.s4_types.specs.declared.requests.Request.TheVariants.{Flush, FlushO}
+use Rattle.s4_types.specs.declared.requests.Request.TheVariants.{Control}
+use Rattle.s4_types.specs.declared.requests.AdminRequest.TheVariants.{Flush, FlushO}
 use Rattle.s4_types.specs.declared.spans.Span.{Span}
 use Rattle.s4_model.specs.Effect.{is_change_of}
 use Rattle.s4_model.specs.State.{State, state_of, grown, took}
@@ -52,18 +53,18 @@ LeavesVersions-step h role request now reply a sound step other =
     subst (LeavesVersions (state_of h)) (sym (state_of-took h a))
     (LeavesVersions-took (state_of h) a sound (IsSound-took (state_of h) role request now reply a sound taken) (moment_is_later (state_of h) role request now reply a taken) other)
 
-pub flush_hides : (h : History) (role : Role) (first last now : ℕ) (reply : Reply) (a : Accepted) → IsSound (state_of h) → Step h role (Flush first last) now reply (grown h (Took a)) → ((o t : ℕ) → is_hidden (state_of (grown h (Took a))) o t ≡ (is_hidden (state_of h) o t || (leb first t && leb t last))) × LeavesVersions (state_of h) (state_of (grown h (Took a)))
+pub flush_hides : (h : History) (role : Role) (first last now : ℕ) (reply : Reply) (a : Accepted) → IsSound (state_of h) → Step h role (Control (Flush first last)) now reply (grown h (Took a)) → ((o t : ℕ) → is_hidden (state_of (grown h (Took a))) o t ≡ (is_hidden (state_of h) o t || (leb first t && leb t last))) × LeavesVersions (state_of h) (state_of (grown h (Took a)))
 flush_hides h role first last now reply a sound step =
-    let taken : IsTaken (state_of h) role (Flush first last) now reply a = taken_of step in (
+    let taken : IsTaken (state_of h) role (Control (Flush first last)) now reply a = taken_of step in (
       λ o t. ap (λ k. is_hidden k o t) (state_of-took h a) ∙ is_hidden-took (state_of h) a (record { object = 0; first = first; last = last }) o t (change_is (λ c. span_by c ≡ Some (record { object = 0; first = first; last = last })) (change.Flush first last) a.change taken.asked_for refl),
-      LeavesVersions-step h role (Flush first last) now reply a sound step (λ o. change_is (λ c. is_change_of o c ≡ false) (change.Flush first last) a.change taken.asked_for refl),
+      LeavesVersions-step h role (Control (Flush first last)) now reply a sound step (λ o. change_is (λ c. is_change_of o c ≡ false) (change.Flush first last) a.change taken.asked_for refl),
     )
 
-pub flush_of_object_hides : (h : History) (role : Role) (object first last now : ℕ) (reply : Reply) (a : Accepted) → IsSound (state_of h) → Step h role (FlushO object first last) now reply (grown h (Took a)) → ((o t : ℕ) → is_hidden (state_of (grown h (Took a))) o t ≡ (is_hidden (state_of h) o t || (object == o && (leb first t && leb t last)))) × LeavesVersions (state_of h) (state_of (grown h (Took a)))
+pub flush_of_object_hides : (h : History) (role : Role) (object first last now : ℕ) (reply : Reply) (a : Accepted) → IsSound (state_of h) → Step h role (Control (FlushO object first last)) now reply (grown h (Took a)) → ((o t : ℕ) → is_hidden (state_of (grown h (Took a))) o t ≡ (is_hidden (state_of h) o t || (object == o && (leb first t && leb t last)))) × LeavesVersions (state_of h) (state_of (grown h (Took a)))
 flush_of_object_hides h role object first last now reply a sound step =
-    let taken : IsTaken (state_of h) role (FlushO object first last) now reply a = taken_of step in (
+    let taken : IsTaken (state_of h) role (Control (FlushO object first last)) now reply a = taken_of step in (
       λ o t. ap (λ k. is_hidden k o t) (state_of-took h a)
           ∙ is_hidden-took (state_of h) a (record { object = object; first = first; last = last }) o t (change_is (λ c. span_by c ≡ Some (record { object = object; first = first; last = last })) (change.FlushO object first last) a.change taken.asked_for refl)
           ∙ ap (λ zero. is_hidden (state_of h) o t || ((zero || object == o) && (leb first t && leb t last))) (granted_object_is_no_zero (state_of h) role object first last taken.granted),
-      LeavesVersions-step h role (FlushO object first last) now reply a sound step (λ o. change_is (λ c. is_change_of o c ≡ false) (change.FlushO object first last) a.change taken.asked_for refl),
+      LeavesVersions-step h role (Control (FlushO object first last)) now reply a sound step (λ o. change_is (λ c. is_change_of o c ≡ false) (change.FlushO object first last) a.change taken.asked_for refl),
     )

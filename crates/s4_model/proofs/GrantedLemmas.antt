@@ -8,7 +8,9 @@ use Rattle.s4_types.specs.declared.changes.Change.TheVariants as change
 use Rattle.s4_types.specs.declared.requests.Role.{Role}
 use Rattle.s4_types.specs.declared.requests.Role.TheVariants.{Client}
 use Rattle.s4_types.specs.declared.requests.Request.{Request}
-use Rattle.s4_types.specs.declared.requests.Request.TheVariants.{Create, Delete, Read, Write, Append, Truncate, GetAttr, SetAttr, SetWindow, Flush, FlushO}
+use Rattle.s4_types.specs.declared.requests.Request.TheVariants.{Update, Query, Control}
+use Rattle.s4_types.specs.declared.requests.ObjectRequest.TheVariants.{Create, Delete, Write, Append, Truncate, SetAttr}
+use Rattle.s4_types.specs.declared.requests.AdminRequest.TheVariants.{SetWindow, Flush, FlushO}
 use Rattle.s4_types.specs.declared.versions.Version.TheVariants.{Absent}
 use Rattle.s4_model.specs.Effect.{is_change_of}
 use Rattle.s4_model.specs.Limits.{Fits}
@@ -65,17 +67,16 @@ object_is_there s role request e = (none_applies s role request e).1.1.1.1.1.1.1
 
 -- a change that is granted is of an object whose number is given by then
 pub granted_is_born : (s : State) (role : Role) (request : Request) (taken : Change) (o : ℕ) → ((x u : ℕ) → s.next ≤ x → version_of s x u ≡ Absent) → first_refusal s role request ≡ None → change_of s request ≡ Some taken → is_change_of o taken ≡ true → o < next_by taken s.next
-granted_is_born s role (Create attribute) taken o unborn granted asks = asked_change (IsBorn s o) (change.Create s.next attribute) taken asks (λ e. let same : s.next ≡ o = eqb-true s.next o e in omega arith)
-granted_is_born s role (Delete object) taken o unborn granted asks = asked_change (IsBorn s o) (change.Delete object) taken asks (λ e. same_number object o s.next e (there_is_born s object s.clock unborn (object_is_there s role (Delete object) granted)))
-granted_is_born s role (Read object offset len at) taken o unborn granted asks = cc
-granted_is_born s role (Write object offset bytes) taken o unborn granted asks = asked_change (IsBorn s o) (change.Write object offset bytes) taken asks (λ e. same_number object o s.next e (there_is_born s object s.clock unborn (object_is_there s role (Write object offset bytes) granted)))
-granted_is_born s role (Append object bytes) taken o unborn granted asks = asked_change (IsBorn s o) _ taken asks (λ e. same_number object o s.next e (there_is_born s object s.clock unborn (object_is_there s role (Append object bytes) granted)))
-granted_is_born s role (Truncate object size) taken o unborn granted asks = asked_change (IsBorn s o) (change.Truncate object size) taken asks (λ e. same_number object o s.next e (there_is_born s object s.clock unborn (object_is_there s role (Truncate object size) granted)))
-granted_is_born s role (GetAttr object at) taken o unborn granted asks = cc
-granted_is_born s role (SetAttr object attribute) taken o unborn granted asks = asked_change (IsBorn s o) (change.SetAttr object attribute) taken asks (λ e. same_number object o s.next e (there_is_born s object s.clock unborn (object_is_there s role (SetAttr object attribute) granted)))
-granted_is_born s role (SetWindow window) taken o unborn granted asks = asked_change (IsBorn s o) (change.SetWindow window) taken asks (λ e. absurd (true≢false (sym e)))
-granted_is_born s role (Flush first last) taken o unborn granted asks = asked_change (IsBorn s o) (change.Flush first last) taken asks (λ e. absurd (true≢false (sym e)))
-granted_is_born s role (FlushO object first last) taken o unborn granted asks = asked_change (IsBorn s o) (change.FlushO object first last) taken asks (λ e. absurd (true≢false (sym e)))
+granted_is_born s role (Update (Create attribute)) taken o unborn granted asks = asked_change (IsBorn s o) (change.Create s.next attribute) taken asks (λ e. let same : s.next ≡ o = eqb-true s.next o e in omega arith)
+granted_is_born s role (Update (Delete object)) taken o unborn granted asks = asked_change (IsBorn s o) (change.Delete object) taken asks (λ e. same_number object o s.next e (there_is_born s object s.clock unborn (object_is_there s role (Update (Delete object)) granted)))
+granted_is_born s role (Query question) taken o unborn granted asks = cc
+granted_is_born s role (Update (Write object offset bytes)) taken o unborn granted asks = asked_change (IsBorn s o) (change.Write object offset bytes) taken asks (λ e. same_number object o s.next e (there_is_born s object s.clock unborn (object_is_there s role (Update (Write object offset bytes)) granted)))
+granted_is_born s role (Update (Append object bytes)) taken o unborn granted asks = asked_change (IsBorn s o) _ taken asks (λ e. same_number object o s.next e (there_is_born s object s.clock unborn (object_is_there s role (Update (Append object bytes)) granted)))
+granted_is_born s role (Update (Truncate object size)) taken o unborn granted asks = asked_change (IsBorn s o) (change.Truncate object size) taken asks (λ e. same_number object o s.next e (there_is_born s object s.clock unborn (object_is_there s role (Update (Truncate object size)) granted)))
+granted_is_born s role (Update (SetAttr object attribute)) taken o unborn granted asks = asked_change (IsBorn s o) (change.SetAttr object attribute) taken asks (λ e. same_number object o s.next e (there_is_born s object s.clock unborn (object_is_there s role (Update (SetAttr object attribute)) granted)))
+granted_is_born s role (Control (SetWindow window)) taken o unborn granted asks = asked_change (IsBorn s o) (change.SetWindow window) taken asks (λ e. absurd (true≢false (sym e)))
+granted_is_born s role (Control (Flush first last)) taken o unborn granted asks = asked_change (IsBorn s o) (change.Flush first last) taken asks (λ e. absurd (true≢false (sym e)))
+granted_is_born s role (Control (FlushO object first last)) taken o unborn granted asks = asked_change (IsBorn s o) (change.FlushO object first last) taken asks (λ e. absurd (true≢false (sym e)))
 
 abbrev IsOfSomebody : Change → Type 0
 IsOfSomebody c = is_change_of 0 c ≡ false
@@ -85,111 +86,104 @@ there_is_somebody s object nobody e = ne_eqb object 0 (λ same. true≢false (sy
 
 -- no change that is granted is of number 0
 pub granted_is_of_somebody : (s : State) (role : Role) (request : Request) (taken : Change) → 1 ≤ s.next → ((t : ℕ) → version_of s 0 t ≡ Absent) → first_refusal s role request ≡ None → change_of s request ≡ Some taken → is_change_of 0 taken ≡ false
-granted_is_of_somebody s role (Create attribute) taken low nobody granted asks = asked_change IsOfSomebody (change.Create s.next attribute) taken asks (ne_eqb s.next 0 (λ same. omega arith))
-granted_is_of_somebody s role (Delete object) taken low nobody granted asks = asked_change IsOfSomebody (change.Delete object) taken asks (there_is_somebody s object nobody (object_is_there s role (Delete object) granted))
-granted_is_of_somebody s role (Read object offset len at) taken low nobody granted asks = cc
-granted_is_of_somebody s role (Write object offset bytes) taken low nobody granted asks = asked_change IsOfSomebody (change.Write object offset bytes) taken asks (there_is_somebody s object nobody (object_is_there s role (Write object offset bytes) granted))
-granted_is_of_somebody s role (Append object bytes) taken low nobody granted asks = asked_change IsOfSomebody _ taken asks (there_is_somebody s object nobody (object_is_there s role (Append object bytes) granted))
-granted_is_of_somebody s role (Truncate object size) taken low nobody granted asks = asked_change IsOfSomebody (change.Truncate object size) taken asks (there_is_somebody s object nobody (object_is_there s role (Truncate object size) granted))
-granted_is_of_somebody s role (GetAttr object at) taken low nobody granted asks = cc
-granted_is_of_somebody s role (SetAttr object attribute) taken low nobody granted asks = asked_change IsOfSomebody (change.SetAttr object attribute) taken asks (there_is_somebody s object nobody (object_is_there s role (SetAttr object attribute) granted))
-granted_is_of_somebody s role (SetWindow window) taken low nobody granted asks = asked_change IsOfSomebody (change.SetWindow window) taken asks refl
-granted_is_of_somebody s role (Flush first last) taken low nobody granted asks = asked_change IsOfSomebody (change.Flush first last) taken asks refl
-granted_is_of_somebody s role (FlushO object first last) taken low nobody granted asks = asked_change IsOfSomebody (change.FlushO object first last) taken asks refl
+granted_is_of_somebody s role (Update (Create attribute)) taken low nobody granted asks = asked_change IsOfSomebody (change.Create s.next attribute) taken asks (ne_eqb s.next 0 (λ same. omega arith))
+granted_is_of_somebody s role (Update (Delete object)) taken low nobody granted asks = asked_change IsOfSomebody (change.Delete object) taken asks (there_is_somebody s object nobody (object_is_there s role (Update (Delete object)) granted))
+granted_is_of_somebody s role (Query question) taken low nobody granted asks = cc
+granted_is_of_somebody s role (Update (Write object offset bytes)) taken low nobody granted asks = asked_change IsOfSomebody (change.Write object offset bytes) taken asks (there_is_somebody s object nobody (object_is_there s role (Update (Write object offset bytes)) granted))
+granted_is_of_somebody s role (Update (Append object bytes)) taken low nobody granted asks = asked_change IsOfSomebody _ taken asks (there_is_somebody s object nobody (object_is_there s role (Update (Append object bytes)) granted))
+granted_is_of_somebody s role (Update (Truncate object size)) taken low nobody granted asks = asked_change IsOfSomebody (change.Truncate object size) taken asks (there_is_somebody s object nobody (object_is_there s role (Update (Truncate object size)) granted))
+granted_is_of_somebody s role (Update (SetAttr object attribute)) taken low nobody granted asks = asked_change IsOfSomebody (change.SetAttr object attribute) taken asks (there_is_somebody s object nobody (object_is_there s role (Update (SetAttr object attribute)) granted))
+granted_is_of_somebody s role (Control (SetWindow window)) taken low nobody granted asks = asked_change IsOfSomebody (change.SetWindow window) taken asks refl
+granted_is_of_somebody s role (Control (Flush first last)) taken low nobody granted asks = asked_change IsOfSomebody (change.Flush first last) taken asks refl
+granted_is_of_somebody s role (Control (FlushO object first last)) taken low nobody granted asks = asked_change IsOfSomebody (change.FlushO object first last) taken asks refl
 
 span_end : (first last clock : ℕ) → not (leb first last && leb last clock) ≡ false → last ≤ clock
 span_end first last clock e = leb-true last clock (and_parts (leb first last) (leb last clock) (not-false (leb first last && leb last clock) e)).1
 
 -- a span that is granted ends at or before the clock
 pub granted_span_ends : (s : State) (role : Role) (request : Request) (taken : Change) → first_refusal s role request ≡ None → change_of s request ≡ Some taken → AllByRecursion (λ span. span.last ≤ s.clock) (cons_option (span_by taken) [])
-granted_span_ends s role (Create attribute) taken granted asks = asked_change (SpanEnds s) (change.Create s.next attribute) taken asks tt
-granted_span_ends s role (Delete object) taken granted asks = asked_change (SpanEnds s) (change.Delete object) taken asks tt
-granted_span_ends s role (Read object offset len at) taken granted asks = cc
-granted_span_ends s role (Write object offset bytes) taken granted asks = asked_change (SpanEnds s) (change.Write object offset bytes) taken asks tt
-granted_span_ends s role (Append object bytes) taken granted asks = asked_change (SpanEnds s) _ taken asks tt
-granted_span_ends s role (Truncate object size) taken granted asks = asked_change (SpanEnds s) (change.Truncate object size) taken asks tt
-granted_span_ends s role (GetAttr object at) taken granted asks = cc
-granted_span_ends s role (SetAttr object attribute) taken granted asks = asked_change (SpanEnds s) (change.SetAttr object attribute) taken asks tt
-granted_span_ends s role (SetWindow window) taken granted asks = asked_change (SpanEnds s) (change.SetWindow window) taken asks tt
-granted_span_ends s role (Flush first last) taken granted asks = asked_change (SpanEnds s) (change.Flush first last) taken asks (span_end first last s.clock (none_applies s role (Flush first last) granted).1.1.1.0, tt)
-granted_span_ends s role (FlushO object first last) taken granted asks = asked_change (SpanEnds s) (change.FlushO object first last) taken asks (span_end first last s.clock (none_applies s role (FlushO object first last) granted).1.1.1.0, tt)
+granted_span_ends s role (Update (Create attribute)) taken granted asks = asked_change (SpanEnds s) (change.Create s.next attribute) taken asks tt
+granted_span_ends s role (Update (Delete object)) taken granted asks = asked_change (SpanEnds s) (change.Delete object) taken asks tt
+granted_span_ends s role (Query question) taken granted asks = cc
+granted_span_ends s role (Update (Write object offset bytes)) taken granted asks = asked_change (SpanEnds s) (change.Write object offset bytes) taken asks tt
+granted_span_ends s role (Update (Append object bytes)) taken granted asks = asked_change (SpanEnds s) _ taken asks tt
+granted_span_ends s role (Update (Truncate object size)) taken granted asks = asked_change (SpanEnds s) (change.Truncate object size) taken asks tt
+granted_span_ends s role (Update (SetAttr object attribute)) taken granted asks = asked_change (SpanEnds s) (change.SetAttr object attribute) taken asks tt
+granted_span_ends s role (Control (SetWindow window)) taken granted asks = asked_change (SpanEnds s) (change.SetWindow window) taken asks tt
+granted_span_ends s role (Control (Flush first last)) taken granted asks = asked_change (SpanEnds s) (change.Flush first last) taken asks (span_end first last s.clock (none_applies s role (Control (Flush first last)) granted).1.1.1.0, tt)
+granted_span_ends s role (Control (FlushO object first last)) taken granted asks = asked_change (SpanEnds s) (change.FlushO object first last) taken asks (span_end first last s.clock (none_applies s role (Control (FlushO object first last)) granted).1.1.1.0, tt)
 
 -- a span that is granted is of a number that was given, or of all objects
 pub granted_span_is_owned : (s : State) (role : Role) (request : Request) (taken : Change) → 1 ≤ s.next → first_refusal s role request ≡ None → change_of s request ≡ Some taken → AllByRecursion (IsOfGiven s.next) (cons_option (span_by taken) [])
-granted_span_is_owned s role (Create attribute) taken low granted asks = asked_change (SpanIsOwned s) (change.Create s.next attribute) taken asks tt
-granted_span_is_owned s role (Delete object) taken low granted asks = asked_change (SpanIsOwned s) (change.Delete object) taken asks tt
-granted_span_is_owned s role (Read object offset len at) taken low granted asks = cc
-granted_span_is_owned s role (Write object offset bytes) taken low granted asks = asked_change (SpanIsOwned s) (change.Write object offset bytes) taken asks tt
-granted_span_is_owned s role (Append object bytes) taken low granted asks = asked_change (SpanIsOwned s) _ taken asks tt
-granted_span_is_owned s role (Truncate object size) taken low granted asks = asked_change (SpanIsOwned s) (change.Truncate object size) taken asks tt
-granted_span_is_owned s role (GetAttr object at) taken low granted asks = cc
-granted_span_is_owned s role (SetAttr object attribute) taken low granted asks = asked_change (SpanIsOwned s) (change.SetAttr object attribute) taken asks tt
-granted_span_is_owned s role (SetWindow window) taken low granted asks = asked_change (SpanIsOwned s) (change.SetWindow window) taken asks tt
-granted_span_is_owned s role (Flush first last) taken low granted asks = asked_change (SpanIsOwned s) (change.Flush first last) taken asks (omega arith, tt)
-granted_span_is_owned s role (FlushO object first last) taken low granted asks = asked_change (SpanIsOwned s) (change.FlushO object first last) taken asks (leb-false s.next object (or_parts (object == 0) (leb s.next object) (object_is_there s role (FlushO object first last) granted)).1, tt)
+granted_span_is_owned s role (Update (Create attribute)) taken low granted asks = asked_change (SpanIsOwned s) (change.Create s.next attribute) taken asks tt
+granted_span_is_owned s role (Update (Delete object)) taken low granted asks = asked_change (SpanIsOwned s) (change.Delete object) taken asks tt
+granted_span_is_owned s role (Query question) taken low granted asks = cc
+granted_span_is_owned s role (Update (Write object offset bytes)) taken low granted asks = asked_change (SpanIsOwned s) (change.Write object offset bytes) taken asks tt
+granted_span_is_owned s role (Update (Append object bytes)) taken low granted asks = asked_change (SpanIsOwned s) _ taken asks tt
+granted_span_is_owned s role (Update (Truncate object size)) taken low granted asks = asked_change (SpanIsOwned s) (change.Truncate object size) taken asks tt
+granted_span_is_owned s role (Update (SetAttr object attribute)) taken low granted asks = asked_change (SpanIsOwned s) (change.SetAttr object attribute) taken asks tt
+granted_span_is_owned s role (Control (SetWindow window)) taken low granted asks = asked_change (SpanIsOwned s) (change.SetWindow window) taken asks tt
+granted_span_is_owned s role (Control (Flush first last)) taken low granted asks = asked_change (SpanIsOwned s) (change.Flush first last) taken asks (omega arith, tt)
+granted_span_is_owned s role (Control (FlushO object first last)) taken low granted asks = asked_change (SpanIsOwned s) (change.FlushO object first last) taken asks (leb-false s.next object (or_parts (object == 0) (leb s.next object) (object_is_there s role (Control (FlushO object first last)) granted)).1, tt)
 
 abbrev SpanIsOneMore : State → Change → Type 0
 SpanIsOneMore s c = AllByRecursion (λ span. is_one_span_too_many s span ≡ false) (cons_option (span_by c) [])
 
 -- a span that is granted isn't one too many
 pub granted_span_is_not_too_many : (s : State) (role : Role) (request : Request) (taken : Change) → first_refusal s role request ≡ None → change_of s request ≡ Some taken → AllByRecursion (λ span. is_one_span_too_many s span ≡ false) (cons_option (span_by taken) [])
-granted_span_is_not_too_many s role (Create attribute) taken granted asks = asked_change (SpanIsOneMore s) (change.Create s.next attribute) taken asks tt
-granted_span_is_not_too_many s role (Delete object) taken granted asks = asked_change (SpanIsOneMore s) (change.Delete object) taken asks tt
-granted_span_is_not_too_many s role (Read object offset len at) taken granted asks = cc
-granted_span_is_not_too_many s role (Write object offset bytes) taken granted asks = asked_change (SpanIsOneMore s) (change.Write object offset bytes) taken asks tt
-granted_span_is_not_too_many s role (Append object bytes) taken granted asks = asked_change (SpanIsOneMore s) _ taken asks tt
-granted_span_is_not_too_many s role (Truncate object size) taken granted asks = asked_change (SpanIsOneMore s) (change.Truncate object size) taken asks tt
-granted_span_is_not_too_many s role (GetAttr object at) taken granted asks = cc
-granted_span_is_not_too_many s role (SetAttr object attribute) taken granted asks = asked_change (SpanIsOneMore s) (change.SetAttr object attribute) taken asks tt
-granted_span_is_not_too_many s role (SetWindow window) taken granted asks = asked_change (SpanIsOneMore s) (change.SetWindow window) taken asks tt
-granted_span_is_not_too_many s role (Flush first last) taken granted asks = asked_change (SpanIsOneMore s) (change.Flush first last) taken asks ((none_applies s role (Flush first last) granted).1.1.1.1.1.1.1.1.0, tt)
-granted_span_is_not_too_many s role (FlushO object first last) taken granted asks = asked_change (SpanIsOneMore s) (change.FlushO object first last) taken asks ((none_applies s role (FlushO object first last) granted).1.1.1.1.1.1.1.1.0, tt)
+granted_span_is_not_too_many s role (Update (Create attribute)) taken granted asks = asked_change (SpanIsOneMore s) (change.Create s.next attribute) taken asks tt
+granted_span_is_not_too_many s role (Update (Delete object)) taken granted asks = asked_change (SpanIsOneMore s) (change.Delete object) taken asks tt
+granted_span_is_not_too_many s role (Query question) taken granted asks = cc
+granted_span_is_not_too_many s role (Update (Write object offset bytes)) taken granted asks = asked_change (SpanIsOneMore s) (change.Write object offset bytes) taken asks tt
+granted_span_is_not_too_many s role (Update (Append object bytes)) taken granted asks = asked_change (SpanIsOneMore s) _ taken asks tt
+granted_span_is_not_too_many s role (Update (Truncate object size)) taken granted asks = asked_change (SpanIsOneMore s) (change.Truncate object size) taken asks tt
+granted_span_is_not_too_many s role (Update (SetAttr object attribute)) taken granted asks = asked_change (SpanIsOneMore s) (change.SetAttr object attribute) taken asks tt
+granted_span_is_not_too_many s role (Control (SetWindow window)) taken granted asks = asked_change (SpanIsOneMore s) (change.SetWindow window) taken asks tt
+granted_span_is_not_too_many s role (Control (Flush first last)) taken granted asks = asked_change (SpanIsOneMore s) (change.Flush first last) taken asks ((none_applies s role (Control (Flush first last)) granted).1.1.1.1.1.1.1.1.0, tt)
+granted_span_is_not_too_many s role (Control (FlushO object first last)) taken granted asks = asked_change (SpanIsOneMore s) (change.FlushO object first last) taken asks ((none_applies s role (Control (FlushO object first last)) granted).1.1.1.1.1.1.1.1.0, tt)
 
 -- what a client is granted hides nothing
 pub client_hides_nothing : (s : State) (request : Request) (taken : Change) → first_refusal s Client request ≡ None → change_of s request ≡ Some taken → span_by taken ≡ None
-client_hides_nothing s (Create attribute) taken granted asks = asked_change HidesNothing (change.Create s.next attribute) taken asks refl
-client_hides_nothing s (Delete object) taken granted asks = asked_change HidesNothing (change.Delete object) taken asks refl
-client_hides_nothing s (Read object offset len at) taken granted asks = cc
-client_hides_nothing s (Write object offset bytes) taken granted asks = asked_change HidesNothing (change.Write object offset bytes) taken asks refl
-client_hides_nothing s (Append object bytes) taken granted asks = asked_change HidesNothing _ taken asks refl
-client_hides_nothing s (Truncate object size) taken granted asks = asked_change HidesNothing (change.Truncate object size) taken asks refl
-client_hides_nothing s (GetAttr object at) taken granted asks = cc
-client_hides_nothing s (SetAttr object attribute) taken granted asks = asked_change HidesNothing (change.SetAttr object attribute) taken asks refl
-client_hides_nothing s (SetWindow window) taken granted asks = absurd (true≢false (none_applies s Client (SetWindow window) granted).0)
-client_hides_nothing s (Flush first last) taken granted asks = absurd (true≢false (none_applies s Client (Flush first last) granted).0)
-client_hides_nothing s (FlushO object first last) taken granted asks = absurd (true≢false (none_applies s Client (FlushO object first last) granted).0)
+client_hides_nothing s (Update (Create attribute)) taken granted asks = asked_change HidesNothing (change.Create s.next attribute) taken asks refl
+client_hides_nothing s (Update (Delete object)) taken granted asks = asked_change HidesNothing (change.Delete object) taken asks refl
+client_hides_nothing s (Query question) taken granted asks = cc
+client_hides_nothing s (Update (Write object offset bytes)) taken granted asks = asked_change HidesNothing (change.Write object offset bytes) taken asks refl
+client_hides_nothing s (Update (Append object bytes)) taken granted asks = asked_change HidesNothing _ taken asks refl
+client_hides_nothing s (Update (Truncate object size)) taken granted asks = asked_change HidesNothing (change.Truncate object size) taken asks refl
+client_hides_nothing s (Update (SetAttr object attribute)) taken granted asks = asked_change HidesNothing (change.SetAttr object attribute) taken asks refl
+client_hides_nothing s (Control (SetWindow window)) taken granted asks = absurd (true≢false (none_applies s Client (Control (SetWindow window)) granted).0)
+client_hides_nothing s (Control (Flush first last)) taken granted asks = absurd (true≢false (none_applies s Client (Control (Flush first last)) granted).0)
+client_hides_nothing s (Control (FlushO object first last)) taken granted asks = absurd (true≢false (none_applies s Client (Control (FlushO object first last)) granted).0)
 
 -- a span that is granted over an object is of one
-pub granted_object_is_no_zero : (s : State) (role : Role) (object first last : ℕ) → first_refusal s role (FlushO object first last) ≡ None → (object == 0) ≡ false
-granted_object_is_no_zero s role object first last granted = (or_parts (object == 0) (leb s.next object) (object_is_there s role (FlushO object first last) granted)).0
+pub granted_object_is_no_zero : (s : State) (role : Role) (object first last : ℕ) → first_refusal s role (Control (FlushO object first last)) ≡ None → (object == 0) ≡ false
+granted_object_is_no_zero s role object first last granted = (or_parts (object == 0) (leb s.next object) (object_is_there s role (Control (FlushO object first last)) granted)).0
 
 abbrev LeavesWindow : ℕ → Change → Type 0
 LeavesWindow window change = window_by change window ≡ window
 
 -- what a client is granted leaves the window
 pub client_leaves_window : (s : State) (request : Request) (taken : Change) (window : ℕ) → first_refusal s Client request ≡ None → change_of s request ≡ Some taken → window_by taken window ≡ window
-client_leaves_window s (Create attribute) taken window granted asks = asked_change (LeavesWindow window) (change.Create s.next attribute) taken asks refl
-client_leaves_window s (Delete object) taken window granted asks = asked_change (LeavesWindow window) (change.Delete object) taken asks refl
-client_leaves_window s (Read object offset len at) taken window granted asks = cc
-client_leaves_window s (Write object offset bytes) taken window granted asks = asked_change (LeavesWindow window) (change.Write object offset bytes) taken asks refl
-client_leaves_window s (Append object bytes) taken window granted asks = asked_change (LeavesWindow window) _ taken asks refl
-client_leaves_window s (Truncate object size) taken window granted asks = asked_change (LeavesWindow window) (change.Truncate object size) taken asks refl
-client_leaves_window s (GetAttr object at) taken window granted asks = cc
-client_leaves_window s (SetAttr object attribute) taken window granted asks = asked_change (LeavesWindow window) (change.SetAttr object attribute) taken asks refl
-client_leaves_window s (SetWindow new_window) taken window granted asks = absurd (true≢false (none_applies s Client (SetWindow new_window) granted).0)
-client_leaves_window s (Flush first last) taken window granted asks = absurd (true≢false (none_applies s Client (Flush first last) granted).0)
-client_leaves_window s (FlushO object first last) taken window granted asks = absurd (true≢false (none_applies s Client (FlushO object first last) granted).0)
+client_leaves_window s (Update (Create attribute)) taken window granted asks = asked_change (LeavesWindow window) (change.Create s.next attribute) taken asks refl
+client_leaves_window s (Update (Delete object)) taken window granted asks = asked_change (LeavesWindow window) (change.Delete object) taken asks refl
+client_leaves_window s (Query question) taken window granted asks = cc
+client_leaves_window s (Update (Write object offset bytes)) taken window granted asks = asked_change (LeavesWindow window) (change.Write object offset bytes) taken asks refl
+client_leaves_window s (Update (Append object bytes)) taken window granted asks = asked_change (LeavesWindow window) _ taken asks refl
+client_leaves_window s (Update (Truncate object size)) taken window granted asks = asked_change (LeavesWindow window) (change.Truncate object size) taken asks refl
+client_leaves_window s (Update (SetAttr object attribute)) taken window granted asks = asked_change (LeavesWindow window) (change.SetAttr object attribute) taken asks refl
+client_leaves_window s (Control (SetWindow new_window)) taken window granted asks = absurd (true≢false (none_applies s Client (Control (SetWindow new_window)) granted).0)
+client_leaves_window s (Control (Flush first last)) taken window granted asks = absurd (true≢false (none_applies s Client (Control (Flush first last)) granted).0)
+client_leaves_window s (Control (FlushO object first last)) taken window granted asks = absurd (true≢false (none_applies s Client (Control (FlushO object first last)) granted).0)
 
 -- what is granted keeps the limits
 pub granted_fits : (s : State) (role : Role) (request : Request) (taken : Change) → first_refusal s role request ≡ None → change_of s request ≡ Some taken → Fits taken
-granted_fits s role (Create attribute) taken granted asks = asked_change Fits (change.Create s.next attribute) taken asks (ltb-false ATTRIBUTE_BYTES (length attribute) (none_applies s role (Create attribute) granted).1.0)
-granted_fits s role (Delete object) taken granted asks = asked_change Fits (change.Delete object) taken asks tt
-granted_fits s role (Read object offset len at) taken granted asks = cc
-granted_fits s role (Write object offset bytes) taken granted asks = asked_change Fits (change.Write object offset bytes) taken asks (ltb-false OBJECT_BYTES (offset + length bytes) (none_applies s role (Write object offset bytes) granted).1.1.0)
-granted_fits s role (Append object bytes) taken granted asks = asked_change Fits (change.Write object (size_of (present s object)) bytes) taken asks (ltb-false OBJECT_BYTES (size_of (present s object) + length bytes) (none_applies s role (Append object bytes) granted).1.1.0)
-granted_fits s role (Truncate object size) taken granted asks = asked_change Fits (change.Truncate object size) taken asks (ltb-false OBJECT_BYTES size (none_applies s role (Truncate object size) granted).1.1.0)
-granted_fits s role (GetAttr object at) taken granted asks = cc
-granted_fits s role (SetAttr object attribute) taken granted asks = asked_change Fits (change.SetAttr object attribute) taken asks (ltb-false ATTRIBUTE_BYTES (length attribute) (none_applies s role (SetAttr object attribute) granted).1.0)
-granted_fits s role (SetWindow window) taken granted asks = asked_change Fits (change.SetWindow window) taken asks tt
-granted_fits s role (Flush first last) taken granted asks = asked_change Fits (change.Flush first last) taken asks tt
-granted_fits s role (FlushO object first last) taken granted asks = asked_change Fits (change.FlushO object first last) taken asks tt
+granted_fits s role (Update (Create attribute)) taken granted asks = asked_change Fits (change.Create s.next attribute) taken asks (ltb-false ATTRIBUTE_BYTES (length attribute) (none_applies s role (Update (Create attribute)) granted).1.0)
+granted_fits s role (Update (Delete object)) taken granted asks = asked_change Fits (change.Delete object) taken asks tt
+granted_fits s role (Query question) taken granted asks = cc
+granted_fits s role (Update (Write object offset bytes)) taken granted asks = asked_change Fits (change.Write object offset bytes) taken asks (ltb-false OBJECT_BYTES (offset + length bytes) (none_applies s role (Update (Write object offset bytes)) granted).1.1.0)
+granted_fits s role (Update (Append object bytes)) taken granted asks = asked_change Fits (change.Write object (size_of (present s object)) bytes) taken asks (ltb-false OBJECT_BYTES (size_of (present s object) + length bytes) (none_applies s role (Update (Append object bytes)) granted).1.1.0)
+granted_fits s role (Update (Truncate object size)) taken granted asks = asked_change Fits (change.Truncate object size) taken asks (ltb-false OBJECT_BYTES size (none_applies s role (Update (Truncate object size)) granted).1.1.0)
+granted_fits s role (Update (SetAttr object attribute)) taken granted asks = asked_change Fits (change.SetAttr object attribute) taken asks (ltb-false ATTRIBUTE_BYTES (length attribute) (none_applies s role (Update (SetAttr object attribute)) granted).1.0)
+granted_fits s role (Control (SetWindow window)) taken granted asks = asked_change Fits (change.SetWindow window) taken asks tt
+granted_fits s role (Control (Flush first last)) taken granted asks = asked_change Fits (change.Flush first last) taken asks tt
+granted_fits s role (Control (FlushO object first last)) taken granted asks = asked_change Fits (change.FlushO object first last) taken asks tt

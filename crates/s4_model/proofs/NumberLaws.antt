@@ -11,6 +11,8 @@ use Rattle.s4_types.specs.declared.replies.Reply.TheVariants.{Refused, Changed, 
 use Rattle.s4_types.specs.declared.requests.Role.{Role}
 use Rattle.s4_types.specs.declared.requests.Request.{Request}
 use Rattle.s4_types.specs.declared.requests.Request.TheVariants as request
+use Rattle.s4_types.specs.declared.requests.ObjectRequest.TheVariants as object_request
+use Rattle.s4_types.specs.declared.requests.AdminRequest.TheVariants as admin_request
 use Rattle.s4_types.specs.declared.versions.Version.TheVariants.{Absent}
 use Rattle.s4_model.specs.Effect.{effect, is_change_of}
 use Rattle.s4_model.specs.Numbers.{next_of, next_by}
@@ -29,17 +31,16 @@ use Rattle.s4_model.proofs.ClockLaws.{ActsAtItsMoment-took}
 
 -- a change that a Create's reply answers is the making of the next object
 created_change : (s : State) (asks : Request) (taken : Change) (now object moment : ℕ) → change_of s asks ≡ Some taken → Created object moment ≡ reply_to_change s taken now → (object ≡ s.next) × (next_by taken s.next ≡ object + 1)
-created_change s (request.Create attribute) (Create made value) now object moment asks answers = let numbers : s.next ≡ made = cc in let same : object ≡ made = cc in (same ∙ sym numbers, ap (λ n. n + 1) (numbers ∙ sym same))
-created_change s (request.Delete gone) (Create made value) now object moment asks answers = cc
-created_change s (request.Read of offset len at) (Create made value) now object moment asks answers = cc
-created_change s (request.Write of offset bytes) (Create made value) now object moment asks answers = cc
-created_change s (request.Append of bytes) (Create made value) now object moment asks answers = cc
-created_change s (request.Truncate of size) (Create made value) now object moment asks answers = cc
-created_change s (request.GetAttr of at) (Create made value) now object moment asks answers = cc
-created_change s (request.SetAttr of attribute) (Create made value) now object moment asks answers = cc
-created_change s (request.SetWindow window) (Create made value) now object moment asks answers = cc
-created_change s (request.Flush first last) (Create made value) now object moment asks answers = cc
-created_change s (request.FlushO of first last) (Create made value) now object moment asks answers = cc
+created_change s (request.Update (object_request.Create attribute)) (Create made value) now object moment asks answers = let numbers : s.next ≡ made = cc in let same : object ≡ made = cc in (same ∙ sym numbers, ap (λ n. n + 1) (numbers ∙ sym same))
+created_change s (request.Update (object_request.Delete gone)) (Create made value) now object moment asks answers = cc
+created_change s (request.Query question) (Create made value) now object moment asks answers = cc
+created_change s (request.Update (object_request.Write of offset bytes)) (Create made value) now object moment asks answers = cc
+created_change s (request.Update (object_request.Append of bytes)) (Create made value) now object moment asks answers = cc
+created_change s (request.Update (object_request.Truncate of size)) (Create made value) now object moment asks answers = cc
+created_change s (request.Update (object_request.SetAttr of attribute)) (Create made value) now object moment asks answers = cc
+created_change s (request.Control (admin_request.SetWindow window)) (Create made value) now object moment asks answers = cc
+created_change s (request.Control (admin_request.Flush first last)) (Create made value) now object moment asks answers = cc
+created_change s (request.Control (admin_request.FlushO of first last)) (Create made value) now object moment asks answers = cc
 created_change s asks (Delete of) now object moment is answers = cc
 created_change s asks (Write of offset bytes) now object moment is answers = cc
 created_change s asks (Truncate of size) now object moment is answers = cc
@@ -152,21 +153,21 @@ pub absent_stay_absent : (h after : History) (object : ℕ) (exchanges : List Ex
 absent_stay_absent h after object exchanges sound born gone leads = (IsDead-leads h exchanges after object sound leads (record { born = born; gone = gone })).gone
 
 -- a change that a Delete asks for makes its object dead
-IsDead-deleted : (s : State) (role : Role) (object now : ℕ) (reply : Reply) (a : Accepted) → IsSound s → IsTaken s role (request.Delete object) now reply a → IsDead (took s a) object
+IsDead-deleted : (s : State) (role : Role) (object now : ℕ) (reply : Reply) (a : Accepted) → IsSound s → IsTaken s role (request.Update (object_request.Delete object)) now reply a → IsDead (took s a) object
 IsDead-deleted s role object now reply a sound taken =
     let is : Delete object ≡ a.change = let e : Some (Delete object) ≡ Some a.change = taken.asked_for in cc in
     let of_it : is_change_of object a.change ≡ true = subst (λ c. is_change_of object c ≡ true) is (eq-eqb object object refl) in
-    let acts : ActsAtItsMoment s (took s a) a = ActsAtItsMoment-took s a sound (moment_is_later s role (request.Delete object) now reply a taken) in
+    let acts : ActsAtItsMoment s (took s a) a = ActsAtItsMoment-took s a sound (moment_is_later s role (request.Update (object_request.Delete object)) now reply a taken) in
     record {
-      born = granted_is_born s role (request.Delete object) a.change object sound.unborn taken.granted taken.asked_for of_it;
+      born = granted_is_born s role (request.Update (object_request.Delete object)) a.change object sound.unborn taken.granted taken.asked_for of_it;
       gone = acts.changed object of_it ∙ ap (λ c. effect c a.moment (present s object)) (sym is);
     }
 
-IsDead-delete : (h : History) (role : Role) (object now moment : ℕ) (after : History) → IsSound (state_of h) → Outcome h role (request.Delete object) now (Changed moment) after → IsDead (state_of after) object
+IsDead-delete : (h : History) (role : Role) (object now moment : ℕ) (after : History) → IsSound (state_of h) → Outcome h role (request.Update (object_request.Delete object)) now (Changed moment) after → IsDead (state_of after) object
 IsDead-delete h role object now moment after sound (OnlySaw is answers) = absurd (true≢false answers)
 IsDead-delete h role object now moment after sound (TookIt a is taken) = subst (λ k. IsDead k object) (sym (ap state_of is ∙ state_of-took h a)) (IsDead-deleted (state_of h) role object now (Changed moment) a sound taken)
 
-pub dead_stays_absent : (h after later : History) (role : Role) (object now moment : ℕ) (exchanges : List Exchange) → IsSound (state_of h) → Step h role (request.Delete object) now (Changed moment) after → Leads after exchanges later → present (state_of later) object ≡ Absent
+pub dead_stays_absent : (h after later : History) (role : Role) (object now moment : ℕ) (exchanges : List Exchange) → IsSound (state_of h) → Step h role (request.Update (object_request.Delete object)) now (Changed moment) after → Leads after exchanges later → present (state_of later) object ≡ Absent
 dead_stays_absent h after later role object now moment exchanges sound step leads =
-    (IsDead-leads after exchanges later object (IsSound-step h role (request.Delete object) now (Changed moment) after sound step) leads
+    (IsDead-leads after exchanges later object (IsSound-step h role (request.Update (object_request.Delete object)) now (Changed moment) after sound step) leads
     (IsDead-delete h role object now moment after sound (outcome_of step))).gone

@@ -6,7 +6,8 @@ use Rattle.s4_types.specs.declared.changes.Change.{Change}
 use Rattle.s4_types.specs.declared.changes.Change.TheVariants as change
 use Rattle.s4_types.specs.declared.requests.Role.{Role}
 use Rattle.s4_types.specs.declared.requests.Request.{Request}
-use Rattle.s4_types.specs.declared.requests.Request.TheVariants.{Create, Delete, Read, Write, Append, Truncate, GetAttr, SetAttr, SetWindow, Flush, FlushO}
+use Rattle.s4_types.specs.declared.requests.Request.TheVariants.{Update, Query, Control}
+use Rattle.s4_types.specs.declared.requests.Question.TheVariants.{Read, GetAttr}
 use Rattle.s4_types.specs.declared.replies.Reply.{Reply}
 use Rattle.s4_types.specs.declared.replies.Reply.TheVariants.{Refused, Changed, Created, Data, Attr}
 use Rattle.s4_types.specs.declared.versions.Version.{Version}
@@ -38,17 +39,9 @@ pub data Outcome (h : History) (role : Role) (request : Request) (now : ℕ) (re
 
 -- a change is judged by the history as it was
 pub judged-change : (h : History) (request : Request) (now : ℕ) (change : Change) → change_of (state_of h) request ≡ Some change → judged h request now ≡ state_of h
-judged-change h (Create attribute) now change e = refl
-judged-change h (Delete object) now change e = refl
-judged-change h (Read object offset len at) now change e = cc
-judged-change h (Write object offset bytes) now change e = refl
-judged-change h (Append object bytes) now change e = refl
-judged-change h (Truncate object size) now change e = refl
-judged-change h (GetAttr object at) now change e = cc
-judged-change h (SetAttr object attribute) now change e = refl
-judged-change h (SetWindow window) now change e = refl
-judged-change h (Flush first last) now change e = refl
-judged-change h (FlushO object first last) now change e = refl
+judged-change h (Update update) now change e = refl
+judged-change h (Query question) now change e = cc
+judged-change h (Control control) now change e = refl
 
 data_reply : (v : Version) (offset len : ℕ) (reply : Reply) → data_of v offset len ≡ Some reply → is_acceptance reply ≡ false
 data_reply Absent offset len reply e = cc
@@ -68,17 +61,10 @@ attributes_reply (Live content attribute created changed) (Created object moment
 
 -- no read is answered as a change
 read_reply : (s : State) (request : Request) (reply : Reply) → reply_to_read s request ≡ Some reply → is_acceptance reply ≡ false
-read_reply s (Create attribute) reply e = cc
-read_reply s (Delete object) reply e = cc
-read_reply s (Read object offset len at) reply e = data_reply (version_of s object (asked s at)) offset len reply e
-read_reply s (Write object offset bytes) reply e = cc
-read_reply s (Append object bytes) reply e = cc
-read_reply s (Truncate object size) reply e = cc
-read_reply s (GetAttr object at) reply e = attributes_reply (version_of s object (asked s at)) reply e
-read_reply s (SetAttr object attribute) reply e = cc
-read_reply s (SetWindow window) reply e = cc
-read_reply s (Flush first last) reply e = cc
-read_reply s (FlushO object first last) reply e = cc
+read_reply s (Update update) reply e = cc
+read_reply s (Query (Read object offset len at)) reply e = data_reply (version_of s object (asked s at)) offset len reply e
+read_reply s (Query (GetAttr object at)) reply e = attributes_reply (version_of s object (asked s at)) reply e
+read_reply s (Control control) reply e = cc
 
 outcome_of_accepts : (h : History) (role : Role) (request : Request) (now : ℕ) (reply : Reply) (r : Record) (after : History) → first_refusal (judged h request now) role request ≡ None → after ≡ grown h r → Accepts h request now reply r → Outcome h role request now reply after
 outcome_of_accepts h role request now reply r after free grows (Alters change asks answers is) =

@@ -7,7 +7,7 @@ use Rattle.s4_types.specs.declared.changes.Change.{Change}
 use Rattle.s4_types.specs.declared.changes.Change.TheVariants as change
 use Rattle.s4_types.specs.declared.requests.Role.{Role}
 use Rattle.s4_types.specs.declared.requests.Request.{Request}
-use Rattle.s4_types.specs.declared.requests.Request.TheVariants.{Create, Delete, Read, Write, Append, Truncate, GetAttr, SetAttr, SetWindow, Flush, FlushO}
+use Rattle.s4_types.specs.declared.requests.Request.TheVariants.{Update, Query, Control}
 use Rattle.s4_types.specs.declared.replies.Reply.{Reply}
 use Rattle.s4_types.specs.declared.replies.Reply.TheVariants.{Refused}
 use Rattle.s4_types.specs.declared.refusals.Refusal.{Refusal}
@@ -15,46 +15,24 @@ use Rattle.s4_types.specs.declared.refusals.Refusal.TheVariants as refusal
 use Rattle.s4_model.specs.State.{State, state_of, grown, seen}
 use Rattle.s4_model.specs.Refusals.{first_refusal, applies, checks}
 use Rattle.s4_model.specs.Step.{Step, Refuses, Serves, Alters, Reads, MayRefuse, AsFirst, ForMemory, judged, reply_to_read, accepted_record, reply_at, MayWantMemory}
-use Rattle.s4_model.specs.Plain.{IsChange, IsPlainRefusal, IsPlain, RefusesPlainly, Judges, Settles, Answers, Responds, Refusing, Taking, Telling, judged_by}
+use Rattle.s4_model.specs.Plain.{IsTakeable, IsPlainRefusal, IsPlain, RefusesPlainly, Judges, Settles, Answers, Responds, Refusing, Taking, Telling, judged_by}
 use Rattle.s4_model.proofs.StateLemmas.{state_of-seen, state_of-took}
 
 -- a request is judged by its history's state
 judged-by_state : (h : History) (request : Request) (now : ℕ) → judged h request now ≡ judged_by (state_of h) request now
-judged-by_state h (Read object offset len at) now = state_of-seen h now
-judged-by_state h (GetAttr object at) now = state_of-seen h now
-judged-by_state h (Create attribute) now = refl
-judged-by_state h (Delete object) now = refl
-judged-by_state h (Write object offset bytes) now = refl
-judged-by_state h (Append object bytes) now = refl
-judged-by_state h (Truncate object size) now = refl
-judged-by_state h (SetAttr object attribute) now = refl
-judged-by_state h (SetWindow window) now = refl
-judged-by_state h (Flush first last) now = refl
-judged-by_state h (FlushO object first last) now = refl
-
--- a change is judged by the state as it is
-pub judged_by-change : (s : State) (request : Request) (now : ℕ) → IsChange request → judged_by s request now ≡ s
-judged_by-change s (Read object offset len at) now h = absurd h
-judged_by-change s (GetAttr object at) now h = absurd h
-judged_by-change s (Create attribute) now h = refl
-judged_by-change s (Delete object) now h = refl
-judged_by-change s (Write object offset bytes) now h = refl
-judged_by-change s (Append object bytes) now h = refl
-judged_by-change s (Truncate object size) now h = refl
-judged_by-change s (SetAttr object attribute) now h = refl
-judged_by-change s (SetWindow window) now h = refl
-judged_by-change s (Flush first last) now h = refl
-judged_by-change s (FlushO object first last) now h = refl
+judged-by_state h (Query question) now = state_of-seen h now
+judged-by_state h (Update update) now = refl
+judged-by_state h (Control control) now = refl
 
 -- what answering a read came to
-pub Responds-read : (s : State) (role : Role) (request : Request) (now : ℕ) (answered : Result Reply Refusal) (reply : Reply) (after : State) → judged_by s request now ≡ seen s now → Answers (seen s now) role request answered → MatchResult answered (λ r. reply ≡ r) (λ e. reply ≡ Refused e) → IfOk answered IsPlain → after ≡ seen s now → Responds s role request now reply after
+Responds-read : (s : State) (role : Role) (request : Request) (now : ℕ) (answered : Result Reply Refusal) (reply : Reply) (after : State) → judged_by s request now ≡ seen s now → Answers (seen s now) role request answered → MatchResult answered (λ r. reply ≡ r) (λ e. reply ≡ Refused e) → IfOk answered IsPlain → after ≡ seen s now → Responds s role request now reply after
 Responds-read s role request now (Ok r) reply after j a is fits e =
     Telling (ap (λ k. first_refusal k role request) j ∙ a.0) (ap (λ k. reply_to_read k request) j ∙ a.1 ∙ ap Some (sym is)) (subst IsPlain (sym is) fits) e
 Responds-read s role request now (Err r) reply after j a is fits e =
     Refusing r is (let P : State → Type 0 = λ k. RefusesPlainly (first_refusal k role request) request r in subst P (sym j) a) e
 
 -- what settling a change came to
-pub Responds-change : (s : State) (role : Role) (request : Request) (now : ℕ) (change : Result Change Refusal) (reply : Reply) (after : State) → judged_by s request now ≡ s → Judges s role request change → Settles s change now reply after → Responds s role request now reply after
+Responds-change : (s : State) (role : Role) (request : Request) (now : ℕ) (change : Result Change Refusal) (reply : Reply) (after : State) → judged_by s request now ≡ s → Judges s role request change → Settles s change now reply after → Responds s role request now reply after
 Responds-change s role request now (Ok taken) reply after j a (inl w) =
     Refusing refusal.NoMemory w.0 (inr (refl, let P : Option Refusal → Type 0 = λ first. MayWantMemory first request in subst P (sym (ap (λ k. first_refusal k role request) j ∙ a.0)) tt)) w.1
 Responds-change s role request now (Ok taken) reply after j a (inr w) =
@@ -150,16 +128,13 @@ Responds-asked s role request asked now answered reply after is j e a said plain
     let Q : Request → Type 0 = λ r. Responds s role r now reply after in
     subst Q (sym is) (Responds-read s role asked now answered reply after j (subst P e a) said plain e)
 
--- what is neither a Read nor a GetAttr is a change
-pub IsChange-others : (request : Request) → ((o off len : ℕ) (at : Option ℕ) → request ≡ Read o off len at → ⊥) → ((o : ℕ) (at : Option ℕ) → request ≡ GetAttr o at → ⊥) → IsChange request
-IsChange-others (Read object offset len at) r g = r object offset len at refl
-IsChange-others (GetAttr object at) r g = g object at refl
-IsChange-others (Create attribute) r g = tt
-IsChange-others (Delete object) r g = tt
-IsChange-others (Write object offset bytes) r g = tt
-IsChange-others (Append object bytes) r g = tt
-IsChange-others (Truncate object size) r g = tt
-IsChange-others (SetAttr object attribute) r g = tt
-IsChange-others (SetWindow window) r g = tt
-IsChange-others (Flush first last) r g = tt
-IsChange-others (FlushO object first last) r g = tt
+-- what settling a change came to, of a request that is judged by the state as it is
+pub Responds-made : (s : State) (role : Role) (request asked : Request) (now : ℕ) (change : Result Change Refusal) (reply : Reply) (after : State) → request ≡ asked → judged_by s asked now ≡ s → Judges s role asked change → Settles s change now reply after → Responds s role request now reply after
+Responds-made s role request asked now change reply after is j judges settles =
+    let Q : Request → Type 0 = λ r. Responds s role r now reply after in
+    subst Q (sym is) (Responds-change s role asked now change reply after j judges settles)
+
+-- what is judged to be taken can be
+pub takeable : (s : State) (role : Role) (request : Request) (judgement : Result Change Refusal) → Judges s role request judgement → IfOk judgement (IsTakeable s)
+takeable s role request (Ok taken) judges = judges.2
+takeable s role request (Err r) judges = tt

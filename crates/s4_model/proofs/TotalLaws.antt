@@ -9,7 +9,10 @@ use Rattle.s4_types.specs.declared.refusals.Refusal.{Refusal}
 use Rattle.s4_types.specs.declared.refusals.Refusal.TheVariants.{NoSpace, ChainFull, Busy}
 use Rattle.s4_types.specs.declared.requests.Role.{Role}
 use Rattle.s4_types.specs.declared.requests.Request.{Request}
-use Rattle.s4_types.specs.declared.requests.Request.TheVariants.{Create, Delete, Read, Write, Append, Truncate, GetAttr, SetAttr, SetWindow, Flush, FlushO}
+use Rattle.s4_types.specs.declared.requests.Request.TheVariants.{Update, Query, Control}
+use Rattle.s4_types.specs.declared.requests.Question.TheVariants.{Read, GetAttr}
+use Rattle.s4_types.specs.declared.requests.ObjectRequest.TheVariants.{Create, Delete, Write, Append, Truncate, SetAttr}
+use Rattle.s4_types.specs.declared.requests.AdminRequest.TheVariants.{SetWindow, Flush, FlushO}
 use Rattle.s4_types.specs.declared.versions.Version.{Version}
 use Rattle.s4_types.specs.declared.versions.Version.TheVariants.{Absent, Live}
 use Rattle.s4_model.specs.State.{State, state_of, grown}
@@ -30,17 +33,17 @@ attributes_given (Live content attribute created changed) e = (_, refl, refl)
 
 -- a read that isn't refused has a reply
 read_given : (h : History) (s : State) (role : Role) (request : Request) → change_of (state_of h) request ≡ None → first_refusal s role request ≡ None → (reply : Reply) × (reply_to_read s request ≡ Some reply) × (is_refused_for_want reply ≡ false)
-read_given h s role (Create attribute) e free = cc
-read_given h s role (Delete object) e free = cc
-read_given h s role (Read object offset len at) e free = data_given (version_of s object (asked s at)) offset len (object_is_there s role (Read object offset len at) free)
-read_given h s role (Write object offset bytes) e free = cc
-read_given h s role (Append object bytes) e free = cc
-read_given h s role (Truncate object size) e free = cc
-read_given h s role (GetAttr object at) e free = attributes_given (version_of s object (asked s at)) (object_is_there s role (GetAttr object at) free)
-read_given h s role (SetAttr object attribute) e free = cc
-read_given h s role (SetWindow window) e free = cc
-read_given h s role (Flush first last) e free = cc
-read_given h s role (FlushO object first last) e free = cc
+read_given h s role (Update (Create attribute)) e free = cc
+read_given h s role (Update (Delete object)) e free = cc
+read_given h s role (Update (Write object offset bytes)) e free = cc
+read_given h s role (Update (Append object bytes)) e free = cc
+read_given h s role (Update (Truncate object size)) e free = cc
+read_given h s role (Update (SetAttr object attribute)) e free = cc
+read_given h s role (Query (Read object offset len at)) e free = data_given (version_of s object (asked s at)) offset len (object_is_there s role (Query (Read object offset len at)) free)
+read_given h s role (Query (GetAttr object at)) e free = attributes_given (version_of s object (asked s at)) (object_is_there s role (Query (GetAttr object at)) free)
+read_given h s role (Control (SetWindow window)) e free = cc
+read_given h s role (Control (Flush first last)) e free = cc
+read_given h s role (Control (FlushO object first last)) e free = cc
 
 -- what a request may be answered but for want, with the history after it
 abbrev HasStep : History → Role → Request → ℕ → Type 0
@@ -89,17 +92,9 @@ may_is_first {first} {request} {refusal} (ForMemory memory want) plain = absurd 
 may_is_first {first} {request} {refusal} (AsOpen none open_one) plain = absurd (true≢false (sym (open_is_of_want refusal open_one) ∙ plain))
 
 change_is_no_read : (s k : State) (request : Request) (change : Change) (reply : Reply) → change_of s request ≡ Some change → reply_to_read k request ≡ Some reply → ⊥
-change_is_no_read s k (Create attribute) change reply e given = cc
-change_is_no_read s k (Delete object) change reply e given = cc
-change_is_no_read s k (Read object offset len at) change reply e given = cc
-change_is_no_read s k (Write object offset bytes) change reply e given = cc
-change_is_no_read s k (Append object bytes) change reply e given = cc
-change_is_no_read s k (Truncate object size) change reply e given = cc
-change_is_no_read s k (GetAttr object at) change reply e given = cc
-change_is_no_read s k (SetAttr object attribute) change reply e given = cc
-change_is_no_read s k (SetWindow window) change reply e given = cc
-change_is_no_read s k (Flush first last) change reply e given = cc
-change_is_no_read s k (FlushO object first last) change reply e given = cc
+change_is_no_read s k (Update update) change reply e given = cc
+change_is_no_read s k (Query question) change reply e given = cc
+change_is_no_read s k (Control control) change reply e given = cc
 
 same_accepts : {h : History} {request : Request} {now : ℕ} {reply other_reply : Reply} {r other : Record} → Accepts h request now reply r → Accepts h request now other_reply other → (other_reply ≡ reply) × (other ≡ r)
 same_accepts {h} {request} {now} {reply} {other_reply} {r} {other} (Alters change e answers is) (Alters second e2 answers2 is2) =

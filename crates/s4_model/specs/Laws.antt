@@ -6,7 +6,9 @@ use Rattle.s4_types.specs.History.{History, Took, Seen, accepted}
 use Rattle.s4_types.specs.declared.changes.Accepted.{Accepted}
 use Rattle.s4_types.specs.declared.requests.Role.{Role}
 use Rattle.s4_types.specs.declared.requests.Request.{Request}
-use Rattle.s4_types.specs.declared.requests.Request.TheVariants.{Delete, SetWindow, Flush, FlushO}
+use Rattle.s4_types.specs.declared.requests.Request.TheVariants.{Update, Control}
+use Rattle.s4_types.specs.declared.requests.ObjectRequest.TheVariants.{Delete}
+use Rattle.s4_types.specs.declared.requests.AdminRequest.TheVariants.{SetWindow, Flush, FlushO}
 use Rattle.s4_types.specs.declared.replies.Reply.{Reply}
 use Rattle.s4_types.specs.declared.replies.Reply.TheVariants.{Refused, Changed, Created}
 use Rattle.s4_types.specs.declared.refusals.Refusal.{Refusal}
@@ -91,7 +93,7 @@ TheFloorNeverFalls = (h after : History) (role : Role) (request : Request) (now 
 
 -- and so none that sets the window, however large
 abbrev pub NoWindowLowersTheFloor : Type 0
-NoWindowLowersTheFloor = (h after : History) (role : Role) (window now : ℕ) (reply : Reply) → Step h role (SetWindow window) now reply after → floor_of h ≤ floor_of after
+NoWindowLowersTheFloor = (h after : History) (role : Role) (window now : ℕ) (reply : Reply) → Step h role (Control (SetWindow window)) now reply after → floor_of h ≤ floor_of after
 
 -- A change is accepted at the first moment that is above the clock and not before its request's, which is then
 -- the clock.
@@ -121,14 +123,14 @@ pub record LeavesVersions (before after : State) : Type 0 where
 -- an accepted Flush hides the moments of its span, of every object, and no others
 abbrev pub AFlushHidesItsSpan : Type 0
 AFlushHidesItsSpan = (h : History) (role : Role) (first last now : ℕ) (reply : Reply) (a : Accepted)
-    → IsSound (state_of h) → Step h role (Flush first last) now reply (grown h (Took a))
+    → IsSound (state_of h) → Step h role (Control (Flush first last)) now reply (grown h (Took a))
     → ((o t : ℕ) → is_hidden (state_of (grown h (Took a))) o t ≡ (is_hidden (state_of h) o t || (nat_le first t && nat_le t last)))
     × LeavesVersions (state_of h) (state_of (grown h (Took a)))
 
 -- an accepted FlushO hides those of its object alone
 abbrev pub AFlushOfAnObjectHidesItsSpan : Type 0
 AFlushOfAnObjectHidesItsSpan = (h : History) (role : Role) (object first last now : ℕ) (reply : Reply) (a : Accepted)
-    → IsSound (state_of h) → Step h role (FlushO object first last) now reply (grown h (Took a))
+    → IsSound (state_of h) → Step h role (Control (FlushO object first last)) now reply (grown h (Took a))
     → ((o t : ℕ) → is_hidden (state_of (grown h (Took a))) o t ≡ (is_hidden (state_of h) o t || (object == o && (nat_le first t && nat_le t last))))
     × LeavesVersions (state_of h) (state_of (grown h (Took a)))
 
@@ -159,7 +161,7 @@ TheAbsentStayAbsent = (h after : History) (object : ℕ) (exchanges : List Excha
 -- so an object that was deleted is absent ever after
 abbrev pub ADeadObjectStaysAbsent : Type 0
 ADeadObjectStaysAbsent = (h after later : History) (role : Role) (object now moment : ℕ) (exchanges : List Exchange)
-    → IsSound (state_of h) → Step h role (Delete object) now (Changed moment) after → Leads after exchanges later → present (state_of later) object ≡ Absent
+    → IsSound (state_of h) → Step h role (Update (Delete object)) now (Changed moment) after → Leads after exchanges later → present (state_of later) object ≡ Absent
 
 -- the refusals that a drive may choose: of memory, of space, of a full chain, of seats
 abbrev pub is_of_want : Refusal → Bool

@@ -6,7 +6,7 @@ use Rattle.s4_types.specs.declared.changes.Change.{Change}
 use Rattle.s4_types.specs.declared.changes.Change.TheVariants.{Create, Flush, FlushO}
 use Rattle.s4_types.specs.declared.requests.Role.{Role}
 use Rattle.s4_types.specs.declared.requests.Request.{Request}
-use Rattle.s4_types.specs.declared.requests.Request.TheVariants.{Read, GetAttr}
+use Rattle.s4_types.specs.declared.requests.Request.TheVariants.{Query}
 use Rattle.s4_types.specs.declared.refusals.Refusal.{Refusal}
 use Rattle.s4_types.specs.declared.refusals.Refusal.TheVariants.{NoObject, NoSpace, NoMemory, ClockEnd, ChainFull, Busy, BadFrame, Damaged, Stale, NoRoom, InUse}
 use Rattle.s4_types.specs.declared.replies.Reply.{Reply}
@@ -18,8 +18,7 @@ use Rattle.s4_model.specs.Limits.{Fits}
 
 -- a request that isn't a read
 abbrev pub IsChange : Request → Type 0
-IsChange (Read object offset len at) = ⊥
-IsChange (GetAttr object at) = ⊥
+IsChange (Query question) = ⊥
 IsChange _ = Unit {0}
 
 -- a span ends at or before the clock
@@ -101,8 +100,7 @@ Answers s role request answered =
 
 -- what a request is judged by: a read by the state that has seen the moment
 abbrev pub judged_by : State → Request → ℕ → State
-judged_by s (Read object offset len at) now = seen s now
-judged_by s (GetAttr object at) now = seen s now
+judged_by s (Query question) now = seen s now
 judged_by s _ now = s
 
 -- what a request is answered, and the state after it

@@ -6,7 +6,10 @@ use Rattle.s4_types.specs.declared.limits.TheConstants.{OBJECT_BYTES, READ_BYTES
 use Rattle.s4_types.specs.declared.requests.Role.{Role}
 use Rattle.s4_types.specs.declared.requests.Role.TheVariants.{Client, Admin}
 use Rattle.s4_types.specs.declared.requests.Request.{Request}
-use Rattle.s4_types.specs.declared.requests.Request.TheVariants.{Create, Delete, Read, Write, Append, Truncate, GetAttr, SetAttr, SetWindow, Flush, FlushO}
+use Rattle.s4_types.specs.declared.requests.Request.TheVariants.{Update, Query, Control}
+use Rattle.s4_types.specs.declared.requests.Question.TheVariants.{Read, GetAttr}
+use Rattle.s4_types.specs.declared.requests.ObjectRequest.TheVariants.{Create, Delete, Write, Append, Truncate, SetAttr}
+use Rattle.s4_types.specs.declared.requests.AdminRequest.TheVariants.{Flush, FlushO}
 use Rattle.s4_types.specs.declared.refusals.Refusal.{Refusal}
 use Rattle.s4_types.specs.declared.refusals.Refusal.TheVariants.{NoObject, NotAdmin, Expired, Future, Flushed, TooLarge, BadSpan, TooManySpans, ClockEnd, BadAttr}
 use Rattle.s4_types.specs.declared.versions.Version.{Version}
@@ -47,44 +50,42 @@ asked s at = unwrap_or at s.clock
 
 -- what administrators alone may ask
 abbrev pub wants_admin : Request → Bool
-wants_admin (SetWindow window) = true
-wants_admin (Flush first last) = true
-wants_admin (FlushO object first last) = true
+wants_admin (Control control) = true
 wants_admin _ = false
 
 abbrev pub has_long_attribute : Request → Bool
-has_long_attribute (Create attribute) = nat_lt ATTRIBUTE_BYTES (length attribute)
-has_long_attribute (SetAttr object attribute) = nat_lt ATTRIBUTE_BYTES (length attribute)
+has_long_attribute (Update (Create attribute)) = nat_lt ATTRIBUTE_BYTES (length attribute)
+has_long_attribute (Update (SetAttr object attribute)) = nat_lt ATTRIBUTE_BYTES (length attribute)
 has_long_attribute _ = false
 
 -- The end of a write, the size of a truncation, or the length of a read is above the limit, or a read ends
 -- above the greatest number.
 abbrev pub is_too_large : State → Request → Bool
-is_too_large s (Write object offset bytes) = nat_lt OBJECT_BYTES (offset + length bytes)
-is_too_large s (Append object bytes) = nat_lt OBJECT_BYTES (size_of (present s object) + length bytes)
-is_too_large s (Truncate object size) = nat_lt OBJECT_BYTES size
-is_too_large s (Read object offset len at) = nat_lt READ_BYTES len || nat_lt last_number (offset + len)
+is_too_large s (Update (Write object offset bytes)) = nat_lt OBJECT_BYTES (offset + length bytes)
+is_too_large s (Update (Append object bytes)) = nat_lt OBJECT_BYTES (size_of (present s object) + length bytes)
+is_too_large s (Update (Truncate object size)) = nat_lt OBJECT_BYTES size
+is_too_large s (Query (Read object offset len at)) = nat_lt READ_BYTES len || nat_lt last_number (offset + len)
 is_too_large s _ = false
 
 -- a span that doesn't end at or after its first moment and at or before the clock
 abbrev pub is_bad_span : State → Request → Bool
-is_bad_span s (Flush first last) = not (nat_le first last && nat_le last s.clock)
-is_bad_span s (FlushO object first last) = not (nat_le first last && nat_le last s.clock)
+is_bad_span s (Control (Flush first last)) = not (nat_le first last && nat_le last s.clock)
+is_bad_span s (Control (FlushO object first last)) = not (nat_le first last && nat_le last s.clock)
 is_bad_span s _ = false
 
 abbrev pub is_future : State → Request → Bool
-is_future s (Read object offset len at) = nat_lt s.clock (asked s at)
-is_future s (GetAttr object at) = nat_lt s.clock (asked s at)
+is_future s (Query (Read object offset len at)) = nat_lt s.clock (asked s at)
+is_future s (Query (GetAttr object at)) = nat_lt s.clock (asked s at)
 is_future s _ = false
 
 abbrev pub is_expired : State → Request → Bool
-is_expired s (Read object offset len at) = nat_lt (asked s at) s.floor
-is_expired s (GetAttr object at) = nat_lt (asked s at) s.floor
+is_expired s (Query (Read object offset len at)) = nat_lt (asked s at) s.floor
+is_expired s (Query (GetAttr object at)) = nat_lt (asked s at) s.floor
 is_expired s _ = false
 
 abbrev pub is_flushed : State → Request → Bool
-is_flushed s (Read object offset len at) = is_hidden s object (asked s at)
-is_flushed s (GetAttr object at) = is_hidden s object (asked s at)
+is_flushed s (Query (Read object offset len at)) = is_hidden s object (asked s at)
+is_flushed s (Query (GetAttr object at)) = is_hidden s object (asked s at)
 is_flushed s _ = false
 
 -- The first refusal of a moment of an object that is asked for: it is above the clock, below the floor, or hidden.
@@ -93,14 +94,14 @@ moment_refusal s o t = if nat_lt s.clock t then Some Future else (if nat_lt t s.
 
 -- The object isn't there, now or at the moment that is asked for. A span may be of each object that ever was.
 abbrev pub is_of_no_object : State → Request → Bool
-is_of_no_object s (Delete object) = is_absent (present s object)
-is_of_no_object s (Write object offset bytes) = is_absent (present s object)
-is_of_no_object s (Append object bytes) = is_absent (present s object)
-is_of_no_object s (Truncate object size) = is_absent (present s object)
-is_of_no_object s (SetAttr object attribute) = is_absent (present s object)
-is_of_no_object s (Read object offset len at) = is_absent (version_of s object (asked s at))
-is_of_no_object s (GetAttr object at) = is_absent (version_of s object (asked s at))
-is_of_no_object s (FlushO object first last) = object == 0 || nat_le s.next object
+is_of_no_object s (Update (Delete object)) = is_absent (present s object)
+is_of_no_object s (Update (Write object offset bytes)) = is_absent (present s object)
+is_of_no_object s (Update (Append object bytes)) = is_absent (present s object)
+is_of_no_object s (Update (Truncate object size)) = is_absent (present s object)
+is_of_no_object s (Update (SetAttr object attribute)) = is_absent (present s object)
+is_of_no_object s (Query (Read object offset len at)) = is_absent (version_of s object (asked s at))
+is_of_no_object s (Query (GetAttr object at)) = is_absent (version_of s object (asked s at))
+is_of_no_object s (Control (FlushO object first last)) = object == 0 || nat_le s.next object
 is_of_no_object s _ = false
 
 -- with one more span its list has more runs than a list may, or all lists together more than they may
@@ -111,15 +112,14 @@ is_one_span_too_many s span =
     || nat_lt RUNS_IN_ALL (run_count_of_all s.floor spans s.clock s.next)
 
 abbrev pub has_too_many_spans : State → Request → Bool
-has_too_many_spans s (Flush first last) = is_one_span_too_many s (record { object = 0; first = first; last = last })
-has_too_many_spans s (FlushO object first last) = is_one_span_too_many s (record { object = object; first = first; last = last })
+has_too_many_spans s (Control (Flush first last)) = is_one_span_too_many s (record { object = 0; first = first; last = last })
+has_too_many_spans s (Control (FlushO object first last)) = is_one_span_too_many s (record { object = object; first = first; last = last })
 has_too_many_spans s _ = false
 
 -- no later moment can be given, or no further object
 abbrev pub is_at_clock_end : State → Request → Bool
-is_at_clock_end s (Read object offset len at) = false
-is_at_clock_end s (GetAttr object at) = false
-is_at_clock_end s (Create attribute) = (s.clock == last_number) || (s.next == last_number)
+is_at_clock_end s (Query question) = false
+is_at_clock_end s (Update (Create attribute)) = (s.clock == last_number) || (s.next == last_number)
 is_at_clock_end s _ = s.clock == last_number
 
 -- whether a refusal applies to a request

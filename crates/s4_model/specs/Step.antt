@@ -6,7 +6,10 @@ use Rattle.s4_types.specs.declared.changes.Change.{Change}
 use Rattle.s4_types.specs.declared.changes.Change.TheVariants as change
 use Rattle.s4_types.specs.declared.requests.Role.{Role}
 use Rattle.s4_types.specs.declared.requests.Request.{Request}
-use Rattle.s4_types.specs.declared.requests.Request.TheVariants.{Create, Delete, Read, Write, Append, Truncate, GetAttr, SetAttr, SetWindow, Flush, FlushO}
+use Rattle.s4_types.specs.declared.requests.Request.TheVariants.{Update, Query, Control}
+use Rattle.s4_types.specs.declared.requests.Question.TheVariants.{Read, GetAttr}
+use Rattle.s4_types.specs.declared.requests.ObjectRequest.TheVariants.{Create, Delete, Write, Append, Truncate, SetAttr}
+use Rattle.s4_types.specs.declared.requests.AdminRequest.TheVariants.{SetWindow, Flush, FlushO}
 use Rattle.s4_types.specs.declared.replies.Reply.{Reply}
 use Rattle.s4_types.specs.declared.replies.Reply.TheVariants.{Refused, Changed, Created, Data, Attr}
 use Rattle.s4_types.specs.declared.refusals.Refusal.{Refusal}
@@ -20,22 +23,20 @@ use Rattle.s4_model.specs.Refusals.{first_refusal, present, asked, size_of}
 -- The change that a request asks for. A Create makes the next object, an Append is a write at the present
 -- size, and reads change nothing.
 abbrev pub change_of : State → Request → Option Change
-change_of s (Create attribute) = Some (change.Create s.next attribute)
-change_of s (Delete object) = Some (change.Delete object)
-change_of s (Write object offset bytes) = Some (change.Write object offset bytes)
-change_of s (Append object bytes) = Some (change.Write object (size_of (present s object)) bytes)
-change_of s (Truncate object size) = Some (change.Truncate object size)
-change_of s (SetAttr object attribute) = Some (change.SetAttr object attribute)
-change_of s (SetWindow window) = Some (change.SetWindow window)
-change_of s (Flush first last) = Some (change.Flush first last)
-change_of s (FlushO object first last) = Some (change.FlushO object first last)
-change_of s (Read object offset len at) = None
-change_of s (GetAttr object at) = None
+change_of s (Update (Create attribute)) = Some (change.Create s.next attribute)
+change_of s (Update (Delete object)) = Some (change.Delete object)
+change_of s (Update (Write object offset bytes)) = Some (change.Write object offset bytes)
+change_of s (Update (Append object bytes)) = Some (change.Write object (size_of (present s object)) bytes)
+change_of s (Update (Truncate object size)) = Some (change.Truncate object size)
+change_of s (Update (SetAttr object attribute)) = Some (change.SetAttr object attribute)
+change_of s (Control (SetWindow window)) = Some (change.SetWindow window)
+change_of s (Control (Flush first last)) = Some (change.Flush first last)
+change_of s (Control (FlushO object first last)) = Some (change.FlushO object first last)
+change_of s (Query question) = None
 
 -- What a request is judged by: a change by the history as it was, a read by one that has seen the moment.
 abbrev pub judged : History → Request → ℕ → State
-judged h (Read object offset len at) now = state_of (grown h (Seen now))
-judged h (GetAttr object at) now = state_of (grown h (Seen now))
+judged h (Query question) now = state_of (grown h (Seen now))
 judged h _ now = state_of h
 
 -- the moment of an accepted change
@@ -69,8 +70,8 @@ attributes_of (Live content attribute created changed) = Some (Attr (length cont
 
 -- the reply to an accepted read, by the state that has seen the moment
 abbrev pub reply_to_read : State → Request → Option Reply
-reply_to_read s (Read object offset len at) = data_of (version_of s object (asked s at)) offset len
-reply_to_read s (GetAttr object at) = attributes_of (version_of s object (asked s at))
+reply_to_read s (Query (Read object offset len at)) = data_of (version_of s object (asked s at)) offset len
+reply_to_read s (Query (GetAttr object at)) = attributes_of (version_of s object (asked s at))
 reply_to_read s _ = None
 
 -- where lack of memory may be answered in place of what applies first
@@ -79,7 +80,7 @@ MayWantMemory None request = Unit {0}
 MayWantMemory (Some NoObject) request = Unit {0}
 MayWantMemory (Some TooManySpans) request = Unit {0}
 MayWantMemory (Some ClockEnd) request = Unit {0}
-MayWantMemory (Some TooLarge) (Append object bytes) = Unit {0}
+MayWantMemory (Some TooLarge) (Update (Append object bytes)) = Unit {0}
 MayWantMemory (Some _) request = ⊥
 
 -- what may be answered where no other refusal applies

@@ -93,21 +93,16 @@ impl PlainDrive {
         ensures { Responds self.old role request now result self.new }
     {
         match request {
-            Request::Read {
-                object,
-                offset,
-                length,
-                at,
-            } => {
+            Request::Query(question) => {
                 self.observe(now);
-                answer::reply_of(self.answer_read(object, offset, length, at))
+                answer::reply_of(self.answer(question))
             }
-            Request::GetAttr { object, at } => {
-                self.observe(now);
-                answer::reply_of(self.answer_get_attr(object, at))
+            Request::Update(update) => {
+                let judged = self.judge_update(update);
+                self.settle(judged, now)
             }
-            change => {
-                let judged = self.judge(role, change);
+            Request::Control(control) => {
+                let judged = self.judge_control(role, control);
                 self.settle(judged, now)
             }
         }

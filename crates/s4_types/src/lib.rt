@@ -24,6 +24,6 @@ pub use moments::{Moment, ObjectId};
 pub use pointers::Ptr;
 pub use refusals::{Cause, Refusal};
 pub use replies::Reply;
-pub use requests::{Request, Role};
+pub use requests::{AdminRequest, ObjectRequest, Question, Request, Role};
 pub use spans::Span;
 pub use versions::Version;

@@ -13,6 +13,34 @@ pub enum Role {
 /// What a session asks of the drive. Sizes, offsets and lengths are in bytes.
 #[derive(Drop, PartialEq, Eq)]
 pub enum Request {
+    /// Looks at an object, and changes nothing.
+    Query(Question),
+    /// Makes a version of an object.
+    Update(ObjectRequest),
+    /// Sets the window or hides moments: for administrators alone.
+    Control(AdminRequest),
+}
+
+/// A look at an object.
+#[derive(Clone, Copy, PartialEq, Eq)]
+pub enum Question {
+    /// At most `length` bytes from `offset` on, at a moment or, without one, at the present clock.
+    Read {
+        object: ObjectId,
+        offset: u64,
+        length: u32,
+        at: Option<Moment>,
+    },
+    /// Size, moments and attribute, at a moment or, without one, at the present clock.
+    GetAttr {
+        object: ObjectId,
+        at: Option<Moment>,
+    },
+}
+
+/// A change of one object.
+#[derive(Drop, PartialEq, Eq)]
+pub enum ObjectRequest {
     /// Makes the next object, empty, with this attribute.
     Create {
         attribute: Bytes,
@@ -20,13 +48,6 @@ pub enum Request {
     /// Makes the object absent from now on.
     Delete {
         object: ObjectId,
-    },
-    /// At most `length` bytes from `offset` on, at a moment or, without one, at the present clock.
-    Read {
-        object: ObjectId,
-        offset: u64,
-        length: u32,
-        at: Option<Moment>,
     },
     /// Places bytes at `offset`, with zeros between the old end and the offset.
     Write {
@@ -44,16 +65,16 @@ pub enum Request {
         object: ObjectId,
         size: u64,
     },
-    /// Size, moments and attribute, at a moment or, without one, at the present clock.
-    GetAttr {
-        object: ObjectId,
-        at: Option<Moment>,
-    },
     /// Replaces the attribute.
     SetAttr {
         object: ObjectId,
         attribute: Bytes,
     },
+}
+
+/// A change of how far back moments can be read, and of which.
+#[derive(Clone, Copy, PartialEq, Eq)]
+pub enum AdminRequest {
     /// Sets how many moments back from the clock are kept.
     SetWindow {
         window: u64,

@@ -14,6 +14,7 @@ use Rattle.s4_types.specs.declared.versions.Version.TheVariants.{Absent, Live}
 use Rattle.s4_types.specs.declared.requests.Role.{Role}
 use Rattle.s4_types.specs.declared.requests.Request.{Request}
 use Rattle.s4_types.specs.declared.requests.Request.TheVariants as request
+use Rattle.s4_types.specs.declared.requests.Question.TheVariants as question
 use Rattle.s4_types.specs.declared.replies.Reply.{Reply}
 use Rattle.s4_model.specs.State.{State, state_of, grown, took, seen}
 use Rattle.s4_model.specs.Step.{Step, Refuses, Serves, Alters, Reads, judged, change_of, reply_at, data_of, attributes_of, reply_to_read, accepted_record}
@@ -79,17 +80,10 @@ attributes_accept_nothing Absent = refl
 attributes_accept_nothing (Live content attribute created changed) = refl
 
 pub reads_accept_nothing : (s : State) (r : Request) → accepts (reply_to_read s r) ≡ false
-reads_accept_nothing s (request.Read o offset len at) = data_accepts_nothing _ offset len
-reads_accept_nothing s (request.GetAttr o at) = attributes_accept_nothing _
-reads_accept_nothing s (request.Create attribute) = refl
-reads_accept_nothing s (request.Delete o) = refl
-reads_accept_nothing s (request.Write o offset bytes) = refl
-reads_accept_nothing s (request.Append o bytes) = refl
-reads_accept_nothing s (request.Truncate o size) = refl
-reads_accept_nothing s (request.SetAttr o attribute) = refl
-reads_accept_nothing s (request.SetWindow window) = refl
-reads_accept_nothing s (request.Flush first last) = refl
-reads_accept_nothing s (request.FlushO o first last) = refl
+reads_accept_nothing s (request.Query (question.Read o offset len at)) = data_accepts_nothing _ offset len
+reads_accept_nothing s (request.Query (question.GetAttr o at)) = attributes_accept_nothing _
+reads_accept_nothing s (request.Update update) = refl
+reads_accept_nothing s (request.Control control) = refl
 
 -- ---- one step, and all of them
 

@@ -6,7 +6,8 @@ use Rattle.atomic_table.specs.Seated.{TableId}
 use Rattle.s4_types.specs.History.{Base, History, accepted}
 use Rattle.s4_types.specs.declared.requests.Role.{Role}
 use Rattle.s4_types.specs.declared.requests.Request.{Request}
-use Rattle.s4_types.specs.declared.requests.Request.TheVariants.{Read}
+use Rattle.s4_types.specs.declared.requests.Request.TheVariants.{Query}
+use Rattle.s4_types.specs.declared.requests.Question.TheVariants.{Read}
 use Rattle.s4_types.specs.declared.replies.Reply.{Reply}
 use Rattle.s4_types.specs.declared.replies.Reply.TheVariants.{Data, Refused}
 use Rattle.s4_types.specs.declared.refusals.Refusal.{Refusal}
@@ -64,23 +65,23 @@ abbrev pub IsRefused : Reply → Type 0
 IsRefused (Refused refusal) = Unit {0}
 IsRefused _ = ⊥
 
-free_wants : (first : Option Refusal) → first ≡ None → (o off len : ℕ) (at : Option ℕ) → MayWantMemory first (Read o off len at)
-free_wants first free o off len at = subst (λ (r : Option Refusal). MayWantMemory r (Read o off len at)) (sym free) tt
+free_wants : (first : Option Refusal) → first ≡ None → (o off len : ℕ) (at : Option ℕ) → MayWantMemory first (Query (Read o off len at))
+free_wants first free o off len at = subst (λ (r : Option Refusal). MayWantMemory r (Query (Read o off len at))) (sym free) tt
 
 -- a read that is answered may be refused for lack of memory in place of that
-unfetched : (h after : History) (role : Role) (o off len now : ℕ) (at : Option ℕ) (bytes : List ℕ) → Step h role (Read o off len at) now (Data bytes) after → Step h role (Read o off len at) now (Refused NoMemory) after
+unfetched : (h after : History) (role : Role) (o off len now : ℕ) (at : Option ℕ) (bytes : List ℕ) → Step h role (Query (Read o off len at)) now (Data bytes) after → Step h role (Query (Read o off len at)) now (Refused NoMemory) after
 unfetched h after role o off len now at bytes (Refuses refusal is may grows) = absurd (subst IsRefused (sym is) tt)
 unfetched h after role o off len now at bytes (Serves r free (Alters change asked reply is) grows) = absurd (none-some change asked)
 unfetched h after role o off len now at bytes (Serves r free (Reads tells is) grows) =
-    Refuses NoMemory refl (ForMemory refl (free_wants (first_refusal (judged h (Read o off len at) now) role (Read o off len at)) free o off len at)) (grows ∙ ap (grown h) is)
+    Refuses NoMemory refl (ForMemory refl (free_wants (first_refusal (judged h (Query (Read o off len at)) now) role (Query (Read o off len at))) free o off len at)) (grows ∙ ap (grown h) is)
 
 -- and no check refuses it then
-fetch_free : (h after : History) (role : Role) (o off len now : ℕ) (at : Option ℕ) (bytes : List ℕ) → Step h role (Read o off len at) now (Data bytes) after → first_refusal (judged h (Read o off len at) now) role (Read o off len at) ≡ None
+fetch_free : (h after : History) (role : Role) (o off len now : ℕ) (at : Option ℕ) (bytes : List ℕ) → Step h role (Query (Read o off len at)) now (Data bytes) after → first_refusal (judged h (Query (Read o off len at)) now) role (Query (Read o off len at)) ≡ None
 fetch_free h after role o off len now at bytes (Refuses refusal is may grows) = absurd (subst IsRefused (sym is) tt)
 fetch_free h after role o off len now at bytes (Serves r free accepts grows) = free
 
 -- so of a session that shares its drive
-pub shared_unfetched : (base : Base) (old new : SessionFields) (o off len now : ℕ) (at : Option ℕ) (bytes : List ℕ) → SharedStep base old (Read o off len at) now (Data bytes) new → SharedStep base old (Read o off len at) now (Refused NoMemory) new
+pub shared_unfetched : (base : Base) (old new : SessionFields) (o off len now : ℕ) (at : Option ℕ) (bytes : List ℕ) → SharedStep base old (Query (Read o off len at)) now (Data bytes) new → SharedStep base old (Query (Read o off len at)) now (Refused NoMemory) new
 shared_unfetched base old new o off len now at bytes s = record {
   before = s.before;
   after = s.after;
@@ -97,11 +98,11 @@ shared_unfetched base old new o off len now at bytes s = record {
 
 -- a plan that was fetched, or couldn't be
 pub shared_fetched : (base : Base) (old new : SessionFields) (o off len now : ℕ) (at : Option ℕ) (planned : Result PlanFields Refusal) (reply : Reply)
-    → SharedStep base old (Read o off len at) now (reply_planned planned) new → IsFetched planned reply → SharedStep base old (Read o off len at) now reply new
-shared_fetched base old new o off len now at (Ok plan) reply s (inl is) = subst (λ (r : Reply). SharedStep base old (Read o off len at) now r new) (sym is) s
+    → SharedStep base old (Query (Read o off len at)) now (reply_planned planned) new → IsFetched planned reply → SharedStep base old (Query (Read o off len at)) now reply new
+shared_fetched base old new o off len now at (Ok plan) reply s (inl is) = subst (λ (r : Reply). SharedStep base old (Query (Read o off len at)) now r new) (sym is) s
 shared_fetched base old new o off len now at (Ok plan) reply s (inr is) =
-    subst (λ (r : Reply). SharedStep base old (Read o off len at) now r new) (sym is) (shared_unfetched base old new o off len now at (bytes_planned plan) s)
-shared_fetched base old new o off len now at (Err refusal) reply s is = subst (λ (r : Reply). SharedStep base old (Read o off len at) now r new) (sym is) s
+    subst (λ (r : Reply). SharedStep base old (Query (Read o off len at)) now r new) (sym is) (shared_unfetched base old new o off len now at (bytes_planned plan) s)
+shared_fetched base old new o off len now at (Err refusal) reply s is = subst (λ (r : Reply). SharedStep base old (Query (Read o off len at)) now r new) (sym is) s
 
 -- a session that was just had of a drive with this base
 pub shared_fresh : (base : Base) (role : Role) (d : DriveFields) (had : Result SessionFields Refusal) → (history_of d).base ≡ base → IfOk had (λ s. s.told.seen ≡ accepted d.ledger.history) → IfOk had (λ s. s.told.mine ≡ [])
@@ -111,7 +112,7 @@ shared_fresh base role d (Err refusal) begins seen mine role_is = tt
 
 -- the same of a session that draws its moment with the drive's lock
 pub answer_fetched : (base : Base) (clock : ClockFields) (own : ℕ) (old new : SessionFields) (o off len : ℕ) (at : Option ℕ) (planned : Result PlanFields Refusal) (reply : Reply)
-    → SharedAnswer base clock own old (Read o off len at) (reply_planned planned) new → IsFetched planned reply → SharedAnswer base clock own old (Read o off len at) reply new
+    → SharedAnswer base clock own old (Query (Read o off len at)) (reply_planned planned) new → IsFetched planned reply → SharedAnswer base clock own old (Query (Read o off len at)) reply new
 answer_fetched base clock own old new o off len at planned reply a is = record {
   count = a.count;
   late = a.late;

@@ -2,7 +2,8 @@
 use Rattle.std.proofs.Common.{◌≡◌, ◌⊎◌, ◌==◌, ℕ, Bool, true, false, if◌then◌else◌, Option, None, Some, inl, inr, refl, sym}
 use Rattle.std.proofs.lemmas.Option.{none-some, same_Some}
 use Rattle.s4_types.specs.History.{Base}
-use Rattle.s4_types.specs.declared.requests.Request.TheVariants.{SetWindow}
+use Rattle.s4_types.specs.declared.requests.Request.TheVariants.{Control}
+use Rattle.s4_types.specs.declared.requests.AdminRequest.TheVariants.{SetWindow}
 use Rattle.s4_types.specs.declared.requests.Role.{Role}
 use Rattle.s4_types.specs.declared.requests.Role.TheVariants.{Client, Admin}
 use Rattle.s4_types.specs.declared.replies.Reply.TheVariants.{Refused}
@@ -23,16 +24,16 @@ by_clock : (b : Bool) (refusal : Refusal) → or_then (if b then Some ClockEnd e
 by_clock true refusal is = sym (same_Some ClockEnd refusal is)
 by_clock false refusal is = absurd (none-some refusal is)
 
-first_of_window : (store : StoreFields) (s : State) (role : Role) (window now : ℕ) (refusal : Refusal) → refusal_of store s role (SetWindow window) now ≡ Some refusal → IsByRoleOrClock role refusal
+first_of_window : (store : StoreFields) (s : State) (role : Role) (window now : ℕ) (refusal : Refusal) → refusal_of store s role (Control (SetWindow window)) now ≡ Some refusal → IsByRoleOrClock role refusal
 first_of_window store s Client window now refusal is = inl (refl, sym (same_Some NotAdmin refusal is))
 first_of_window store s Admin window now refusal is = inr (by_clock (s.clock == last_number) refusal is)
 
 -- neither memory nor a pin is wanted for a window
-of_window : (why : Option Refusal) (later : DriveFields) (window : ℕ) (refusal : Refusal) → RefusesBy why later (SetWindow window) (Refused refusal) → why ≡ Some refusal
+of_window : (why : Option Refusal) (later : DriveFields) (window : ℕ) (refusal : Refusal) → RefusesBy why later (Control (SetWindow window)) (Refused refusal) → why ≡ Some refusal
 of_window why later window refusal (inl memory) = absurd memory.1
 of_window why later window refusal (inr (inl is)) = is
 of_window why later window refusal (inr (inr pin)) = absurd pin.2
 
-pub window_refused : (base : Base) (old new : SessionFields) (window now : ℕ) (refusal : Refusal) → SharedStep base old (SetWindow window) now (Refused refusal) new
+pub window_refused : (base : Base) (old new : SessionFields) (window now : ℕ) (refusal : Refusal) → SharedStep base old (Control (SetWindow window)) now (Refused refusal) new
     → ((old.role ≡ Client) × (refusal ≡ NotAdmin)) ⊎ (refusal ≡ ClockEnd)
 window_refused base old new window now refusal s = first_of_window (store_of s.before) (state_in s.before) old.role window now refusal (of_window _ s.after window refusal s.refused)

@@ -1,7 +1,8 @@
 -- What follows of a session that shares its drive.
 use Rattle.std.specs.Prelude.{◌≡◌, ◌⊎◌, ◌≤◌, ◌+◌, ◌*◌, ℕ, List, length, count_by}
 use Rattle.s4_types.specs.History.{Base, accepted}
-use Rattle.s4_types.specs.declared.requests.Request.TheVariants.{SetWindow}
+use Rattle.s4_types.specs.declared.requests.Request.TheVariants.{Control}
+use Rattle.s4_types.specs.declared.requests.AdminRequest.TheVariants.{SetWindow}
 use Rattle.s4_types.specs.declared.requests.Role.TheVariants.{Client}
 use Rattle.s4_types.specs.declared.replies.Reply.TheVariants.{Refused}
 use Rattle.s4_types.specs.declared.refusals.Refusal.{Refusal}
@@ -13,7 +14,7 @@ use Rattle.server.specs.Sharing.{SharedStep}
 
 -- A window is refused to a client, and else at the clock's end alone.
 abbrev pub AWindowIsRefusedByRoleAndClockAlone : Type 0
-AWindowIsRefusedByRoleAndClockAlone = (base : Base) (old new : SessionFields) (window now : ℕ) (refusal : Refusal) → SharedStep base old (SetWindow window) now (Refused refusal) new
+AWindowIsRefusedByRoleAndClockAlone = (base : Base) (old new : SessionFields) (window now : ℕ) (refusal : Refusal) → SharedStep base old (Control (SetWindow window)) now (Refused refusal) new
     → ((old.role ≡ Client) × (refusal ≡ NotAdmin)) ⊎ (refusal ≡ ClockEnd)
 
 -- The last drive that events make of a first one has the accepted changes of that, as many more as were accepted in the events, and no

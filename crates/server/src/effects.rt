@@ -1,7 +1,7 @@
 //! What requests do to what the cleaner can free.
 use drive::Drive;
 use s4_types::limits::CHAIN_ENTRY_BYTES;
-use s4_types::{Moment, ObjectId, Request};
+use s4_types::{AdminRequest, Moment, ObjectId, ObjectRequest, Request};
 use segment_word::Naming;
 
 /// Bytes of a chain past which it is nearly full: the largest change still fits twice.
@@ -21,19 +21,32 @@ pub(crate) enum Effect {
     Hides(ObjectId, Moment),
 }
 
+/// What a change of an object does to what can be freed.
+fn effect_of_update(update: &ObjectRequest) -> Effect {
+    match update {
+        ObjectRequest::Create { .. } => Effect::Changes(ObjectId::new(0)),
+        ObjectRequest::Delete { object } => Effect::Deletes(*object),
+        ObjectRequest::Write { object, .. }
+        | ObjectRequest::Append { object, .. }
+        | ObjectRequest::Truncate { object, .. }
+        | ObjectRequest::SetAttr { object, .. } => Effect::Changes(*object),
+    }
+}
+
 /// What a request does to what can be freed.
 pub(crate) fn effect_of(request: &Request) -> Effect {
     match request {
-        Request::Create { .. } => Effect::Changes(ObjectId::new(0)),
-        Request::Delete { object } => Effect::Deletes(*object),
-        Request::Write { object, .. }
-        | Request::Append { object, .. }
-        | Request::Truncate { object, .. }
-        | Request::SetAttr { object, .. } => Effect::Changes(*object),
-        Request::SetWindow { .. } => Effect::Hides(ObjectId::new(0), Moment::new(u64::MAX)),
-        Request::Flush { last, .. } => Effect::Hides(ObjectId::new(0), *last),
-        Request::FlushO { object, last, .. } => Effect::Hides(*object, *last),
-        Request::Read { .. } | Request::GetAttr { .. } => Effect::Reads,
+        Request::Query(_) => Effect::Reads,
+        Request::Update(update) => effect_of_update(update),
+        Request::Control(AdminRequest::SetWindow { .. }) => {
+            Effect::Hides(ObjectId::new(0), Moment::new(u64::MAX))
+        }
+        Request::Control(AdminRequest::Flush { last, .. }) => {
+            Effect::Hides(ObjectId::new(0), *last)
+        }
+        Request::Control(AdminRequest::FlushO { object, last, .. }) => {
+            Effect::Hides(*object, *last)
+        }
     }
 }
 

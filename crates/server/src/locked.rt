@@ -2,7 +2,8 @@
 ghost use Rattle.std.specs.Prelude.{◌≡◌, ◌<◌, [], false, true, IfOk, IfErr, length};
 ghost use Rattle.s4_types.specs.declared.refusals.Refusal.TheVariants.{Busy};
 ghost use Rattle.s4_types.specs.Sizes.{ReplyFits};
-ghost use Rattle.s4_types.specs.declared.requests.Request.TheVariants.{Read};
+ghost use Rattle.s4_types.specs.declared.requests.Request.TheVariants.{Query};
+ghost use Rattle.s4_types.specs.declared.requests.Question.TheVariants.{Read};
 ghost use Rattle.drive.specs.Answering.{is_acceptance, reply_planned};
 ghost use Rattle.server.specs.Accounts.{counted, one_part};
 ghost use Rattle.server.specs.Sharing.{SharedAnswer, HasMet, IsFresh, IsFetched};
@@ -19,7 +20,7 @@ use crate::pace::Pace;
 use crate::shared::SharedDrive;
 use drive::{Drive, Session};
 use history_cleaner::{Rounds, Turn};
-use s4_types::{Bytes, Moment, ObjectId, Refusal, Reply, Request, Role};
+use s4_types::{Bytes, Moment, ObjectId, Question, Refusal, Reply, Request, Role};
 use segment_copier::{Candidate, MovePlan, Moved};
 use serving::Backend;
 use std::alloc::Global;
@@ -54,7 +55,7 @@ fn resolve<J: Running>(
 ) -> Result<ReadPlan, Refusal>
     requires { 0 < part.old.parts }
     ensures step { SharedAnswer J.base J.clock part.old.requests session.old
-        (Read object offset length at) (reply_planned result) session.new }
+        (Query (Read object offset length at)) (reply_planned result) session.new }
     ensures part { part.new ≡ counted part.old false }
     ensures fits { ReplyFits (reply_planned result) }
 {
@@ -359,7 +360,7 @@ impl<'a, J: Running, R: Wait, G: Gate> Locked<'a, J, R, G> {
 
     /// The reply to a Read. The lock isn't held while its bytes are fetched.
     fn read(&mut self, object: ObjectId, offset: u64, length: u32, at: Option<Moment>) -> Reply
-        ensures step { SeatAnswer J.base J.clock self.old (Read object offset length at) result
+        ensures step { SeatAnswer J.base J.clock self.old (Query (Read object offset length at)) result
             self.new }
         ensures fits { ReplyFits result }
     {
@@ -376,6 +377,33 @@ impl<'a, J: Running, R: Wait, G: Gate> Locked<'a, J, R, G> {
         );
         self.gate.between(self.number, self.calls);
         fetched(self.alloc, planned)
+    }
+
+    /// The reply to a question: a Read's bytes are fetched without the lock.
+    fn answer(&mut self, question: Question) -> Reply
+        ensures step { SeatAnswer J.base J.clock self.old (Query question) result self.new }
+        ensures fits { ReplyFits result }
+    {
+        match &question {
+            Question::Read {
+                object,
+                offset,
+                length,
+                at,
+            } => self.read(*object, *offset, *length, *at),
+            Question::GetAttr { .. } => self.change(Request::Query(question)),
+        }
+    }
+
+    /// The reply to a request.
+    fn reply(&mut self, request: Request) -> Reply
+        ensures step { SeatAnswer J.base J.clock self.old request result self.new }
+        ensures fits { ReplyFits result }
+    {
+        match request {
+            Request::Query(question) => self.answer(question),
+            other => self.change(other),
+        }
     }
 
     /// The reply to another request, all of it under the lock.
@@ -401,15 +429,7 @@ impl<J: Running, R: Wait, G: Gate> Backend for Locked<'_, J, R, G> {
 
     fn request(&mut self, request: Request, _drawn: Moment) -> Reply {
         self.calls = self.calls.saturating_add(1);
-        let reply = match request {
-            Request::Read {
-                object,
-                offset,
-                length,
-                at,
-            } => self.read(object, offset, length, at),
-            other => self.change(other),
-        };
+        let reply = self.reply(request);
         self.gate.answered(self.number, self.calls);
         reply
     }

@@ -2,7 +2,8 @@
 ghost use Rattle.std.specs.Prelude.{◌≡◌, ◌<◌, IfOk, IfErr, false};
 ghost use Rattle.s4_types.specs.Sizes.{ReplyFits};
 ghost use Rattle.s4_types.specs.declared.refusals.Refusal.TheVariants.{Busy};
-ghost use Rattle.s4_types.specs.declared.requests.Request.TheVariants.{Read};
+ghost use Rattle.s4_types.specs.declared.requests.Request.TheVariants.{Query};
+ghost use Rattle.s4_types.specs.declared.requests.Question.TheVariants.{Read};
 ghost use Rattle.serving.specs.Drawing.{moment_of_tick};
 ghost use Rattle.drive.specs.Answering.{is_acceptance, reply_planned};
 ghost use Rattle.server.specs.Accounts.{counted};
@@ -149,7 +150,7 @@ impl<J: Running> SharedDrive<J> {
     ) -> Result<ReadPlan, Refusal>
         requires { 0 < part.old.parts }
         ensures step { SharedAnswer J.base J.clock part.old.requests session.old
-            (Read object offset length at) (reply_planned result) session.new }
+            (Query (Read object offset length at)) (reply_planned result) session.new }
         ensures part { part.new ≡ counted part.old false }
         ensures fits { ReplyFits (reply_planned result) }
     {

@@ -5,7 +5,8 @@ ghost use Rattle.std.specs.List.{AllByRecursion};
 ghost use Rattle.s4_types.specs.declared.limits.TheConstants.{RUNS_IN_ALL};
 ghost use Rattle.s4_types.specs.declared.changes.Accepted.{Accepted};
 ghost use Rattle.s4_types.specs.declared.changes.Change.TheVariants.{SetWindow};
-ghost use Rattle.s4_types.specs.declared.requests.Request.TheVariants.{Flush, FlushO};
+ghost use Rattle.s4_types.specs.declared.requests.Request.TheVariants.{Control};
+ghost use Rattle.s4_types.specs.declared.requests.AdminRequest.TheVariants.{Flush, FlushO};
 ghost use Rattle.s4_types.specs.declared.refusals.Refusal.TheVariants.{NoMemory, BadSpan};
 ghost use Rattle.s4_types.specs.declared.refusals.Refusal.TheVariants.{TooManySpans};
 ghost use Rattle.s4_model.specs.State.{State, state_of, new_history, seen, took};
@@ -213,10 +214,11 @@ impl Window {
     /// clock.
     pub fn check_span(&self, first: Moment, last: Moment) -> Result<(), Refusal>
         ensures ok { IfOk result (λ _. (first ≤ last) × (last ≤ self.now.clock)) }
-        ensures of_all { (s : State) → StandsFor self.now s → MatchResult result (λ _. is_bad_span s (Flush first last) ≡ false)
-            (λ refusal. (refusal ≡ BadSpan) × (is_bad_span s (Flush first last) ≡ true)) }
+        ensures of_all { (s : State) → StandsFor self.now s → MatchResult result (λ _. is_bad_span s (Control (Flush first last)) ≡ false)
+            (λ refusal. (refusal ≡ BadSpan) × (is_bad_span s (Control (Flush first last)) ≡ true)) }
         ensures of_one { (s : State) (object : ℕ) → StandsFor self.now s
-            → is_bad_span s (FlushO object first last) ≡ is_bad_span s (Flush first last) }
+            → is_bad_span s (Control (FlushO object first last))
+            ≡ is_bad_span s (Control (Flush first last)) }
     {
         if first <= last && last <= self.clock {
             Ok(())

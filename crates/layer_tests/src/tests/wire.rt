@@ -1,7 +1,7 @@
 //! Frames by the calls that no program here makes. What they give is proved, and here they give
 //! something.
 use rpc::{Item, decode_reply, encode_reply, encode_request, read_all};
-use s4_types::{Moment, Refusal, Reply, Request};
+use s4_types::{AdminRequest, Moment, Refusal, Reply, Request};
 use std::alloc::Global;
 use std::slice;
 
@@ -24,14 +24,17 @@ fn is_frame(frame: Result<Vec<u8>, Refusal>, bytes: &[u8]) -> bool {
 fn is_flush_read(alloc: Global) -> Result<bool, Refusal> {
     let stream = Vec::from_slice(alloc, &FLUSH)?;
     let (items, _) = read_all::<Request>(alloc, slice::from_ref(&stream))?;
-    Ok(matches!(items.as_slice(), [Item::Whole(Request::Flush { .. })]))
+    Ok(matches!(
+        items.as_slice(),
+        [Item::Whole(Request::Control(AdminRequest::Flush { .. }))]
+    ))
 }
 
 #[test]
 fn frames_are_written_and_read(rt: HostRuntime) {
     let first = Moment::new(1);
     let last = Moment::new(2);
-    let flush = Request::Flush { first, last };
+    let flush = Request::Control(AdminRequest::Flush { first, last });
     assert!(rt; is_frame(encode_request(rt.alloc(), &flush), &FLUSH));
     let changed = Reply::Changed(last);
     assert!(rt; is_frame(encode_reply(rt.alloc(), &changed), &CHANGED));

@@ -6,7 +6,10 @@ use Rattle.s4_types.specs.declared.limits.TheConstants.{FRAME_BODY_BYTES, READ_B
 use Rattle.s4_types.specs.declared.refusals.Refusal.{Refusal}
 use Rattle.s4_types.specs.declared.refusals.Refusal.TheVariants.{NoObject, NotAdmin, Expired, Future, Flushed, TooLarge, BadSpan, TooManySpans, NoSpace, NoMemory, ClockEnd, ChainFull, BadAttr, Busy, BadFrame, Stale, NoRoom, InUse}
 use Rattle.s4_types.specs.declared.requests.Request.{Request}
-use Rattle.s4_types.specs.declared.requests.Request.TheVariants.{Create, Delete, Read, Write, Append, Truncate, GetAttr, SetAttr, SetWindow, Flush, FlushO}
+use Rattle.s4_types.specs.declared.requests.Request.TheVariants.{Update, Query, Control}
+use Rattle.s4_types.specs.declared.requests.Question.TheVariants.{Read, GetAttr}
+use Rattle.s4_types.specs.declared.requests.ObjectRequest.TheVariants.{Create, Delete, Write, Append, Truncate, SetAttr}
+use Rattle.s4_types.specs.declared.requests.AdminRequest.TheVariants.{SetWindow, Flush, FlushO}
 use Rattle.s4_types.specs.declared.replies.Reply.{Reply}
 use Rattle.s4_types.specs.declared.replies.Reply.TheVariants.{Refused, Changed, Created, Data, Attr}
 use Rattle.rpc.specs.declared.unread.Unread.{Unread}
@@ -58,13 +61,13 @@ unfoldable pub create_at : List ℕ → Option Request
 create_at bytes = do
   attribute ← wire_text_at 255 bytes
   end ← ended_at attribute.1
-  Some (Create attribute.0)
+  Some (Update (Create attribute.0))
 
 unfoldable pub delete_at : List ℕ → Option Request
 delete_at bytes = do
   object ← wire_number_at w64 bytes
   end ← ended_at object.1
-  Some (Delete object.0)
+  Some (Update (Delete object.0))
 
 -- what comes after the offset of a read
 abbrev pub behind_offset : ℕ → ℕ → List ℕ → Option Request
@@ -72,7 +75,7 @@ behind_offset object offset bytes = do
   len ← wire_number_at w32 bytes
   moment ← wire_moment_at len.1
   end ← ended_at moment.1
-  Some (Read object offset len.0 moment.0)
+  Some (Query (Read object offset len.0 moment.0))
 
 unfoldable pub read_at : List ℕ → Option Request
 read_at bytes = do
@@ -85,47 +88,47 @@ write_at bytes = do
   object ← wire_number_at w64 bytes
   offset ← wire_number_at w64 object.1
   written ← tail_at (FRAME_BODY_BYTES - 17) offset.1
-  Some (Write object.0 offset.0 written)
+  Some (Update (Write object.0 offset.0 written))
 
 unfoldable pub append_at : List ℕ → Option Request
 append_at bytes = do
   object ← wire_number_at w64 bytes
   written ← tail_at (FRAME_BODY_BYTES - 9) object.1
-  Some (Append object.0 written)
+  Some (Update (Append object.0 written))
 
 unfoldable pub truncate_at : List ℕ → Option Request
 truncate_at bytes = do
   object ← wire_number_at w64 bytes
   size ← wire_number_at w64 object.1
   end ← ended_at size.1
-  Some (Truncate object.0 size.0)
+  Some (Update (Truncate object.0 size.0))
 
 unfoldable pub get_attr_at : List ℕ → Option Request
 get_attr_at bytes = do
   object ← wire_number_at w64 bytes
   moment ← wire_moment_at object.1
   end ← ended_at moment.1
-  Some (GetAttr object.0 moment.0)
+  Some (Query (GetAttr object.0 moment.0))
 
 unfoldable pub set_attr_at : List ℕ → Option Request
 set_attr_at bytes = do
   object ← wire_number_at w64 bytes
   attribute ← wire_text_at 255 object.1
   end ← ended_at attribute.1
-  Some (SetAttr object.0 attribute.0)
+  Some (Update (SetAttr object.0 attribute.0))
 
 unfoldable pub set_window_at : List ℕ → Option Request
 set_window_at bytes = do
   window ← wire_number_at w64 bytes
   end ← ended_at window.1
-  Some (SetWindow window.0)
+  Some (Control (SetWindow window.0))
 
 unfoldable pub flush_at : List ℕ → Option Request
 flush_at bytes = do
   first ← wire_number_at w64 bytes
   last ← wire_number_at w64 first.1
   end ← ended_at last.1
-  Some (Flush first.0 last.0)
+  Some (Control (Flush first.0 last.0))
 
 unfoldable pub flush_object_at : List ℕ → Option Request
 flush_object_at bytes = do
@@ -133,7 +136,7 @@ flush_object_at bytes = do
   first ← wire_number_at w64 object.1
   last ← wire_number_at w64 first.1
   end ← ended_at last.1
-  Some (FlushO object.0 first.0 last.0)
+  Some (Control (FlushO object.0 first.0 last.0))
 
 -- a request, by its first byte
 unfoldable pub request_at : List ℕ → Option Request

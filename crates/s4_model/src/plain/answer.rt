@@ -8,7 +8,7 @@ ghost use Rattle.s4_types.specs.declared.refusals.Refusal.TheVariants.{NoMemory}
 
 use crate::plain::PlainDrive;
 use s4_types::limits::READ_BYTES;
-use s4_types::{Bytes, Moment, ObjectId, Refusal, Reply, Request, Version};
+use s4_types::{Bytes, Moment, ObjectId, Question, Refusal, Reply, Request, Version};
 use std::alloc::Global;
 
 /// The bytes from an offset on, at most `length` of them.
@@ -55,7 +55,7 @@ impl PlainDrive {
     }
 
     /// The reply to a Read, by the state that has seen its moment.
-    pub(super) fn answer_read(
+    fn answer_read(
         &self,
         object: ObjectId,
         offset: u64,
@@ -63,7 +63,7 @@ impl PlainDrive {
         at: Option<Moment>,
     ) -> Result<Reply, Refusal>
         ensures answer { (role : TheRole)
-            → Answers self.now role (Request.Read object offset length at) result }
+            → Answers self.now role (Request.Query (Question.Read object offset length at)) result }
         ensures fits { IfOk result IsPlain }
     {
         if u64::from(length) > READ_BYTES || offset > u64::MAX - u64::from(length) {
@@ -80,13 +80,9 @@ impl PlainDrive {
     }
 
     /// The reply to a GetAttr, by the state that has seen its moment.
-    pub(super) fn answer_get_attr(
-        &self,
-        object: ObjectId,
-        at: Option<Moment>,
-    ) -> Result<Reply, Refusal>
+    fn answer_get_attr(&self, object: ObjectId, at: Option<Moment>) -> Result<Reply, Refusal>
         ensures answer { (role : TheRole)
-            → Answers self.now role (Request.GetAttr object at) result }
+            → Answers self.now role (Request.Query (Question.GetAttr object at)) result }
         ensures fits { IfOk result IsPlain }
     {
         let moment = self.check_moment(object, at)?;
@@ -103,6 +99,22 @@ impl PlainDrive {
                 changed,
                 attribute,
             }),
+        }
+    }
+
+    /// The reply to a question, by the state that has seen its moment.
+    pub(super) fn answer(&self, question: Question) -> Result<Reply, Refusal>
+        ensures answer { (role : TheRole) → Answers self.now role (Request.Query question) result }
+        ensures fits { IfOk result IsPlain }
+    {
+        match question {
+            Question::Read {
+                object,
+                offset,
+                length,
+                at,
+            } => self.answer_read(object, offset, length, at),
+            Question::GetAttr { object, at } => self.answer_get_attr(object, at),
         }
     }
 }

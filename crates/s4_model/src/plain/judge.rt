@@ -3,14 +3,17 @@ ghost use Rattle.std.specs.Prelude.{◌≡◌, ◌↔◌, ◌+◌, ◌<◌, ◌�
 ghost use Rattle.std.specs.Prelude.{IsTrue};
 ghost use Rattle.s4_model.specs.Refusals.{present, last_number, live_size_of, is_client};
 ghost use Rattle.s4_model.specs.Refusals.{is_one_span_too_many, is_bad_span};
-ghost use Rattle.s4_model.specs.Plain.{Judges, IsChange, IsRefusedBy, live_refusal};
+ghost use Rattle.s4_model.specs.Plain.{Judges, IsRefusedBy, live_refusal};
 ghost use Rattle.s4_types.specs.declared.limits.TheConstants.{OBJECT_BYTES};
 ghost use Rattle.s4_types.specs.declared.requests.Role.{Role as TheRole};
 ghost use Rattle.s4_types.specs.declared.refusals.Refusal.TheVariants.{NoMemory};
 
 use crate::plain::PlainDrive;
 use s4_types::limits::{ATTRIBUTE_BYTES, OBJECT_BYTES};
-use s4_types::{Bytes, Change, Moment, ObjectId, Refusal, Request, Role, Span, Version};
+use s4_types::{
+    AdminRequest, Bytes, Change, Moment, ObjectId, ObjectRequest, Refusal, Request, Role, Span,
+    Version,
+};
 
 /// Whether a role has a client's rights alone.
 fn is_client(role: Role) -> bool
@@ -66,7 +69,8 @@ impl PlainDrive {
     }
 
     fn judge_create(&self, attribute: Bytes) -> Result<Change, Refusal>
-        ensures { (role : TheRole) → Judges self.now role (Request.Create attribute) result }
+        ensures { (role : TheRole)
+            → Judges self.now role (Request.Update (ObjectRequest.Create attribute)) result }
     {
         if attribute.len() > ATTRIBUTE_BYTES {
             return Err(Refusal::BadAttr);
@@ -81,14 +85,16 @@ impl PlainDrive {
     }
 
     fn judge_delete(&self, object: ObjectId) -> Result<Change, Refusal>
-        ensures { (role : TheRole) → Judges self.now role (Request.Delete object) result }
+        ensures { (role : TheRole)
+            → Judges self.now role (Request.Update (ObjectRequest.Delete object)) result }
     {
         self.judge_live(object, Change::Delete { object })
     }
 
     fn judge_write(&self, object: ObjectId, offset: u64, bytes: Bytes) -> Result<Change, Refusal>
         ensures { (role : TheRole)
-            → Judges self.now role (Request.Write object offset bytes) result }
+            → Judges self.now role (Request.Update (ObjectRequest.Write object offset bytes))
+            result }
     {
         if ends_past_limit(offset, bytes.len()) {
             return Err(Refusal::TooLarge);
@@ -104,7 +110,8 @@ impl PlainDrive {
     }
 
     fn judge_append(&self, object: ObjectId, bytes: Bytes) -> Result<Change, Refusal>
-        ensures { (role : TheRole) → Judges self.now role (Request.Append object bytes) result }
+        ensures { (role : TheRole)
+            → Judges self.now role (Request.Update (ObjectRequest.Append object bytes)) result }
     {
         let size = self.present_size(object)?;
         let offset = size.unwrap_or(0);
@@ -125,7 +132,8 @@ impl PlainDrive {
     }
 
     fn judge_truncate(&self, object: ObjectId, size: u64) -> Result<Change, Refusal>
-        ensures { (role : TheRole) → Judges self.now role (Request.Truncate object size) result }
+        ensures { (role : TheRole)
+            → Judges self.now role (Request.Update (ObjectRequest.Truncate object size)) result }
     {
         if size > OBJECT_BYTES {
             return Err(Refusal::TooLarge);
@@ -135,7 +143,8 @@ impl PlainDrive {
 
     fn judge_set_attr(&self, object: ObjectId, attribute: Bytes) -> Result<Change, Refusal>
         ensures { (role : TheRole)
-            → Judges self.now role (Request.SetAttr object attribute) result }
+            → Judges self.now role (Request.Update (ObjectRequest.SetAttr object attribute))
+            result }
     {
         if attribute.len() > ATTRIBUTE_BYTES {
             return Err(Refusal::BadAttr);
@@ -144,7 +153,7 @@ impl PlainDrive {
     }
 
     fn judge_set_window(&self, role: Role, window: u64) -> Result<Change, Refusal>
-        ensures { Judges self.now role (Request.SetWindow window) result }
+        ensures { Judges self.now role (Request.Control (AdminRequest.SetWindow window)) result }
     {
         if is_client(role) {
             return Err(Refusal::NotAdmin);
@@ -157,13 +166,13 @@ impl PlainDrive {
 
     /// Whether a span doesn't lie in order and at or before the clock.
     fn is_bad_span(&self, first: Moment, last: Moment) -> bool
-        ensures { result ≡ is_bad_span self.now (Request.Flush first last) }
+        ensures { result ≡ is_bad_span self.now (Request.Control (AdminRequest.Flush first last)) }
     {
         !(first <= last && last <= self.clock)
     }
 
     fn judge_flush(&self, role: Role, first: Moment, last: Moment) -> Result<Change, Refusal>
-        ensures { Judges self.now role (Request.Flush first last) result }
+        ensures { Judges self.now role (Request.Control (AdminRequest.Flush first last)) result }
     {
         if is_client(role) {
             return Err(Refusal::NotAdmin);
@@ -192,7 +201,8 @@ impl PlainDrive {
         first: Moment,
         last: Moment,
     ) -> Result<Change, Refusal>
-        ensures { Judges self.now role (Request.FlushO object first last) result }
+        ensures { Judges self.now role (Request.Control (AdminRequest.FlushO object first last))
+            result }
     {
         if is_client(role) {
             return Err(Refusal::NotAdmin);
@@ -221,30 +231,37 @@ impl PlainDrive {
         })
     }
 
-    /// What a request for a change comes to: the change, or the first refusal that applies.
-    pub(super) fn judge(&self, role: Role, request: Request) -> Result<Change, Refusal>
-        requires { IsChange request }
-        ensures { Judges self.now role request result }
+    /// What a request for a change of an object comes to: the change, or the first refusal that
+    /// applies.
+    pub(super) fn judge_update(&self, update: ObjectRequest) -> Result<Change, Refusal>
+        ensures { (role : TheRole) → Judges self.now role (Request.Update update) result }
     {
-        match request {
-            Request::Create { attribute } => self.judge_create(attribute),
-            Request::Delete { object } => self.judge_delete(object),
-            Request::Write {
+        match update {
+            ObjectRequest::Create { attribute } => self.judge_create(attribute),
+            ObjectRequest::Delete { object } => self.judge_delete(object),
+            ObjectRequest::Write {
                 object,
                 offset,
                 bytes,
             } => self.judge_write(object, offset, bytes),
-            Request::Append { object, bytes } => self.judge_append(object, bytes),
-            Request::Truncate { object, size } => self.judge_truncate(object, size),
-            Request::SetAttr { object, attribute } => self.judge_set_attr(object, attribute),
-            Request::SetWindow { window } => self.judge_set_window(role, window),
-            Request::Flush { first, last } => self.judge_flush(role, first, last),
-            Request::FlushO {
+            ObjectRequest::Append { object, bytes } => self.judge_append(object, bytes),
+            ObjectRequest::Truncate { object, size } => self.judge_truncate(object, size),
+            ObjectRequest::SetAttr { object, attribute } => self.judge_set_attr(object, attribute),
+        }
+    }
+
+    /// The same of a request for administrators.
+    pub(super) fn judge_control(&self, role: Role, control: AdminRequest) -> Result<Change, Refusal>
+        ensures { Judges self.now role (Request.Control control) result }
+    {
+        match control {
+            AdminRequest::SetWindow { window } => self.judge_set_window(role, window),
+            AdminRequest::Flush { first, last } => self.judge_flush(role, first, last),
+            AdminRequest::FlushO {
                 object,
                 first,
                 last,
             } => self.judge_flush_object(role, object, first, last),
-            Request::Read { .. } | Request::GetAttr { .. } => unreachable!(),
         }
     }
 }

@@ -2,7 +2,7 @@
 ghost use Rattle.std.specs.Prelude.{◌<◌};
 
 use crate::tests::{Scene, play};
-use s4_types::{Moment, Reply, Request, Role};
+use s4_types::{AdminRequest, Moment, Reply, Request, Role};
 use server::{Locked, Open, Part, Running, SharedDrive};
 use serving::Backend;
 use std::alloc::Global;
@@ -12,7 +12,10 @@ use std::test::Fail;
 
 /// A change of a session that gives the moment at which it was accepted.
 fn moment_of<B: Backend>(session: &mut B) -> Option<Moment> {
-    match session.request(Request::SetWindow { window: 100 }, Moment::new(0)) {
+    match session.request(
+        Request::Control(AdminRequest::SetWindow { window: 100 }),
+        Moment::new(0),
+    ) {
         Reply::Changed(moment) => Some(moment),
         _ => None,
     }

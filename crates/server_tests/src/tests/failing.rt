@@ -2,7 +2,7 @@
 ghost use Rattle.std.specs.Prelude.{◌≡◌, ◌+◌, ◌^◌, ◌<◌, ◌≤◌, None, length};
 
 use crate::tests::{Scene, joined, play};
-use s4_types::{Moment, ObjectId, Reply, Request, Role};
+use s4_types::{Moment, ObjectId, Question, Reply, Request, Role};
 use server::{Gate, Locked, Part, Running, SharedDrive, Undrawn, UpkeepStep};
 use serving::{Backend, MemorySource, ServeEnd, Sink, StreamFailed, WriteSink, serve};
 use std::alloc::Global;
@@ -133,12 +133,12 @@ fn serve_failing<J: Running, R: Abort + Wait, W: Sink>(
         asked.count.load(Ordering::SeqCst) == whole + 1,
         "asked once more"
     );
-    let read = Request::Read {
+    let read = Request::Query(Question::Read {
         object: ObjectId::new(1),
         offset: 0,
         length: 3,
         at: None,
-    };
+    });
     let wanted: &[u8] = if whole == 0 { b"" } else { b"abc" };
     match session.request(read, Moment::new(0)) {
         Reply::Data(bytes) => assert!(rt; bytes.as_slice() == wanted, "the Write stays"),

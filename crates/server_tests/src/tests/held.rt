@@ -3,7 +3,7 @@ ghost use Rattle.std.specs.Prelude.{◌≡◌, ◌+◌, ◌-◌, ◌^◌, ◌<�
 
 use crate::tests::{Scene, TURNS, await_flag, has_written, joined, play};
 use s4_types::Refusal::Busy;
-use s4_types::{Bytes, Moment, ObjectId, Request, Role};
+use s4_types::{Bytes, Moment, ObjectId, ObjectRequest, Request, Role};
 use server::{
     Client, Gate, Locked, Open, Outcome, Part, Running, SharedDrive, UpkeepStep, give_parts,
     run_sessions,
@@ -102,12 +102,15 @@ fn fill<J: Running, R: Wait>(
 {
     let mut writer = Locked::new(rt, alloc, drive, Role::Client, rest.split(), &Open, 1)?;
     let attribute = Bytes::from_slice(alloc, b"")?;
-    writer.request(Request::Create { attribute }, Moment::new(0));
-    let write = Request::Write {
+    writer.request(
+        Request::Update(ObjectRequest::Create { attribute }),
+        Moment::new(0),
+    );
+    let write = Request::Update(ObjectRequest::Write {
         object: ObjectId::new(1),
         offset: 0,
         bytes: Bytes::from_slice(alloc, &SEALED)?,
-    };
+    });
     writer.request(write, Moment::new(0));
     Ok(())
 }

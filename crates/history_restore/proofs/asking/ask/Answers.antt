@@ -1,3 +1,4 @@
+use Rattle.s4_types.specs.declared.requests.Request.TheVariants.{Update}
 use Rattle.drive.specs.Fields.{history_of}
 use Rattle.history_restore.proofs.Stepping.{refused_leaves, granted_leaves, no_read}
 use Rattle.history_restore.proofs.Denying.{is_given}
@@ -9,14 +10,14 @@ returns-in-Refused g c =
     let h = history_of c.args.drive.now in
     let after = history_of c.request.new.self in
     let role = c.args.session.now.role in
-    let leaves = refused_leaves h after role c.args.request c.args.now c.request.result c.in-Refused.refusal
-    c.the_state_goes_on_record_by_record.ensures.by_moments c.rules.ensures.sound c.requires c.in-Refused.is c.request.ensures.step in
+    let leaves = refused_leaves h after role (Update c.args.update) c.args.now c.request.result c.in-Refused.refusal
+    c.the_state_goes_on_record_by_record.ensures.by_moments c.rules.ensures.sound tt c.in-Refused.is c.request.ensures.step in
     record {
       granted = tt;
-      refused = is_given h after role c.args.request c.args.now c.request.result c.in-Refused.refusal c.requires c.in-Refused.is c.request.ensures.step;
+      refused = is_given h after role (Update c.args.update) c.args.now c.request.result c.in-Refused.refusal tt c.in-Refused.is c.request.ensures.step;
       stored = tt;
-      full = full_refused c.args.drive.now c.request.new.self role c.args.request c.args.now c.request.result c.in-Refused.refusal c.requires c.in-Refused.is c.request.ensures.refused;
-      clock = clock_refused h after role c.args.request c.args.now c.request.result c.in-Refused.refusal c.the_state_goes_on_record_by_record.ensures.by_moments (no_read c.args.request c.requires) c.in-Refused.is c.request.ensures.step;
+      full = full_refused c.args.drive.now c.request.new.self role (Update c.args.update) c.args.now c.request.result c.in-Refused.refusal tt c.in-Refused.is c.request.ensures.refused;
+      clock = clock_refused h after role (Update c.args.update) c.args.now c.request.result c.in-Refused.refusal c.the_state_goes_on_record_by_record.ensures.by_moments (no_read (Update c.args.update) tt) c.in-Refused.is c.request.ensures.step;
       others = leaves.others;
       past = leaves.past;
     }
@@ -26,14 +27,14 @@ returns g c =
     let h = history_of c.args.drive.now in
     let after = history_of c.request.new.self in
     let role = c.args.session.now.role in
-    let leaves = granted_leaves h after role c.args.request c.args.now c.request.result
-    c.the_state_goes_on_record_by_record.ensures.by_changes c.a_change_acts_at_its_moment.ensures.acts c.rules.ensures.sound c.requires c.in_default.not-Refused c.request.ensures.step in
+    let leaves = granted_leaves h after role (Update c.args.update) c.args.now c.request.result
+    c.the_state_goes_on_record_by_record.ensures.by_changes c.a_change_acts_at_its_moment.ensures.acts c.rules.ensures.sound tt c.in_default.not-Refused c.request.ensures.step in
     record {
       granted = leaves.granted;
       refused = tt;
-      stored = stored_granted c.args.drive.now c.request.new.self role c.args.request c.args.now c.request.result c.requires c.in_default.not-Refused c.request.ensures.step c.request.ensures.stored;
+      stored = stored_granted c.args.drive.now c.request.new.self role (Update c.args.update) c.args.now c.request.result tt c.in_default.not-Refused c.request.ensures.step c.request.ensures.stored;
       full = tt;
-      clock = clock_granted h after role c.args.request c.args.now c.request.result c.the_state_goes_on_record_by_record.ensures.by_changes (no_read c.args.request c.requires) c.in_default.not-Refused c.request.ensures.step;
+      clock = clock_granted h after role (Update c.args.update) c.args.now c.request.result c.the_state_goes_on_record_by_record.ensures.by_changes (no_read (Update c.args.update) tt) c.in_default.not-Refused c.request.ensures.step;
       others = leaves.others;
       past = leaves.past;
     }

@@ -1,6 +1,7 @@
 use Rattle.std.proofs.Common.{◌≡◌, ℕ, Bool, true, List, [], ◌∷◌, OnOk, IfErr, length, refl, sym, subst}
 use Rattle.s4_types.specs.declared.changes.Change.TheVariants as change
 use Rattle.s4_types.specs.declared.requests.Request.TheVariants as request
+use Rattle.s4_types.specs.declared.requests.ObjectRequest.TheVariants as object_request
 use Rattle.s4_model.specs.Effect.{effect}
 use Rattle.s4_model.specs.Refusals.{present}
 use Rattle.drive.specs.Fields.{state_in, store_of}
@@ -20,12 +21,12 @@ returns-clause-content g c =
     let wanted : c.args.wanted ≡ true = c.if-not-wanted.false in
     subst (λ (w : Bool). OnOk c.ask.result (content_of (present later o) ≡ content_of (attribute_by c.args.attribute.now w o 0 (present s o)))) (sym wanted)
     (subst (λ (a : List ℕ). OnOk c.ask.result (content_of (present later o) ≡ content_of (effect (change.SetAttr o a) 0 (present s o)))) c.in-Ok.ensures
-    (content_granted c.ask.result s later (request.SetAttr o new) (change.SetAttr o new) refl c.ask.ensures.granted))
+    (content_granted c.ask.result s later (request.Update (object_request.SetAttr o new)) (change.SetAttr o new) refl c.ask.ensures.granted))
 
 pub returns-clause-next : goal.returns-clause-next
 returns-clause-next g c =
     let o = c.args.object in
-    next_granted c.ask.result (state_in c.args.drive.now) (state_in c.ask.new.drive) (request.SetAttr o c.in-Ok.attribute) (change.SetAttr o c.in-Ok.attribute) refl c.ask.ensures.granted
+    next_granted c.ask.result (state_in c.args.drive.now) (state_in c.ask.new.drive) (request.Update (object_request.SetAttr o c.in-Ok.attribute)) (change.SetAttr o c.in-Ok.attribute) refl c.ask.ensures.granted
 
 pub returns-clause-stored : goal.returns-clause-stored
 returns-clause-stored g c =
@@ -35,7 +36,7 @@ returns-clause-stored g c =
     let new : List ℕ = c.in-Ok.attribute in
     subst (λ (w : Bool). OnOk c.ask.result (AreStored store (attribute_changes o c.args.attribute.now w) after)) (sym c.if-not-wanted.false)
     (subst (λ (a : List ℕ). OnOk c.ask.result (AreStored store (change.SetAttr o a ∷ []) after)) c.in-Ok.ensures
-    (stored_asked c.ask.result (state_in c.args.drive.now) store after (request.SetAttr o new) (change.SetAttr o new) refl c.ask.ensures.stored))
+    (stored_asked c.ask.result (state_in c.args.drive.now) store after (request.Update (object_request.SetAttr o new)) (change.SetAttr o new) refl c.ask.ensures.stored))
 
 pub returns-clause-full : goal.returns-clause-full
 returns-clause-full g c =
@@ -44,7 +45,7 @@ returns-clause-full g c =
     let new : List ℕ = c.in-Ok.attribute in
     subst (λ (w : Bool). IfErr c.ask.result (IsFullForOne store (attribute_changes o c.args.attribute.now w))) (sym c.if-not-wanted.false)
     (subst (λ (a : List ℕ). IfErr c.ask.result (IsFullForOne store (change.SetAttr o a ∷ []))) c.in-Ok.ensures
-    (full_asked c.ask.result (state_in c.args.drive.now) store (request.SetAttr o new) (change.SetAttr o new) refl c.ask.ensures.full))
+    (full_asked c.ask.result (state_in c.args.drive.now) store (request.Update (object_request.SetAttr o new)) (change.SetAttr o new) refl c.ask.ensures.full))
 
 pub returns-clause-clock : goal.returns-clause-clock
 returns-clause-clock g c =

@@ -1,6 +1,7 @@
 use Rattle.std.proofs.Common.{◌≡◌, ◌+◌, ◌<◌, max, ℕ, sym, ap, subst, ◌∙◌}
 use Rattle.std.proofs.lemmas.Result.{err_from_is_err_and}
 use Rattle.s4_types.specs.declared.changes.Change.{Change}
+use Rattle.s4_types.specs.declared.requests.Request.TheVariants.{Update}
 use Rattle.s4_model.specs.State.{State, state_of, took}
 use Rattle.s4_model.specs.Refusals.{last_number}
 use Rattle.s4_model.specs.Step.{stamp, accepted_record}
@@ -46,7 +47,7 @@ invariant_of-self-2 g c =
 pub returns-in_err-change : goal.returns-in_err-change
 returns-in_err-change g c =
     let p = err_from_is_err_and c.from_residual.result c.from_residual.ensures.1 in
-    rw (p.1, p.2) (refuses_checked (later_refusal (state_in c.args.self.now) c.args.request) c.args.self.now c.args.session.now c.args.request c.args.now _ c.in_err-change.ensures.refused)
+    rw (p.1, p.2) (refuses_checked (later_refusal (state_in c.args.self.now) (Update c.args.update)) c.args.self.now c.args.session.now (Update c.args.update) c.args.now _ c.in_err-change.ensures.refused)
 
 pub returns-in_err-take : goal.returns-in_err-take
 returns-in_err-take g c =
@@ -54,6 +55,6 @@ returns-in_err-take g c =
     let change : Change = c.in_ok-change.field-0.change in
     let ledger : c.self.inside.history ≡ c.args.self.now.ledger = ap (λ (d : DriveFields). d.ledger) c.self.view_is in
     let held : fields_of log_of c.self.inside.store ≡ store_of c.args.self.now = ap (λ (d : DriveFields). store_of d) c.self.view_is in
-    rw (p.1, p.2) (refuses_untaken (later_refusal (state_in c.args.self.now) c.args.request) c.args.self.now _ c.args.session.now c.args.request c.args.now c.in_ok-change.field-0.moment change _ (fields_of log_of c.self.inside.store)
+    rw (p.1, p.2) (refuses_untaken (later_refusal (state_in c.args.self.now) (Update c.args.update)) c.args.self.now _ c.args.session.now (Update c.args.update) c.args.now c.in_ok-change.field-0.moment change _ (fields_of log_of c.self.inside.store)
     ledger (c.in_err-take.ensures.unchanged ∙ held) held c.in_ok-change.ensures.asked c.in_ok-change.ensures.takes.ready c.in_ok-change.ensures.free
     c.in_ok-change.ensures.moment c.in_err-take.ensures.answer c.in_err-take.ensures.memory)

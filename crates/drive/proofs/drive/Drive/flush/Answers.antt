@@ -1,6 +1,7 @@
 use Rattle.std.proofs.Common.{◌≡◌, ◌+◌, ◌<◌, max, ℕ, refl, sym, ap, ◌∙◌, arith}
 use Rattle.s4_types.specs.declared.changes.Change.TheVariants as change
-use Rattle.s4_types.specs.declared.requests.Request.TheVariants.{Flush}
+use Rattle.s4_types.specs.declared.requests.Request.TheVariants.{Control}
+use Rattle.s4_types.specs.declared.requests.AdminRequest.TheVariants.{Flush}
 use Rattle.s4_model.specs.Refusals.{last_number}
 use Rattle.s4_model.specs.State.{State, state_of}
 use Rattle.s4_model.specs.Step.{stamp, accepted_record}
@@ -20,7 +21,7 @@ returns-in_err-check_span g c =
     let p = err_from_is_err_and c.from_residual.result c.from_residual.ensures.1 in
     let kept : IsKeptDrive (state_in c.args.self.now) (store_of c.args.self.now) c.self.inside.window c.self.inside.next = kept_of c.args.self.now g.J.Naming.base c.self.inside.history c.self.inside.store c.self.inside.window c.self.inside.next c.self.view_is c.self.invariant in
     let bad = c.in_err-check_span.ensures.of_all (state_in c.args.self.now) kept.window in
-    rw (p.1, p.2) (refuses_bad (later_refusal (state_in c.args.self.now) (Flush c.args.first c.args.last)) c.args.self.now c.args.session.now (Flush c.args.first c.args.last) c.args.now _ (span_bad (state_in c.args.self.now) c.args.first c.args.last bad.1) bad.0)
+    rw (p.1, p.2) (refuses_bad (later_refusal (state_in c.args.self.now) (Control (Flush c.args.first c.args.last))) c.args.self.now c.args.session.now (Control (Flush c.args.first c.args.last)) c.args.now _ (span_bad (state_in c.args.self.now) c.args.first c.args.last bad.1) bad.0)
 
 pub accept-requires : goal.accept-requires
 accept-requires g c =
@@ -36,7 +37,7 @@ invariant_of-self g c =
     let zero : c.new.result ≡ 0 = c.new.ensures in
     let given = flush_given s c.args.first c.args.last c.new.result c.in_ok-plan.plan.span c.self.invariant.1.sound zero c.in_ok-plan.ensures.planned.0 in (
       ap (λ (l : Ledger). l.history.base) c.accept.ensures.history ∙ c.self.invariant.0,
-      after_hidden c.every_history_is_sound.ensures.steps c.the_state_goes_on_record_by_record.ensures.by_changes c.self.inside.history c.accept.new.history c.session.inside.seat.seat (fields_of log_of c.self.inside.store) c.self.inside.window c.flush-moment.new.self c.self.inside.next (Flush c.args.first c.args.last) c.args.now c.flush-moment.result (change.Flush c.args.first c.args.last)
+      after_hidden c.every_history_is_sound.ensures.steps c.the_state_goes_on_record_by_record.ensures.by_changes c.self.inside.history c.accept.new.history c.session.inside.seat.seat (fields_of log_of c.self.inside.store) c.self.inside.window c.flush-moment.new.self c.self.inside.next (Control (Flush c.args.first c.args.last)) c.args.now c.flush-moment.result (change.Flush c.args.first c.args.last)
           c.self.invariant.1
           (flush_free s c.new.result c.args.first c.args.last zero (c.in_ok-check_span.ensures.of_all s c.self.invariant.1.window) (c.in_ok-plan.ensures.judged s c.self.invariant.1.window (let low = c.self.invariant.1.sound.numbered in omega (arith, zero))))
           refl refl at c.accept.ensures.history

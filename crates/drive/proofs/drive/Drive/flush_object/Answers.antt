@@ -1,6 +1,7 @@
 use Rattle.std.proofs.Common.{◌≡◌, ◌+◌, ◌<◌, ◌≤◌, max, ℕ, Some, refl, sym, ap, ◌∙◌, arith}
 use Rattle.s4_types.specs.declared.changes.Change.TheVariants as change
-use Rattle.s4_types.specs.declared.requests.Request.TheVariants.{FlushO}
+use Rattle.s4_types.specs.declared.requests.Request.TheVariants.{Control}
+use Rattle.s4_types.specs.declared.requests.AdminRequest.TheVariants.{FlushO}
 use Rattle.s4_types.specs.declared.spans.Span.{Span}
 use Rattle.s4_model.specs.Refusals.{last_number}
 use Rattle.s4_model.specs.State.{State, state_of}
@@ -22,7 +23,7 @@ returns-in_err-check_span g c =
     let kept : IsKeptDrive (state_in c.args.self.now) (store_of c.args.self.now) c.self.inside.window c.self.inside.next = kept_of c.args.self.now g.J.Naming.base c.self.inside.history c.self.inside.store c.self.inside.window c.self.inside.next c.self.view_is c.self.invariant in
     let bad = c.in_err-check_span.ensures.of_all (state_in c.args.self.now) kept.window in
     let of_one = c.in_err-check_span.ensures.of_one (state_in c.args.self.now) c.args.object kept.window in
-    rw (p.1, p.2) (refuses_bad (later_refusal (state_in c.args.self.now) (FlushO c.args.object c.args.first c.args.last)) c.args.self.now c.args.session.now (FlushO c.args.object c.args.first c.args.last) c.args.now _ (object_bad (state_in c.args.self.now) (span_at c.args.object c.args.first c.args.last) (of_one ∙ bad.1)) bad.0)
+    rw (p.1, p.2) (refuses_bad (later_refusal (state_in c.args.self.now) (Control (FlushO c.args.object c.args.first c.args.last))) c.args.self.now c.args.session.now (Control (FlushO c.args.object c.args.first c.args.last)) c.args.now _ (object_bad (state_in c.args.self.now) (span_at c.args.object c.args.first c.args.last) (of_one ∙ bad.1)) bad.0)
 
 pub accept-requires : goal.accept-requires
 accept-requires g c =
@@ -41,7 +42,7 @@ invariant_of-self g c =
     let span : Span = span_at c.args.object c.args.first c.args.last in
     let is : c.in_ok-plan.plan.span ≡ span = c.in_ok-plan.ensures.planned.0 in (
       ap (λ (l : Ledger). l.history.base) c.accept.ensures.history ∙ c.self.invariant.0,
-      after_hidden c.every_history_is_sound.ensures.steps c.the_state_goes_on_record_by_record.ensures.by_changes c.self.inside.history c.accept.new.history c.session.inside.seat.seat (fields_of log_of c.self.inside.store) c.self.inside.window c.flush-moment.new.self c.self.inside.next (FlushO c.args.object c.args.first c.args.last) c.args.now c.flush-moment.result (change.FlushO c.args.object c.args.first c.args.last)
+      after_hidden c.every_history_is_sound.ensures.steps c.the_state_goes_on_record_by_record.ensures.by_changes c.self.inside.history c.accept.new.history c.session.inside.seat.seat (fields_of log_of c.self.inside.store) c.self.inside.window c.flush-moment.new.self c.self.inside.next (Control (FlushO c.args.object c.args.first c.args.last)) c.args.now c.flush-moment.result (change.FlushO c.args.object c.args.first c.args.last)
           c.self.invariant.1
           (object_later s span c.self.inside.next next (c.in_ok-check_span.ensures.of_one s c.args.object c.self.invariant.1.window ∙ c.in_ok-check_span.ensures.of_all s c.self.invariant.1.window) low lt
           ∙ c.in_ok-plan.ensures.judged s c.self.invariant.1.window (omega arith))

@@ -1,6 +1,7 @@
 use Rattle.std.proofs.Common.{◌≡◌, ◌+◌, max, ℕ, Some, None, refl, sym, ap, subst, ◌∙◌}
 use Rattle.std.specs.Prelude.{option_copied}
 use Rattle.std.proofs.lemmas.Result.{err_from_is_err_and}
+use Rattle.s4_types.specs.declared.requests.Request.TheVariants.{Update}
 use Rattle.s4_model.specs.State.{State, state_of, took}
 use Rattle.s4_model.specs.Step.{change_of, stamp, accepted_record}
 use Rattle.s4_model.specs.Sound.{IsSound}
@@ -20,28 +21,28 @@ returns-in_err-change-clause-refused g c =
     let s : State = state_of c.self.inside.history.history in
     let store : StoreFields = fields_of log_of c.self.inside.store in
     let kept = c.self.invariant.1 in
-    let size : HasSize s c.args.request c.size_of.result = size_asked c.bytes_are_the_blocks_joined.ensures.count c.the_present_stays.ensures s store c.self.inside.window c.self.inside.next c.object_of-object.result store.latest (option_copied c.present-found.result) c.args.request c.size_of.result kept c.requires.versions c.object_of-object.ensures refl c.present-found.ensures c.size_of.ensures in
+    let size : HasSize s c.args.update c.size_of.result = size_asked c.bytes_are_the_blocks_joined.ensures.count c.the_present_stays.ensures s store c.self.inside.window c.self.inside.next c.object_of-object.result store.latest (option_copied c.present-found.result) c.args.update c.size_of.result kept c.object_of-object.ensures refl c.present-found.ensures c.size_of.ensures in
     let judged = c.in_err-change.ensures.judged s (sym (c.clock-clock.ensures ∙ kept.window.clock)) (sym kept.next) size in
     let p = err_from_is_err_and c.from_residual.result c.from_residual.ensures.1 in
-    rw (p.1, p.2) (subst (λ (d : DriveFields). later_refusal (state_in d) c.args.request ≡ Some c.in_err-change.field-0.0) c.self.view_is judged)
+    rw (p.1, p.2) (subst (λ (d : DriveFields). later_refusal (state_in d) (Update c.args.update) ≡ Some c.in_err-change.field-0.0) c.self.view_is judged)
 
 pub returns-clause-free : goal.returns-clause-free
 returns-clause-free g c =
     let s : State = state_of c.self.inside.history.history in
     let store : StoreFields = fields_of log_of c.self.inside.store in
     let kept = c.self.invariant.1 in
-    let size : HasSize s c.args.request c.size_of.result = size_asked c.bytes_are_the_blocks_joined.ensures.count c.the_present_stays.ensures s store c.self.inside.window c.self.inside.next c.object_of-object.result store.latest (option_copied c.present-found.result) c.args.request c.size_of.result kept c.requires.versions c.object_of-object.ensures refl c.present-found.ensures c.size_of.ensures in
+    let size : HasSize s c.args.update c.size_of.result = size_asked c.bytes_are_the_blocks_joined.ensures.count c.the_present_stays.ensures s store c.self.inside.window c.self.inside.next c.object_of-object.result store.latest (option_copied c.present-found.result) c.args.update c.size_of.result kept c.object_of-object.ensures refl c.present-found.ensures c.size_of.ensures in
     let judged = c.in_ok-change.ensures.judged s (sym (c.clock-clock.ensures ∙ kept.window.clock)) (sym kept.next) size in
-    subst (λ (d : DriveFields). later_refusal (state_in d) c.args.request ≡ None) c.self.view_is judged.0
+    subst (λ (d : DriveFields). later_refusal (state_in d) (Update c.args.update) ≡ None) c.self.view_is judged.0
 
 pub returns-clause-asked : goal.returns-clause-asked
 returns-clause-asked g c =
     let s : State = state_of c.self.inside.history.history in
     let store : StoreFields = fields_of log_of c.self.inside.store in
     let kept = c.self.invariant.1 in
-    let size : HasSize s c.args.request c.size_of.result = size_asked c.bytes_are_the_blocks_joined.ensures.count c.the_present_stays.ensures s store c.self.inside.window c.self.inside.next c.object_of-object.result store.latest (option_copied c.present-found.result) c.args.request c.size_of.result kept c.requires.versions c.object_of-object.ensures refl c.present-found.ensures c.size_of.ensures in
+    let size : HasSize s c.args.update c.size_of.result = size_asked c.bytes_are_the_blocks_joined.ensures.count c.the_present_stays.ensures s store c.self.inside.window c.self.inside.next c.object_of-object.result store.latest (option_copied c.present-found.result) c.args.update c.size_of.result kept c.object_of-object.ensures refl c.present-found.ensures c.size_of.ensures in
     let judged = c.in_ok-change.ensures.judged s (sym (c.clock-clock.ensures ∙ kept.window.clock)) (sym kept.next) size in
-    subst (λ (d : DriveFields). change_of (state_in d) c.args.request ≡ Some c.in_ok-change.change) c.self.view_is judged.1
+    subst (λ (d : DriveFields). change_of (state_in d) (Update c.args.update) ≡ Some c.in_ok-change.change) c.self.view_is judged.1
 
 pub returns-clause-takes : goal.returns-clause-takes
 returns-clause-takes g c =
@@ -63,7 +64,7 @@ returns-clause-sound g c =
     let s : State = state_of c.self.inside.history.history in
     let store : StoreFields = fields_of log_of c.self.inside.store in
     let kept = c.self.invariant.1 in
-    let size : HasSize s c.args.request c.size_of.result = size_asked c.bytes_are_the_blocks_joined.ensures.count c.the_present_stays.ensures s store c.self.inside.window c.self.inside.next c.object_of-object.result store.latest (option_copied c.present-found.result) c.args.request c.size_of.result kept c.requires.versions c.object_of-object.ensures refl c.present-found.ensures c.size_of.ensures in
+    let size : HasSize s c.args.update c.size_of.result = size_asked c.bytes_are_the_blocks_joined.ensures.count c.the_present_stays.ensures s store c.self.inside.window c.self.inside.next c.object_of-object.result store.latest (option_copied c.present-found.result) c.args.update c.size_of.result kept c.object_of-object.ensures refl c.present-found.ensures c.size_of.ensures in
     let judged = c.in_ok-change.ensures.judged s (sym (c.clock-clock.ensures ∙ kept.window.clock)) (sym kept.next) size in
     subst (λ (d : DriveFields). IsSound (took (state_in d) (accepted_record (state_in d) c.in_ok-change.change c.args.now))) c.self.view_is
-    (sound_took c.every_history_is_sound.ensures.steps c.the_state_goes_on_record_by_record.ensures.by_changes c.self.inside.history.history c.args.request c.args.now c.in_ok-change.change kept.sound (admin_is_later s c.args.request c.requires.within c.requires.versions ∙ judged.0) judged.1)
+    (sound_took c.every_history_is_sound.ensures.steps c.the_state_goes_on_record_by_record.ensures.by_changes c.self.inside.history.history (Update c.args.update) c.args.now c.in_ok-change.change kept.sound (admin_is_later s c.args.update c.requires.within ∙ judged.0) judged.1)

@@ -1,6 +1,7 @@
 use Rattle.std.proofs.Common.{◌≡◌, ◌+◌, ◌<◌, max, ℕ, refl, sym, ap, ◌∙◌, arith}
 use Rattle.s4_types.specs.declared.changes.Change.TheVariants as change
-use Rattle.s4_types.specs.declared.requests.Request.TheVariants.{SetWindow}
+use Rattle.s4_types.specs.declared.requests.Request.TheVariants.{Control}
+use Rattle.s4_types.specs.declared.requests.AdminRequest.TheVariants.{SetWindow}
 use Rattle.s4_model.specs.Refusals.{last_number}
 use Rattle.s4_model.specs.State.{State, state_of}
 use Rattle.s4_model.specs.Step.{stamp, accepted_record}
@@ -26,7 +27,7 @@ invariant_of-self g c =
     let is : c.clock.result ≡ c.self.inside.window.clock = c.clock.ensures in
     let at : c.set-moment.result ≡ stamp s c.args.now = c.set-moment.ensures.moment ∙ ap (λ (t : ℕ). max c.args.now (t + 1)) clock in (
       ap (λ (l : Ledger). l.history.base) c.accept.ensures.history ∙ c.self.invariant.0,
-      after_hidden c.every_history_is_sound.ensures.steps c.the_state_goes_on_record_by_record.ensures.by_changes c.self.inside.history c.accept.new.history c.session.inside.seat.seat (fields_of log_of c.self.inside.store) c.self.inside.window c.set-moment.new.self c.self.inside.next (SetWindow c.args.window) c.args.now c.set-moment.result (change.SetWindow c.args.window)
+      after_hidden c.every_history_is_sound.ensures.steps c.the_state_goes_on_record_by_record.ensures.by_changes c.self.inside.history c.accept.new.history c.session.inside.seat.seat (fields_of log_of c.self.inside.store) c.self.inside.window c.set-moment.new.self c.self.inside.next (Control (SetWindow c.args.window)) c.args.now c.set-moment.result (change.SetWindow c.args.window)
           c.self.invariant.1
           (window_free c.self.inside.window.clock s.clock clock (omega arith))
           refl refl at c.accept.ensures.history

@@ -1,5 +1,6 @@
 use Rattle.std.proofs.Common.{ap, subst}
-use Rattle.s4_types.specs.declared.requests.Request.TheVariants.{Read}
+use Rattle.s4_types.specs.declared.requests.Request.TheVariants.{Query}
+use Rattle.s4_types.specs.declared.requests.Question.TheVariants.{Read}
 use Rattle.server.specs.Accounts.{PartFields}
 use Rattle.server.specs.Attending.{SeatFields, SeatAnswer}
 use Rattle.server.proofs.Sharing.{answer_fetched}
@@ -10,7 +11,7 @@ returns-clause-step g c =
     let base = g.J.Naming.base in
     let clock = g.J.Running.clock in
     let planned = c.resolve-planned in
-    let read = Read c.args.object c.args.offset c.args.length c.args.at in
+    let read = Query (Read c.args.object c.args.offset c.args.length c.args.at) in
     let new : SeatFields = record { session = planned.new.session; requests = planned.new.part.requests } in
     subst (λ (old : SeatFields). SeatAnswer base clock old read c.fetched.result new) c.self.view_is (record {
       answer = answer_fetched base clock c.self.inside.part.requests c.self.inside.session planned.new.session c.args.object c.args.offset c.args.length c.args.at planned.result c.fetched.result planned.ensures.step c.fetched.ensures;

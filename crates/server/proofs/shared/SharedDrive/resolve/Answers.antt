@@ -1,6 +1,7 @@
 use Rattle.std.proofs.Common.{◌≡◌, ◌+◌, ◌^◌, ◌-◌, ◌<◌, ◌∙◌, ℕ, ap, arith, cond, min, subst, refl, sym}
 use Rattle.serving.specs.Drawing.{moment_of_tick}
-use Rattle.s4_types.specs.declared.requests.Request.TheVariants.{Read}
+use Rattle.s4_types.specs.declared.requests.Request.TheVariants.{Query}
+use Rattle.s4_types.specs.declared.requests.Question.TheVariants.{Read}
 use Rattle.segment_word.specs.AcceptViews.{Ledger, Told}
 use Rattle.drive.specs.Fields.{state_in, store_of}
 use Rattle.drive.specs.Answering.{is_acceptance, reply_planned}
@@ -18,7 +19,7 @@ invariant_of-self g c =
     let held = c.self.invariant in
     let inside = c.self.inside in
     let asked = c.resolve-planned in
-    let read = Read c.args.object c.args.offset c.args.length c.args.at in
+    let read = Query (Read c.args.object c.args.offset c.args.length c.args.at) in
     let session = c.args.session.now in
     let n = inside.books.requests in
     let Comes : BookFields → Type 0 = λ b. HasCome g.J.Running.begins g.J.Running.clock g.J.Running.has_upkeep b.requests b.changes asked.new.self in
@@ -43,7 +44,7 @@ returns-clause-step g c =
     let held = c.self.invariant in
     let inside = c.self.inside in
     let asked = c.resolve-planned in
-    let read = Read c.args.object c.args.offset c.args.length c.args.at in
+    let read = Query (Read c.args.object c.args.offset c.args.length c.args.at) in
     let session = c.args.session.now in
     let rules = c.rules.ensures in
     let n = inside.books.requests in
