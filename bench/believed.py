@@ -9,7 +9,7 @@ A clause rests on each definition that it names, on each that those name, and so
 types that a clause, its parameters or a definition name, by what contracts see of them (`ghost Value`, else fields or variants),
 constants, and what a trait has for proofs alone. All lines of data with named fields count, but a field is followed only where
 something names it; of a result that may fail just what the clause looks at. What is of the kit isn't counted, nor are blank lines, comments, imports and attributes. A line counts once
-for each 100 characters begun, and so does a variant of a type in a source, on however many lines it is laid out.
+for each 100 characters begun, and so do a clause and a variant of a type in a source, on however many lines they are laid out.
 """
 import argparse
 import collections
@@ -39,7 +39,7 @@ PASSED_ON = {
     "verifier.begins_with": "open answers what begins so, and is named so",
 }
 # How many lines each may rest on.
-CEILINGS = {"whole": 2_692, "promises": 903}
+CEILINGS = {"whole": 2_698, "promises": 911}
 WIDTH = 100
 TOKEN = re.compile(r"[^\s(){}\[\],;:→λ×⊎≡&<>|]+")
 ANTT_ITEM = re.compile(r"(  )?(?:abbrev pub|unfoldable pub|pub record|pub data|abbrev|unfoldable|record|data|pub) ([^\s(){}:]+)")
@@ -85,13 +85,14 @@ class Item:
         return "\n".join(self.file.lines[number] for number in self.numbers)
 
     def weights(self):
-        """What each of its lines counts; lines inside of an enum's variant count with the variant's."""
+        """What each of its lines counts; lines inside of an enum's variant count with the variant's, and a clause's together."""
         texts, last = {}, None
         is_enum = re.match(r"(pub(\([^)]*\))? )?enum", self.text())
+        is_clause = re.match(r"\s*(ensures|requires)\b", self.text())
         for number in self.numbers:
             line = self.file.lines[number]
-            if is_enum and re.match(" {5}|    }", line):
-                texts[last] += line.strip()
+            if texts and (is_clause or is_enum and re.match(" {5}|    }", line)):
+                texts[last] += (" " if is_clause else "") + line.strip()
             else:
                 last = number
                 texts[number] = line.strip()
