@@ -2,7 +2,7 @@
 use Rattle.std.specs.Prelude.{◌≡◌, ℕ, ◌+◌, ◌-◌, nat_le, nat_lt, Bool, true, false, ◌==◌, ◌&&◌, if◌then◌else◌, List, [], ◌∷◌, Option, Some, None}
 use Rattle.s4_types.specs.Pointer.{Place}
 use Rattle.block_log.specs.declared.kinds.BlockKind.{BlockKind}
-use Rattle.block_log.specs.declared.kinds.BlockKind.TheVariants.{Journal, Checkpoint, Data}
+use Rattle.block_log.specs.declared.kinds.BlockKind.TheVariants.{Journal, Checkpoint, Data, Pointers}
 
 -- a block: what it is for, whose it is, and its 512 bytes
 pub record Stored : Type 0 where
@@ -43,6 +43,7 @@ abbrev pub named_with : BlockKind → (Place → ℕ) → Place → Place → �
 named_with Journal named p = named
 named_with Checkpoint named p = named
 named_with Data named p = with_more named p
+named_with Pointers named p = named
 
 -- what a block's append makes of a log where these places are ahead, and the place that it takes: the first of them
 abbrev pub appended_at : Log → Stored → List Place → Option (Place × Log)
@@ -68,6 +69,8 @@ same_kind Checkpoint Checkpoint = true
 same_kind Checkpoint _ = false
 same_kind Data Data = true
 same_kind Data _ = false
+same_kind Pointers Pointers = true
+same_kind Pointers _ = false
 
 -- a block's bytes, where it is of this kind and object
 abbrev pub seen_as : BlockKind → ℕ → Option Stored → Option (List ℕ)

@@ -3,8 +3,10 @@
 pub enum BlockKind {
     /// Entries of an object's journal.
     Journal,
-    /// An inode of an object at a moment.
+    /// An inode of an object at a moment: the first block of a checkpoint.
     Checkpoint,
     /// 512 bytes of an object.
     Data,
+    /// Pointers of a checkpoint's inode that its first block has no room for.
+    Pointers,
 }

@@ -1,16 +1,16 @@
 -- An entry is read exactly where it is encoded.
 use Rattle.std.proofs.Common.{◌≡◌, ℕ, zero, suc, ◌/◌, ◌%◌, ◌^◌, ◌<◌, ◌≤◌, Bool, true, false, eqb, ltb, leb, List, [], ◌∷◌, ◌++◌, length, Option, Some, None, refl, sym, ap, subst, ◌∙◌, append_assoc, arith}
 use Rattle.std.specs.Prelude.{is_some}
-use Rattle.std.specs.Int.{w32, w64}
+use Rattle.std.specs.Int.{w16, w32, w64}
 use Rattle.std.specs.List.{flat_map}
 use Rattle.std.proofs.lemmas.Bool.{ltb-false, le-ltb, leb-true, le-leb}
 use Rattle.s4_types.specs.declared.limits.TheConstants.{ENTRY_TRIPLES}
-use Rattle.codec.specs.Fields.{◌>>=◌, kept, number, slot, bit, byte_at, bytes_at, slot_at, many_at}
+use Rattle.codec.specs.Fields.{◌>>=◌, kept, number, slot, bit, byte_at, bytes_at, number_at, slot_at, many_at}
 use Rattle.codec.specs.Entry.{EntryFields, EntryNumbers, IsEntry, IsPair, IsTriple, entry_rules, text, pair_spelling, triple_spelling, flags_byte, flags_of, entry_spelling, flags_at, text_at, pair_at, triple_at, triples_at, checked_entry, entry_at}
 use Rattle.codec.specs.declared.entries.Triple.{Triple}
 use Rattle.codec.specs.declared.entries.Pair.{Pair}
 use Rattle.codec.specs.declared.entries.Flags.{Flags}
-use Rattle.codec.proofs.Exact.{IsBytes, IsField, Exact, Then, Made, then_exact, made_exact, byte_field, bytes_field, word_field, long_field, passed, some_is, step_some, bytes_behind}
+use Rattle.codec.proofs.Exact.{IsBytes, IsField, Exact, Then, Made, then_exact, made_exact, byte_field, bytes_field, short_field, word_field, long_field, passed, some_is, step_some, bytes_behind}
 use Rattle.codec.proofs.Many.{AreMany, many_field}
 use Rattle.codec.proofs.Slots.{slot_field, kept_is}
 
@@ -108,22 +108,29 @@ pair_field there = record { whole = λ bytes x h e. (pair_takes there bytes x h 
 triple_takes : (bytes : List ℕ) (x : Triple × List ℕ) → IsBytes bytes → triple_at bytes ≡ Some x → (bytes ≡ triple_spelling x.0 ++ x.1) × IsTriple x.0
 unfolding triple_at triple_spelling
 triple_takes bytes x h e =
-    let a = step_some (byte_at bytes) (λ index. slot_at index.1 >>= λ before. slot_at before.1 >>= λ after. Some (record { index = index.0; before = before.0; after = after.0 }, after.1)) x e in
+    let a = step_some (number_at w16 bytes) (λ index. slot_at index.1 >>= λ before. slot_at before.1 >>= λ after. Some (record { index = index.0; before = before.0; after = after.0 }, after.1)) x e in
     let b = step_some (slot_at a.0.1) (λ before. slot_at before.1 >>= λ after. Some (record { index = a.0.0; before = before.0; after = after.0 }, after.1)) x a.2 in
     let c = step_some (slot_at b.0.1) (λ after. Some (record { index = a.0.0; before = b.0.0; after = after.0 }, after.1)) x b.2 in
-    let one = byte_field.whole bytes a.0 h a.1 in
-    let behind = bytes_behind (a.0.0 ∷ []) a.0.1 bytes one h in
+    let one = short_field.whole bytes a.0 h a.1 in
+    let behind = bytes_behind (number w16 a.0.0) a.0.1 bytes one h in
     let two = slot_field.whole a.0.1 b.0 behind b.1 in
     let behind_two = bytes_behind (slot b.0.0) b.0.1 a.0.1 two behind in
     let three = slot_field.whole b.0.1 c.0 behind_two c.1 in
-    let whole : bytes ≡ a.0.0 ∷ ((slot b.0.0 ++ slot c.0.0) ++ c.0.1) =
-    one ∙ ap (λ (r : List ℕ). a.0.0 ∷ r) (two ∙ ap (λ (r : List ℕ). slot b.0.0 ++ r) three ∙ sym (append_assoc (slot b.0.0) (slot c.0.0) c.0.1)) in
-    let numbers : IsTriple (record { index = a.0.0; before = b.0.0; after = c.0.0 }) = record { index = byte_field.fits bytes a.0 h a.1; before = slot_field.fits a.0.1 b.0 behind b.1; after = slot_field.fits b.0.1 c.0 behind_two c.1 } in
-    subst (λ (y : Triple × List ℕ). (bytes ≡ y.0.index ∷ ((slot y.0.before ++ slot y.0.after) ++ y.1)) × IsTriple y.0) (some_is _ _ c.2) (whole, numbers)
+    let whole : bytes ≡ (number w16 a.0.0 ++ (slot b.0.0 ++ slot c.0.0)) ++ c.0.1 =
+    one ∙ ap (λ (r : List ℕ). number w16 a.0.0 ++ r) (two ∙ ap (λ (r : List ℕ). slot b.0.0 ++ r) three ∙ sym (append_assoc (slot b.0.0) (slot c.0.0) c.0.1)) ∙ sym (append_assoc (number w16 a.0.0) (slot b.0.0 ++ slot c.0.0) c.0.1) in
+    let numbers : IsTriple (record { index = a.0.0; before = b.0.0; after = c.0.0 }) = record { index = short_field.fits bytes a.0 h a.1; before = slot_field.fits a.0.1 b.0 behind b.1; after = slot_field.fits b.0.1 c.0 behind_two c.1 } in
+    subst (λ (y : Triple × List ℕ). (bytes ≡ (number w16 y.0.index ++ (slot y.0.before ++ slot y.0.after)) ++ y.1) × IsTriple y.0) (some_is _ _ c.2) (whole, numbers)
 
 triple_again : (t : Triple) (rest : List ℕ) → IsTriple t → triple_at (triple_spelling t ++ rest) ≡ Some (t, rest)
 unfolding triple_at triple_spelling
-triple_again t rest h = rw (append_assoc (slot t.before) (slot t.after) rest, slot_field.again t.before (slot t.after ++ rest) h.before, slot_field.again t.after rest h.after) refl
+triple_again t rest h =
+    rw (
+      append_assoc (number w16 t.index) (slot t.before ++ slot t.after) rest,
+      append_assoc (slot t.before) (slot t.after) rest,
+      short_field.again t.index (slot t.before ++ (slot t.after ++ rest)) h.index,
+      slot_field.again t.before (slot t.after ++ rest) h.before,
+      slot_field.again t.after rest h.after,
+    ) refl
 
 triple_field : IsField triple_at triple_spelling IsTriple
 triple_field = record { whole = λ bytes x h e. (triple_takes bytes x h e).0; fits = λ bytes x h e. (triple_takes bytes x h e).1; again = triple_again }

@@ -1,6 +1,6 @@
 -- How long the spellings are, and that each is read in one way.
 use Rattle.std.proofs.Common.{◌≡◌, ℕ, ◌*◌, ◌≤◌, List, [], ◌∷◌, ◌++◌, length, Option, Some, None, refl, sym, ap, ◌∙◌, arith, length-append}
-use Rattle.std.specs.Int.{w32, w64}
+use Rattle.std.specs.Int.{w16, w32, w64}
 use Rattle.std.specs.List.{flat_map}
 use Rattle.s4_types.specs.Pointer.{Place}
 use Rattle.s4_types.specs.declared.limits.TheConstants.{TRIPLE_BYTES, SHORTEST_ENTRY_BYTES, ATTRIBUTE_PAIR_BYTES, LONGEST_ENTRY_BYTES, JOURNAL_ENTRY_BYTES, JOURNAL_ENTRIES}
@@ -20,6 +20,10 @@ pub long_length : (n : ℕ) → length (number w64 n) ≡ 8
 unfolding number
 long_length n = refl
 
+short_length : (n : ℕ) → length (number w16 n) ≡ 2
+unfolding number
+short_length n = refl
+
 word_length : (n : ℕ) → length (number w32 n) ≡ 4
 unfolding number
 word_length n = refl
@@ -36,7 +40,15 @@ pair_is (Some p) = omega (arith, length-append (length p.before ∷ p.before) (l
 
 triple_is : (t : Triple) → length (triple_spelling t) ≡ TRIPLE_BYTES
 unfolding triple_spelling
-triple_is t = omega (arith, length-append (slot t.before) (slot t.after), slot_length t.before, slot_length t.after)
+triple_is t =
+    omega (
+      arith,
+      length-append (number w16 t.index) (slot t.before ++ slot t.after),
+      length-append (slot t.before) (slot t.after),
+      short_length t.index,
+      slot_length t.before,
+      slot_length t.after,
+    )
 
 triples_are : (triples : List Triple) → length (flat_map triple_spelling triples) ≡ TRIPLE_BYTES * length triples
 triples_are [] = refl

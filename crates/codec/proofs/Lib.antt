@@ -5,7 +5,9 @@ pub mod Slots
 pub mod Whole
 pub mod Padded
 pub mod Holes
-pub mod CheckpointLaws
+pub mod FirstLaws
+pub mod PointerLaws
+pub mod PartLaws
 pub mod Ascending
 pub mod EntryLaws
 pub mod Lengths

@@ -39,6 +39,15 @@ module _ {A : Type 0} (read : List ℕ → Option (A × List ℕ)) where
       let one : with_front front (many_at read (count - i) bytes) ≡ Some (front, bytes) = rw k (ap (λ (xs : List A). Some (xs, bytes)) (append-nil front)) in
       sym so_far ∙ one
 
+-- as many are read as were asked for
+pub many_count : {A : Type 0} (read : List ℕ → Option (A × List ℕ)) (n : ℕ) (bytes : List ℕ) (xs : List A × List ℕ) → many_at read n bytes ≡ Some xs → length xs.0 ≡ n
+unfolding many_at
+many_count read zero bytes xs e = sym (ap (λ (y : List _ × List ℕ). length y.0) (some_is _ _ e))
+many_count read (suc n) bytes xs e =
+    let a = step_some (read bytes) (λ first. many_at read n first.1 >>= λ others. Some (first.0 ∷ others.0, others.1)) xs e in
+    let b = step_some (many_at read n a.0.1) (λ others. Some (a.0.0 ∷ others.0, others.1)) xs a.2 in
+    sym (ap (λ (y : List _ × List ℕ). length y.0) (some_is _ _ b.2)) ∙ ap (λ (k : ℕ). suc k) (many_count read n a.0.1 b.0 b.1)
+
 -- this many, each of which fits
 abbrev pub AreMany : {A : Type 0} → (A → Type 0) → ℕ → List A → Type 0
 AreMany Fits n xs = (length xs ≡ n) × AllByRecursion Fits xs

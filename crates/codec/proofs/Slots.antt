@@ -7,7 +7,7 @@ use Rattle.s4_types.specs.Pointer.{Place, IsPlace}
 use Rattle.codec.specs.Fields.{◌>>=◌, kept, number, zeros, slot, bytes_at, zeros_at, mark_at, flag_at, slot_of, slot_at, is_place, bit, padded, padded_at}
 use Rattle.codec.proofs.Exact.{IsBytes, IsField, Exact, Then, Made, then_exact, made_exact, byte_field, short_field, word_field, bytes_field, zeros_field, held, some_is, step_some, bytes_behind}
 
-mark_whole : (mark : ℕ) (bytes : List ℕ) (x : Unit {0} × List ℕ) → mark_at mark bytes ≡ Some x → bytes ≡ mark ∷ x.1
+pub mark_whole : (mark : ℕ) (bytes : List ℕ) (x : Unit {0} × List ℕ) → mark_at mark bytes ≡ Some x → bytes ≡ mark ∷ x.1
 unfolding mark_at
 mark_whole mark [] x e = absurd cc
 mark_whole mark (b ∷ rest) x e =

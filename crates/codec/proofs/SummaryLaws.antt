@@ -6,7 +6,7 @@ use Rattle.sha2.specs.Sha256.{sha256, digest_bytes, final_hash, initial_hash_256
 use Rattle.std.proofs.lemmas.Bool.{eqb-true, ltb-false, le-ltb, leb-true, le-leb, ltb-true, lt-ltb}
 use Rattle.std.proofs.lemmas.List.{take_at, drop_at}
 use Rattle.block_log.specs.declared.kinds.BlockKind.{BlockKind}
-use Rattle.block_log.specs.declared.kinds.BlockKind.TheVariants.{Journal, Checkpoint, Data}
+use Rattle.block_log.specs.declared.kinds.BlockKind.TheVariants.{Journal, Checkpoint, Data, Pointers}
 use Rattle.codec.specs.Fields.{◌>>=◌, Reads, all_of, number, zeros, number_at, many_at}
 use Rattle.codec.specs.Summary.{SummaryFields, SummaryNumbers, KeepsSummaryRules, IsSummary, IsBlockRole, UnusedAreBlank, SpellsSummary, has_object, summary_rules, kind_number, role_spelling, summary_head, frame_digest, summary_spelling, kind_at, role_at, roles_at, checked_summary, head_at}
 use Rattle.codec.specs.declared.summaries.BlockRole.{BlockRole}
@@ -26,13 +26,14 @@ kind_or false b k rest x other is else e = else e
 kind_whole : (bytes : List ℕ) (x : BlockKind × List ℕ) → kind_at bytes ≡ Some x → bytes ≡ kind_number x.0 ∷ x.1
 unfolding kind_at
 kind_whole [] x e = absurd cc
-kind_whole (b ∷ rest) x e = kind_or (eqb b 1) b Journal rest x _ (eqb-true b 1) (kind_or (eqb b 2) b Checkpoint rest x _ (eqb-true b 2) (kind_or (eqb b 3) b Data rest x _ (eqb-true b 3) (λ f. absurd cc))) e
+kind_whole (b ∷ rest) x e = kind_or (eqb b 1) b Journal rest x _ (eqb-true b 1) (kind_or (eqb b 2) b Checkpoint rest x _ (eqb-true b 2) (kind_or (eqb b 3) b Data rest x _ (eqb-true b 3) (kind_or (eqb b 4) b Pointers rest x _ (eqb-true b 4) (λ f. absurd cc)))) e
 
 kind_again : (k : BlockKind) (rest : List ℕ) → kind_at (kind_number k ∷ rest) ≡ Some (k, rest)
 unfolding kind_at
 kind_again Journal rest = refl
 kind_again Checkpoint rest = refl
 kind_again Data rest = refl
+kind_again Pointers rest = refl
 
 kind_field : IsField kind_at (λ k. kind_number k ∷ []) (λ _. Unit {0})
 kind_field = record { whole = λ bytes x h e. kind_whole bytes x e; fits = λ bytes x h e. tt; again = λ k rest _. kind_again k rest }

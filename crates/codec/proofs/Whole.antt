@@ -5,7 +5,7 @@ use Rattle.std.specs.Prelude.{IfSome}
 use Rattle.codec.specs.Fields.{◌>>=◌, Reads, ended, all_of}
 use Rattle.codec.proofs.Exact.{IsBytes, IsField, Exact, step_some, some_is}
 
-ended_is : {A : Type 0} (a b : A) (rest : List ℕ) → ended (Some a) rest ≡ Some b → (rest ≡ []) × (a ≡ b)
+pub ended_is : {A : Type 0} (a b : A) (rest : List ℕ) → ended (Some a) rest ≡ Some b → (rest ≡ []) × (a ≡ b)
 ended_is a b [] e = (refl, some_is a b e)
 ended_is a b (_ ∷ _) e = absurd cc
 

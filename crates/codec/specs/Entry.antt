@@ -1,6 +1,6 @@
 -- A journal entry: what one change, or a part of it, made of an inode, both ways; and how it is encoded.
 use Rattle.std.specs.Prelude.{◌≡◌, ℕ, ◌+◌, ◌*◌, ◌/◌, ◌%◌, ◌^◌, ◌<◌, ◌≤◌, Bool, true, false, not, List, [], ◌∷◌, ◌++◌, length, Option, Some, None, IfSome, is_some, is_none, nat_lt, nat_le, ◌==◌, ◌&&◌, ◌||◌, if◌then◌else◌}
-use Rattle.std.specs.Int.{w32, w64}
+use Rattle.std.specs.Int.{w16, w32, w64}
 use Rattle.std.specs.List.{flat_map, AllByRecursion}
 use Rattle.std.specs.Cmp.Lexicographic.{pointwise}
 use Rattle.s4_types.specs.Pointer.{Place}
@@ -66,7 +66,7 @@ pair_spelling (Some p) = text p.before ++ text p.after
 
 -- an index, and the pointers before and after
 unfoldable pub triple_spelling : Triple → List ℕ
-triple_spelling t = t.index ∷ (slot t.before ++ slot t.after)
+triple_spelling t = number w16 t.index ++ (slot t.before ++ slot t.after)
 
 -- a bit for each flag, the lowest first
 unfoldable pub flags_byte : Flags → ℕ
@@ -87,7 +87,7 @@ IsPair pair = IfSome pair (λ p. (length p.before ≤ 64) × (length p.after ≤
 
 -- the numbers of a triple are in their ranges
 pub record IsTriple (t : Triple) : Type 0 where
-  pub index : t.index < 256
+  pub index : t.index < 2 ^ 16
   pub before : IsSlot t.before
   pub after : IsSlot t.after
 
@@ -132,7 +132,7 @@ pair_at true bytes = do
 
 unfoldable pub triple_at : List ℕ → Option (Triple × List ℕ)
 triple_at bytes = do
-  index ← byte_at bytes
+  index ← number_at w16 bytes
   before ← slot_at index.1
   after ← slot_at before.1
   Some (record { index = index.0; before = before.0; after = after.0 }, after.1)

@@ -1,5 +1,8 @@
 pub mod Fields
 pub mod Checkpoint
+pub mod FirstBlock
+pub mod PointerBlock
+pub mod Parts
 pub mod Entry
 pub mod Summary
 pub mod Journal

@@ -5,7 +5,7 @@ use Rattle.std.specs.Int.{w16, w32, w64}
 use Rattle.std.specs.List.{concat, flat_map, list_all, AllByRecursion}
 use Rattle.sha2.specs.Sha256.{sha256}
 use Rattle.block_log.specs.declared.kinds.BlockKind.{BlockKind}
-use Rattle.block_log.specs.declared.kinds.BlockKind.TheVariants.{Journal, Checkpoint, Data}
+use Rattle.block_log.specs.declared.kinds.BlockKind.TheVariants.{Journal, Checkpoint, Data, Pointers}
 use Rattle.codec.specs.Fields.{◌>>=◌, number, zeros, kept, byte_at, number_at, zeros_at, mark_at, many_at}
 use Rattle.codec.specs.declared.summaries.BlockRole.{BlockRole}
 
@@ -52,6 +52,7 @@ abbrev pub kind_number : BlockKind → ℕ
 kind_number Journal = 1
 kind_number Checkpoint = 2
 kind_number Data = 3
+kind_number Pointers = 4
 
 -- the nine bytes of a used block
 unfoldable pub role_spelling : BlockRole → List ℕ
@@ -88,7 +89,7 @@ SpellsSummary payload block s = IsSummary s × (UnusedAreBlank (length s.roles) 
 -- the kind of a used block, and the bytes after it
 unfoldable pub kind_at : List ℕ → Option (BlockKind × List ℕ)
 kind_at [] = None
-kind_at (b ∷ rest) = if b == 1 then Some (Journal, rest) else (if b == 2 then Some (Checkpoint, rest) else (if b == 3 then Some (Data, rest) else None))
+kind_at (b ∷ rest) = if b == 1 then Some (Journal, rest) else (if b == 2 then Some (Checkpoint, rest) else (if b == 3 then Some (Data, rest) else (if b == 4 then Some (Pointers, rest) else None)))
 
 -- what a used block is, and the bytes after it
 unfoldable pub role_at : List ℕ → Option (BlockRole × List ℕ)

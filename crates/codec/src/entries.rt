@@ -28,7 +28,7 @@ pub struct Status {
 }
 
 /// The index of a pointer among those of an inode.
-pub type PointerIndex = u8;
+pub type PointerIndex = u16;
 
 /// A pointer that changed: its index, what was there and what is there.
 #[derive(Clone, Copy, Default, PartialEq, Eq)]

@@ -5,7 +5,7 @@ ghost use Rattle.codec.specs.Entry.{behind_statuses, behind_count, entry_at};
 
 use crate::attributes::Attribute;
 use crate::entries::{Entry, Flags, Pair, Status, Triple, Triples};
-use crate::fields::{read_byte, read_bytes, read_long, read_slot, read_word};
+use crate::fields::{read_byte, read_bytes, read_long, read_short, read_slot, read_word};
 use arrayvec::ArrayVec;
 use s4_types::Moment;
 use s4_types::limits::ENTRY_TRIPLES;
@@ -59,7 +59,7 @@ fn read_pair(there: bool, bytes: &[u8]) -> Option<(Option<Pair>, &[u8])>
 fn read_triple(bytes: &[u8]) -> Option<(Triple, &[u8])>
     ensures { Reads (λ x. (x.0, x.1.now)) result (triple_at bytes.now) }
 {
-    let (index, rest) = read_byte(bytes)?;
+    let (index, rest) = read_short(bytes)?;
     let Some((before, rest)) = read_slot(rest) else {
         return None;
     };

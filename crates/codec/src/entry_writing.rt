@@ -11,7 +11,7 @@ use crate::attributes::Attribute;
 use crate::entries::{Entry, Pair, Triple};
 use crate::entry_reading::read_entry;
 use crate::pointers::put_slot;
-use crate::writing::{Writing, bit_of, put, put_byte, put_long, put_word};
+use crate::writing::{Writing, bit_of, put, put_byte, put_long, put_short, put_word};
 
 #[tactic(auto, unfolding(crate::specs::Entry::flags_byte))]
 fn flags_of(before: bool, after: bool, pair: bool) -> u8
@@ -52,7 +52,7 @@ fn put_triple(out: &mut Writing, triple: Triple)
     ensures len { length out.new.items ≡ length out.old.items + TRIPLE_BYTES }
     ensures range { IsTriple triple }
 {
-    put_byte(out, triple.index);
+    put_short(out, triple.index);
     put_slot(out, triple.before);
     put_slot(out, triple.after);
 }

@@ -7,7 +7,10 @@ ghost use Rattle.s4_types.specs.declared.limits.TheConstants.{SHORTEST_ENTRY_BYT
 ghost use Rattle.s4_types.specs.declared.limits.TheConstants.{LONGEST_ENTRY_BYTES};
 ghost use Rattle.s4_types.specs.Pointer.{Place};
 ghost use Rattle.codec.specs.Fields.{SpellsSlot, all_of};
-ghost use Rattle.codec.specs.Checkpoint.{CheckpointFields, SpellsCheckpoint, checkpoint_at};
+ghost use Rattle.codec.specs.FirstBlock.{SpellsFirst, first_at};
+ghost use Rattle.codec.specs.PointerBlock.{SpellsPointers, pointers_at};
+ghost use Rattle.codec.specs.declared.first_blocks.FirstBlock.{FirstBlock};
+ghost use Rattle.codec.specs.declared.pointer_blocks.PointerBlock.{PointerBlock};
 ghost use Rattle.codec.specs.Entry.{EntryFields, IsEntry, BeginsWithEntry, entry_spelling};
 ghost use Rattle.codec.specs.Entry.{entry_length, entries_length};
 ghost use Rattle.codec.specs.Summary.{SummaryFields, KeepsSummaryRules, SpellsSummary};
@@ -19,16 +22,24 @@ pub fn one_pointer_a_spelling()
         → p ≡ q }
 {}
 
-/// No two checkpoints share an encoding.
-pub fn one_checkpoint_a_spelling()
-    ensures { (block : List ℕ) (c d : CheckpointFields) → SpellsCheckpoint block c
-        → SpellsCheckpoint block d → c ≡ d }
+/// No two first blocks of checkpoints share an encoding.
+pub fn one_first_block_a_spelling()
+    ensures { (block : List ℕ) (f g : FirstBlock) → SpellsFirst block f → SpellsFirst block g
+        → f ≡ g }
 {}
 
-/// What a checkpoint's encoding is read as, is the checkpoint.
+/// No two pointer blocks share an encoding.
+pub fn one_pointer_block_a_spelling()
+    ensures { (block : List ℕ) (a b : PointerBlock) → SpellsPointers block a
+        → SpellsPointers block b → a ≡ b }
+{}
+
+/// What the encoding of a block of a checkpoint is read as, is the block.
 pub fn a_checkpoint_is_read()
-    ensures { (block : List ℕ) (c : CheckpointFields) → SpellsCheckpoint block c
-        → all_of checkpoint_at block ≡ Some c }
+    ensures first { (block : List ℕ) (f : FirstBlock) → SpellsFirst block f
+        → all_of first_at block ≡ Some f }
+    ensures pointers { (block : List ℕ) (b : PointerBlock) → SpellsPointers block b
+        → all_of pointers_at block ≡ Some b }
 {}
 
 /// No two entries share an encoding, and none is the beginning of another's.

@@ -1,5 +1,5 @@
-//! The records of the log as values, and their bytes: pointers, inodes, checkpoints, journal
-//! entries and blocks, and the summaries of frames.
+//! The records of the log as values, and their bytes: pointers, inodes, the blocks of checkpoints,
+//! journal entries and blocks, and the summaries of frames.
 //!
 //! The layers above may rely on this: each record has one encoding, a function of its fields in
 //! `specs/`. An encoder gives that encoding, and a decoder answers the record whose encoding is in
@@ -16,6 +16,7 @@ mod entry_reader;
 mod entry_reading;
 mod entry_writing;
 mod fields;
+mod first_blocks;
 mod frame_digests;
 mod inodes;
 mod journal_bytes;
@@ -24,6 +25,9 @@ mod journal_reading;
 mod journal_writing;
 mod journals;
 pub mod laws;
+pub mod part_laws;
+mod parts;
+mod pointer_blocks;
 mod pointers;
 mod summaries;
 mod summary_reading;
@@ -31,15 +35,18 @@ mod summary_writing;
 mod writing;
 
 pub use attributes::Attribute;
-pub use checkpoints::{Checkpoint, decode_checkpoint, encode_checkpoint};
+pub use checkpoints::Checkpoint;
 pub use entries::{Entry, Pair, PointerIndex, Status, Triple, Triples};
 pub use entry_reader::EntryReader;
 pub use entry_writing::{decode_entry, encode_entry};
+pub use first_blocks::{FirstBlock, decode_first_block, encode_first_block};
 pub use inodes::Inode;
 pub use journal_bytes::JournalBytes;
 pub use journal_reading::decode_journal;
 pub use journal_writing::{encode_entries, encode_journal};
 pub use journals::{Entries, JournalBlock};
+pub use parts::{PartPointers, are_holes, part_of};
+pub use pointer_blocks::{PointerBlock, decode_pointer_block, encode_pointer_block};
 pub use pointers::{decode_ptr, encode_ptr};
 pub use summaries::{BlockRole, BlockRoles, Summary};
 pub use summary_reading::decode_summary;

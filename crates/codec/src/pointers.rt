@@ -2,7 +2,7 @@ ghost use Rattle.std.specs.Prelude.{◌≡◌, ℕ, ◌+◌, ◌*◌, ◌≤◌,
 ghost use Rattle.std.specs.Prelude.{IfSome};
 ghost use Rattle.s4_types.specs.Pointer.{Place, IsPlace};
 ghost use Rattle.std.specs.List.{flat_map, AllByRecursion};
-ghost use Rattle.s4_types.specs.declared.limits.TheConstants.{OBJECT_BLOCKS, POINTER_BYTES};
+ghost use Rattle.s4_types.specs.declared.limits.TheConstants.{POINTER_BYTES};
 ghost use Rattle.codec.specs.Checkpoint.{IsSlot};
 ghost use Rattle.codec.specs.Fields.{Reads, all_of, many_at, slot_at, slot, SpellsSlot};
 
@@ -10,10 +10,7 @@ use crate::fields::read_slot;
 use crate::writing::{Writing, put};
 use arrayvec::ArrayVec;
 use s4_types::Ptr;
-use s4_types::limits::{OBJECT_BLOCKS, POINTER_BYTES};
-
-/// Pointers of an inode, read one after the other.
-pub(crate) type Slots = ArrayVec<Option<Ptr>, OBJECT_BLOCKS>;
+use s4_types::limits::POINTER_BYTES;
 
 #[tactic(auto, unfolding(crate::specs::Fields::slot, crate::specs::Fields::number))]
 fn place_bytes(ptr: Ptr) -> [u8; POINTER_BYTES]
@@ -74,15 +71,17 @@ pub(crate) fn put_slot(out: &mut Writing, ptr: Option<Ptr>)
     put(out, &encode_ptr(ptr));
 }
 
-/// As many pointers as an inode has.
-pub(crate) fn read_slots(bytes: &[u8]) -> Option<(Slots, &[u8])>
-    ensures read { Reads (λ x. (x.0.items, x.1.now)) result
-        (many_at slot_at OBJECT_BLOCKS bytes.now) }
-    ensures all { IfSome result (λ x. length x.0.items ≡ OBJECT_BLOCKS) }
+/// Pointers that are read one after the other.
+pub(crate) type Slots<const N: usize> = ArrayVec<Option<Ptr>, N>;
+
+/// As many pointers as there is room for in the answer.
+pub(crate) fn read_slots<const N: usize>(bytes: &[u8]) -> Option<(Slots<N>, &[u8])>
+    ensures read { Reads (λ x. (x.0.items, x.1.now)) result (many_at slot_at N bytes.now) }
+    ensures all { IfSome result (λ x. length x.0.items ≡ N) }
 {
-    let mut slots: Slots = ArrayVec::new();
+    let mut slots: Slots<N> = ArrayVec::new();
     let mut rest = bytes;
-    for _ in 0..OBJECT_BLOCKS {
+    for _ in 0..N {
         let Some((slot, after)) = read_slot(rest) else {
             return None;
         };
@@ -92,10 +91,10 @@ pub(crate) fn read_slots(bytes: &[u8]) -> Option<(Slots, &[u8])>
     Some((slots, rest))
 }
 
-/// The pointers of an inode, once all are there.
-pub(crate) fn all_slots(slots: Slots) -> [Option<Ptr>; OBJECT_BLOCKS]
-    requires { length slots.items ≡ OBJECT_BLOCKS }
-    ensures { result ≡ slots.items }
+/// The pointers, once there is room for no more.
+pub(crate) fn all_slots<const N: usize>(slots: Slots<N>) -> [Option<Ptr>; N]
+    requires { length slots.items ≡ N }
+    ensures { result ≡ slots.entry.items }
 {
     match slots.into_inner() {
         Ok(slots) => slots,
@@ -103,11 +102,11 @@ pub(crate) fn all_slots(slots: Slots) -> [Option<Ptr>; OBJECT_BLOCKS]
     }
 }
 
-pub(crate) fn put_slots(out: &mut Writing, slots: &[Option<Ptr>; OBJECT_BLOCKS])
-    requires { length out.old.items + OBJECT_BLOCKS * POINTER_BYTES ≤ 512 }
+pub(crate) fn put_slots<const N: usize>(out: &mut Writing, slots: &[Option<Ptr>; N])
+    requires { length out.old.items + N * POINTER_BYTES ≤ 512 }
     ensures items { out.new.items ≡ out.old.items ++ flat_map slot slots.now }
-    ensures len { length out.new.items ≡ length out.old.items + OBJECT_BLOCKS * POINTER_BYTES }
-    ensures count { length slots.now ≡ OBJECT_BLOCKS }
+    ensures len { length out.new.items ≡ length out.old.items + N * POINTER_BYTES }
+    ensures count { length slots.now ≡ N }
     ensures range { AllByRecursion IsSlot slots.now }
 {
     for slot in slots {

@@ -22,6 +22,7 @@ fn read_kind(bytes: &[u8]) -> Option<(BlockKind, &[u8])>
         [1, rest @ ..] => Some((BlockKind::Journal, rest)),
         [2, rest @ ..] => Some((BlockKind::Checkpoint, rest)),
         [3, rest @ ..] => Some((BlockKind::Data, rest)),
+        [4, rest @ ..] => Some((BlockKind::Pointers, rest)),
         _ => None,
     }
 }

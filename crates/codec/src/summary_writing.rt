@@ -16,6 +16,7 @@ fn number_of(kind: BlockKind) -> u8
         BlockKind::Journal => 1,
         BlockKind::Checkpoint => 2,
         BlockKind::Data => 3,
+        BlockKind::Pointers => 4,
     }
 }
 

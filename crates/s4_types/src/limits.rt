@@ -6,24 +6,31 @@ pub const BLOCK_BYTES: usize = 512;
 /// Bytes of a pointer's encoding: frame, block, a zero and generation.
 pub const POINTER_BYTES: usize = 8;
 
-/// Bytes of a checkpoint block in front of its pointers.
+/// Bytes of a checkpoint's first block in front of its pointers.
 pub const CHECKPOINT_HEAD_BYTES: usize = 104;
 
-/// Pointers of a checkpoint block. With the bytes in front of them they leave 24 bytes over, which
-/// are zeros.
+/// Pointers of an inode in one block of a checkpoint. With the bytes in front of them they leave 24
+/// bytes of the first block over.
 pub const CHECKPOINT_POINTERS: usize = 48;
 
-/// Blocks of the largest object, and the pointers of each inode: as many as one checkpoint block
-/// holds.
-pub const OBJECT_BLOCKS: usize = 48;
+/// Pointers of a checkpoint's first block to its other blocks: as many as fit the bytes that are
+/// left over.
+pub const CHECKPOINT_PARTS: usize = (BLOCK_BYTES
+    - CHECKPOINT_HEAD_BYTES
+    - CHECKPOINT_POINTERS * POINTER_BYTES)
+    / POINTER_BYTES;
 
-/// Blocks of the longest checkpoint: one for each `CHECKPOINT_POINTERS` of the largest object.
-pub const CHECKPOINT_BLOCKS: usize = OBJECT_BLOCKS / CHECKPOINT_POINTERS;
+/// Blocks of the longest checkpoint: the first, and its parts.
+pub const CHECKPOINT_BLOCKS: usize = 1 + CHECKPOINT_PARTS;
+
+/// Blocks of the largest object, and the pointers of each inode: as many as the longest checkpoint
+/// holds.
+pub const OBJECT_BLOCKS: usize = CHECKPOINT_BLOCKS * CHECKPOINT_POINTERS;
 
 /// Bytes of the largest object, whose blocks are all whole.
 pub const OBJECT_BYTES: u64 = (OBJECT_BLOCKS * BLOCK_BYTES) as u64;
 
-/// Bytes of the longest read, and of the longest write. Chosen: a whole object of the largest size.
+/// Bytes of the longest read. Chosen: those of `CHECKPOINT_POINTERS` blocks.
 pub const READ_BYTES: u64 = 24_576;
 
 /// Bytes of the longest attribute. Chosen, so that two of them fit a journal entry.
@@ -34,7 +41,7 @@ pub const ATTRIBUTE_BYTES: usize = 64;
 pub const ATTRIBUTE_PAIR_BYTES: usize = 2 * (1 + ATTRIBUTE_BYTES);
 
 /// Bytes of a pointer's index in a journal entry.
-pub const POINTER_INDEX_BYTES: usize = 1;
+pub const POINTER_INDEX_BYTES: usize = 2;
 
 /// Bytes of a pointer change in a journal entry: the index, and the pointers before and after.
 pub const TRIPLE_BYTES: usize = POINTER_INDEX_BYTES + 2 * POINTER_BYTES;
@@ -67,8 +74,9 @@ pub const CHANGE_ENTRIES: usize = OBJECT_BLOCKS / ENTRY_TRIPLES;
 pub const CHANGE_ENTRY_BYTES: usize = CHANGE_ENTRIES * LONGEST_PLAIN_ENTRY_BYTES
     + ATTRIBUTE_PAIR_BYTES;
 
-/// Bytes of all entries of a chain: as many as 24 full journal blocks hold.
-pub const CHAIN_ENTRY_BYTES: usize = 24 * JOURNAL_ENTRY_BYTES;
+/// Bytes of all entries of a chain: as many as 84 full journal blocks hold. Chosen, so that the
+/// reserve is of twelve frames.
+pub const CHAIN_ENTRY_BYTES: usize = 84 * JOURNAL_ENTRY_BYTES;
 
 /// Entries of a chain at most: as many of the shortest as it has bytes for.
 pub const CHAIN_ENTRIES: usize = CHAIN_ENTRY_BYTES / SHORTEST_ENTRY_BYTES;
@@ -79,6 +87,10 @@ pub const CHAIN_BLOCKS: usize = 2 * (CHAIN_ENTRY_BYTES / JOURNAL_ENTRY_BYTES) - 
 
 /// Older checkpoints that are kept of an object at most, beside its newest one. Chosen.
 pub const SIDES: usize = 8;
+
+/// Pointers by which an object's row refers to data, at most: those of each of its checkpoints, and
+/// two of each triple of its chain, which has as many bytes at least.
+pub const ROW_POINTERS: usize = (1 + SIDES) * OBJECT_BLOCKS + CHAIN_ENTRY_BYTES;
 
 /// Runs of hidden moments in one list of spans. Chosen: a look-up goes through at most two lists.
 pub const RUNS_IN_A_LIST: usize = 64;
@@ -107,8 +119,8 @@ pub const MOVE_BLOCKS: usize = PAYLOAD_BLOCKS + CHECKPOINT_BLOCKS + CHAIN_BLOCKS
 /// Frames of the smallest drive: the reserve's, and as many beside them. Chosen.
 pub const FEWEST_FRAMES: usize = 2 * RESERVE_FRAMES;
 
-/// Frames of a drive where nobody says how many. Chosen: twice the smallest.
-pub const DEFAULT_FRAMES: usize = 2 * FEWEST_FRAMES;
+/// Frames of a drive where nobody says how many. Chosen: the smallest.
+pub const DEFAULT_FRAMES: usize = FEWEST_FRAMES;
 
 /// Frames of the largest drive, about 8 MiB of blocks. Chosen.
 pub const MOST_FRAMES: usize = 1024;
@@ -123,5 +135,5 @@ pub const MOST_READERS: u64 = 1_048_576;
 /// Tries of one pin before it gives up. Chosen, so that a pin always returns.
 pub const PIN_TRIES: usize = 64;
 
-/// Bytes of the longest body of a frame on the wire: room for the longest write.
+/// Bytes of the longest body of a frame on the wire. Chosen.
 pub const FRAME_BODY_BYTES: usize = 32_768;

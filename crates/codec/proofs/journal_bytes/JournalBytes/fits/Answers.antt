@@ -1,4 +1,4 @@
-use Rattle.std.proofs.Common.{◌+◌, nat_le, ap, arith}
+use Rattle.std.proofs.Common.{nat_le, ap, arith}
 use Rattle.s4_types.specs.declared.limits.TheConstants.{JOURNAL_ENTRY_BYTES}
 use Rattle.codec.proofs.journal_bytes.JournalBytes.fits.Goals as goal
 
