@@ -12,7 +12,7 @@ use std::alloc::Global;
 use std::marker::Model;
 use std::num::NonZeroUsize;
 
-/// Inodes that a cache has at most. Chosen: some 50 KiB.
+/// Inodes that a cache has at most. Chosen: some 160 KiB.
 pub const CACHED_INODES: usize = 64;
 
 /// What an inode is kept under: an object, and a stamp of its row, at which the row's checkpoint

@@ -1,38 +1,78 @@
-ghost use Rattle.std.specs.Prelude.{◌≡◌, ℕ, ◌<◌, ◌≤◌, ◌++◌, false, length, map, None, Some, IsSome};
+ghost use Rattle.std.specs.Prelude.{◌≡◌, ℕ, ◌<◌, ◌≤◌, ◌++◌, length, map, slice_index_or};
+ghost use Rattle.std.specs.Prelude.{Some, None, IfSome};
 ghost use Rattle.std.specs.Prelude.{IfOk, IfErr, OnOk, OnErr, MatchResult};
+ghost use Rattle.std.specs.Option.{option_to_list};
 ghost use Rattle.codec.specs.Fields.{Reads};
 ghost use Rattle.checkpoint.specs.Held.{checkpoint_held, checkpoint_places, checkpoint_blocks};
-ghost use Rattle.checkpoint.specs.Held.{of_checkpoints, HasItsBlocks, OnlyCheckpointChanged};
-ghost use Rattle.checkpoint.specs.Held.{PutsCheckpoint, DropsCheckpoint};
-ghost use Rattle.block_log.specs.Log.{same_place};
+ghost use Rattle.checkpoint.specs.Held.{of_checkpoints, HasBytes, HasItsBlocks, part_blocks, part_in};
+ghost use Rattle.checkpoint.specs.Held.{part_place, first_in, PutsCheckpoint, DropsCheckpoint};
+ghost use Rattle.checkpoint.specs.private.Steps.{WritesPart, DropsPlaces, HasNoOther};
 ghost use Rattle.block_log.specs.Taken.{TakesPlaces};
-ghost use Rattle.s4_types.specs.Pointer.{Place};
-ghost use Rattle.s4_types.specs.declared.limits.TheConstants.{CHECKPOINT_BLOCKS};
+ghost use Rattle.s4_types.specs.declared.limits.TheConstants.{CHECKPOINT_BLOCKS, CHECKPOINT_PARTS};
 ghost use Rattle.s4_types.specs.declared.refusals.Refusal.TheVariants.{NoMemory, NoSpace};
 
 use block_log::laws::{
     a_drop_takes_no_place, a_drop_takes_one_block, an_append_puts_one_block,
     an_append_takes_one_place, no_change_takes_no_place, one_place_has_one_name,
+    places_taken_add_up,
 };
-use block_log::{BlockKind, Blocks};
+use block_log::{Block, BlockKind, Blocks};
 use codec::laws::a_checkpoint_is_read;
-use codec::{Checkpoint, Inode, decode_checkpoint, encode_checkpoint};
+use codec::part_laws::{a_block_begins_with_its_kind, a_checkpoint_is_its_blocks};
+use codec::{
+    Checkpoint, FirstBlock, Inode, PartPointers, are_holes, decode_first_block, encode_first_block,
+    encode_pointer_block, part_of,
+};
+use s4_types::limits::CHECKPOINT_POINTERS;
 use s4_types::{ObjectId, Ptr, Refusal};
+
+/// How many blocks a part of a checkpoint takes: one, or none where its pointers are holes.
+#[tactic(auto, unfolding(crate::specs::Held::part_blocks))]
+fn part_blocks(inode: &Inode, part: u8) -> usize
+    requires { part ≤ CHECKPOINT_PARTS }
+    ensures blocks { result ≡ part_blocks inode.now part }
+    ensures few { result ≤ 1 }
+{
+    if are_holes(part_of(inode, part)) {
+        0
+    } else {
+        1
+    }
+}
 
 /// How many blocks a checkpoint of an inode takes: at least one, and at most `CHECKPOINT_BLOCKS`.
 #[tactic(auto, unfolding(crate::specs::Held::checkpoint_blocks))]
-pub fn checkpoint_blocks(_inode: &Inode) -> usize
-    ensures blocks { result ≡ checkpoint_blocks _inode.now }
+pub fn checkpoint_blocks(inode: &Inode) -> usize
+    ensures blocks { result ≡ checkpoint_blocks inode.now }
     ensures few { result ≤ CHECKPOINT_BLOCKS }
 {
-    1
+    part_blocks(inode, 1) + (part_blocks(inode, 2) + (part_blocks(inode, 3) + 1))
+}
+
+/// Appends the block of a part of a checkpoint, and answers where it is. None where its pointers
+/// are holes: then nothing is appended.
+fn write_part<B: Blocks>(table: &mut B, checkpoint: &Checkpoint, part: u8) -> Option<Ptr>
+    requires part { part ≤ CHECKPOINT_PARTS }
+    requires room { part_blocks checkpoint.now.inode part ≤ length (B.log table.old).ahead }
+    ensures wrote { WritesPart checkpoint.now part (B.log table.old) result (B.log table.new) }
+    ensures takes { TakesPlaces (part_blocks checkpoint.now.inode part) (B.log table.old)
+        (B.log table.new) }
+{
+    an_append_puts_one_block();
+    an_append_takes_one_place();
+    no_change_takes_no_place();
+    let block = checkpoint.pointer_block(part)?;
+    let bytes = encode_pointer_block(&block);
+    let Ok(place) = table.append(BlockKind::Pointers, checkpoint.object(), &bytes) else {
+        unreachable!()
+    };
+    Some(place)
 }
 
 /// Appends a checkpoint, and answers the pointer by which it is held from now on. No held pointer
 /// equals it or refers to one of its blocks.
 ///
 /// NoSpace exactly where fewer places are ahead than it takes; then nothing has changed.
-#[tactic(auto, unfolding(crate::specs::Held::checkpoint_blocks, crate::specs::Held::checkpoint_in))]
 pub fn write_checkpoint<B: Blocks>(table: &mut B, checkpoint: &Checkpoint) -> Result<Ptr, Refusal>
     ensures written { IfOk result
         (λ p. checkpoint_held (B.log table.new).held checkpoint.now.object p
@@ -51,22 +91,106 @@ pub fn write_checkpoint<B: Blocks>(table: &mut B, checkpoint: &Checkpoint) -> Re
     ensures unchanged { OnErr result (B.log table.new ≡ B.log table.old) }
 {
     a_checkpoint_is_read();
+    a_checkpoint_is_its_blocks();
+    a_block_begins_with_its_kind();
     one_place_has_one_name();
     an_append_puts_one_block();
     an_append_takes_one_place();
-    let block = encode_checkpoint(checkpoint);
-    table.append(BlockKind::Checkpoint, checkpoint.object(), &block)
+    places_taken_add_up();
+    if table.blocks_left() < checkpoint_blocks(checkpoint.inode()) {
+        return Err(Refusal::NoSpace);
+    }
+    let one = write_part(table, checkpoint, 1);
+    let two = write_part(table, checkpoint, 2);
+    let three = write_part(table, checkpoint, 3);
+    let first = checkpoint.first_block([one, two, three]);
+    let bytes = encode_first_block(&first);
+    table.append(BlockKind::Checkpoint, checkpoint.object(), &bytes)
+}
+
+/// The block of an object's checkpoints at a place.
+fn get_block<B: Blocks>(table: &mut B, object: ObjectId, place: Ptr) -> Block
+    requires held { HasBytes (of_checkpoints object (B.log table.old).held place) }
+    ensures exact { of_checkpoints object (B.log table.old).held place ≡ Some result }
+    ensures same { B.log table.new ≡ B.log table.old }
+{
+    table.get(place)
+}
+
+/// The first block of the checkpoint of an object that a pointer refers to.
+fn read_first<B: Blocks>(table: &mut B, object: ObjectId, place: Ptr) -> Option<FirstBlock>
+    requires held { HasBytes (of_checkpoints object (B.log table.old).held place) }
+    ensures exact { Reads (λ first. first) result
+        (first_in (of_checkpoints object (B.log table.old).held) place) }
+    ensures same { B.log table.new ≡ B.log table.old }
+{
+    decode_first_block(&get_block(table, object, place))
+}
+
+/// The pointers of a part of a checkpoint of an object: holes where it has no block.
+fn read_part<B: Blocks>(
+    table: &mut B,
+    object: ObjectId,
+    first: &FirstBlock,
+    part: u8,
+    place: Option<Ptr>,
+) -> Option<PartPointers>
+    requires held { IfSome place
+        (λ q. HasBytes (of_checkpoints object (B.log table.old).held q)) }
+    ensures exact { Reads (λ pointers. pointers) result
+        (part_in (of_checkpoints object (B.log table.old).held) first.now part place) }
+    ensures same { B.log table.new ≡ B.log table.old }
+{
+    let Some(place) = place else {
+        return Some([None; CHECKPOINT_POINTERS]);
+    };
+    let block = get_block(table, object, place);
+    first.pointers_in(part, &block)
+}
+
+/// Where the block of a part is, of parts that are counted from 0 on.
+fn place_of(first: &FirstBlock, part: usize) -> Option<Ptr>
+    requires { part < CHECKPOINT_PARTS }
+    ensures { result ≡ slice_index_or first.now.parts part None }
+{
+    first.parts[part]
 }
 
 /// The checkpoint of an object that a pointer refers to.
+#[tactic(auto, unfolding(crate::specs::Held::checkpoint_in, crate::specs::Held::places_in))]
 pub fn read_checkpoint<B: Blocks>(table: &mut B, object: ObjectId, place: Ptr) -> Option<Checkpoint>
     requires held { HasItsBlocks (B.log table.old).held object (Some place) }
     ensures exact { Reads (λ checkpoint. checkpoint) result
         (checkpoint_held (B.log table.old).held object place) }
     ensures same { B.log table.new ≡ B.log table.old }
 {
-    let block = table.get(place);
-    decode_checkpoint(&block)
+    let first = read_first(table, object, place)?;
+    let one = read_part(table, object, &first, 1, place_of(&first, 0))?;
+    let two = read_part(table, object, &first, 2, place_of(&first, 1))?;
+    let three = read_part(table, object, &first, 3, place_of(&first, 2))?;
+    first.joined(&one, &two, &three)
+}
+
+/// Where the block of a part is, if there is a first block.
+fn part_place(first: &Option<FirstBlock>, part: usize) -> Option<Ptr>
+    requires { part < CHECKPOINT_PARTS }
+    ensures { result ≡ part_place first.now part }
+{
+    match first {
+        None => None,
+        Some(first) => place_of(first, part),
+    }
+}
+
+/// How many blocks are at a place.
+fn count_at(place: Option<Ptr>) -> usize
+    ensures count { result ≡ length (option_to_list place) }
+    ensures few { result ≤ 1 }
+{
+    match place {
+        None => 0,
+        Some(_) => 1,
+    }
 }
 
 /// How many blocks the checkpoint that a pointer refers to is in.
@@ -77,7 +201,23 @@ pub fn placed_blocks<B: Blocks>(table: &mut B, object: ObjectId, place: Ptr) -> 
     ensures few { result ≤ CHECKPOINT_BLOCKS }
     ensures same { B.log table.new ≡ B.log table.old }
 {
-    1
+    let first = read_first(table, object, place);
+    let one = count_at(part_place(&first, 0));
+    let two = count_at(part_place(&first, 1));
+    let three = count_at(part_place(&first, 2));
+    one + (two + (three + 1))
+}
+
+/// Adds a place, if there is one.
+fn add_place(place: Option<Ptr>, places: &mut Vec<Option<Ptr>>) -> Result<(), Refusal>
+    ensures added { OnOk result
+        (places.new.items ≡ places.old.items ++ map Some (option_to_list place)) }
+    ensures refusal { IfErr result (λ e. e ≡ NoMemory) }
+{
+    if place.is_some() {
+        places.push(place)?;
+    }
+    Ok(())
 }
 
 /// Adds the places of the blocks of the checkpoint that a pointer refers to, in the order in which
@@ -99,23 +239,28 @@ pub fn add_places<B: Blocks>(
     ensures refusal { IfErr result (λ e. e ≡ NoMemory) }
     ensures same { B.log table.new ≡ B.log table.old }
 {
-    places.push(Some(place))?;
-    Ok(())
+    let first = read_first(table, object, place);
+    add_place(part_place(&first, 0), places)?;
+    add_place(part_place(&first, 1), places)?;
+    add_place(part_place(&first, 2), places)?;
+    add_place(Some(place), places)
 }
 
-/// Drops a block of a checkpoint of an object.
-fn drop_block<B: Blocks>(table: &mut B, object: ObjectId, place: Ptr)
-    requires held { IsSome (of_checkpoints object (B.log table.old).held place) }
-    ensures gone { (B.log table.new).held place ≡ None }
-    ensures kept { (q : Place) → same_place place q ≡ false
-        → (B.log table.new).held q ≡ (B.log table.old).held q }
-    ensures others { OnlyCheckpointChanged object (B.log table.old).held (B.log table.new).held }
+/// Drops a block of a checkpoint of an object, if there is a place and a block is held there.
+fn drop_place<B: Blocks>(table: &mut B, object: ObjectId, place: Option<Ptr>)
+    requires held { IfSome place (HasNoOther (B.log table.old).held object) }
+    ensures dropped { DropsPlaces (B.log table.old).held object (option_to_list place)
+        (B.log table.new).held }
     ensures named { (B.log table.new).named ≡ (B.log table.old).named }
     ensures takes { TakesPlaces 0 (B.log table.old) (B.log table.new) }
 {
+    one_place_has_one_name();
     a_drop_takes_one_block();
     a_drop_takes_no_place();
-    table.drop_block(place);
+    no_change_takes_no_place();
+    if let Some(place) = place {
+        table.drop_block(place);
+    }
 }
 
 /// Drops all blocks of the checkpoint of an object that a pointer refers to, if there is a pointer,
@@ -128,7 +273,13 @@ pub fn drop_checkpoint<B: Blocks>(table: &mut B, object: ObjectId, place: Option
 {
     one_place_has_one_name();
     no_change_takes_no_place();
-    if let Some(place) = place {
-        drop_block(table, object, place);
-    }
+    places_taken_add_up();
+    let Some(place) = place else {
+        return;
+    };
+    let first = read_first(table, object, place);
+    drop_place(table, object, part_place(&first, 0));
+    drop_place(table, object, part_place(&first, 1));
+    drop_place(table, object, part_place(&first, 2));
+    drop_place(table, object, Some(place));
 }

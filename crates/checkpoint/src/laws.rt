@@ -11,6 +11,10 @@ ghost use Rattle.checkpoint.specs.Held.{checkpoint_held, checkpoint_places, chec
 ghost use Rattle.checkpoint.specs.Held.{of_checkpoints, is_one_of, HasItsBlocks, IsInBoth};
 
 use block_log::laws::one_place_has_one_name;
+use codec::part_laws::{
+    a_block_begins_with_its_kind, a_first_block_has_all_pointers, a_part_is_in_its_block,
+    blocks_tell_their_checkpoint,
+};
 
 /// A checkpoint is a matter of its own blocks: where those are as they were, it is the same, and so
 /// are its places.
@@ -39,6 +43,8 @@ pub fn a_checkpoint_has_its_blocks()
         → count_by (λ r. same_place r q) (checkpoint_places held o p) ≤ 1 }
 {
     one_place_has_one_name();
+    a_block_begins_with_its_kind();
+    a_part_is_in_its_block();
 }
 
 /// A checkpoint is in as many blocks as its inode takes: at least one, and no more than any does.
@@ -52,7 +58,12 @@ pub fn a_checkpoint_takes_its_blocks()
     ensures holes { (i j : Inode)
         → map is_some i.pointers ≡ map is_some j.pointers
         → checkpoint_blocks i ≡ checkpoint_blocks j }
-{}
+{
+    a_block_begins_with_its_kind();
+    a_part_is_in_its_block();
+    a_first_block_has_all_pointers();
+    blocks_tell_their_checkpoint();
+}
 
 /// Two checkpoints of an object that have a block in common are of one moment.
 pub fn checkpoints_of_two_moments_share_no_block()
@@ -60,4 +71,7 @@ pub fn checkpoints_of_two_moments_share_no_block()
         → IsInBoth held o p r q → c.moment ≡ d.moment }
 {
     one_place_has_one_name();
+    a_block_begins_with_its_kind();
+    a_part_is_in_its_block();
+    blocks_tell_their_checkpoint();
 }
