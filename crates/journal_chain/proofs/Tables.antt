@@ -4,7 +4,7 @@ use Rattle.std.proofs.lemmas.Bool.{cases_Bool, both_ways, and_parts, eq-eqb, eqb
 use Rattle.std.proofs.lemmas.Option.{none-some, same_Some}
 use Rattle.s4_types.specs.Pointer.{Place}
 use Rattle.block_log.specs.declared.kinds.BlockKind.{BlockKind}
-use Rattle.block_log.specs.declared.kinds.BlockKind.TheVariants.{Journal, Checkpoint, Data}
+use Rattle.block_log.specs.declared.kinds.BlockKind.TheVariants.{Journal, Checkpoint, Data, Pointers}
 use Rattle.block_log.specs.Log.{Log, Stored, same_place, same_kind, with_held, without, named_with, is_data, dropped, dropped_by, appended, appended_at, seen_as, of_kind}
 use Rattle.journal_chain.specs.Chain.{OnlyJournalChanged}
 use Rattle.journal_chain.proofs.Places.{one_place, same_as_itself}
@@ -39,6 +39,7 @@ same_kind-here : (kind : BlockKind) → same_kind kind Journal ≡ same_kind Jou
 same_kind-here Journal = refl
 same_kind-here Checkpoint = refl
 same_kind-here Data = refl
+same_kind-here Pointers = refl
 
 -- a block of the object's journal is in no other view
 hidden : (o : ℕ) (bytes : List ℕ) (kind : BlockKind) (other : ℕ) → is_journal_of o kind other ≡ false → seen_as kind other (Some (record { kind = Journal; object = o; bytes = bytes })) ≡ None
@@ -85,6 +86,7 @@ kind_is : (kind : BlockKind) → same_kind Journal kind ≡ true → kind ≡ Jo
 kind_is Journal h = refl
 kind_is Checkpoint h = absurd (both_ways false refl h)
 kind_is Data h = absurd (both_ways false refl h)
+kind_is Pointers h = absurd (both_ways false refl h)
 
 -- what the object's journal shows at a place, no other view does
 hidden_at : (o : ℕ) (there : Option Stored) (kind : BlockKind) (other : ℕ) → is_some (seen_as Journal o there) ≡ true → is_journal_of o kind other ≡ false → seen_as kind other there ≡ None

@@ -4,15 +4,15 @@ use Rattle.std.specs.List.{AllByRecursion}
 use Rattle.std.proofs.lemmas.Bool.{cases_Bool, or_cases, or_parts, or_left, false≢true}
 use Rattle.std.proofs.lemmas.List.{take_more, append-nil}
 use Rattle.s4_types.specs.Pointer.{Place}
-use Rattle.block_log.specs.declared.kinds.BlockKind.TheVariants.{Journal, Checkpoint}
-use Rattle.block_log.specs.Log.{Stored, of_kind, seen_as}
+use Rattle.block_log.specs.declared.kinds.BlockKind.TheVariants.{Journal}
+use Rattle.block_log.specs.Log.{Stored, of_kind}
 use Rattle.codec.specs.Fields.{◌>>=◌}
 use Rattle.codec.specs.Checkpoint.{CheckpointFields}
 use Rattle.codec.specs.Entry.{EntryFields}
 use Rattle.codec.specs.declared.inodes.Inode.{Inode}
 use Rattle.undo_redo.specs.Runs.{Run, AllBy, inode_after}
 use Rattle.undo_redo.specs.Groups.{grouped}
-use Rattle.checkpoint.specs.Held.{checkpoint_held, checkpoint_places, places_in, places_named, of_checkpoints, is_one_of, HasItsBlocks, DropsCheckpoint}
+use Rattle.checkpoint.specs.Held.{seen_of, checkpoint_held, checkpoint_places, places_in, places_named, of_checkpoints, is_one_of, HasItsBlocks, DropsCheckpoint}
 use Rattle.journal_chain.specs.Chain.{BlockView, IsChain, Holds}
 use Rattle.object_map.specs.declared.map.Row.{Row}
 use Rattle.object_map.specs.declared.sides.Side.{Side}
@@ -33,7 +33,7 @@ none_dropped o held = record { gone = λ q is. absurd (false≢true is); kept = 
 -- a checkpoint of a later moment than those that were dropped is as it was
 pub later_stays : OneMoment → (held now : Place → Option Stored) (o : ℕ) (row : Row) (front : List Side) (p : Place) (c : CheckpointFields) → checkpoint_held held o p ≡ Some c → AllByRecursion (IsTold held o row) front → AllByRecursion (λ s. s.moment < c.moment) front
     → DropsSides held o front now → BlocksStay held now o p
-later_stays law held now o row front p c told all earlier drops q is = ap (seen_as Checkpoint o) (drops.kept q (beside_earlier law held o row p c told front all earlier q is))
+later_stays law held now o row front p c told all earlier drops q is = ap (seen_of o) (drops.kept q (beside_earlier law held o row p c told front all earlier q is))
 
 -- those before a place of the list were dropped, and the one there is as it was
 pub record Dropping (held now : Place → Option Stored) (o : ℕ) (front : List Side) (s : Side) : Type 0 where
@@ -148,7 +148,7 @@ newest_alone : (held later : Place → Option Stored) (o : ℕ) (row : Row) → 
 newest_alone held later o row b q there = elim (cases_Bool (is_one_of (side_places (of_checkpoints o held) row.sides) q)) [
   | inl old ↦ absurd (held_there o (later q) there (b.drops.gone q old))
   | inr beside ↦
-      let was : of_checkpoints o later q ≡ of_checkpoints o held q = ap (seen_as Checkpoint o) (b.drops.kept q beside) in
+      let was : of_checkpoints o later q ≡ of_checkpoints o held q = ap (seen_of o) (b.drops.kept q beside) in
       let split : (is_one_of (checkpoint_places_of held o row) q || is_one_of (side_places (of_checkpoints o held) row.sides) q) ≡ true =
       sym (one_append (checkpoint_places_of held o row) (side_places (of_checkpoints o held) row.sides) q) ∙ b.stands.only q (subst (λ x. IsSome x) was there) in
       one_append (checkpoint_places_of later o row) [] q

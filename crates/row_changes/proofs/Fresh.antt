@@ -3,7 +3,8 @@ use Rattle.std.proofs.Common.{◌≡◌, ℕ, ◌≤◌, List, [], Option, None,
 use Rattle.std.proofs.lemmas.Bool.{false≢true}
 use Rattle.s4_types.specs.Pointer.{Place}
 use Rattle.block_log.specs.Log.{Stored, of_kind}
-use Rattle.block_log.specs.declared.kinds.BlockKind.TheVariants.{Journal, Checkpoint}
+use Rattle.block_log.specs.declared.kinds.BlockKind.TheVariants.{Journal}
+use Rattle.checkpoint.specs.Held.{of_checkpoints}
 use Rattle.codec.specs.declared.inodes.Inode.{Inode}
 use Rattle.codec.specs.Entry.{EntryFields}
 use Rattle.journal_chain.specs.Packing.{joined}
@@ -40,7 +41,7 @@ fresh_inode held o created t =
 
 pub fresh_stands :
     ((held : Place → Option Stored) (o : ℕ) → ((p : Place) → of_kind Journal o held p ≡ None) → Holds held (record { object = o; head = None; bytes = 0; filled = 0 }) []) →
-    (held : Place → Option Stored) (o created : ℕ) → 1 ≤ o → ((p : Place) → of_kind Journal o held p ≡ None) → ((p : Place) → of_kind Checkpoint o held p ≡ None) → IsRow held o (fresh_row created)
+    (held : Place → Option Stored) (o created : ℕ) → 1 ≤ o → ((p : Place) → of_kind Journal o held p ≡ None) → ((p : Place) → of_checkpoints o held p ≡ None) → IsRow held o (fresh_row created)
 fresh_stands empty held o created least none no_checkpoint =
     let first : Inode = first_of held o (fresh_row created) in
     let is : entries_of held o (fresh_row created) ≡ [] = no_entries held o created in

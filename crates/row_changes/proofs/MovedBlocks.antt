@@ -7,7 +7,7 @@ use Rattle.std.proofs.lemmas.Option.{none-some, same_Some}
 use Rattle.s4_types.specs.Pointer.{Place}
 use Rattle.s4_types.specs.declared.limits.TheConstants.{CHAIN_ENTRIES, CHAIN_ENTRY_BYTES}
 use Rattle.block_log.specs.declared.kinds.BlockKind.{BlockKind}
-use Rattle.block_log.specs.declared.kinds.BlockKind.TheVariants.{Journal, Checkpoint, Data}
+use Rattle.block_log.specs.declared.kinds.BlockKind.TheVariants.{Journal, Checkpoint, Data, Pointers}
 use Rattle.block_log.specs.Log.{Log, Stored, of_kind, seen_as, same_kind}
 use Rattle.block_log.specs.Taken.{TakesPlaces}
 use Rattle.codec.specs.Fields.{◌>>=◌, bit}
@@ -52,33 +52,32 @@ no_bytes = omega arith
 
 -- ---- what is held that was not is at a place that was taken
 
-same_kinds : (k j i : BlockKind) → same_kind k i ≡ true → same_kind j i ≡ true → same_kind k j ≡ true
-same_kinds Journal Journal i a b = refl
-same_kinds Checkpoint Checkpoint i a b = refl
-same_kinds Data Data i a b = refl
-same_kinds Journal Checkpoint Journal a b = absurd (false≢true b)
-same_kinds Journal Checkpoint Checkpoint a b = absurd (false≢true a)
-same_kinds Journal Checkpoint Data a b = absurd (false≢true a)
-same_kinds Journal Data Journal a b = absurd (false≢true b)
-same_kinds Journal Data Checkpoint a b = absurd (false≢true a)
-same_kinds Journal Data Data a b = absurd (false≢true a)
-same_kinds Checkpoint Journal Journal a b = absurd (false≢true a)
-same_kinds Checkpoint Journal Checkpoint a b = absurd (false≢true b)
-same_kinds Checkpoint Journal Data a b = absurd (false≢true a)
-same_kinds Checkpoint Data Journal a b = absurd (false≢true a)
-same_kinds Checkpoint Data Checkpoint a b = absurd (false≢true b)
-same_kinds Checkpoint Data Data a b = absurd (false≢true a)
-same_kinds Data Journal Journal a b = absurd (false≢true a)
-same_kinds Data Journal Checkpoint a b = absurd (false≢true a)
-same_kinds Data Journal Data a b = absurd (false≢true b)
-same_kinds Data Checkpoint Journal a b = absurd (false≢true a)
-same_kinds Data Checkpoint Checkpoint a b = absurd (false≢true a)
-same_kinds Data Checkpoint Data a b = absurd (false≢true b)
+kind_is : (k i : BlockKind) → same_kind k i ≡ true → k ≡ i
+kind_is Journal Journal is = refl
+kind_is Journal Checkpoint is = absurd (false≢true is)
+kind_is Journal Data is = absurd (false≢true is)
+kind_is Journal Pointers is = absurd (false≢true is)
+kind_is Checkpoint Journal is = absurd (false≢true is)
+kind_is Checkpoint Checkpoint is = refl
+kind_is Checkpoint Data is = absurd (false≢true is)
+kind_is Checkpoint Pointers is = absurd (false≢true is)
+kind_is Data Journal is = absurd (false≢true is)
+kind_is Data Checkpoint is = absurd (false≢true is)
+kind_is Data Data is = refl
+kind_is Data Pointers is = absurd (false≢true is)
+kind_is Pointers Journal is = absurd (false≢true is)
+kind_is Pointers Checkpoint is = absurd (false≢true is)
+kind_is Pointers Data is = absurd (false≢true is)
+kind_is Pointers Pointers is = refl
 
 kind_itself : (k : BlockKind) → same_kind k k ≡ true
 kind_itself Journal = refl
 kind_itself Checkpoint = refl
 kind_itself Data = refl
+kind_itself Pointers = refl
+
+same_kinds : (k j i : BlockKind) → same_kind k i ≡ true → same_kind j i ≡ true → same_kind k j ≡ true
+same_kinds k j i a b = (λ t. same_kind (kind_is k i a t) (kind_is j i b t)) ∙ kind_itself i
 
 -- a block that is seen as one of a kind and object is of that kind and object
 seen_is : (k : BlockKind) (o : ℕ) (block : Stored) → IsSome (seen_as k o (Some block)) → (same_kind k block.kind && block.object == o) ≡ true

@@ -8,14 +8,14 @@ use Rattle.s4_types.specs.Pointer.{Place}
 use Rattle.block_log.specs.Log.{Log, Stored, of_kind, same_kind}
 use Rattle.block_log.specs.Taken.{TakesPlaces}
 use Rattle.block_log.specs.declared.kinds.BlockKind.{BlockKind}
-use Rattle.block_log.specs.declared.kinds.BlockKind.TheVariants.{Journal, Checkpoint, Data}
+use Rattle.block_log.specs.declared.kinds.BlockKind.TheVariants.{Journal, Checkpoint, Data, Pointers}
 use Rattle.codec.specs.declared.inodes.Inode.{Inode}
 use Rattle.codec.specs.Entry.{EntryFields}
 use Rattle.codec.specs.Checkpoint.{CheckpointFields}
 use Rattle.codec.specs.Fields.{◌>>=◌}
 use Rattle.undo_redo.specs.Runs.{Run, inode_after, redone_all}
 use Rattle.undo_redo.specs.Groups.{grouped}
-use Rattle.checkpoint.specs.Held.{checkpoint_held, checkpoint_in, places_named, of_checkpoints, is_one_of, OnlyCheckpointChanged}
+use Rattle.checkpoint.specs.Held.{is_checkpoint_kind, checkpoint_held, checkpoint_in, places_named, of_checkpoints, is_one_of, OnlyCheckpointChanged}
 use Rattle.object_map.specs.declared.map.Row.{Row}
 use Rattle.journal_chain.specs.Chain.{BlockView, ChainFields, Holds, OnlyJournalChanged}
 use Rattle.time_read.specs.Rows.{chain_of, entries_of, inode_before, first_of, inode_of, checkpoint_of, IsRow}
@@ -131,20 +131,22 @@ pub holds_told : (later : Place → Option Stored) (o : ℕ) (row : Row) (p h : 
 holds_told later o row p h b f chain entries object head bytes filled holds = subst (λ (c : ChainFields). Holds later c entries) (chain_told o row p h b f chain object head bytes filled) holds
 
 -- what is told of checkpoints stays where journals alone change
-pub told_still : (between later : Place → Option Stored) (o : ℕ) (row : Row) (kept : Option Inode) (p h : Option Place) (b f : ℕ) → of_kind Checkpoint o later ≡ of_kind Checkpoint o between
+pub told_still : (between later : Place → Option Stored) (o : ℕ) (row : Row) (kept : Option Inode) (p h : Option Place) (b f : ℕ) → of_checkpoints o later ≡ of_checkpoints o between
     → checkpoint_of between o (record row { checkpoint = p }) ≡ checkpoint_with o row kept → checkpoint_of later o (with_moved row p h b f) ≡ checkpoint_with o row kept
 told_still between later o row kept p h b f same told = ap (λ (v : BlockView). p >>= λ q. checkpoint_in v q) same ∙ told
 
 -- a view that is of neither the journal nor the checkpoints is of no journal, and of no checkpoints
-no_journal : (kind : BlockKind) (same : Bool) → ((same_kind Journal kind || same_kind Checkpoint kind) && same) ≡ false → (same_kind Journal kind && same) ≡ false
+no_journal : (kind : BlockKind) (same : Bool) → ((same_kind Journal kind || is_checkpoint_kind kind) && same) ≡ false → (same_kind Journal kind && same) ≡ false
 no_journal Journal same h = h
 no_journal Checkpoint same h = refl
 no_journal Data same h = refl
+no_journal Pointers same h = refl
 
-no_checkpoint : (kind : BlockKind) (same : Bool) → ((same_kind Journal kind || same_kind Checkpoint kind) && same) ≡ false → (same_kind Checkpoint kind && same) ≡ false
+no_checkpoint : (kind : BlockKind) (same : Bool) → ((same_kind Journal kind || is_checkpoint_kind kind) && same) ≡ false → (is_checkpoint_kind kind && same) ≡ false
 no_checkpoint Journal same h = refl
 no_checkpoint Checkpoint same h = h
 no_checkpoint Data same h = refl
+no_checkpoint Pointers same h = h
 
 pub metadata_alone : (held between later : Place → Option Stored) (o : ℕ) → OnlyCheckpointChanged o held between → OnlyJournalChanged o between later → OnlyMetadataChanged o held later
 metadata_alone held between later o checkpoints journal kind other h = journal kind other (no_journal kind (o == other) h) ∙ checkpoints kind other (no_checkpoint kind (o == other) h)

@@ -5,11 +5,12 @@ use Rattle.std.specs.List.{AllByRecursion}
 use Rattle.std.proofs.lemmas.Bool.{cases_Bool, both_ways, false≢true}
 use Rattle.std.proofs.lemmas.List.{append-nil}
 use Rattle.s4_types.specs.Pointer.{Place}
-use Rattle.block_log.specs.declared.kinds.BlockKind.TheVariants.{Journal, Checkpoint}
-use Rattle.block_log.specs.Log.{Log, Stored, seen_as, of_kind}
+use Rattle.block_log.specs.declared.kinds.BlockKind.TheVariants.{Journal, Checkpoint, Pointers}
+use Rattle.block_log.specs.Log.{Log, Stored, of_kind}
 use Rattle.block_log.specs.Taken.{TakesPlaces}
 use Rattle.codec.specs.Checkpoint.{CheckpointFields}
-use Rattle.checkpoint.specs.Held.{checkpoint_held, checkpoint_in, checkpoint_places, places_in, places_named, of_checkpoints, is_one_of, HasItsBlocks, OnlyCheckpointChanged, PutsCheckpoint, DropsCheckpoint}
+use Rattle.checkpoint.specs.Held.{seen_of, checkpoint_held, checkpoint_in, checkpoint_places, places_in, places_named, of_checkpoints, is_one_of, HasBytes, HasItsBlocks, OnlyCheckpointChanged, PutsCheckpoint, DropsCheckpoint}
+use Rattle.checkpoint.proofs.OwnBlocks.{has_some, same_checkpoints}
 use Rattle.journal_chain.specs.Chain.{BlockView, OnlyJournalChanged}
 use Rattle.object_map.specs.declared.map.Row.{Row}
 use Rattle.object_map.specs.declared.sides.Side.{Side}
@@ -55,8 +56,8 @@ pub no_sides : (held : Place → Option Stored) (o : ℕ) (row : Row) (sides : L
 no_sides held o row sides none = subst (λ (ss : List Side). AllByRecursion (IsSide held o row) ss) (sym none) tt
 
 -- where a checkpoint is seen, something is held
-pub held_there : (o : ℕ) (there : Option Stored) → IsSome (seen_as Checkpoint o there) → there ≡ None → ⊥
-held_there o there seen none = both_ways false refl (sym (ap (λ x. is_some (seen_as Checkpoint o x)) none) ∙ seen)
+pub held_there : (o : ℕ) (there : Option Stored) → IsSome (seen_of o there) → there ≡ None → ⊥
+held_there o there seen none = both_ways false refl (sym (ap (λ x. is_some (seen_of o x)) none) ∙ seen)
 
 -- ---- a checkpoint was put, and the journal has changed
 
@@ -72,6 +73,10 @@ pub record Put (log between chained : Place → Option Stored) (o : ℕ) (p : Pl
 pub put_journal : (log between : Place → Option Stored) (o : ℕ) (p : Place) → PutsCheckpoint log o p between → of_kind Journal o between ≡ of_kind Journal o log
 put_journal log between o p put = put.others Journal o refl
 
+-- checkpoints are as they were where a journal alone changes
+pub journal_views : (o : ℕ) (held later : Place → Option Stored) → OnlyJournalChanged o held later → of_checkpoints o later ≡ of_checkpoints o held
+journal_views o held later only = same_checkpoints o held later (only Checkpoint o refl) (only Pointers o refl)
+
 -- no journal has changed
 pub no_journal_yet : (o : ℕ) (held : Place → Option Stored) → OnlyJournalChanged o held held
 no_journal_yet o held kind other h = refl
@@ -85,18 +90,18 @@ not_new log between o p q put there = elim (cases_Bool (is_one_of (checkpoint_pl
 
 apart : (log between chained : Place → Option Stored) (o : ℕ) (p : Place) (older : Option Place) → Put log between chained o p older
     → (q : Place) → is_one_of (places_named (of_checkpoints o log) older) q ≡ true → is_one_of (checkpoint_places between o p) q ≡ false
-apart log between chained o p older s q old = not_new log between o p q s.put (s.there q old)
+apart log between chained o p older s q old = not_new log between o p q s.put (has_some (of_checkpoints o log q) (s.there q old))
 
 places_stay : CheckpointLaws → (log between : Place → Option Stored) (o : ℕ) (older : Option Place) → ((q : Place) → is_one_of (places_named (of_checkpoints o log) older) q ≡ true → between q ≡ log q)
     → places_named (of_checkpoints o between) older ≡ places_named (of_checkpoints o log) older
 places_stay laws log between o None kept = refl
-places_stay laws log between o (Some r) kept = laws.places log between o r (λ q is. ap (seen_as Checkpoint o) (kept q is))
+places_stay laws log between o (Some r) kept = laws.places log between o r (λ q is. ap (seen_of o) (kept q is))
 
 -- the older one is where it was
 pub older_places : (log between chained : Place → Option Stored) (o : ℕ) (p : Place) (older : Option Place) → Put log between chained o p older
     → places_named (of_checkpoints o chained) older ≡ places_named (of_checkpoints o log) older
 older_places log between chained o p older s =
-    ap (λ (v : BlockView). places_named v older) (s.journal Checkpoint o refl)
+    ap (λ (v : BlockView). places_named v older) (journal_views o between chained s.journal)
     ∙ places_stay s.laws log between o older (λ q old. s.put.kept q (apart log between chained o p older s q old))
 
 pub older_is : (log between chained : Place → Option Stored) (o : ℕ) (p : Place) (older : Option Place) → Put log between chained o p older
@@ -106,13 +111,13 @@ older_is log between chained o p older s q b is = sym (ap (λ (places : List Pla
 -- a block of a checkpoint beside the new one is as it was
 beside_new : (log between chained : Place → Option Stored) (o : ℕ) (p q : Place) (older : Option Place) → Put log between chained o p older → is_one_of (checkpoint_places between o p) q ≡ false → of_checkpoints o chained q ≡ of_checkpoints o log q
 beside_new log between chained o p q older s other =
-    ap (λ (v : BlockView). v q) (s.journal Checkpoint o refl) ∙ ap (seen_as Checkpoint o) (s.put.kept q other)
+    ap (λ (v : BlockView). v q) (journal_views o between chained s.journal) ∙ ap (seen_of o) (s.put.kept q other)
 
 -- the blocks of the older checkpoint are still there
 pub older_still : (log between chained : Place → Option Stored) (o : ℕ) (p : Place) (older : Option Place) → Put log between chained o p older → HasItsBlocks chained o older
 older_still log between chained o p older s q is =
     let old = older_is log between chained o p older s q true is in
-    subst (λ b. IsSome b) (sym (beside_new log between chained o p q older s (apart log between chained o p older s q old))) (s.there q old)
+    subst HasBytes (sym (beside_new log between chained o p q older s (apart log between chained o p older s q old))) (s.there q old)
 
 -- ---- the older one was dropped
 
@@ -125,18 +130,18 @@ kept_new log between chained o p older s q new = elim (cases_Bool (is_one_of (pl
 ]
 
 chained_places : (log between chained : Place → Option Stored) (o : ℕ) (p : Place) (older : Option Place) → Put log between chained o p older → checkpoint_places chained o p ≡ checkpoint_places between o p
-chained_places log between chained o p older s = ap (λ (v : BlockView). places_in v p) (s.journal Checkpoint o refl)
+chained_places log between chained o p older s = ap (λ (v : BlockView). places_in v p) (journal_views o between chained s.journal)
 
 new_stays : (log between chained after : Place → Option Stored) (o : ℕ) (p : Place) (older : Option Place) → Put log between chained o p older → DropsCheckpoint chained o older after → BlocksStay chained after o p
 new_stays log between chained after o p older s d q is =
     let new = sym (ap (λ (places : List Place). is_one_of places q) (chained_places log between chained o p older s)) ∙ is in
-    ap (seen_as Checkpoint o) (d.kept q (kept_new log between chained o p older s q new))
+    ap (seen_of o) (d.kept q (kept_new log between chained o p older s q new))
 
 -- what is read of the new checkpoint stays
 pub told_on : (log between chained after : Place → Option Stored) (o : ℕ) (p : Place) (older : Option Place) (c : CheckpointFields) → Put log between chained o p older → DropsCheckpoint chained o older after
     → checkpoint_held between o p ≡ Some c → checkpoint_held after o p ≡ Some c
 told_on log between chained after o p older c s d told =
-    s.laws.told chained after o p (new_stays log between chained after o p older s d) ∙ ap (λ (v : BlockView). checkpoint_in v p) (s.journal Checkpoint o refl) ∙ told
+    s.laws.told chained after o p (new_stays log between chained after o p older s d) ∙ ap (λ (v : BlockView). checkpoint_in v p) (journal_views o between chained s.journal) ∙ told
 
 -- and so do its places
 pub new_places : (log between chained after : Place → Option Stored) (o : ℕ) (p : Place) (older : Option Place) → Put log between chained o p older → DropsCheckpoint chained o older after → checkpoint_places after o p ≡ checkpoint_places between o p
@@ -159,7 +164,7 @@ new_alone log between chained after o p older s d only q there = elim (cases_Boo
     | inl old ↦ absurd (held_there o (after q) there (d.gone q old))
     | inr beside ↦
         let was : of_checkpoints o after q ≡ of_checkpoints o log q =
-        ap (seen_as Checkpoint o) (d.kept q beside) ∙ beside_new log between chained o p q older s (new_is log between chained after o p older s d q false other) in
+        ap (seen_of o) (d.kept q beside) ∙ beside_new log between chained o p q older s (new_is log between chained after o p older s d q false other) in
         absurd (false≢true (sym (older_is log between chained o p older s q false beside) ∙ only q (subst (λ b. IsSome b) was there)))
   ]
 ]
@@ -172,7 +177,7 @@ new_among n log between after o p older s d only takes q there =
     let same : after.held q ≡ between.held q = d.kept q (kept_new log.held between.held between.held o p older s q new) in
     takes.among q (s.put.fresh q new) (subst (λ (x : Option Stored). IsSome x) same (something o (after.held q) there))
   where
-    something : (o : ℕ) (there : Option Stored) → IsSome (seen_as Checkpoint o there) → IsSome there
+    something : (o : ℕ) (there : Option Stored) → IsSome (seen_of o there) → IsSome there
     something o None seen = seen
     something o (Some block) seen = refl
 

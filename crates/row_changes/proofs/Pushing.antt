@@ -6,14 +6,13 @@ use Rattle.std.proofs.lemmas.Bool.{cases_Bool, cond-true, cond-false, leb-true, 
 use Rattle.std.specs.List.{AllByRecursion}
 use Rattle.s4_types.specs.Pointer.{Place}
 use Rattle.block_log.specs.Log.{Stored, of_kind}
-use Rattle.block_log.specs.declared.kinds.BlockKind.TheVariants.{Checkpoint}
 use Rattle.codec.specs.Fields.{◌>>=◌}
 use Rattle.codec.specs.declared.inodes.Inode.{Inode}
 use Rattle.codec.specs.Entry.{EntryFields}
 use Rattle.codec.specs.Checkpoint.{CheckpointFields}
 use Rattle.undo_redo.specs.Runs.{Run, AllAt, AllBy, AllPast, entry_is_by, entries_by, inode_after, undone_all}
 use Rattle.undo_redo.specs.Groups.{grouped}
-use Rattle.checkpoint.specs.Held.{checkpoint_held, checkpoint_in, places_named, is_one_of}
+use Rattle.checkpoint.specs.Held.{of_checkpoints, checkpoint_held, checkpoint_in, places_named, is_one_of}
 use Rattle.object_map.specs.declared.map.Row.{Row}
 use Rattle.object_map.specs.declared.sides.Side.{Side}
 use Rattle.journal_chain.specs.Chain.{BlockView, ChainFields, Holds, entries_held}
@@ -85,9 +84,9 @@ pub record Pushed (held later : Place → Option Stored) (o : ℕ) (row next : R
   pub group : grouped new ≡ true
   pub moments : AllAt m new
   pub chain : Holding held later o row next new
-  pub checkpoints : of_kind Checkpoint o later ≡ of_kind Checkpoint o held
+  pub checkpoints : of_checkpoints o later ≡ of_checkpoints o held
 
-same_checkpoint : (held later : Place → Option Stored) (o : ℕ) (place : Option Place) → of_kind Checkpoint o later ≡ of_kind Checkpoint o held → (place >>= checkpoint_held later o) ≡ (place >>= checkpoint_held held o)
+same_checkpoint : (held later : Place → Option Stored) (o : ℕ) (place : Option Place) → of_checkpoints o later ≡ of_checkpoints o held → (place >>= checkpoint_held later o) ≡ (place >>= checkpoint_held held o)
 same_checkpoint held later o place same = ap (λ (v : BlockView). place >>= λ p. checkpoint_in v p) same
 
 before_stays : (created t : ℕ) (front back : List EntryFields) (c : Option CheckpointFields) → AllPast t back → inode_before created t (front ++ back) c ≡ inode_before created t front c

@@ -4,21 +4,23 @@ use Rattle.s4_types.specs.Pointer.{Place}
 use Rattle.block_log.specs.Log.{Log, Stored, same_kind}
 use Rattle.block_log.specs.Taken.{TakesPlaces}
 use Rattle.block_log.specs.declared.kinds.BlockKind.{BlockKind}
-use Rattle.block_log.specs.declared.kinds.BlockKind.TheVariants.{Journal, Checkpoint, Data}
-use Rattle.checkpoint.specs.Held.{DropsCheckpoint}
+use Rattle.block_log.specs.declared.kinds.BlockKind.TheVariants.{Journal, Checkpoint, Data, Pointers}
+use Rattle.checkpoint.specs.Held.{is_checkpoint_kind, DropsCheckpoint}
 use Rattle.row_changes.specs.Rewritten.{OnlyMetadataChanged}
 use Rattle.row_changes.proofs.Places.{Put}
 
 -- a view that is of neither the journal nor the checkpoints is of no journal, and of no checkpoints
-no_journal : (kind : BlockKind) (same : Bool) → ((same_kind Journal kind || same_kind Checkpoint kind) && same) ≡ false → (same_kind Journal kind && same) ≡ false
+no_journal : (kind : BlockKind) (same : Bool) → ((same_kind Journal kind || is_checkpoint_kind kind) && same) ≡ false → (same_kind Journal kind && same) ≡ false
 no_journal Journal same h = h
 no_journal Checkpoint same h = refl
 no_journal Data same h = refl
+no_journal Pointers same h = refl
 
-no_checkpoint : (kind : BlockKind) (same : Bool) → ((same_kind Journal kind || same_kind Checkpoint kind) && same) ≡ false → (same_kind Checkpoint kind && same) ≡ false
+no_checkpoint : (kind : BlockKind) (same : Bool) → ((same_kind Journal kind || is_checkpoint_kind kind) && same) ≡ false → (is_checkpoint_kind kind && same) ≡ false
 no_checkpoint Journal same h = refl
 no_checkpoint Checkpoint same h = h
 no_checkpoint Data same h = refl
+no_checkpoint Pointers same h = h
 
 -- all other views are as they were
 pub metadata_only : (log between chained after : Place → Option Stored) (o : ℕ) (p : Place) (older : Option Place) → Put log between chained o p older → DropsCheckpoint chained o older after → OnlyMetadataChanged o log after

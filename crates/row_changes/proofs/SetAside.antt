@@ -4,9 +4,9 @@ use Rattle.std.specs.List.{AllByRecursion}
 use Rattle.std.specs.Option.{option_to_list}
 use Rattle.std.proofs.lemmas.Bool.{cases_Bool, or_cases, or_left, or_right, false≢true}
 use Rattle.s4_types.specs.Pointer.{Place}
-use Rattle.block_log.specs.declared.kinds.BlockKind.TheVariants.{Checkpoint}
-use Rattle.block_log.specs.Log.{Stored, seen_as}
-use Rattle.checkpoint.specs.Held.{checkpoint_held, checkpoint_places, places_in, places_named, of_checkpoints, is_one_of, HasItsBlocks, DropsCheckpoint}
+use Rattle.block_log.specs.Log.{Stored}
+use Rattle.checkpoint.specs.Held.{seen_of, checkpoint_held, checkpoint_places, places_in, places_named, of_checkpoints, is_one_of, HasItsBlocks, DropsCheckpoint}
+use Rattle.checkpoint.proofs.OwnBlocks.{has_some}
 use Rattle.object_map.specs.declared.map.Row.{Row}
 use Rattle.object_map.specs.declared.sides.Side.{Side}
 use Rattle.object_map.specs.Sides.{sides_named, sides_after, place_of}
@@ -71,9 +71,9 @@ beside_gone law held o row (Some d) s goes told behind q is =
 kept_stays : OneMoment → (log between after : Place → Option Stored) (o : ℕ) (row : Row) (p : Place) (gone : Option Side) (s : Side) → Put log between between o p (place_of gone) → DropsCheckpoint between o (place_of gone) after
     → IfSome gone (IsTold log o row) → IsTold log o row s → IsBehind gone s → BlocksStay log after o s.place
 kept_stays law log between after o row p gone s put d goes told behind q is =
-    let there : IsSome (of_checkpoints o log q) = put.laws.held log o s.place (ap is_some told) q is in
+    let there : IsSome (of_checkpoints o log q) = has_some (of_checkpoints o log q) (put.laws.held log o s.place (ap is_some told) q is) in
     let beside : is_one_of (places_named (of_checkpoints o log) (place_of gone)) q ≡ false = beside_gone law log o row gone s goes told behind q is in
-    ap (seen_as Checkpoint o) (d.kept q (older_still_not log between after o p gone put q beside) ∙ put.put.kept q (not_new log between o p q put.put there))
+    ap (seen_of o) (d.kept q (older_still_not log between after o p gone put q beside) ∙ put.put.kept q (not_new log between o p q put.put there))
   where
     older_still_not : (log between after : Place → Option Stored) (o : ℕ) (p : Place) (gone : Option Side) → Put log between between o p (place_of gone) → (q : Place) → is_one_of (places_named (of_checkpoints o log) (place_of gone)) q ≡ false → is_one_of (places_named (of_checkpoints o between) (place_of gone)) q ≡ false
     older_still_not log between after o p gone put q is = elim (cases_Bool (is_one_of (places_named (of_checkpoints o between) (place_of gone)) q)) [
@@ -135,7 +135,7 @@ keeps law log between after o row p m gone kept r parts put d =
           | inl old ↦ absurd (held_there o (after q) there (d.gone q old))
           | inr beside ↦
               let was : of_checkpoints o after q ≡ of_checkpoints o log q =
-              ap (seen_as Checkpoint o) (d.kept q beside ∙ put.put.kept q (new_is log between between after o p (place_of gone) put d q false other)) in
+              ap (seen_of o) (d.kept q beside ∙ put.put.kept q (new_is log between between after o p (place_of gone) put d q false other)) in
               let here : is_one_of (side_places (of_checkpoints o log) kept) q ≡ true =
               among_kept log o row m gone kept parts r q (subst (λ b. IsSome b) was there) (older_is log between between o p (place_of gone) put q false beside) in
               or_right (is_one_of (checkpoint_places after o p) q) (is_one_of (side_places (of_checkpoints o after) kept) q) (ap (λ (all : List Place). is_one_of all q) places ∙ here)

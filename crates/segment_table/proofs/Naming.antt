@@ -5,7 +5,7 @@ use Rattle.std.proofs.lemmas.Bool.{cases_Bool, cases_eq, cases_lt, ne_eqb, cond-
 use Rattle.s4_types.specs.Pointer.{Place}
 use Rattle.block_log.specs.Log.{Stored, same_place, same_kind, is_data, without, with_more, with_fewer, named_with, dropped, dropped_by, NamesAreOfData}
 use Rattle.block_log.specs.declared.kinds.BlockKind.{BlockKind}
-use Rattle.block_log.specs.declared.kinds.BlockKind.TheVariants.{Journal, Checkpoint, Data}
+use Rattle.block_log.specs.declared.kinds.BlockKind.TheVariants.{Journal, Checkpoint, Data, Pointers}
 use Rattle.codec.specs.declared.summaries.BlockRole.{BlockRole}
 use Rattle.segment_word.specs.Frames.{Frame}
 use Rattle.segment_word.specs.Layout.{frame_at, block_bytes}
@@ -278,6 +278,7 @@ with_kind : (kind : BlockKind) (named : Place → ℕ) (p q : Place) → named_w
 with_kind Journal named p q = sym (either_way (same_place p q) (named q))
 with_kind Checkpoint named p q = sym (either_way (same_place p q) (named q))
 with_kind Data named p q = refl
+with_kind Pointers named p q = sym (either_way (same_place p q) (named q))
 
 no_more : (s : List Slot) → block_slot s (length s + 1) ≡ no_slot
 no_more s = ap (λ (n : ℕ). block_slot s n) (add-one (length s)) ∙ get_or_past s (length s) no_slot (omega arith)

@@ -165,7 +165,7 @@ impl Slots {
         };
         match slot.role.kind {
             BlockKind::Data => slot.named,
-            BlockKind::Journal | BlockKind::Checkpoint => 0,
+            BlockKind::Journal | BlockKind::Checkpoint | BlockKind::Pointers => 0,
         }
     }
 
@@ -225,7 +225,9 @@ impl Slots {
         };
         match slot.role.kind {
             BlockKind::Data => slot.named,
-            BlockKind::Journal | BlockKind::Checkpoint => min(slot.named, 1),
+            BlockKind::Journal | BlockKind::Checkpoint | BlockKind::Pointers => {
+                min(slot.named, 1)
+            }
         }
     }
 

@@ -5,7 +5,8 @@ use Rattle.std.proofs.Math.Seq.{take-append_seam}
 use Rattle.std.proofs.lemmas.List.{take-append-drop}
 use Rattle.s4_types.specs.Pointer.{Place}
 use Rattle.block_log.specs.Log.{Stored, of_kind}
-use Rattle.block_log.specs.declared.kinds.BlockKind.TheVariants.{Journal, Checkpoint}
+use Rattle.block_log.specs.declared.kinds.BlockKind.TheVariants.{Journal}
+use Rattle.checkpoint.specs.Held.{of_checkpoints}
 use Rattle.codec.specs.declared.inodes.Inode.{Inode}
 use Rattle.codec.specs.Entry.{EntryFields}
 use Rattle.undo_redo.specs.Runs.{redone_all, inode_after, AllBy, AllPast, entries_by, entries_past, moments_ascend_from}
@@ -17,7 +18,7 @@ use Rattle.time_read.proofs.Staying.{same_entries, same_first}
 
 -- ---- what stays
 
-pub same_orderly : (held later : Place → Option Stored) (o latest : ℕ) (row : Row) → of_kind Journal o later ≡ of_kind Journal o held → of_kind Checkpoint o later ≡ of_kind Checkpoint o held → IsOrderly held o row latest → IsOrderly later o row latest
+pub same_orderly : (held later : Place → Option Stored) (o latest : ℕ) (row : Row) → of_kind Journal o later ≡ of_kind Journal o held → of_checkpoints o later ≡ of_checkpoints o held → IsOrderly held o row latest → IsOrderly later o row latest
 same_orderly held later o latest row journal checkpoint h =
     let entries : entries_of later o row ≡ entries_of held o row = same_entries held later o row journal in
     let first : first_of later o row ≡ first_of held o row = same_first held later o row journal checkpoint in

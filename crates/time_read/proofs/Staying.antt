@@ -3,14 +3,14 @@ use Rattle.std.proofs.Common.{◌≡◌, ℕ, true, List, [], ◌∷◌, ◌++�
 use Rattle.std.specs.List.{AllByRecursion}
 use Rattle.s4_types.specs.Pointer.{Place}
 use Rattle.block_log.specs.Log.{Stored, of_kind}
-use Rattle.block_log.specs.declared.kinds.BlockKind.TheVariants.{Journal, Checkpoint}
+use Rattle.block_log.specs.declared.kinds.BlockKind.TheVariants.{Journal}
 use Rattle.codec.specs.Fields.{◌>>=◌}
 use Rattle.codec.specs.declared.inodes.Inode.{Inode}
 use Rattle.codec.specs.Entry.{EntryFields}
 use Rattle.codec.specs.Checkpoint.{CheckpointFields}
 use Rattle.undo_redo.specs.Runs.{Run, inode_after}
 use Rattle.undo_redo.specs.Groups.{grouped}
-use Rattle.checkpoint.specs.Held.{checkpoint_held, checkpoint_in, places_named, is_one_of}
+use Rattle.checkpoint.specs.Held.{of_checkpoints, checkpoint_held, checkpoint_in, places_named, is_one_of}
 use Rattle.object_map.specs.declared.map.Row.{Row}
 use Rattle.object_map.specs.declared.sides.Side.{Side}
 use Rattle.journal_chain.specs.Chain.{BlockView, IsChain, Holds, chain_entries, entries_in}
@@ -20,18 +20,18 @@ pub same_entries : (held later : Place → Option Stored) (o : ℕ) (row : Row) 
 unfolding chain_entries
 same_entries held later o row same = ap (λ (v : BlockView). unwrap_or (entries_in v o row.head) []) same
 
-same_read : (held later : Place → Option Stored) (o : ℕ) (p : Place) → of_kind Checkpoint o later ≡ of_kind Checkpoint o held → checkpoint_held later o p ≡ checkpoint_held held o p
+same_read : (held later : Place → Option Stored) (o : ℕ) (p : Place) → of_checkpoints o later ≡ of_checkpoints o held → checkpoint_held later o p ≡ checkpoint_held held o p
 same_read held later o p same = ap (λ (v : BlockView). checkpoint_in v p) same
 
-same_checkpoint : (held later : Place → Option Stored) (o : ℕ) (row : Row) → of_kind Checkpoint o later ≡ of_kind Checkpoint o held → checkpoint_of later o row ≡ checkpoint_of held o row
+same_checkpoint : (held later : Place → Option Stored) (o : ℕ) (row : Row) → of_checkpoints o later ≡ of_checkpoints o held → checkpoint_of later o row ≡ checkpoint_of held o row
 same_checkpoint held later o row same = ap (λ (v : BlockView). row.checkpoint >>= λ p. checkpoint_in v p) same
 
-pub same_first : (held later : Place → Option Stored) (o : ℕ) (row : Row) → of_kind Journal o later ≡ of_kind Journal o held → of_kind Checkpoint o later ≡ of_kind Checkpoint o held → first_of later o row ≡ first_of held o row
+pub same_first : (held later : Place → Option Stored) (o : ℕ) (row : Row) → of_kind Journal o later ≡ of_kind Journal o held → of_checkpoints o later ≡ of_checkpoints o held → first_of later o row ≡ first_of held o row
 same_first held later o row journal checkpoint =
     ap (λ (es : List EntryFields). inode_before row.created row.checkpoint_moment es (checkpoint_of later o row)) (same_entries held later o row journal)
     ∙ ap (λ (c : Option CheckpointFields). inode_before row.created row.checkpoint_moment (entries_of held o row) c) (same_checkpoint held later o row checkpoint)
 
-pub same_inode : (held later : Place → Option Stored) (o t : ℕ) (row : Row) → of_kind Journal o later ≡ of_kind Journal o held → of_kind Checkpoint o later ≡ of_kind Checkpoint o held → inode_of later o row t ≡ inode_of held o row t
+pub same_inode : (held later : Place → Option Stored) (o t : ℕ) (row : Row) → of_kind Journal o later ≡ of_kind Journal o held → of_checkpoints o later ≡ of_checkpoints o held → inode_of later o row t ≡ inode_of held o row t
 unfolding inode_of
 same_inode held later o t row journal checkpoint =
     ap (λ (es : List EntryFields). inode_after (first_of later o row) es t) (same_entries held later o row journal)
@@ -45,13 +45,13 @@ all_mapped : {A : Type 0} (P Q : A → Type 0) → ((x : A) → P x → Q x) →
 all_mapped P Q each [] h = tt
 all_mapped P Q each (x ∷ xs) h = (each x h.0, all_mapped P Q each xs h.1)
 
-same_side : (held later : Place → Option Stored) (o : ℕ) (row : Row) → of_kind Journal o later ≡ of_kind Journal o held → of_kind Checkpoint o later ≡ of_kind Checkpoint o held → (side : Side) → IsSide held o row side → IsSide later o row side
+same_side : (held later : Place → Option Stored) (o : ℕ) (row : Row) → of_kind Journal o later ≡ of_kind Journal o held → of_checkpoints o later ≡ of_checkpoints o held → (side : Side) → IsSide held o row side → IsSide later o row side
 same_side held later o row journal checkpoint side is = record {
   told = same_read held later o side.place checkpoint ∙ is.told ∙ ap (λ (i : Inode). Some (record { object = o; moment = side.moment; inode = i })) (sym (same_inode held later o side.moment row journal checkpoint));
   older = is.older;
 }
 
-pub same_row : (held later : Place → Option Stored) (o : ℕ) (row : Row) → of_kind Journal o later ≡ of_kind Journal o held → of_kind Checkpoint o later ≡ of_kind Checkpoint o held → IsRow held o row → IsRow later o row
+pub same_row : (held later : Place → Option Stored) (o : ℕ) (row : Row) → of_kind Journal o later ≡ of_kind Journal o held → of_checkpoints o later ≡ of_checkpoints o held → IsRow held o row → IsRow later o row
 same_row held later o row journal checkpoint r =
     let entries : entries_of later o row ≡ entries_of held o row = same_entries held later o row journal in
     let first : first_of later o row ≡ first_of held o row = same_first held later o row journal checkpoint in

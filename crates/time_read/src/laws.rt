@@ -3,8 +3,9 @@ ghost use Rattle.std.specs.Prelude.{◌≡◌, ℕ, ◌≤◌, true, length, tak
 ghost use Rattle.s4_types.specs.declared.limits.TheConstants.{CHAIN_ENTRY_BYTES};
 ghost use Rattle.s4_types.specs.declared.limits.TheConstants.{JOURNAL_ENTRY_BYTES};
 ghost use Rattle.s4_types.specs.Pointer.{Place};
-ghost use Rattle.block_log.specs.declared.kinds.BlockKind.TheVariants.{Journal, Checkpoint};
+ghost use Rattle.block_log.specs.declared.kinds.BlockKind.TheVariants.{Journal};
 ghost use Rattle.block_log.specs.Log.{Stored, of_kind};
+ghost use Rattle.checkpoint.specs.Held.{of_checkpoints};
 ghost use Rattle.journal_chain.specs.Chain.{chain_entries};
 ghost use Rattle.object_map.specs.declared.map.Row.{Row};
 ghost use Rattle.undo_redo.specs.Runs.{AllBy, AllPast, entries_by};
@@ -22,11 +23,11 @@ use undo_redo::laws::{
 pub fn a_row_is_its_own_blocks()
     ensures row { (held later : Place → Option Stored) (o : ℕ) (row : Row)
         → of_kind Journal o later ≡ of_kind Journal o held
-        → of_kind Checkpoint o later ≡ of_kind Checkpoint o held
+        → of_checkpoints o later ≡ of_checkpoints o held
         → IsRow held o row → IsRow later o row }
     ensures inode { (held later : Place → Option Stored) (o t : ℕ) (row : Row)
         → of_kind Journal o later ≡ of_kind Journal o held
-        → of_kind Checkpoint o later ≡ of_kind Checkpoint o held
+        → of_checkpoints o later ≡ of_checkpoints o held
         → inode_of later o row t ≡ inode_of held o row t }
 {}
 
@@ -59,7 +60,7 @@ pub fn a_row_tells_a_chain()
 pub fn an_orderly_row_stays()
     ensures blocks { (held later : Place → Option Stored) (o latest : ℕ) (row : Row)
         → of_kind Journal o later ≡ of_kind Journal o held
-        → of_kind Checkpoint o later ≡ of_kind Checkpoint o held
+        → of_checkpoints o later ≡ of_checkpoints o held
         → IsOrderly held o row latest → IsOrderly later o row latest }
     ensures stamp { (held : Place → Option Stored) (o latest n : ℕ) (row : Row) → IsOrderly held o row latest → IsOrderly held o (record row { stamp = n }) latest }
     ensures later { (held : Place → Option Stored) (o : ℕ) (row : Row) (a b : ℕ) → a ≤ b

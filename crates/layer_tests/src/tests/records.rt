@@ -3,17 +3,18 @@
 //! and so on.
 ghost use Rattle.std.specs.Prelude.{◌≤◌, length};
 
-use codec::{decode_checkpoint, decode_journal};
+use codec::{decode_first_block, decode_journal};
+use s4_types::limits::CHECKPOINT_POINTERS;
 
 /// The journal block of an object that was made at moment 10 and written at 11: its head and two
 /// entries.
-const JOURNAL: [u8; 109] = [
-    1, 2, 0, 0x55, 0, 0, 0, 0, 0, 0, 0, 0, 0, 0, 0, 1, // two entries, of 85 bytes, of object 1
+const JOURNAL: [u8; 110] = [
+    1, 2, 0, 0x56, 0, 0, 0, 0, 0, 0, 0, 0, 0, 0, 0, 1, // two entries, of 86 bytes, of object 1
     0, 0, 0, 0, 0, 0, 0, 0, // no block before it
     0, 0, 0, 0, 0, 0, 0, 10, 2, 0, 0, 0, 0, 0, 0, 0, 0, 0, 0, 0, 0, 0, 0, 0, 0, 0, 0, 0, 0, 0, 0,
     0, 0, 10, // the making
     0, 0, 0, 0, 0, 0, 0, 11, 3, 1, 0, 0, 0, 0, 0, 0, 0, 3, 0, 0, 0, 0, 0, 0, 0, 10, 0, 0, 0, 0, 0,
-    0, 0, 11, 0, 0, 0, 0, 0, 0, 0, 0, 0, 0, 0, 2, 0, 0, 0, 0, 1, // the write
+    0, 0, 11, 0, 0, 0, 0, 0, 0, 0, 0, 0, 0, 0, 0, 2, 0, 0, 0, 0, 1, // the write
 ];
 
 /// The checkpoint of that object at moment 12, with an attribute `ab`.
@@ -44,10 +45,22 @@ fn block_of(front: &[u8]) -> [u8; 512]
     block
 }
 
+/// Whether the block is the only one of a checkpoint: it has no parts.
+fn is_checkpoint(block: &[u8; 512]) -> bool {
+    let holes = [None; CHECKPOINT_POINTERS];
+    match decode_first_block(block) {
+        None => false,
+        Some(first) => {
+            first.parts.iter().all(|part| part.is_none())
+                && first.joined(&holes, &holes, &holes).is_some()
+        }
+    }
+}
+
 fn is_record(kind: Kind, block: &[u8; 512]) -> bool {
     match kind {
         Kind::Journal => decode_journal(block).is_some(),
-        Kind::Checkpoint => decode_checkpoint(block).is_some(),
+        Kind::Checkpoint => is_checkpoint(block),
     }
 }
 
@@ -79,13 +92,13 @@ fn count(kind: Kind, block: &[u8; 512], first: usize, end: usize) -> u64 {
 #[test]
 fn each_byte_of_a_journal_block(rt: HostRuntime) {
     let block = block_of(&JOURNAL);
-    assert!(rt; count(Kind::Journal, &block, 0, 109) == 6722);
-    assert!(rt; count(Kind::Journal, &block, 109, 512) == 0);
+    assert!(rt; count(Kind::Journal, &block, 0, 110) == 7347);
+    assert!(rt; count(Kind::Journal, &block, 110, 512) == 0);
 }
 
 #[test]
 fn each_byte_of_a_checkpoint(rt: HostRuntime) {
     let block = block_of(&CHECKPOINT);
-    assert!(rt; count(Kind::Checkpoint, &block, 0, 112) == 10_622);
+    assert!(rt; count(Kind::Checkpoint, &block, 0, 112) == 10_783);
     assert!(rt; count(Kind::Checkpoint, &block, 112, 512) == 0);
 }

@@ -5,6 +5,7 @@ ghost use Rattle.segment_word.specs.Layout.{frame_at};
 ghost use Rattle.segment_word.specs.Counting.{pins_in};
 
 use s4_types::Refusal;
+use s4_types::limits::FEWEST_FRAMES;
 use segment_word::{DriveSeat, Frames, Pin};
 use std::test::Fail;
 use std::thread::join;
@@ -66,7 +67,7 @@ fn words(frames: &Frames, drive: &mut DriveSeat) -> Result<[u64; 8], Refusal>
 
 #[test]
 fn state_words_of_frame_0(rt: HostRuntime) {
-    let is_so = match Frames::new(rt.alloc(), 8) {
+    let is_so = match Frames::new(rt.alloc(), FEWEST_FRAMES) {
         Ok((frames, mut drive)) => words(&frames, &mut drive) == Ok(WORDS),
         Err(_) => false,
     };
@@ -117,7 +118,7 @@ fn is_intact(mut pin: Pin, frame: usize) -> bool
 
 #[test]
 fn reads_while_another_frame_is_written(rt: HostRuntime) -> Result<(), Fail> {
-    let (frames, mut drive) = Frames::new(rt.alloc(), 8)?;
+    let (frames, mut drive) = Frames::new(rt.alloc(), FEWEST_FRAMES)?;
     fill(&mut drive, 0);
     let mut pin = frames.seat()?;
     pin.add(drive.frame(0))?;
@@ -164,7 +165,7 @@ fn is_counted_or_not(frames: &Frames, drive: &mut DriveSeat) -> bool
 // Passes under each refusal of memory: `NoMemory` is the answer, and nothing has changed.
 #[test]
 fn refused_memory_changes_nothing(rt: HostRuntime) {
-    let is_so = match Frames::new(rt.alloc(), 8) {
+    let is_so = match Frames::new(rt.alloc(), FEWEST_FRAMES) {
         Ok((frames, mut drive)) => {
             fill(&mut drive, 0);
             is_counted_or_not(&frames, &mut drive)

@@ -1,6 +1,7 @@
 use Rattle.std.proofs.Common.{◌≡◌, None, rules, sym, subst}
 use Rattle.block_log.specs.Log.{dropped}
 use Rattle.block_log.specs.Taken.{TakesPlaces}
+use Rattle.journal_chain.proofs.Chains.{put_changes_only}
 use Rattle.journal_chain.proofs.Calls.{finish_some, finish_none}
 use Rattle.journal_chain.proofs.writing.finish.Goals as goal
 
@@ -30,3 +31,7 @@ pub returns-in_default-clause-finished : goal.returns-in_default-clause-finished
 returns-in_default-clause-finished g c = λ entries u.
     let none : c.args.stale ≡ None = search rules in
     finish_none (g.B.Blocks.log c.args.table.now) (g.B.Blocks.log c.write-head.new.table) c.write-head.result c.args.stale c.args.block.now entries none c.write-head.ensures u
+
+pub returns-in_default-clause-others : goal.returns-in_default-clause-others
+returns-in_default-clause-others g c = λ entries u.
+    put_changes_only (g.B.Blocks.log c.args.table.now) (g.B.Blocks.log c.write-head.new.table) c.write-head.result c.args.block.now c.write-head.ensures

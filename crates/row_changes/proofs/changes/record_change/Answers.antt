@@ -1,8 +1,9 @@
 use Rattle.std.proofs.Common.{◌++◌, List, rules, refl, sym, ap, subst, ◌∙◌}
-use Rattle.block_log.specs.declared.kinds.BlockKind.TheVariants.{Checkpoint}
+use Rattle.block_log.specs.declared.kinds.BlockKind.TheVariants.{Checkpoint, Pointers}
 use Rattle.codec.specs.Entry.{EntryFields}
 use Rattle.undo_redo.specs.Runs.{Run, AllAt}
 use Rattle.undo_redo.specs.Groups.{grouped}
+use Rattle.checkpoint.proofs.OwnBlocks.{same_checkpoints}
 use Rattle.row_changes.proofs.OrderKept.{made_orderly, turned_orderly}
 use Rattle.time_read.specs.Rows.{entries_of}
 use Rattle.row_changes.proofs.Pushing.{Pushed, with_chain, holding, pushed_row, pushed_by, pushed_inode}
@@ -36,7 +37,7 @@ returns g c =
       group = ap grouped told ∙ between.group before after m c.requires.lead;
       moments = subst (λ (es : List EntryFields). AllAt m es) (sym told) (between.moments before after m);
       chain = holding held later o row head bytes filled new new c.of-chain.result c.push.new.self laws.chain c.of-chain.ensures c.push.ensures.object c.head.ensures c.bytes.ensures.bytes c.filled.ensures.filled refl c.push.ensures.holds;
-      checkpoints = c.push.ensures.others Checkpoint o refl;
+      checkpoints = same_checkpoints o held later (c.push.ensures.others Checkpoint o refl) (c.push.ensures.others Pointers o refl);
     } in
     record {
       row = pushed_row held later o row head bytes filled before after m new laws p;

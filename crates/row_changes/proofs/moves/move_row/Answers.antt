@@ -1,11 +1,12 @@
 use Rattle.std.proofs.Common.{refl, sym, ap, ◌∙◌, subst, rules, List, IsSome, option_copied}
-use Rattle.block_log.specs.declared.kinds.BlockKind.TheVariants.{Journal, Checkpoint}
+use Rattle.block_log.specs.declared.kinds.BlockKind.TheVariants.{Journal}
 use Rattle.codec.specs.Entry.{EntryFields}
 use Rattle.time_read.specs.Rows.{chain_of, entries_of}
 use Rattle.checkpoint.specs.Held.{places_named, is_one_of}
 use Rattle.journal_chain.specs.Chain.{BlockView, Holds}
 use Rattle.journal_chain.specs.Push.{whole_blocks}
 use Rattle.row_changes.specs.Moving.{kept_blocks}
+use Rattle.row_changes.proofs.Places.{journal_views}
 use Rattle.row_changes.proofs.Recently.{same_entries}
 use Rattle.row_changes.proofs.MovedRow.{Stands, with_moved, holds_told, told_still, moved_row, moved_first, moved_inode, moved_orderly, metadata_alone, among_first, among_later}
 use Rattle.row_changes.proofs.moves.move_row.Goals as goal
@@ -35,7 +36,7 @@ returns g c =
     let filled = c.filled.result in
     let first = kept_blocks kept in
     let then = whole_blocks entries in
-    let same = c.move_chain-chain.ensures.others Checkpoint o refl in
+    let same = journal_views o between.held after.held c.move_chain-chain.ensures.others in
     let holds = holds_told after.held o row place head bytes filled c.move_chain-chain.result entries c.move_chain-chain.ensures.object c.head.ensures c.bytes.ensures.bytes c.filled.ensures.filled c.move_chain-chain.ensures.holds in
     let s : Stands log.held after.held o row kept entries place head bytes filled = record {
       was = c.requires.row;
