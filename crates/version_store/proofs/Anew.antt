@@ -3,7 +3,7 @@ use Rattle.std.proofs.Common.{◌≡◌, Option, ℕ, ◌<◌, ◌≤◌, Bool, 
 use Rattle.std.specs.List.{Contains}
 use Rattle.s4_types.specs.Pointer.{Place}
 use Rattle.block_log.specs.declared.kinds.BlockKind.{BlockKind}
-use Rattle.block_log.specs.declared.kinds.BlockKind.TheVariants.{Journal, Checkpoint, Data}
+use Rattle.block_log.specs.declared.kinds.BlockKind.TheVariants.{Journal, Checkpoint, Data, Pointers}
 use Rattle.block_log.specs.Log.{Log, Stored, same_kind}
 use Rattle.block_log.specs.Taken.{TakesPlaces}
 use Rattle.checkpoint.specs.Held.{is_checkpoint_kind, OnlyCheckpointChanged}
@@ -15,6 +15,7 @@ no_checkpoint : (kind : BlockKind) (same : Bool) → ((same_kind Journal kind ||
 no_checkpoint Journal same h = refl
 no_checkpoint Checkpoint same h = h
 no_checkpoint Data same h = refl
+no_checkpoint Pointers same h = h
 
 -- checkpoints were dropped, and then metadata alone has changed
 pub metadata_behind : (o : ℕ) (held between later : Place → Option Stored) → OnlyCheckpointChanged o held between → OnlyMetadataChanged o between later → OnlyMetadataChanged o held later

@@ -11,7 +11,7 @@ use Rattle.block_log.specs.Log.{Log, Stored, same_kind, same_place, with_more}
 use Rattle.block_log.specs.Growth.{Puts}
 use Rattle.block_log.specs.Taken.{TakesPlaces}
 use Rattle.block_log.specs.declared.kinds.BlockKind.{BlockKind}
-use Rattle.block_log.specs.declared.kinds.BlockKind.TheVariants.{Journal, Checkpoint, Data}
+use Rattle.block_log.specs.declared.kinds.BlockKind.TheVariants.{Journal, Checkpoint, Data, Pointers}
 use Rattle.inode.specs.Growth.{data_block}
 use Rattle.chain_rewriting.specs.Renaming.{RenamingFields, with_move, move_of}
 use Rattle.chain_rewriting.specs.Apart.{HasDistinctPlaces}
@@ -89,6 +89,7 @@ turned : (k : BlockKind) → same_kind k Data ≡ same_kind Data k
 turned Journal = refl
 turned Checkpoint = refl
 turned Data = refl
+turned Pointers = refl
 
 only_one : (c d : CopiedBlock) → Contains (c ∷ []) d → c ≡ d
 only_one c d (zero, there, at) = at

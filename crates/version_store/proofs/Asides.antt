@@ -5,7 +5,7 @@ use Rattle.std.proofs.lemmas.List.{append-nil, length-append, length-drop}
 use Rattle.std.proofs.lemmas.List.Concat.{flat_map-append}
 use Rattle.std.proofs.lemmas.List.Elements.{All-from_get_or, Contains-append_cases, Contains-append_left, Contains-append_right}
 use Rattle.s4_types.specs.Pointer.{Place}
-use Rattle.s4_types.specs.declared.limits.TheConstants.{SIDES}
+use Rattle.s4_types.specs.declared.limits.TheConstants.{ROW_POINTERS, SIDES}
 use Rattle.block_log.specs.Taken.{TakesPlaces}
 use Rattle.block_log.specs.Log.{Log, Stored, of_kind}
 use Rattle.block_log.specs.declared.kinds.BlockKind.TheVariants.{Data}
@@ -29,8 +29,8 @@ use Rattle.version_store.proofs.CheckpointSteps.{Rewrites, rewritten_moves, some
 
 -- ---- how many names a place has
 
-pub store_few : (s : StoreFields) → IsStore s → (p : Place) → s.log.named p ≤ 12144
-store_few s store p = names_few s.log s.rows 12144 store.names store.nothing (λ q row e r.
+pub store_few : (s : StoreFields) → IsStore s → (p : Place) → s.log.named p ≤ ROW_POINTERS
+store_few s store p = names_few s.log s.rows ROW_POINTERS store.names store.nothing (λ q row e r.
     let counted = store.counted q row e r in
     let few = times_few r (pointers_named s.log.held q row) in
     let most = pointers_few s.log.held q row s.latest (store.objects q row e) (store.few q row e) in

@@ -7,12 +7,13 @@ use Rattle.s4_types.specs.Pointer.{Place}
 use Rattle.s4_types.specs.declared.limits.TheConstants.{SIDES}
 use Rattle.block_log.specs.Taken.{TakesPlaces}
 use Rattle.block_log.specs.Log.{Log, NamesAreOfData, Stored, of_kind, same_kind}
-use Rattle.block_log.specs.declared.kinds.BlockKind.TheVariants.{Journal, Checkpoint, Data}
+use Rattle.block_log.specs.declared.kinds.BlockKind.TheVariants.{Journal, Checkpoint, Data, Pointers}
 use Rattle.codec.specs.declared.inodes.Inode.{Inode}
 use Rattle.codec.specs.Entry.{EntryFields}
-use Rattle.checkpoint.specs.Held.{OnlyCheckpointChanged}
+use Rattle.checkpoint.specs.Held.{is_checkpoint_kind, OnlyCheckpointChanged}
 use Rattle.checkpoint.specs.declared.cache.CacheKey.{CacheKey}
 use Rattle.journal_chain.specs.Chain.{OnlyJournalChanged}
+use Rattle.checkpoint.proofs.OwnBlocks.{same_checkpoints}
 use Rattle.object_map.specs.declared.map.Row.{Row}
 use Rattle.object_map.specs.Objects.{value_of}
 use Rattle.object_map.specs.Rows.{row_of}
@@ -78,12 +79,12 @@ pub journal_others : (o : ℕ) (held later : Place → Option Stored) → OnlyJo
 journal_others o held later only kind other beside = only kind other (and_right (same_kind Journal kind) (o == other) beside)
 
 pub checkpoint_others : (o : ℕ) (held later : Place → Option Stored) → OnlyCheckpointChanged o held later → OtherObjectsStay o held later
-checkpoint_others o held later only kind other beside = only kind other (and_right (same_kind Checkpoint kind) (o == other) beside)
+checkpoint_others o held later only kind other beside = only kind other (and_right (is_checkpoint_kind kind) (o == other) beside)
 
 pub other_stays : (o q : ℕ) (held later : Place → Option Stored) → OtherObjectsStay o held later → (o == q) ≡ false → Stays q held later
 other_stays o q held later others beside = record {
   journal = others Journal q beside;
-  checkpoints = others Checkpoint q beside;
+  checkpoints = same_checkpoints q held later (others Checkpoint q beside) (others Pointers q beside);
   kept = λ p there. ap (λ (view : Place → Option (List ℕ)). view p) (others Data q beside);
 }
 

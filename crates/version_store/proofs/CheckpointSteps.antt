@@ -8,7 +8,7 @@ use Rattle.s4_types.specs.declared.limits.TheConstants.{OBJECT_BYTES, SIDES}
 use Rattle.block_log.specs.Taken.{TakesPlaces}
 use Rattle.s4_types.specs.declared.versions.Version.{Version}
 use Rattle.block_log.specs.Log.{Log, Stored, same_kind}
-use Rattle.block_log.specs.declared.kinds.BlockKind.TheVariants.{Journal, Checkpoint, Data}
+use Rattle.block_log.specs.declared.kinds.BlockKind.TheVariants.{Journal, Checkpoint, Data, Pointers}
 use Rattle.codec.specs.Checkpoint.{holes_past, checkpoint_rules}
 use Rattle.codec.specs.Entry.{EntryFields}
 use Rattle.codec.specs.declared.inodes.Inode.{Inode}
@@ -17,6 +17,7 @@ use Rattle.checkpoint.specs.Held.{checkpoint_held, checkpoint_blocks, places_nam
 use Rattle.inode.specs.Contents.{contents_of, meaning}
 use Rattle.inode.specs.Tidiness.{Tidy, PointersHeld}
 use Rattle.inode.specs.Laws.{OnlyItsBlocksMatter}
+use Rattle.checkpoint.proofs.OwnBlocks.{same_checkpoints}
 use Rattle.object_map.specs.declared.map.Row.{Row}
 use Rattle.object_map.specs.Rows.{row_of, with_row}
 use Rattle.object_map.specs.Sides.{sides_after}
@@ -171,7 +172,7 @@ IsPut s rows o row next = (q : ℕ) → row_of rows q ≡ with_row (row_of s.row
 checkpoint_stays : (o q : ℕ) (held later : Place → Option Stored) → OnlyCheckpointChanged o held later → (o == q) ≡ false → Stays q held later
 checkpoint_stays o q held later only other = record {
   journal = only Journal q refl;
-  checkpoints = only Checkpoint q other;
+  checkpoints = same_checkpoints q held later (only Checkpoint q other) (only Pointers q other);
   kept = λ p there. ap (λ (view : Place → Option (List ℕ)). view p) (only Data q refl);
 }
 

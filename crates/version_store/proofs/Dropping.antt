@@ -6,12 +6,13 @@ use Rattle.std.proofs.lemmas.Option.{none-some, same_Some}
 use Rattle.s4_types.specs.Pointer.{Place}
 use Rattle.s4_types.specs.declared.limits.TheConstants.{CHAIN_ENTRY_BYTES}
 use Rattle.block_log.specs.declared.kinds.BlockKind.{BlockKind}
-use Rattle.block_log.specs.declared.kinds.BlockKind.TheVariants.{Journal, Checkpoint, Data}
+use Rattle.block_log.specs.declared.kinds.BlockKind.TheVariants.{Journal, Checkpoint, Data, Pointers}
 use Rattle.block_log.specs.Log.{Log, NamesAreOfData, Stored, of_kind, seen_as, same_kind}
 use Rattle.codec.specs.Fields.{◌>>=◌, bit}
 use Rattle.codec.specs.Entry.{entries_length}
 use Rattle.journal_chain.specs.Chain.{ChainFields, Link, Holds, OnlyJournalChanged, times, places_of, blocks_of, chain_places, chain_links}
-use Rattle.checkpoint.specs.Held.{of_checkpoints, places_named, is_one_of, HasItsBlocks, OnlyCheckpointChanged, DropsCheckpoint}
+use Rattle.checkpoint.specs.Held.{is_checkpoint_kind, HasBytes, seen_of, of_checkpoints, places_named, is_one_of, HasItsBlocks, OnlyCheckpointChanged, DropsCheckpoint}
+use Rattle.checkpoint.proofs.OwnBlocks.{same_checkpoints, seen_none}
 use Rattle.object_map.specs.declared.map.Row.{Row}
 use Rattle.object_map.specs.declared.sides.Side.{Side}
 use Rattle.time_read.specs.Rows.{IsRow, checkpoint_places_of, side_places}
@@ -63,7 +64,7 @@ no_bytes = omega arith
 -- the blocks of the checkpoint are where they were, once the journal was dropped
 pub checkpoint_stands : CheckpointsHaveBlocks → (held later : Place → Option Stored) (o : ℕ) (row : Row) → IsRow held o row → OnlyJournalChanged o held later → HasItsBlocks later o row.checkpoint
 checkpoint_stands law held later o row stands only =
-    subst (λ (view : Place → Option (List ℕ)). (q : Place) → is_one_of (places_named view row.checkpoint) q ≡ true → IsSome (view q)) (sym (only Checkpoint o refl)) (checkpoint_there law held o row stands)
+    subst (λ (view : Place → Option (List ℕ)). (q : Place) → is_one_of (places_named view row.checkpoint) q ≡ true → HasBytes (view q)) (sym (same_checkpoints o held later (only Checkpoint o refl) (only Pointers o refl))) (checkpoint_there law held o row stands)
 
 checkpoint_only : (held later : Place → Option Stored) (o : ℕ) (row : Row) → IsRow held o row → row.sides ≡ [] → OnlyJournalChanged o held later → (p : Place) → IsSome (of_checkpoints o later p) → is_one_of (places_named (of_checkpoints o later) row.checkpoint) p ≡ true
 checkpoint_only held later o row stands alone only =
@@ -71,7 +72,7 @@ checkpoint_only held later o row stands alone only =
     ap (λ (sides : List Side). checkpoint_places_of held o row ++ side_places (of_checkpoints o held) sides) alone ∙ append-nil (checkpoint_places_of held o row) in
     let was : (p : Place) → IsSome (of_checkpoints o held p) → is_one_of (places_named (of_checkpoints o held) row.checkpoint) p ≡ true =
     λ p there. sym (ap (λ (all : List Place). is_one_of all p) places) ∙ stands.only p there in
-    subst (λ (view : Place → Option (List ℕ)). (p : Place) → IsSome (view p) → is_one_of (places_named view row.checkpoint) p ≡ true) (sym (only Checkpoint o refl)) was
+    subst (λ (view : Place → Option (List ℕ)). (p : Place) → IsSome (view p) → is_one_of (places_named view row.checkpoint) p ≡ true) (sym (same_checkpoints o held later (only Checkpoint o refl) (only Pointers o refl))) was
 
 none_there : (seen : Option (List ℕ)) → (IsSome seen → ⊥) → seen ≡ None
 none_there None not = refl
@@ -79,26 +80,27 @@ none_there (Some bytes) not = absurd (not refl)
 
 -- no checkpoint is left, once that of a row with no older ones was dropped
 pub checkpoint_gone : (held first second : Place → Option Stored) (o : ℕ) (row : Row) → IsRow held o row → row.sides ≡ [] → OnlyJournalChanged o held first → DropsCheckpoint first o row.checkpoint second
-    → (p : Place) → of_kind Checkpoint o second p ≡ None
+    → (p : Place) → of_checkpoints o second p ≡ None
 checkpoint_gone held first second o row stands alone journal dropped p = elim (cases_Bool (is_one_of (places_named (of_checkpoints o first) row.checkpoint) p)) [
-  | inl is ↦ ap (seen_as Checkpoint o) (dropped.gone p is)
+  | inl is ↦ ap (seen_of o) (dropped.gone p is)
   | inr beside ↦
-      let same : of_checkpoints o second p ≡ of_checkpoints o first p = ap (seen_as Checkpoint o) (dropped.kept p beside) in
+      let same : of_checkpoints o second p ≡ of_checkpoints o first p = ap (seen_of o) (dropped.kept p beside) in
       none_there (of_checkpoints o second p) (λ there. false≢true (sym beside ∙ checkpoint_only held first o row stands alone journal p (subst (λ b. IsSome b) same there)))
 ]
 
 pub nothing_left : (o : ℕ) (counted bared first second : Place → Option Stored) → ((p : Place) → of_kind Data o counted p ≡ None) → OnlyCheckpointChanged o counted bared → ((p : Place) → of_kind Journal o first p ≡ None) → OnlyJournalChanged o bared first
-    → ((p : Place) → of_kind Checkpoint o second p ≡ None) → OnlyCheckpointChanged o first second → HasNothing second o
+    → ((p : Place) → of_checkpoints o second p ≡ None) → OnlyCheckpointChanged o first second → HasNothing second o
 nothing_left o counted bared first second data_none sides journal_none journal checkpoint_none checkpoint Journal p = ap (λ (view : Place → Option (List ℕ)). view p) (checkpoint Journal o refl) ∙ journal_none p
-nothing_left o counted bared first second data_none sides journal_none journal checkpoint_none checkpoint Checkpoint p = checkpoint_none p
+nothing_left o counted bared first second data_none sides journal_none journal checkpoint_none checkpoint Checkpoint p = (seen_none o (second p) (checkpoint_none p)).0
+nothing_left o counted bared first second data_none sides journal_none journal checkpoint_none checkpoint Pointers p = (seen_none o (second p) (checkpoint_none p)).1
 nothing_left o counted bared first second data_none sides journal_none journal checkpoint_none checkpoint Data p =
     ap (λ (view : Place → Option (List ℕ)). view p) (checkpoint Data o refl ∙ journal Data o refl ∙ sides Data o refl) ∙ data_none p
 
 -- views of other objects, and of data, after all was dropped
 pub others_left : (o : ℕ) (held counted bared first second : Place → Option Stored) → OnlyDataChanged o held counted → OnlyCheckpointChanged o counted bared → OnlyJournalChanged o bared first → OnlyCheckpointChanged o first second → OtherObjectsStay o held second
 others_left o held counted bared first second names sides journal checkpoint kind other beside =
-    checkpoint kind other (and_right (same_kind Checkpoint kind) (o == other) beside) ∙ journal kind other (and_right (same_kind Journal kind) (o == other) beside)
-    ∙ sides kind other (and_right (same_kind Checkpoint kind) (o == other) beside) ∙ names kind other (and_right (same_kind Data kind) (o == other) beside)
+    checkpoint kind other (and_right (is_checkpoint_kind kind) (o == other) beside) ∙ journal kind other (and_right (same_kind Journal kind) (o == other) beside)
+    ∙ sides kind other (and_right (is_checkpoint_kind kind) (o == other) beside) ∙ names kind other (and_right (same_kind Data kind) (o == other) beside)
 
 -- no data is left once no name is
 pub data_gone : (before after : Log) (o : ℕ) (named : List (Option Place)) → IsNamedBy o before named → Recounts o before [] named after → (p : Place) → of_kind Data o after.held p ≡ None

@@ -6,13 +6,14 @@ use std.Path.{fun_ext}
 use Rattle.s4_types.specs.Pointer.{Place}
 use Rattle.block_log.specs.Log.{Log, Stored, of_kind, seen_as, same_kind}
 use Rattle.block_log.specs.declared.kinds.BlockKind.{BlockKind}
-use Rattle.block_log.specs.declared.kinds.BlockKind.TheVariants.{Journal, Checkpoint, Data}
+use Rattle.block_log.specs.declared.kinds.BlockKind.TheVariants.{Journal, Checkpoint, Data, Pointers}
 use Rattle.codec.specs.declared.inodes.Inode.{Inode}
 use Rattle.journal_chain.specs.Chain.{OnlyJournalChanged}
 use Rattle.inode.specs.Contents.{bytes_stored, contents_of, meaning}
 use Rattle.inode.specs.Tidiness.{Tidy, PointersHeld, AgreeAt}
 use Rattle.inode.specs.Growth.{GrowsBy}
 use Rattle.inode.specs.Laws.{OnlyItsBlocksMatter}
+use Rattle.checkpoint.proofs.OwnBlocks.{same_checkpoints}
 use Rattle.object_map.specs.declared.map.Row.{Row}
 use Rattle.object_map.specs.Rows.{row_of}
 use Rattle.time_read.specs.Rows.{inode_of}
@@ -102,13 +103,13 @@ version_in_stays same matter s later o t store rows stays =
 pub growth_stays : (object : ℕ) (blocks : List (List ℕ)) (before after : Log) (o : ℕ) → GrowsBy object blocks before after → Stays o before.held after.held
 growth_stays object blocks before after o grows = record {
   journal = fun_ext (λ p. grows.others Journal o p refl);
-  checkpoints = fun_ext (λ p. grows.others Checkpoint o p refl);
+  checkpoints = same_checkpoints o before.held after.held (fun_ext (λ p. grows.others Checkpoint o p refl)) (fun_ext (λ p. grows.others Pointers o p refl));
   kept = λ p there. ap (seen_as Data o) (grows.kept p (seen_is_held Data o (before.held p) there));
 }
 
 pub journal_stays : (object o : ℕ) (held later : Place → Option Stored) → OnlyJournalChanged object held later → (object == o) ≡ false → Stays o held later
 journal_stays object o held later only other = record {
   journal = only Journal o other;
-  checkpoints = only Checkpoint o refl;
+  checkpoints = same_checkpoints o held later (only Checkpoint o refl) (only Pointers o refl);
   kept = λ p there. ap (λ (view : Place → Option (List ℕ)). view p) (only Data o refl);
 }

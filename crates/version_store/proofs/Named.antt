@@ -1,5 +1,5 @@
 -- How many names the data of an object has, and what is held of it, where names were given and taken away.
-use Rattle.std.proofs.Common.{◌≡◌, ◌⊎◌, inl, inr, ℕ, ◌+◌, ◌-◌, ◌≤◌, ◌<◌, ◌==◌, ◌&&◌, cond, Bool, true, false, List, [], ◌∷◌, ◌++◌, length, get_or, Option, Some, None, IsSome, is_some, refl, sym, ap, subst, ◌∙◌, arith}
+use Rattle.std.proofs.Common.{◌≡◌, ◌⊎◌, inl, inr, ℕ, ◌+◌, ◌-◌, ◌≤◌, ◌<◌, ◌==◌, ◌&&◌, cond, Bool, true, false, List, [], ◌∷◌, ◌++◌, length, get_or, Option, Some, None, IsSome, is_some, option_map, refl, sym, ap, subst, ◌∙◌, arith}
 use Rattle.std.specs.List.{All, Contains}
 use Rattle.std.proofs.lemmas.Bool.{cases_Bool, cases_lt, cond-true, cond-false, and_parts, and_from, eqb-true, eqb-false, eq-eqb, ne_eqb, ltb-true, false≢true}
 use Rattle.std.proofs.lemmas.List.Sums.{sum_by-cons, sum_by-append, get_or-le-sum_by, count_by-le-length}
@@ -7,8 +7,9 @@ use Rattle.std.proofs.lemmas.List.Elements.{All-weaker, Contains-append_right}
 use std.Path.{fun_ext}
 use Rattle.s4_types.specs.Pointer.{Place}
 use Rattle.block_log.specs.declared.kinds.BlockKind.{BlockKind}
-use Rattle.block_log.specs.declared.kinds.BlockKind.TheVariants.{Journal, Checkpoint, Data}
+use Rattle.block_log.specs.declared.kinds.BlockKind.TheVariants.{Journal, Checkpoint, Data, Pointers}
 use Rattle.block_log.specs.Log.{Log, Stored, same_place, same_kind, seen_as, of_kind, is_data, NamesAreOfData}
+use Rattle.checkpoint.specs.Held.{or_others, begun_by, seen_of, of_checkpoints}
 use Rattle.version_store.specs.Store.{IsLed, is_at, named_of, times_led}
 use Rattle.version_store.specs.Replacing.{OnlyDataChanged}
 use Rattle.version_store.specs.private.Below.{OnePlace, PlacesAddUp}
@@ -61,8 +62,10 @@ times_contained one p (x ∷ xs) some = elim (cases_Bool (is_at x p)) [
 alone : (k kind : BlockKind) (n o other : ℕ) → (same_kind Data k && n == o) ≡ true → (same_kind Data kind && o == other) ≡ false → (same_kind kind k && n == other) ≡ false
 alone Journal kind n o other is beside = absurd (false≢true is)
 alone Checkpoint kind n o other is beside = absurd (false≢true is)
+alone Pointers kind n o other is beside = absurd (false≢true is)
 alone Data Journal n o other is beside = refl
 alone Data Checkpoint n o other is beside = refl
+alone Data Pointers n o other is beside = refl
 alone Data Data n o other is beside = subst (λ (m : ℕ). (m == other) ≡ false) (sym (eqb-true n o is)) beside
 
 pub seen_alone : (kind : BlockKind) (o other : ℕ) (there : Option Stored) → IsSome (seen_as Data o there) → (same_kind Data kind && o == other) ≡ false → seen_as kind other there ≡ None
@@ -76,6 +79,7 @@ same_kind_back : (k : BlockKind) → same_kind Data k ≡ same_kind k Data
 same_kind_back Journal = refl
 same_kind_back Checkpoint = refl
 same_kind_back Data = refl
+same_kind_back Pointers = refl
 
 -- an object's data is data
 pub seen_data : (o : ℕ) (there : Option Stored) → IsSome (seen_as Data o there) → is_data there ≡ true
@@ -357,17 +361,18 @@ recounts_all o before after more fewer counts some = fun_ext (λ (p : Place). el
 ])
 
 -- no checkpoint goes with a name
-unseen_data : (o : ℕ) (gone : Bool) (there : Option Stored) → (gone ≡ true → is_data there ≡ true) → seen_as Checkpoint o (cond gone None there) ≡ seen_as Checkpoint o there
+unseen_data : (o : ℕ) (gone : Bool) (there : Option Stored) → (gone ≡ true → is_data there ≡ true) → seen_of o (cond gone None there) ≡ seen_of o there
 unseen_data o true None is = refl
-unseen_data o true (Some block) is = sym (cond-false (same_kind Checkpoint block.kind && block.object == o) (Some block.bytes) None (no_checkpoint block.kind (is refl)))
+unseen_data o true (Some block) is = sym (no_checkpoint block.kind (block.object == o) block.bytes (is refl))
   where
-    no_checkpoint : (k : BlockKind) → same_kind k Data ≡ true → (same_kind Checkpoint k && block.object == o) ≡ false
-    no_checkpoint Journal is = absurd (false≢true is)
-    no_checkpoint Checkpoint is = absurd (false≢true is)
-    no_checkpoint Data is = refl
+    no_checkpoint : (k : BlockKind) (own : Bool) (bytes : List ℕ) → same_kind k Data ≡ true → or_others (option_map (begun_by Checkpoint) (cond (same_kind Checkpoint k && own) (Some bytes) None)) (option_map (begun_by Pointers) (cond (same_kind Pointers k && own) (Some bytes) None)) ≡ None
+    no_checkpoint Journal own bytes is = absurd (false≢true is)
+    no_checkpoint Checkpoint own bytes is = absurd (false≢true is)
+    no_checkpoint Pointers own bytes is = absurd (false≢true is)
+    no_checkpoint Data own bytes is = refl
 unseen_data o false there is = refl
 
-pub takes_checkpoints : (o : ℕ) (before after : Log) (xs : List (Option Place)) → TakesAway before xs after → of_kind Checkpoint o after.held ≡ of_kind Checkpoint o before.held
+pub takes_checkpoints : (o : ℕ) (before after : Log) (xs : List (Option Place)) → TakesAway before xs after → of_checkpoints o after.held ≡ of_checkpoints o before.held
 takes_checkpoints o before after xs takes = fun_ext (λ (p : Place).
-    ap (seen_as Checkpoint o) (takes.held p)
+    ap (seen_of o) (takes.held p)
     ∙ unseen_data o (is_data (before.held p) && after.named p == 0) (before.held p) (λ gone. (and_parts (is_data (before.held p)) (after.named p == 0) gone).0))

@@ -1,20 +1,23 @@
 -- Which blocks rows name, and that no other block is held.
-use Rattle.std.proofs.Common.{◌≡◌, ◌↔◌, inl, inr, ℕ, zero, suc, ◌==◌, ◌&&◌, true, false, List, [], ◌∷◌, Option, Some, None, MatchOption, IsSome, is_some, refl, sym, ap, subst, ◌∙◌, arith}
+use Rattle.std.proofs.Common.{◌≡◌, ◌↔◌, inl, inr, ℕ, zero, suc, ◌==◌, ◌&&◌, ltb, cond, Bool, true, false, List, [], ◌∷◌, length, slice_get, Option, Some, None, MatchOption, IsSome, is_some, refl, sym, ap, subst, ◌∙◌, arith}
 use Rattle.std.specs.List.{AllByRecursion, Contains}
 use Rattle.std.proofs.lemmas.List.Folds.{list_any-append}
 use Rattle.std.proofs.lemmas.Bool.{or_cases, cond-true, and_from, eq-eqb, false≢true}
 use Rattle.std.proofs.lemmas.Option.{none-some, same_Some}
 use Rattle.s4_types.specs.Pointer.{Place}
+use Rattle.s4_types.specs.declared.limits.TheConstants.{SIDES}
 use Rattle.block_log.specs.declared.kinds.BlockKind.{BlockKind}
-use Rattle.block_log.specs.declared.kinds.BlockKind.TheVariants.{Journal, Checkpoint, Data}
+use Rattle.block_log.specs.declared.kinds.BlockKind.TheVariants.{Journal, Checkpoint, Data, Pointers}
 use Rattle.block_log.specs.Log.{Stored, of_kind, seen_as, same_kind, same_place}
 use Rattle.codec.specs.Fields.{bit}
 use Rattle.codec.specs.Checkpoint.{CheckpointFields, pointer_at}
 use Rattle.codec.specs.declared.inodes.Inode.{Inode}
 use Rattle.checkpoint.specs.Held.{checkpoint_held, of_checkpoints, places_in, is_one_of, HasItsBlocks}
+use Rattle.checkpoint.proofs.OwnBlocks.{has_some, first_is_seen, part_is_seen}
 use Rattle.object_map.specs.declared.map.Row.{Row}
 use Rattle.object_map.specs.declared.sides.Side.{Side}
 use Rattle.object_map.specs.Rows.{row_of}
+use Rattle.object_map.specs.Sides.{side_gone}
 use Rattle.time_read.specs.Rows.{IsRow, IsSide, inode_of, checkpoint_places_of, all_places_of, side_places}
 use Rattle.version_store.specs.Store.{StoreFields, IsStore, IsObject, pointers_of, DataIsNamed, Names, IsNamed}
 use Rattle.version_store.specs.Versions.{inode_by, inode_in}
@@ -42,7 +45,7 @@ sides_there law held o row [] all q is = absurd (false≢true is)
 sides_there law held o row (side ∷ sides) all q is =
     let view = of_checkpoints o held in
     elim (or_cases (is_one_of (places_in view side.place) q) (is_one_of (side_places view sides) q) (sym (list_any-append (λ p. same_place p q) (places_in view side.place) (side_places view sides)) ∙ is)) [
-      | inl here ↦ law held o side.place (ap is_some all.0.told) q here
+      | inl here ↦ has_some (view q) (law held o side.place (ap is_some all.0.told) q here)
       | inr later ↦ sides_there law held o row sides all.1 q later
     ]
 
@@ -52,23 +55,38 @@ side_there law held o row [] side all (n, below, at) = absurd (omega (arith, bel
 side_there law held o row (x ∷ sides) side all (zero, below, at) = subst (λ (y : Side). HasItsBlocks held o (Some y.place)) at (law held o x.place (ap is_some all.0.told))
 side_there law held o row (x ∷ sides) side all (suc n, below, at) = side_there law held o row sides side all.1 (n, omega (arith, below), at)
 
+front_has : CheckpointsHaveBlocks → (held : Place → Option Stored) (o : ℕ) (row : Row) (sides : List Side) (gone : Side) → AllByRecursion (IsSide held o row) sides → Some gone ≡ slice_get sides 0 → HasItsBlocks held o (Some gone.place)
+front_has law held o row [] gone all is = absurd (none-some gone (sym is))
+front_has law held o row (side ∷ sides) gone all is = subst (λ (x : Side). HasItsBlocks held o (Some x.place)) (sym (same_Some gone side is)) (law held o side.place (ap is_some all.0.told))
+
+front_is : (few : Bool) (front : Option Side) (gone : Side) → Some gone ≡ cond few None front → Some gone ≡ front
+front_is true front gone is = absurd (none-some gone (sym is))
+front_is false front gone is = is
+
+-- the blocks of the older checkpoint that goes where a newer one is written are held
+pub gone_has : CheckpointsHaveBlocks → (held : Place → Option Stored) (o : ℕ) (row : Row) (sides : List Side) (newest : Option Place) (gone : Side) → AllByRecursion (IsSide held o row) sides → Some gone ≡ side_gone sides newest → HasItsBlocks held o (Some gone.place)
+gone_has law held o row sides None gone all is = absurd (none-some gone (sym is))
+gone_has law held o row sides (Some p) gone all is = front_has law held o row sides gone all (front_is (ltb (length sides) SIDES) (slice_get sides 0) gone is)
+
 -- each block of all checkpoints that a row names is held
 pub checkpoints_there : CheckpointsHaveBlocks → (held : Place → Option Stored) (o : ℕ) (row : Row) → IsRow held o row → (q : Place) → is_one_of (all_places_of held o row) q ≡ true → IsSome (of_checkpoints o held q)
 checkpoints_there law held o row r q is =
     let view = of_checkpoints o held in
     elim (or_cases (is_one_of (checkpoint_places_of held o row) q) (is_one_of (side_places view row.sides) q) (sym (list_any-append (λ p. same_place p q) (checkpoint_places_of held o row) (side_places view row.sides)) ∙ is)) [
-      | inl here ↦ checkpoint_there law held o row r q here
+      | inl here ↦ has_some (view q) (checkpoint_there law held o row r q here)
       | inr older ↦ sides_there law held o row row.sides r.sides q older
     ]
 
 held_named : (held : Place → Option Stored) (o : ℕ) (row : Row) (kind : BlockKind) (p : Place) → IsRow held o row → DataIsNamed held o row → IsSome (of_kind kind o held p) → Names held o row kind p
 held_named held o row Journal p r named there = r.chain.once p ∙ ap bit there
-held_named held o row Checkpoint p r named there = r.only p there
+held_named held o row Checkpoint p r named there = (r.only p (first_is_seen o (held p) there), there)
+held_named held o row Pointers p r named there = (r.only p (part_is_seen o (held p) there), there)
 held_named held o row Data p r named there = named p there
 
 named_held : CheckpointsHaveBlocks → (held : Place → Option Stored) (o : ℕ) (row : Row) (kind : BlockKind) (p : Place) (latest : ℕ) → IsObject held o row latest → Names held o row kind p → IsSome (of_kind kind o held p)
 named_held law held o row Journal p latest object names = counted_there (is_some (of_kind Journal o held p)) (sym (object.stands.chain.once p) ∙ names)
-named_held law held o row Checkpoint p latest object names = checkpoints_there law held o row object.stands p names
+named_held law held o row Checkpoint p latest object names = names.1
+named_held law held o row Pointers p latest object names = names.1
 named_held law held o row Data p latest object names = led_there held o (pointers_of held o row) p object.led names
 
 row_there : OnePlace → (s : StoreFields) (o : ℕ) (kind : BlockKind) (p : Place) (row : Option Row) → row_of s.rows o ≡ row → IsStore s → IsSome (of_kind kind o s.log.held p) → IsNamed s o kind p
@@ -87,6 +105,7 @@ kind_itself : (kind : BlockKind) → same_kind kind kind ≡ true
 kind_itself Journal = refl
 kind_itself Checkpoint = refl
 kind_itself Data = refl
+kind_itself Pointers = refl
 
 -- a block is seen as what it is
 seen_itself : (there : Option Stored) (block : Stored) → there ≡ Some block → IsSome (seen_as block.kind block.object there)
@@ -94,6 +113,10 @@ seen_itself there block is =
     ap (λ (b : Option Stored). is_some (seen_as block.kind block.object b)) is
     ∙ ap is_some (cond-true (same_kind block.kind block.kind && block.object == block.object) (Some block.bytes) None
     (and_from (same_kind block.kind block.kind) (block.object == block.object) (kind_itself block.kind) (eq-eqb block.object block.object refl)))
+
+-- each block of a checkpoint that a row of a store names is held
+pub row_checkpoints_there : CheckpointsHaveBlocks → (s : StoreFields) (o : ℕ) (row : Row) (p : Place) → IsStore s → row_of s.rows o ≡ Some row → is_one_of (all_places_of s.log.held o row) p ≡ true → IsSome (of_checkpoints o s.log.held p)
+row_checkpoints_there law s o row p store there is = checkpoints_there law s.log.held o row (store.objects o row there).stands p is
 
 pub block_is_named : OnePlace → CheckpointsHaveBlocks → (s : StoreFields) (p : Place) (block : Stored) → IsStore s → s.log.held p ≡ Some block → IsNamed s block.object block.kind p
 block_is_named one law s p block store at = (held_is_named one law s block.object block.kind p store).0 (seen_itself (s.log.held p) block at)

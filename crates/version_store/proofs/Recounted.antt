@@ -5,15 +5,15 @@ use Rattle.std.proofs.lemmas.Bool.{cases_Bool, cond-true, eq-eqb, ltb-false, fal
 use Rattle.std.proofs.lemmas.List.{length-append, get_or_default}
 use Rattle.std.proofs.lemmas.List.Elements.{All-append, All-weaker, All-contains_itself, Contains-append_cases}
 use Rattle.s4_types.specs.Pointer.{Place}
-use Rattle.s4_types.specs.declared.limits.TheConstants.{OBJECT_BLOCKS, SIDES}
+use Rattle.s4_types.specs.declared.limits.TheConstants.{ROW_POINTERS, OBJECT_BLOCKS, SIDES}
 use Rattle.block_log.specs.Log.{Log, Stored, of_kind, seen_as, same_kind, is_data, NamesAreOfData}
 use Rattle.block_log.specs.declared.kinds.BlockKind.{BlockKind}
-use Rattle.block_log.specs.declared.kinds.BlockKind.TheVariants.{Journal, Checkpoint, Data}
+use Rattle.block_log.specs.declared.kinds.BlockKind.TheVariants.{Journal, Checkpoint, Data, Pointers}
 use Rattle.block_log.specs.Taken.{TakesPlaces}
 use Rattle.codec.specs.Checkpoint.{CheckpointFields}
 use Rattle.codec.specs.Entry.{EntryFields, entry_length, entries_length}
 use Rattle.codec.specs.declared.entries.Triple.{Triple}
-use Rattle.checkpoint.specs.Held.{checkpoint_held, checkpoint_in}
+use Rattle.checkpoint.specs.Held.{of_checkpoints, checkpoint_held, checkpoint_in}
 use Rattle.journal_chain.specs.Chain.{BlockView}
 use Rattle.inode.specs.Contents.{contents_of}
 use Rattle.inode.specs.Tidiness.{Tidy}
@@ -28,17 +28,17 @@ use Rattle.version_store.proofs.Named.{named_some, named_there, times_contained}
 
 -- ---- rows that stay
 
-pub same_aside : (held later : Place → Option Stored) (o : ℕ) (row : Row) → of_kind Checkpoint o later ≡ of_kind Checkpoint o held → pointers_aside later o row ≡ pointers_aside held o row
+pub same_aside : (held later : Place → Option Stored) (o : ℕ) (row : Row) → of_checkpoints o later ≡ of_checkpoints o held → pointers_aside later o row ≡ pointers_aside held o row
 same_aside held later o row same = ap (λ (v : BlockView). flat_map (λ (side : Side). pointers_kept (checkpoint_in v side.place)) row.sides) same
 
 -- a row names what it named while its journal and checkpoints stay
-pub same_named : (held later : Place → Option Stored) (o : ℕ) (row : Row) → of_kind Journal o later ≡ of_kind Journal o held → of_kind Checkpoint o later ≡ of_kind Checkpoint o held → pointers_named later o row ≡ pointers_named held o row
+pub same_named : (held later : Place → Option Stored) (o : ℕ) (row : Row) → of_kind Journal o later ≡ of_kind Journal o held → of_checkpoints o later ≡ of_checkpoints o held → pointers_named later o row ≡ pointers_named held o row
 same_named held later o row journal checkpoints =
     ap (λ (slots : List (Option Place)). slots ++ pointers_aside later o row) (same_pointers held later o row journal checkpoints)
     ∙ ap (λ (slots : List (Option Place)). pointers_of held o row ++ slots) (same_aside held later o row checkpoints)
 
 -- so the data of an object whose names stay is named as before
-pub counted_beside : (before later : Log) (q : ℕ) (row : Row) → of_kind Journal q later.held ≡ of_kind Journal q before.held → of_kind Checkpoint q later.held ≡ of_kind Checkpoint q before.held
+pub counted_beside : (before later : Log) (q : ℕ) (row : Row) → of_kind Journal q later.held ≡ of_kind Journal q before.held → of_checkpoints q later.held ≡ of_checkpoints q before.held
     → ((p : Place) → named_of q later p ≡ named_of q before p) → IsNamedBy q before (pointers_named before.held q row) → IsNamedBy q later (pointers_named later.held q row)
 counted_beside before later q row journal checkpoints same counted p =
     same p ∙ counted p ∙ ap (times_led p) (sym (same_named before.held later.held q row journal checkpoints))
@@ -120,7 +120,7 @@ aside_few held o row (side ∷ sides) all tidy =
     omega (arith, both, is, count, rest)
 
 -- a row has this many pointers that name data at most
-pub pointers_few : (held : Place → Option Stored) (o : ℕ) (row : Row) (latest : ℕ) → IsObject held o row latest → length row.sides ≤ SIDES → length (pointers_named held o row) ≤ 12144
+pub pointers_few : (held : Place → Option Stored) (o : ℕ) (row : Row) (latest : ℕ) → IsObject held o row latest → length row.sides ≤ SIDES → length (pointers_named held o row) ≤ ROW_POINTERS
 pointers_few held o row latest object few =
     let kept : List (Option Place) = pointers_kept (checkpoint_of held o row) in
     let told : List (Option Place) = sides_told (entries_of held o row) in
@@ -140,6 +140,7 @@ data_seen block is = ap is_some (cond-true (same_kind Data block.kind && block.o
     of_data : (k : BlockKind) → same_kind k Data ≡ true → (same_kind Data k && block.object == block.object) ≡ true
     of_data Journal is = absurd (false≢true is)
     of_data Checkpoint is = absurd (false≢true is)
+    of_data Pointers is = absurd (false≢true is)
     of_data Data is = same
       where
         same : (block.object == block.object) ≡ true

@@ -4,9 +4,11 @@ use Rattle.std.specs.List.{Contains}
 use Rattle.s4_types.specs.Pointer.{Place}
 use Rattle.block_log.specs.Log.{Log, Stored, of_kind}
 use Rattle.block_log.specs.Taken.{TakesPlaces}
-use Rattle.block_log.specs.declared.kinds.BlockKind.TheVariants.{Journal, Checkpoint}
+use Rattle.block_log.specs.declared.kinds.BlockKind.TheVariants.{Journal, Checkpoint, Pointers}
+use Rattle.checkpoint.specs.Held.{of_checkpoints}
 use Rattle.codec.specs.Entry.{EntryFields, entries_length}
 use Rattle.codec.specs.declared.inodes.Inode.{Inode}
+use Rattle.checkpoint.proofs.OwnBlocks.{same_checkpoints}
 use Rattle.object_map.specs.declared.map.Row.{Row}
 use Rattle.time_read.specs.Rows.{IsRow, entries_of, checkpoint_of, first_of}
 use Rattle.time_read.specs.Orderly.{IsFromTo, IsOrderly, IsOrderlyChain, BeginsDead}
@@ -23,7 +25,7 @@ use Rattle.version_store.proofs.RelocatedBlocks.{Dropped, moved_are, from_copy, 
 
 -- rows in order rest on their own blocks
 abbrev pub OrderRestsOnBlocks : Type 0
-OrderRestsOnBlocks = (held later : Place → Option Stored) (o latest : ℕ) (row : Row) → of_kind Journal o later ≡ of_kind Journal o held → of_kind Checkpoint o later ≡ of_kind Checkpoint o held → IsOrderly held o row latest → IsOrderly later o row latest
+OrderRestsOnBlocks = (held later : Place → Option Stored) (o latest : ℕ) (row : Row) → of_kind Journal o later ≡ of_kind Journal o held → of_checkpoints o later ≡ of_checkpoints o held → IsOrderly held o row latest → IsOrderly later o row latest
 
 begins_renamed : (r : RenamingFields) (entries : List EntryFields) → BeginsDead entries → BeginsDead (renamed_entries r entries)
 begins_renamed r [] dead = dead
@@ -48,7 +50,7 @@ relocates laws order lengths holes row_stays inode_stays order_stays add_up befo
     let count : ℕ = length copies in
     let blocks : ℕ = row_blocks before.held o row in
     let journal : of_kind Journal o later.held ≡ of_kind Journal o moved.held = only_data before between moved later o copies r d Journal o refl in
-    let checkpoints : of_kind Checkpoint o later.held ≡ of_kind Checkpoint o moved.held = only_data before between moved later o copies r d Checkpoint o refl in
+    let checkpoints : of_checkpoints o later.held ≡ of_checkpoints o moved.held = same_checkpoints o moved.held later.held (only_data before between moved later o copies r d Checkpoint o refl) (only_data before between moved later o copies r d Pointers o refl) in
     let same : moved_blocks (kept_renamed r (checkpoint_of before.held o row)) (renamed_entries r entries) ≡ blocks = same_blocks lengths holes r (checkpoint_of before.held o row) entries in
     let bytes : entries_length (renamed_entries r entries) ≡ row.journal_bytes = laws.bytes r entries ∙ sym stands.chain.bytes in
     record {

@@ -12,6 +12,7 @@ use Rattle.s4_types.specs.Pointer.{Place}
 use Rattle.block_log.specs.Log.{Log, Stored, of_kind, seen_as, same_kind, same_place}
 use Rattle.block_log.specs.Taken.{TakesPlaces}
 use Rattle.block_log.specs.declared.kinds.BlockKind.TheVariants.{Journal, Checkpoint, Data}
+use Rattle.checkpoint.specs.Held.{is_checkpoint_kind}
 use Rattle.codec.specs.Checkpoint.{CheckpointFields}
 use Rattle.codec.specs.Entry.{EntryFields, entry_length}
 use Rattle.inode.specs.Growth.{data_block}
@@ -212,7 +213,7 @@ only_data before between moved later o copies r d kind other beside = fun_ext (�
 pub others_are : (before between moved later : Log) (o : ℕ) (copies : List CopiedBlock) (r : RenamingFields) → Dropped before between moved later o copies r → OtherObjectsStay o before.held later.held
 others_are before between moved later o copies r d kind other beside =
     only_data before between moved later o copies r d kind other (and_right (same_kind Data kind) (o == other) beside)
-    ∙ d.metadata kind other (and_right (same_kind Journal kind || same_kind Checkpoint kind) (o == other) beside)
+    ∙ d.metadata kind other (and_right (same_kind Journal kind || is_checkpoint_kind kind) (o == other) beside)
     ∙ d.appended.others kind other (and_right (same_kind Data kind) (o == other) beside)
 
 -- ---- places

@@ -1,5 +1,5 @@
 -- The names of an object's data where copies of its blocks were appended and its pointers are renamed.
-use Rattle.std.proofs.Common.{◌≡◌, ◌⊎◌, inl, inr, ℕ, zero, suc, ◌+◌, ◌≤◌, ◌<◌, ◌==◌, ◌&&◌, ◌++◌, leb, cond, true, false, List, [], ◌∷◌, length, map, Option, Some, None, IsSome, is_some, unwrap_or, refl, sym, ap, subst, ◌∙◌, arith}
+use Rattle.std.proofs.Common.{◌≡◌, ◌⊎◌, inl, inr, ℕ, zero, suc, ◌+◌, ◌*◌, ◌≤◌, ◌<◌, ◌==◌, ◌&&◌, ◌++◌, leb, cond, true, false, List, [], ◌∷◌, length, map, Option, Some, None, IsSome, is_some, unwrap_or, refl, sym, ap, subst, ◌∙◌, arith}
 use Rattle.std.specs.Prelude.{option_map}
 use Rattle.std.specs.List.{All, Contains}
 use Rattle.std.proofs.lemmas.Bool.{cases_Bool, cases_lt, cond-true, cond-false, and_from, and_parts, eq-eqb, leb-true, ltb-false, false≢true}
@@ -7,6 +7,7 @@ use Rattle.std.proofs.lemmas.List.{get_or_default, get_or_past, length-append}
 use Rattle.std.proofs.lemmas.List.Elements.{Contains-append_right}
 use Rattle.std.proofs.lemmas.Option.{none-some, same_Some}
 use Rattle.s4_types.specs.Pointer.{Place}
+use Rattle.s4_types.specs.declared.limits.TheConstants.{PAYLOAD_BLOCKS, ROW_POINTERS}
 use Rattle.block_log.specs.Log.{Log, Stored, of_kind, seen_as, is_data, NamesAreOfData}
 use Rattle.block_log.specs.declared.kinds.BlockKind.TheVariants.{Checkpoint, Data}
 use Rattle.codec.specs.Checkpoint.{CheckpointFields}
@@ -299,8 +300,8 @@ module _ (before between : Log) (o : ℕ) (row : Row) (copies : List CopiedBlock
         }
 
 -- there is room for as many names more
-pub renaming_room : (before between : Log) (o : ℕ) (row : Row) (copies : List CopiedBlock) (r : RenamingFields) → Copied before between o row copies r → ((p : Place) → before.named p ≤ 12144) → length (pointers_named before.held o row) ≤ 12144
-    → (p : Place) → between.named p + (length copies + length (pointers_of before.held o row)) ≤ 24318
+pub renaming_room : (before between : Log) (o : ℕ) (row : Row) (copies : List CopiedBlock) (r : RenamingFields) → Copied before between o row copies r → ((p : Place) → before.named p ≤ ROW_POINTERS) → length (pointers_named before.held o row) ≤ ROW_POINTERS
+    → (p : Place) → between.named p + (length copies + length (pointers_of before.held o row)) ≤ 2 * (ROW_POINTERS + PAYLOAD_BLOCKS)
 renaming_room before between o row copies r is few short p =
     let was = few p in
     let named = is.appended.named p in

@@ -15,7 +15,7 @@ use Rattle.codec.specs.Checkpoint.{pointer_at, checkpoint_rules}
 use Rattle.codec.specs.Entry.{EntryFields}
 use Rattle.codec.specs.declared.inodes.Inode.{Inode}
 use Rattle.undo_redo.specs.Runs.{AllBy, Run, undone_all, entries_by, last_moment}
-use Rattle.checkpoint.specs.Held.{checkpoint_held}
+use Rattle.checkpoint.specs.Held.{is_checkpoint_kind, checkpoint_held}
 use Rattle.inode.specs.Contents.{contents_of, meaning}
 use Rattle.inode.specs.Tidiness.{Tidy, PointersHeld, AgreeAt}
 use Rattle.inode.specs.Laws.{OnlyItsBlocksMatter}
@@ -123,7 +123,7 @@ swapped one before between later o row present entries counted counts metadata =
           let least = named_there o between p counts.names some_between in
           let is = named p in
           times_contained one p (pointers_told present entries) (omega (arith, least, is));
-      others = λ kind other beside. metadata kind other (and_right (same_kind Journal kind || same_kind Checkpoint kind) (o == other) beside) ∙ others kind other (and_right (same_kind Data kind) (o == other) beside);
+      others = λ kind other beside. metadata kind other (and_right (same_kind Journal kind || is_checkpoint_kind kind) (o == other) beside) ∙ others kind other (and_right (same_kind Data kind) (o == other) beside);
     }
 
 -- ---- the object

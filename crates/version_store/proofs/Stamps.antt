@@ -5,7 +5,8 @@ use Rattle.std.proofs.lemmas.Option.{none-some, same_Some}
 use std.Path.{fun_ext}
 use Rattle.block_log.specs.Log.{of_kind, same_kind}
 use Rattle.block_log.specs.declared.kinds.BlockKind.{BlockKind}
-use Rattle.block_log.specs.declared.kinds.BlockKind.TheVariants.{Journal, Checkpoint, Data}
+use Rattle.block_log.specs.declared.kinds.BlockKind.TheVariants.{Journal, Checkpoint, Data, Pointers}
+use Rattle.checkpoint.specs.Held.{is_checkpoint_kind}
 use Rattle.codec.specs.declared.inodes.Inode.{Inode}
 use Rattle.codec.specs.Entry.{EntryFields}
 use Rattle.object_map.specs.declared.map.Row.{Row}
@@ -50,16 +51,19 @@ no_data : (kind : BlockKind) (o q : ℕ) → (o == q) ≡ false → (same_kind k
 no_data Journal o q other = refl
 no_data Checkpoint o q other = refl
 no_data Data o q other = other
+no_data Pointers o q other = refl
 
 no_journal : (kind : BlockKind) (o q : ℕ) → (o == q) ≡ false → (same_kind Journal kind && o == q) ≡ false
 no_journal Journal o q other = other
 no_journal Checkpoint o q other = refl
 no_journal Data o q other = refl
+no_journal Pointers o q other = refl
 
-no_checkpoint : (kind : BlockKind) (o q : ℕ) → (o == q) ≡ false → (same_kind Checkpoint kind && o == q) ≡ false
+no_checkpoint : (kind : BlockKind) (o q : ℕ) → (o == q) ≡ false → (is_checkpoint_kind kind && o == q) ≡ false
 no_checkpoint Journal o q other = refl
 no_checkpoint Checkpoint o q other = other
 no_checkpoint Data o q other = refl
+no_checkpoint Pointers o q other = other
 
 pub changed : (s later : StoreFields) (o m count : ℕ) (blocks : List (List ℕ)) → RowChanges s o m later.rows → Appends o blocks count s.log later.log → StampsTell s later
 changed s later o m count blocks rows appends = stepped s later o rows.next rows.put

@@ -11,7 +11,7 @@ use Rattle.s4_types.specs.declared.versions.Version.{Version}
 use Rattle.s4_types.specs.declared.versions.Version.TheVariants.{Absent}
 use Rattle.block_log.specs.Taken.{TakesPlaces}
 use Rattle.block_log.specs.Log.{Log, Stored, same_kind}
-use Rattle.block_log.specs.declared.kinds.BlockKind.TheVariants.{Journal, Checkpoint, Data}
+use Rattle.block_log.specs.declared.kinds.BlockKind.TheVariants.{Journal, Checkpoint, Data, Pointers}
 use Rattle.codec.specs.declared.inodes.Inode.{Inode}
 use Rattle.codec.specs.Entry.{EntryFields}
 use Rattle.undo_redo.specs.Runs.{blank, AllAt}
@@ -20,6 +20,7 @@ use Rattle.inode.specs.Contents.{byte_in, byte_of, contents_of, meaning}
 use Rattle.inode.specs.Tidiness.{Tidy, PointersHeld}
 use Rattle.inode.specs.Growth.{GrowsBy}
 use Rattle.inode.specs.Laws.{OnlyItsBlocksMatter}
+use Rattle.checkpoint.proofs.OwnBlocks.{none_seen}
 use Rattle.object_map.specs.declared.map.Row.{Row}
 use Rattle.object_map.specs.declared.sides.Side.{Side}
 use Rattle.object_map.specs.Rows.{row_of, with_row, fresh_row}
@@ -110,7 +111,7 @@ blank_means contents m = refl
 
 fresh_object : FreshRowStands → FreshRowIsBy → FreshInode → IsByLater → BlankCount → BlankHoles → (held : Place → Option Stored) (o m latest : ℕ) → 1 ≤ o → HasNothing held o → IsObject held o (fresh_row m) latest
 fresh_object stands by fresh later count holes held o m latest numbered nothing = record {
-  stands = stands held o m numbered (λ p. nothing Journal p) (λ p. nothing Checkpoint p);
+  stands = stands held o m numbered (λ p. nothing Journal p) (λ p. none_seen o (held p) (nothing Checkpoint p) (nothing Pointers p));
   by = later held o (fresh_row m) 0 latest (omega arith) (by held o m);
   led = subst (Leads held o) (sym (fresh_pointers held o m)) (All-nil (IsLed held o));
   tidy = λ t. subst (Tidy (contents_of held)) (sym (fresh held o m t)) (blank_tidy count holes (contents_of held) m);

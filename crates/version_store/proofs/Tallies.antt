@@ -1,5 +1,5 @@
 -- How often rows name places, and that a log counts just that.
-use Rattle.std.proofs.Common.{◌≡◌, ◌⊎◌, inl, inr, ℕ, zero, suc, ◌+◌, ◌<◌, ◌≤◌, Bool, true, false, cond, ltb, ◌==◌, ◌&&◌, ◌||◌, List, [], ◌∷◌, ◌++◌, count_by, Option, Some, None, IsSome, is_some, MatchOption, refl, sym, ap, subst, ◌∙◌, arith}
+use Rattle.std.proofs.Common.{◌≡◌, ◌⊎◌, inl, inr, ℕ, zero, suc, ◌+◌, ◌<◌, ◌≤◌, Bool, true, false, cond, ltb, ◌==◌, ◌&&◌, ◌||◌, List, [], ◌∷◌, ◌++◌, count_by, Option, Some, None, IsSome, is_some, option_map, MatchOption, refl, sym, ap, subst, ◌∙◌, arith}
 use Rattle.std.specs.List.{AllByRecursion, flat_map, list_any, range_with_len, sum_by}
 use Rattle.std.specs.Option.{option_to_list}
 use Rattle.std.proofs.lemmas.Bool.{cases_Bool, cases_eq, cases_lt, cond-true, cond-false, lt-ltb, ltb-true, ltb-false, eq-eqb, ne_eqb, false≢true}
@@ -7,12 +7,13 @@ use Rattle.std.proofs.lemmas.List.Folds.{list_any-append}
 use Rattle.std.proofs.lemmas.List.Sums.{sum_by-cons, sum_by-append}
 use Rattle.s4_types.specs.Pointer.{Place}
 use Rattle.block_log.specs.declared.kinds.BlockKind.{BlockKind}
-use Rattle.block_log.specs.declared.kinds.BlockKind.TheVariants.{Journal, Checkpoint, Data}
+use Rattle.block_log.specs.declared.kinds.BlockKind.TheVariants.{Journal, Checkpoint, Data, Pointers}
 use Rattle.block_log.specs.Log.{Stored, of_kind, seen_as, same_kind, same_place}
 use Rattle.codec.specs.Fields.{bit}
 use Rattle.codec.specs.Checkpoint.{CheckpointFields}
 use Rattle.journal_chain.specs.Chain.{times, chain_places}
-use Rattle.checkpoint.specs.Held.{checkpoint_held, checkpoint_places, of_checkpoints, places_in, places_named as checkpoint_named, is_one_of, IsInBoth}
+use Rattle.checkpoint.specs.Held.{or_others, begun_by, seen_of, checkpoint_held, checkpoint_places, of_checkpoints, places_in, places_named as checkpoint_named, is_one_of, IsInBoth}
+use Rattle.checkpoint.proofs.OwnBlocks.{none_seen}
 use Rattle.object_map.specs.declared.map.Row.{Row}
 use Rattle.object_map.specs.declared.sides.Side.{Side}
 use Rattle.object_map.specs.Rows.{row_of}
@@ -202,7 +203,7 @@ adds o (Some block) n = cond (block.object == o) (held_names (Some block) n) 0
 
 -- of each kind
 kinds_add : (kind : BlockKind) (own : Bool) (n : ℕ) (bytes : List ℕ)
-    → bit (is_some (cond (same_kind Journal kind && own) (Some bytes) None)) + (bit (is_some (cond (same_kind Checkpoint kind && own) (Some bytes) None)) + cond (is_some (cond (same_kind Data kind && own) (Some bytes) None)) n 0)
+    → bit (is_some (cond (same_kind Journal kind && own) (Some bytes) None)) + (bit (is_some (or_others (option_map (begun_by Checkpoint) (cond (same_kind Checkpoint kind && own) (Some bytes) None)) (option_map (begun_by Pointers) (cond (same_kind Pointers kind && own) (Some bytes) None)))) + cond (is_some (cond (same_kind Data kind && own) (Some bytes) None)) n 0)
     ≡ cond own (cond (same_kind kind Data) n 1) 0
 kinds_add Journal true n bytes = refl
 kinds_add Journal false n bytes = refl
@@ -210,8 +211,10 @@ kinds_add Checkpoint true n bytes = refl
 kinds_add Checkpoint false n bytes = refl
 kinds_add Data true n bytes = omega arith
 kinds_add Data false n bytes = refl
+kinds_add Pointers true n bytes = refl
+kinds_add Pointers false n bytes = refl
 
-seen_adds : (o : ℕ) (there : Option Stored) (n : ℕ) → bit (is_some (seen_as Journal o there)) + (bit (is_some (seen_as Checkpoint o there)) + cond (is_some (seen_as Data o there)) n 0) ≡ adds o there n
+seen_adds : (o : ℕ) (there : Option Stored) (n : ℕ) → bit (is_some (seen_as Journal o there)) + (bit (is_some (seen_of o there)) + cond (is_some (seen_as Data o there)) n 0) ≡ adds o there n
 seen_adds o None n = refl
 seen_adds o (Some block) n = kinds_add block.kind (block.object == o) n block.bytes
 
@@ -237,7 +240,7 @@ row_counts one have once apart s o row store there p =
 nothing_adds : (o : ℕ) (there : Option Stored) (n : ℕ) → ((kind : BlockKind) → seen_as kind o there ≡ None) → adds o there n ≡ 0
 nothing_adds o there n none =
     let journal : bit (is_some (seen_as Journal o there)) ≡ 0 = ap (λ (x : Option (List ℕ)). bit (is_some x)) (none Journal) in
-    let checkpoint : bit (is_some (seen_as Checkpoint o there)) ≡ 0 = ap (λ (x : Option (List ℕ)). bit (is_some x)) (none Checkpoint) in
+    let checkpoint : bit (is_some (seen_of o there)) ≡ 0 = ap (λ (x : Option (List ℕ)). bit (is_some x)) (none_seen o there (none Checkpoint) (none Pointers)) in
     let of_data : cond (is_some (seen_as Data o there)) n 0 ≡ 0 = ap (λ (x : Option (List ℕ)). cond (is_some x) n 0) (none Data) in
     let all = seen_adds o there n in
     omega (arith, journal, checkpoint, of_data, all)

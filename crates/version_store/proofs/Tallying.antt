@@ -7,6 +7,7 @@ use Rattle.std.proofs.lemmas.List.{get_or_past, get_or-replicate, get_or-set_sam
 use Rattle.std.proofs.lemmas.List.Elements.{All-weaker, All-contains_itself, Contains-append_right}
 use Rattle.std.proofs.lemmas.List.Sums.{sum_by-cons, sum_by_more, sum_by-take-le}
 use Rattle.s4_types.specs.Pointer.{Place}
+use Rattle.s4_types.specs.declared.limits.TheConstants.{ROW_POINTERS}
 use Rattle.block_log.specs.declared.kinds.BlockKind.TheVariants.{Journal, Data}
 use Rattle.block_log.specs.Log.{Stored, of_kind, same_kind, same_place}
 use Rattle.codec.specs.Fields.{bit}
@@ -241,15 +242,15 @@ room_one old now pointers k p below at inside before room =
 -- ---- the rows of a store
 
 -- a row's number of names is small
-small : (there : Option Stored) (n : ℕ) → n ≤ 12144 → held_names there n ≤ 12144
+small : (there : Option Stored) (n : ℕ) → n ≤ ROW_POINTERS → held_names there n ≤ ROW_POINTERS
 small None n few = omega arith
 small (Some block) n few = elim (cases_Bool (same_kind block.kind Data)) [
   | inl is ↦ let e : held_names (Some block) n ≡ n = cond-true (same_kind block.kind Data) n 1 is in omega (arith, e, few)
   | inr isnt ↦ let e : held_names (Some block) n ≡ 1 = cond-false (same_kind block.kind Data) n 1 isnt in omega (arith, e)
 ]
 
-few_named : (s : StoreFields) → IsStore s → (p : Place) → log_names s.log p ≤ 12144
-few_named s store p = small (s.log.held p) (s.log.named p) (names_few s.log s.rows 12144 store.names store.nothing
+few_named : (s : StoreFields) → IsStore s → (p : Place) → log_names s.log p ≤ ROW_POINTERS
+few_named s store p = small (s.log.held p) (s.log.named p) (names_few s.log s.rows ROW_POINTERS store.names store.nothing
     (λ o row is q.
     let a = store.counted o row is q in
     let b = times_few q (pointers_named s.log.held o row) in

@@ -19,7 +19,7 @@ use Rattle.codec.specs.declared.inodes.Inode.{Inode}
 use Rattle.undo_redo.specs.Between.{AreOf}
 use Rattle.undo_redo.specs.Redone.{redone, undone, with_after, with_before}
 use Rattle.undo_redo.specs.Runs.{blank, redone_all, undone_all, entry_is_by, entries_by}
-use Rattle.checkpoint.specs.Held.{checkpoint_held, checkpoint_in}
+use Rattle.checkpoint.specs.Held.{of_checkpoints, checkpoint_held, checkpoint_in}
 use Rattle.journal_chain.specs.Chain.{BlockView, chain_entries, chain_links, links_from, entries_in}
 use Rattle.journal_chain.specs.Packing.{joined}
 use Rattle.inode.specs.Tidiness.{PointersHeld}
@@ -202,7 +202,7 @@ pub record Grows (held later : Place → Option Stored) (o : ℕ) (row next : Ro
   pub entries : entries_of later o next ≡ entries_of held o row ++ new
   pub checkpoint : checkpoint_of later o next ≡ checkpoint_of held o row
 
-pub same_checkpoint : (held later : Place → Option Stored) (o : ℕ) (place : Option Place) → of_kind Checkpoint o later ≡ of_kind Checkpoint o held → (place >>= checkpoint_held later o) ≡ (place >>= checkpoint_held held o)
+pub same_checkpoint : (held later : Place → Option Stored) (o : ℕ) (place : Option Place) → of_checkpoints o later ≡ of_checkpoints o held → (place >>= checkpoint_held later o) ≡ (place >>= checkpoint_held held o)
 same_checkpoint held later o place same = ap (λ (v : BlockView). place >>= λ p. checkpoint_in v p) same
 
 pub grown_sides : (held later : Place → Option Stored) (o : ℕ) (row next : Row) (new : List EntryFields) → Grows held later o row next new → sides_told (entries_of later o next) ≡ sides_told (entries_of held o row) ++ sides_told new
@@ -235,7 +235,7 @@ pub same_entries : (held later : Place → Option Stored) (o : ℕ) (row : Row) 
 unfolding chain_entries
 same_entries held later o row same = ap (λ (v : BlockView). unwrap_or (entries_in v o row.head) []) same
 
-pub same_pointers : (held later : Place → Option Stored) (o : ℕ) (row : Row) → of_kind Journal o later ≡ of_kind Journal o held → of_kind Checkpoint o later ≡ of_kind Checkpoint o held → pointers_of later o row ≡ pointers_of held o row
+pub same_pointers : (held later : Place → Option Stored) (o : ℕ) (row : Row) → of_kind Journal o later ≡ of_kind Journal o held → of_checkpoints o later ≡ of_checkpoints o held → pointers_of later o row ≡ pointers_of held o row
 same_pointers held later o row journal checkpoints =
     ap (λ (c : Option CheckpointFields). pointers_kept c ++ sides_told (entries_of later o row)) (same_checkpoint held later o row.checkpoint checkpoints)
     ∙ ap (λ (es : List EntryFields). pointers_kept (checkpoint_of held o row) ++ sides_told es) (same_entries held later o row journal)

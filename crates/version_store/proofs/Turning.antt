@@ -5,10 +5,11 @@ use Rattle.std.proofs.lemmas.Bool.{cases_lt, cond-true, eq-eqb, le-leb}
 use Rattle.std.proofs.lemmas.List.{length-map}
 use Rattle.std.proofs.lemmas.Option.{same_Some}
 use Rattle.s4_types.specs.Pointer.{Place}
-use Rattle.s4_types.specs.declared.limits.TheConstants.{SIDES}
+use Rattle.s4_types.specs.declared.limits.TheConstants.{OBJECT_BLOCKS, ROW_POINTERS, SIDES}
 use Rattle.block_log.specs.Log.{Log, Stored, of_kind}
 use Rattle.block_log.specs.Taken.{TakesPlaces}
-use Rattle.block_log.specs.declared.kinds.BlockKind.TheVariants.{Checkpoint, Data}
+use Rattle.block_log.specs.declared.kinds.BlockKind.TheVariants.{Checkpoint, Data, Pointers}
+use Rattle.checkpoint.specs.Held.{of_checkpoints}
 use Rattle.codec.specs.Checkpoint.{CheckpointFields, pointer_at}
 use Rattle.codec.specs.Entry.{EntryFields, entry_length}
 use Rattle.codec.specs.declared.inodes.Inode.{Inode}
@@ -18,6 +19,7 @@ use Rattle.journal_chain.specs.Chain.{OnlyJournalChanged}
 use Rattle.journal_chain.specs.Push.{HasRoom, pushed_blocks}
 use Rattle.inode.specs.Laws.{OnlyItsBlocksMatter}
 use Rattle.inode.specs.Tidiness.{PointersHeld}
+use Rattle.checkpoint.proofs.OwnBlocks.{same_checkpoints}
 use Rattle.object_map.specs.declared.map.Row.{Row}
 use Rattle.object_map.specs.Rows.{row_of, with_row, fresh_row}
 use Rattle.time_read.specs.Rows.{IsRow, chain_of, entries_of, checkpoint_of, inode_of}
@@ -79,7 +81,7 @@ records_of s later o i j hand m row next tell at can there orderly made kept sta
       new = entries_between i j m;
       grows = record {
         entries = entries;
-        checkpoint = ap (λ (r : Row). checkpoint_of later o r) rest ∙ same_checkpoint s.log.held later o row.checkpoint (others Checkpoint o refl);
+        checkpoint = ap (λ (r : Row). checkpoint_of later o r) rest ∙ same_checkpoint s.log.held later o row.checkpoint (same_checkpoints o s.log.held later (others Checkpoint o refl) (others Pointers o refl));
       };
       told = between_led s.log.held o i j (entries_between i j m) before can.pointers (tell i j m);
       moments = at i j m;
@@ -120,7 +122,7 @@ turned laws s later o m i j hand row next can there know latest records rest put
 -- ---- the names
 
 -- how often the next row names a place: as often as the row did, and once for each side of a new triple
-grown_times : (held later : Place → Option Stored) (o : ℕ) (row next : Row) (new : List EntryFields) → Grows held later o row next new → next.sides ≡ row.sides → of_kind Checkpoint o later ≡ of_kind Checkpoint o held
+grown_times : (held later : Place → Option Stored) (o : ℕ) (row next : Row) (new : List EntryFields) → Grows held later o row next new → next.sides ≡ row.sides → of_checkpoints o later ≡ of_checkpoints o held
     → (p : Place) → times_led p (pointers_named later o next) ≡ times_led p (pointers_named held o row) + times_led p (sides_told new)
 grown_times held later o row next new grows sides checkpoints p =
     let kept : List (Option Place) = pointers_kept (checkpoint_of held o row) in
@@ -157,7 +159,7 @@ recorded_of s log o i j hand m row next can there inode entries rest others name
   there = there;
   grows = record {
     entries = entries;
-    checkpoint = ap (λ (r : Row). checkpoint_of log.held o r) rest ∙ same_checkpoint s.log.held log.held o row.checkpoint (others Checkpoint o refl);
+    checkpoint = ap (λ (r : Row). checkpoint_of log.held o r) rest ∙ same_checkpoint s.log.held log.held o row.checkpoint (same_checkpoints o s.log.held log.held (others Checkpoint o refl) (others Pointers o refl));
   };
   others = others;
   inode = inode m ∙ cond-true (leb m m) j (inode_of s.log.held o row m) (le-leb m m (omega arith));
@@ -186,7 +188,7 @@ module _ (s : StoreFields) (log : Log) (o : ℕ) (row next : Row) (new : List En
   hand_led = told_led log.held o hand hand_held
 
   grown_here : (p : Place) → times_led p (pointers_named log.held o next) ≡ times_led p (pointers_named s.log.held o row) + times_led p (sides_told new)
-  grown_here p = grown_times s.log.held log.held o row next new is.grows is.sides (is.others Checkpoint o refl) p
+  grown_here p = grown_times s.log.held log.held o row next new is.grows is.sides (same_checkpoints o s.log.held log.held (is.others Checkpoint o refl) (is.others Pointers o refl)) p
 
   -- each data block of the object has a name left
   still_named : OnePlace → (p : Place) → IsSome (of_kind Data o log.held p) → 0 < (times_led p (sides_told new) + named_of o log p) - times_led p hand
@@ -237,8 +239,8 @@ turned_led s log o i j hand m row next tell can there others =
 -- ---- room for names
 
 -- how many names a place has while a row isn't in order yet
-pub open_few : (s : StoreFields) (o : ℕ) (j : Inode) (hand : List (Option Place)) → IsOpenFor o j hand s → (p : Place) → s.log.named p ≤ 12192
-open_few s o j hand store p = names_few s.log s.rows 12192 store.names store.nothing (λ q row e r.
+pub open_few : (s : StoreFields) (o : ℕ) (j : Inode) (hand : List (Option Place)) → IsOpenFor o j hand s → (p : Place) → s.log.named p ≤ ROW_POINTERS + OBJECT_BLOCKS
+open_few s o j hand store p = names_few s.log s.rows (ROW_POINTERS + OBJECT_BLOCKS) store.names store.nothing (λ q row e r.
     let counted = store.counted q row e r in
     let few = times_few r (pointers_named s.log.held q row) in
     let most = pointers_few s.log.held q row s.latest (store.objects q row e) (store.few q row e) in

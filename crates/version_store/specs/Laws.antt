@@ -1,17 +1,18 @@
 -- What the definitions come to: each of these holds of all stores, and is the contract of a function with an empty body.
 use Rattle.std.specs.Prelude.{◌≡◌, ℕ, ◌≤◌, ◌↔◌, true, length, Option, Some, None, IsSome}
 use Rattle.s4_types.specs.Pointer.{Place}
-use Rattle.s4_types.specs.declared.limits.TheConstants.{SIDES}
+use Rattle.s4_types.specs.declared.limits.TheConstants.{ROW_POINTERS, SIDES}
 use Rattle.block_log.specs.declared.kinds.BlockKind.{BlockKind}
 use Rattle.block_log.specs.declared.kinds.BlockKind.TheVariants.{Data}
 use Rattle.codec.specs.Checkpoint.{pointer_at}
 use Rattle.block_log.specs.Log.{Stored, of_kind}
+use Rattle.checkpoint.specs.Held.{is_one_of, of_checkpoints}
 use Rattle.codec.specs.declared.inodes.Inode.{Inode}
 use Rattle.undo_redo.specs.Runs.{blank}
 use Rattle.inode.specs.Contents.{contents_of, meaning}
 use Rattle.object_map.specs.declared.map.Row.{Row}
 use Rattle.object_map.specs.Rows.{row_of}
-use Rattle.time_read.specs.Rows.{inode_of}
+use Rattle.time_read.specs.Rows.{all_places_of, inode_of}
 use Rattle.version_store.specs.Store.{StoreFields, IsStore, IsObject, IsNamed, pointers_named}
 use Rattle.version_store.specs.Versions.{Stays, inode_in, version_in}
 use Rattle.version_store.specs.Costs.{subject_inode}
@@ -60,6 +61,11 @@ HeldIsWhatRowsName = (s : StoreFields) (o : ℕ) (kind : BlockKind) (p : Place) 
 abbrev pub EachHeldBlockIsNamed : Type 0
 EachHeldBlockIsNamed = (s : StoreFields) (p : Place) (block : Stored) → IsStore s → s.log.held p ≡ Some block → IsNamed s block.object block.kind p
 
+-- Each block of a checkpoint that an object's row names is held as one of the object's checkpoints.
+abbrev pub CheckpointsOfRowsAreHeld : Type 0
+CheckpointsOfRowsAreHeld = (s : StoreFields) (o : ℕ) (row : Row) (p : Place) → IsStore s → row_of s.rows o ≡ Some row → is_one_of (all_places_of s.log.held o row) p ≡ true
+    → IsSome (of_checkpoints o s.log.held p)
+
 -- Each place that an inode of an object points to, at whatever moment, is one that the object's row names.
 abbrev pub InodesPointToWhatRowsName : Type 0
 InodesPointToWhatRowsName = (s : StoreFields) (o t n : ℕ) (i : Inode) (p : Place) → inode_in s o t ≡ Some i → pointer_at i n ≡ Some p → IsNamed s o Data p
@@ -67,8 +73,8 @@ InodesPointToWhatRowsName = (s : StoreFields) (o t n : ℕ) (i : Inode) (p : Pla
 -- A row has this many pointers at most: OBJECT_BLOCKS in each of its checkpoints, of which it has SIDES and one more, and fewer in its
 -- journal than its entries have bytes, CHAIN_ENTRY_BYTES at most.
 abbrev pub RowsHaveFewPointers : Type 0
-RowsHaveFewPointers = (held : Place → Option Stored) (o : ℕ) (row : Row) (latest : ℕ) → IsObject held o row latest → length row.sides ≤ SIDES → length (pointers_named held o row) ≤ 12144
+RowsHaveFewPointers = (held : Place → Option Stored) (o : ℕ) (row : Row) (latest : ℕ) → IsObject held o row latest → length row.sides ≤ SIDES → length (pointers_named held o row) ≤ ROW_POINTERS
 
 -- no place has more names than a row has pointers at most
 abbrev pub PlacesHaveFewNames : Type 0
-PlacesHaveFewNames = (s : StoreFields) (p : Place) → IsStore s → s.log.named p ≤ 12144
+PlacesHaveFewNames = (s : StoreFields) (p : Place) → IsStore s → s.log.named p ≤ ROW_POINTERS

@@ -4,7 +4,7 @@ use Rattle.std.specs.List.{All, Contains, count_by, flat_map}
 use Rattle.s4_types.specs.Pointer.{Place}
 use Rattle.s4_types.specs.declared.limits.TheConstants.{SIDES}
 use Rattle.block_log.specs.declared.kinds.BlockKind.{BlockKind}
-use Rattle.block_log.specs.declared.kinds.BlockKind.TheVariants.{Journal, Checkpoint, Data}
+use Rattle.block_log.specs.declared.kinds.BlockKind.TheVariants.{Journal, Checkpoint, Data, Pointers}
 use Rattle.block_log.specs.Log.{Log, Stored, NamesAreOfData, of_kind, same_place}
 use Rattle.codec.specs.Checkpoint.{CheckpointFields}
 use Rattle.codec.specs.Entry.{EntryFields}
@@ -124,12 +124,14 @@ pub record IsStore (s : StoreFields) : Type 0 where
   pub ascending : MakingsAscend s.rows
   pub apart : ChainsShareNoMoment s.log.held s.rows
 
--- A row names an object's block of this kind at a place: it is in the object's chain, once; or it is a block of one of the
--- row's checkpoints; or the newest checkpoint has a pointer to it, or a triple of the chain has, on either side.
+-- A row names an object's block of this kind at a place: it is in the object's chain, once; or it is at the place of a block
+-- of one of the row's checkpoints, and is held there as a first block or as a part; or the newest checkpoint has a pointer to
+-- it, or a triple of the chain has, on either side.
 abbrev pub Names : (Place → Option Stored) → ℕ → Row → BlockKind → Place → Type 0
 Names held o row Journal p = times p (chain_places (of_kind Journal o held) o row.head) ≡ 1
-Names held o row Checkpoint p = is_one_of (all_places_of held o row) p ≡ true
+Names held o row Checkpoint p = (is_one_of (all_places_of held o row) p ≡ true) × IsSome (of_kind Checkpoint o held p)
 Names held o row Data p = Contains (pointers_of held o row) (Some p)
+Names held o row Pointers p = (is_one_of (all_places_of held o row) p ≡ true) × IsSome (of_kind Pointers o held p)
 
 -- an object has a row, which names its block of this kind at a place
 pub record IsNamed (s : StoreFields) (o : ℕ) (kind : BlockKind) (p : Place) : Type 0 where

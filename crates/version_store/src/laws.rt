@@ -4,6 +4,7 @@ ghost use Rattle.version_store.specs.Laws.{ObjectsStay, InodesStay, VersionsStay
 ghost use Rattle.version_store.specs.Laws.{AnInodeAtAllMomentsOrNone, ChangesBeginWithThePresent};
 ghost use Rattle.version_store.specs.Laws.{ChangesBeginWithThePresentVersion, TheAliveAreThere};
 ghost use Rattle.version_store.specs.Laws.{HeldIsWhatRowsName, EachHeldBlockIsNamed};
+ghost use Rattle.version_store.specs.Laws.{CheckpointsOfRowsAreHeld};
 ghost use Rattle.version_store.specs.Laws.{InodesPointToWhatRowsName, RowsHaveFewPointers};
 ghost use Rattle.version_store.specs.Laws.{PlacesHaveFewNames};
 ghost use Rattle.version_store.specs.Replacing.{AJournalCanBeCut, ACutJournalShowsTheSame};
@@ -72,12 +73,13 @@ pub fn changes_begin_with_the_present_version()
 }
 
 /// What is held is exactly what rows name: an object's journal blocks are those of its chain, its
-/// blocks of checkpoints are those of the one that its row names, and its data blocks are those
-/// that a pointer of that checkpoint, or either side of a triple of that chain, leads to. Nothing
-/// else is held, and no object without a row has a block.
+/// blocks of checkpoints are those of the ones that its row names, and its data blocks are those
+/// that a pointer of its newest checkpoint, or either side of a triple of that chain, leads to.
+/// Nothing else is held, and no object without a row has a block.
 pub fn what_is_held_is_what_rows_name()
     ensures exact { HeldIsWhatRowsName }
     ensures block { EachHeldBlockIsNamed }
+    ensures checkpoints { CheckpointsOfRowsAreHeld }
 {
     one_place_has_one_name();
     a_checkpoint_has_its_blocks();
@@ -90,8 +92,8 @@ pub fn inodes_point_to_what_rows_name()
     ensures { InodesPointToWhatRowsName }
 {}
 
-/// No row has more than 12,144 pointers that name data, and no data block more names, and what is
-/// not data has none: so a count of names fits 32 bits, and one more does.
+/// No row has more than `ROW_POINTERS` pointers that name data, and no data block more names, and
+/// what is not data has none: so a count of names fits 32 bits, and one more does.
 pub fn places_have_few_names()
     ensures places { PlacesHaveFewNames }
     ensures rows { RowsHaveFewPointers }

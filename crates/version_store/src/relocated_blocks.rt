@@ -1,5 +1,6 @@
 //! An object's journal and checkpoint, renamed and written at other places together with copies of
 //! its data.
+ghost use Rattle.s4_types.specs.declared.limits.TheConstants.{ROW_POINTERS};
 ghost use Rattle.std.specs.Prelude.{◌≡◌, ℕ, ◌≤◌, length, option_map};
 ghost use Rattle.std.specs.List.{All, AllByRecursion};
 ghost use Rattle.s4_types.specs.Pointer.{Place};
@@ -88,8 +89,8 @@ pub(crate) fn relocate_blocks<B: Blocks>(
         ≤ length (B.log table.old).ahead }
     requires counted { IsNamedBy object (B.log table.old)
         (pointers_named (B.log table.old).held object row.now) }
-    requires few_names { (p : Place) → (B.log table.old).named p ≤ 12144 }
-    requires few { length (pointers_named (B.log table.old).held object row.now) ≤ 12144 }
+    requires few_names { (p : Place) → (B.log table.old).named p ≤ ROW_POINTERS }
+    requires few { length (pointers_named (B.log table.old).held object row.now) ≤ ROW_POINTERS }
     ensures moved { Relocates (B.log table.old) object row.now copies.now result.row
         (B.log table.new) result.renaming }
     ensures named { NamesMove (B.log table.old) object row.now result.renaming (B.log table.new) }

@@ -37,7 +37,7 @@ pub record Moved (between moved : Log) (o : ℕ) (row next : Row) (kept : Option
   pub metadata : OnlyMetadataChanged o between.held moved.held
   pub takes : TakesPlaces (moved_blocks kept entries) between moved
   pub chains : (p : Place) → IsSome (of_kind Journal o moved.held p) → Contains (take (moved_blocks kept entries) between.ahead) p
-  pub checkpoints : (p : Place) → IsSome (of_kind Checkpoint o moved.held p) → Contains (take (moved_blocks kept entries) between.ahead) p
+  pub checkpoints : (p : Place) → IsSome (of_checkpoints o moved.held p) → Contains (take (moved_blocks kept entries) between.ahead) p
 
 -- a copy of a block of this number is held at a place
 pub record IsCopyAt (o : ℕ) (copies : List CopiedBlock) (now : Log) (n : ℕ) (q : Place) : Type 0 where

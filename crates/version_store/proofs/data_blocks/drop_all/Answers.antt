@@ -1,7 +1,8 @@
 use Rattle.std.proofs.Common.{ap, refl, ◌∙◌, [], ◌+◌, arith}
-use Rattle.block_log.specs.declared.kinds.BlockKind.TheVariants.{Journal, Checkpoint}
+use Rattle.block_log.specs.declared.kinds.BlockKind.TheVariants.{Journal, Checkpoint, Pointers}
 use Rattle.object_map.specs.declared.map.Row.{Row}
 use Rattle.std.proofs.lemmas.List.Elements.{All-nil}
+use Rattle.checkpoint.proofs.OwnBlocks.{same_checkpoints}
 use Rattle.version_store.specs.Store.{IsLed}
 use Rattle.version_store.proofs.Dropping.{checkpoint_stands, checkpoint_gone, data_gone, nothing_left, others_left, uncounted_all}
 use Rattle.version_store.proofs.Named.{recounts_data}
@@ -16,7 +17,7 @@ drop_sides-bare-requires g c =
     let counted = g.B.Blocks.log c.recount.new.table in
     let o = c.args.object in
     let only = recounts_data o before counted [] c.args.pointers.now c.recount.ensures in
-    record { row = c.a_row_is_its_own_blocks.ensures.row before.held counted.held o c.args.row.now (only Journal o refl) (only Checkpoint o refl) c.requires.row }
+    record { row = c.a_row_is_its_own_blocks.ensures.row before.held counted.held o c.args.row.now (only Journal o refl) (same_checkpoints o before.held counted.held (only Checkpoint o refl) (only Pointers o refl)) c.requires.row }
 
 pub drop_checkpoint-requires : goal.drop_checkpoint-requires
 drop_checkpoint-requires g c = record {

@@ -1,3 +1,4 @@
+use Rattle.checkpoint.proofs.OwnBlocks.{same_checkpoints}
 use Rattle.version_store.specs.private.Relocating.{Moved}
 use Rattle.version_store.proofs.Relocated.{moved_over, relocates}
 use Rattle.version_store.proofs.RelocatedBlocks.{Dropped, same_blocks}
@@ -9,7 +10,7 @@ use Rattle.version_store.proofs.Named.{all_or_nothing}
 use Rattle.version_store.proofs.Renamings.{Copied, all_still, copied_led, counted_held, last_held, moved_led, moves_led, names_move, renamed_led, renaming_room}
 use Rattle.std.proofs.Common.{List, Option, ◌≡◌, ◌+◌, ◌++◌, ◌<◌, ◌≤◌, ◌^◌, length, map, option_map, option_copied, refl, sym, subst, ap, ◌∙◌, arith}
 use Rattle.block_log.specs.Taken.{TakesPlaces}
-use Rattle.block_log.specs.declared.kinds.BlockKind.TheVariants.{Journal, Checkpoint}
+use Rattle.block_log.specs.declared.kinds.BlockKind.TheVariants.{Journal, Checkpoint, Pointers}
 use Rattle.codec.specs.Entry.{EntryFields}
 use Rattle.codec.specs.declared.inodes.Inode.{Inode}
 use Rattle.chain_rewriting.specs.CleaningLaws.{TellsWithin}
@@ -51,7 +52,7 @@ move_blocks-row-requires-clause-row g c =
     (subst (λ (xs : List (Option Place)). Recounts c.args.object between (places_copied c.args.copies.now ++ map (renamed_slot c.append_copies-renaming.result) c.args.led.now) (xs ++ c.append_copies-renaming.result.moves) counted) c.requires.names c.count_renaming.ensures) in
     let held = counted_held before between c.args.object c.args.row.now c.args.copies.now c.append_copies-renaming.result copied counted counts in
     subst (λ (view : Place → Option Stored). IsRow view c.args.object c.args.row.now) (sym held)
-    (c.a_row_is_its_own_blocks.ensures.row before.held between.held c.args.object c.args.row.now (a.others Journal c.args.object refl) (a.others Checkpoint c.args.object refl) c.requires.row)
+    (c.a_row_is_its_own_blocks.ensures.row before.held between.held c.args.object c.args.row.now (a.others Journal c.args.object refl) (same_checkpoints c.args.object before.held between.held (a.others Checkpoint c.args.object refl) (a.others Pointers c.args.object refl)) c.requires.row)
 
 pub move_blocks-row-requires-clause-tell : goal.move_blocks-row-requires-clause-tell
 move_blocks-row-requires-clause-tell g c =

@@ -7,7 +7,7 @@ use Rattle.s4_types.specs.Pointer.{Place}
 use Rattle.s4_types.specs.declared.limits.TheConstants.{OBJECT_BLOCKS}
 use Rattle.std.specs.Option.{option_to_list}
 use Rattle.object_map.specs.Sides.{side_gone}
-use Rattle.block_log.specs.declared.kinds.BlockKind.TheVariants.{Checkpoint, Data}
+use Rattle.block_log.specs.declared.kinds.BlockKind.TheVariants.{Checkpoint, Data, Pointers}
 use Rattle.block_log.specs.Log.{Log, of_kind}
 use Rattle.block_log.specs.Taken.{TakesPlaces}
 use Rattle.codec.specs.declared.inodes.Inode.{Inode}
@@ -16,6 +16,7 @@ use Rattle.object_map.specs.declared.map.Row.{Row}
 use Rattle.object_map.specs.Objects.{PutsRow}
 use Rattle.time_read.specs.Rows.{IsRow, inode_of}
 use Rattle.row_changes.specs.Recent.{IsBy}
+use Rattle.checkpoint.proofs.OwnBlocks.{same_checkpoints}
 use Rattle.version_store.specs.Store.{IsLed, StoreOf, StoreFields, fields_of, pointers_of_sides}
 use Rattle.version_store.specs.private.CheckpointSteps.{CanCheckpoint, Checkpointed}
 use Rattle.version_store.specs.private.Names.{pointers_in}
@@ -189,5 +190,5 @@ invariant_of-self g c =
       inodes = λ q. ap (option_map (λ p. p.inode)) (put.values q) ∙ c.self.invariant.inodes q ∙ sym (made.stands.inodes q c.self.inside.latest);
       indexes = checkpointed_indexed s (next_store s c.change_row.new.self.rows after) o row c.self.inside.objects.values c.change_row.new.self.values can.there made.made put.values c.self.invariant.indexes;
       cached = put_true s.log.held after.held s.rows c.change_row.new.self.rows o (record next { stamp = row.stamp + 1 }) c.self.inside.cache.pairs (λ old is. let same : old.stamp ≡ row.stamp = ap (λ (r : Row). r.stamp) (same_Some old row (sym is ∙ can.there)) in omega (arith, same))
-          put.rows (λ q other. later.others Checkpoint q other) c.self.invariant.cached;
+          put.rows (λ q other. same_checkpoints q s.log.held after.held (later.others Checkpoint q other) (later.others Pointers q other)) c.self.invariant.cached;
     }

@@ -1,6 +1,6 @@
 use Rattle.std.proofs.Common.{◌≡◌, ◌≤◌, ◌+◌, ℕ, List, length, Option, Some, IfSome, sym, ap, subst, ◌∙◌, arith}
 use Rattle.std.proofs.lemmas.Option.{same_Some}
-use Rattle.block_log.specs.declared.kinds.BlockKind.TheVariants.{Checkpoint}
+use Rattle.block_log.specs.declared.kinds.BlockKind.TheVariants.{Checkpoint, Pointers}
 use Rattle.codec.specs.declared.inodes.Inode.{Inode}
 use Rattle.object_map.specs.declared.map.Row.{Row}
 use Rattle.object_map.specs.Objects.{Puts, with_value}
@@ -8,6 +8,7 @@ use Rattle.object_map.specs.Rows.{row_of}
 use Rattle.chain_rewriting.specs.Renaming.{RenamingFields, renamed_entries, renamed_inode}
 use Rattle.time_read.specs.Rows.{entries_of}
 use Rattle.time_read.specs.declared.presents.Present.{Present}
+use Rattle.checkpoint.proofs.OwnBlocks.{same_checkpoints}
 use Rattle.version_store.specs.Store.{StoreOf, StoreFields, IsStore, fields_of}
 use Rattle.version_store.specs.Versions.{inode_in}
 use Rattle.version_store.specs.Relocating.{blocks_relocated, renaming_by}
@@ -101,5 +102,5 @@ invariant_of-self g c =
       indexes = replaced_indexed s (next_store s c.change.new.self.rows log) o (record next { stamp = row.stamp + 1 }) (renamed_entries r (entries_of s.log.held o row)) beside c.self.inside.objects.values c.change.new.self.values
           put.rows made.relocated.others c.relocate_blocks-moved.ensures.moved.journal (subst (λ (es : List _). IsIndexOf c.index_of.result es) (c.as_slice.ensures.value ∙ c.relocate_blocks-moved.ensures.entries) c.index_of.ensures) put.values c.self.invariant.indexes;
       cached = put_true s.log.held log.held s.rows c.change.new.self.rows o (record next { stamp = row.stamp + 1 }) c.self.inside.cache.pairs (λ old same. let is : old.stamp ≡ row.stamp = ap (λ (x : Row). x.stamp) (same_Some old row (sym same ∙ there)) in omega (arith, is))
-          put.rows (λ q other. made.relocated.others Checkpoint q other) c.self.invariant.cached;
+          put.rows (λ q other. same_checkpoints q s.log.held log.held (made.relocated.others Checkpoint q other) (made.relocated.others Pointers q other)) c.self.invariant.cached;
     }

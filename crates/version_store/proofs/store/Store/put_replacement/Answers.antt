@@ -6,13 +6,14 @@ use Rattle.std.proofs.lemmas.List.{length-append}
 use Rattle.s4_types.specs.Pointer.{Place}
 use Rattle.block_log.specs.Taken.{TakesPlaces}
 use Rattle.block_log.specs.Log.{Log}
-use Rattle.block_log.specs.declared.kinds.BlockKind.TheVariants.{Journal, Checkpoint}
+use Rattle.block_log.specs.declared.kinds.BlockKind.TheVariants.{Journal, Checkpoint, Pointers}
 use Rattle.codec.specs.declared.inodes.Inode.{Inode}
 use Rattle.time_read.specs.Rows.{IsRow}
 use Rattle.s4_types.specs.declared.limits.TheConstants.{OBJECT_BLOCKS}
 use Rattle.object_map.specs.declared.map.Row.{Row}
 use Rattle.object_map.specs.Objects.{Puts}
 use Rattle.object_map.specs.Rows.{row_of}
+use Rattle.checkpoint.proofs.OwnBlocks.{same_checkpoints}
 use Rattle.version_store.specs.Store.{IsLed, StoreOf, StoreFields, IsStore, fields_of, pointers_named, pointers_of, sides_told}
 use Rattle.version_store.specs.Replacing.{CanReplace, inode_led, pointers_told}
 use Rattle.row_changes.specs.Rewritten.{rewritten_blocks}
@@ -81,7 +82,7 @@ rewrite_blocks-next-requires-clause-row g c =
     (subst (λ (xs : List (Option Place)). Recounts o s.log xs c.args.pointers.now between) c.requires.told
     (subst (λ (l : Log). Recounts o l c.args.told.now c.args.pointers.now between) c.last_entry-moment.ensures.same c.recount.ensures)) in
     let others = recounts_data o s.log between (pointers_told present entries) fewer counts in
-    rest.row s.log.held between.held o row (others Journal o refl) (others Checkpoint o refl) know.object.stands
+    rest.row s.log.held between.held o row (others Journal o refl) (same_checkpoints o s.log.held between.held (others Checkpoint o refl) (others Pointers o refl)) know.object.stands
 
 pub rewrite_blocks-next-requires-clause-rules : goal.rewrite_blocks-next-requires-clause-rules
 rewrite_blocks-next-requires-clause-rules g c =
@@ -170,5 +171,5 @@ invariant_of-self g c =
       indexes = replaced_indexed s (next_store s c.change.new.self.rows log) o (record c.rewrite_blocks-next.result { stamp = row.stamp + 1 }) entries beside c.self.inside.objects.values c.change.new.self.values
           put.rows made.replaced.others c.rewrite_blocks-next.ensures.rewritten.entries_are c.index_of.ensures put.values c.self.invariant.indexes;
       cached = put_true s.log.held log.held s.rows c.change.new.self.rows o (record c.rewrite_blocks-next.result { stamp = row.stamp + 1 }) c.self.inside.cache.pairs (λ old is. let same : old.stamp ≡ row.stamp = ap (λ (r : Row). r.stamp) (same_Some old row (sym is ∙ there)) in omega (arith, same))
-          put.rows (λ q other. made.replaced.others Checkpoint q other) c.self.invariant.cached;
+          put.rows (λ q other. same_checkpoints q s.log.held log.held (made.replaced.others Checkpoint q other) (made.replaced.others Pointers q other)) c.self.invariant.cached;
     }

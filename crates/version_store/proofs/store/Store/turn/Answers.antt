@@ -3,7 +3,7 @@ use Rattle.std.proofs.Common.{◌≡◌, ℕ, ◌+◌, ◌++◌, nat_le, if◌th
 use Rattle.std.proofs.lemmas.Option.{same_Some}
 use Rattle.std.specs.List.{All}
 use Rattle.s4_types.specs.Pointer.{Place}
-use Rattle.block_log.specs.declared.kinds.BlockKind.TheVariants.{Checkpoint}
+use Rattle.block_log.specs.declared.kinds.BlockKind.TheVariants.{Checkpoint, Pointers}
 use Rattle.block_log.specs.Log.{Stored}
 use Rattle.undo_redo.specs.Between.{entries_between}
 use Rattle.journal_chain.specs.Chain.{OnlyJournalChanged}
@@ -14,6 +14,7 @@ use Rattle.time_read.specs.Rows.{chain_of, entries_of, inode_of}
 use Rattle.object_map.specs.declared.map.Row.{Row}
 use Rattle.object_map.specs.Objects.{with_value}
 use Rattle.object_map.specs.Rows.{row_of}
+use Rattle.checkpoint.proofs.OwnBlocks.{same_checkpoints}
 use Rattle.version_store.specs.Store.{IsLed, StoreOf, StoreFields, fields_of, sides_told}
 use Rattle.version_store.specs.private.Turning.{CanTurn, Turns, blocks_turned}
 use Rattle.time_read.specs.Presents.{TurnsBeside}
@@ -152,5 +153,5 @@ invariant_of-self g c =
       indexes = turned_indexed s later o (row.stamp + 1) row next c.new-entries.result turns.present c.self.inside.objects.values c.turn_beside.new.objects.values there turns.put.rows others
           entries turns.told turns.put.values c.self.invariant.indexes;
       cached = put_true s.log.held later.log.held s.rows later.rows o (record next { stamp = row.stamp + 1 }) c.self.inside.cache.pairs (λ old is. let same : old.stamp ≡ row.stamp = ap (λ (r : Row). r.stamp) (same_Some old row (sym is ∙ there)) in omega (arith, same))
-          turns.put.rows (λ q other. others Checkpoint q refl) c.self.invariant.cached;
+          turns.put.rows (λ q other. same_checkpoints q s.log.held later.log.held (others Checkpoint q refl) (others Pointers q refl)) c.self.invariant.cached;
     }
