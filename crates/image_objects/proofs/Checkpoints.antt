@@ -1,25 +1,16 @@
 -- What is used tells the same of checkpoints as what is held, where all that is held is used.
 use Rattle.std.proofs.Common.{◌≡◌, ℕ, true, Option, Some, None, IsSome, MatchOption, is_some, refl, sym, ap, ◌∙◌}
-use Rattle.std.specs.Option.{option_to_list}
 use Rattle.std.proofs.lemmas.Bool.{false≢true}
 use Rattle.s4_types.specs.Pointer.{Place}
 use Rattle.block_log.specs.Log.{Stored}
-use Rattle.block_log.specs.declared.kinds.BlockKind.TheVariants.{Checkpoint}
 use Rattle.codec.specs.Checkpoint.{CheckpointFields}
 use Rattle.codec.specs.Fields.{◌>>=◌}
-use Rattle.checkpoint.specs.Held.{checkpoint_held, checkpoint_places, of_checkpoints, places_in, places_named, is_one_of, HasItsBlocks}
-use Rattle.journal_chain.specs.Chain.{BlockView}
+use Rattle.checkpoint.specs.Held.{checkpoint_held, checkpoint_places, of_checkpoints, seen_of, places_named, is_one_of, HasItsBlocks}
+use Rattle.checkpoint.proofs.OwnBlocks.{IsOwn, seen_own, has_some}
 use Rattle.object_map.specs.declared.map.Row.{Row}
 use Rattle.time_read.specs.Rows.{IsRow, inode_of, checkpoint_of, checkpoint_places_of}
 use Rattle.image_objects.specs.Inodes.{checkpoint_used, checkpoint_places_used}
 use Rattle.image_objects.specs.Saved.{HoldsUsed, saved_row}
-use Rattle.image_objects.proofs.Using.{used_too}
-
--- a checkpoint is in one block, where its pointer refers to
-pub its_place : (view : BlockView) (c : Option Place) → option_to_list c ≡ places_named view c
-unfolding places_in
-its_place view None = refl
-its_place view (Some p) = refl
 
 -- the blocks of a checkpoint are as they were
 abbrev pub BlocksStay : (Place → Option Stored) → (Place → Option Stored) → ℕ → Place → Type 0
@@ -31,14 +22,10 @@ pub record CheckpointLaws : Type 0 where
   pub places : (held later : Place → Option Stored) (o : ℕ) (p : Place) → BlocksStay held later o p → checkpoint_places later o p ≡ checkpoint_places held o p
   pub held : (held : Place → Option Stored) (o : ℕ) (p : Place) → IsSome (checkpoint_held held o p) → HasItsBlocks held o (Some p)
 
-some_there : {X : Type 0} (found : Option X) → IsSome found → (x : X) × (found ≡ Some x)
-some_there None some = absurd (false≢true some)
-some_there (Some x) some = (x, refl)
-
 same_blocks : CheckpointLaws → (used held : Place → Option Stored) (o : ℕ) (p : Place) (c : CheckpointFields) → HoldsUsed used held → checkpoint_held held o p ≡ Some c → BlocksStay held used o p
 same_blocks laws used held o p c holds h q is =
-    let (bytes, at) = some_there (of_checkpoints o held q) (laws.held held o p (ap is_some h) q is) in
-    used_too used held Checkpoint o q bytes holds at ∙ sym at
+    let own : IsOwn o (held q) = seen_own o (held q) (has_some (of_checkpoints o held q) (laws.held held o p (ap is_some h) q is)) in
+    ap (seen_of o) (holds q own.block own.is ∙ sym own.is)
 
 pub checkpoint_too : CheckpointLaws → (used held : Place → Option Stored) (o : ℕ) (p : Place) (c : CheckpointFields) → HoldsUsed used held → checkpoint_held held o p ≡ Some c → checkpoint_held used o p ≡ Some c
 checkpoint_too laws used held o p c holds h = laws.told held used o p (same_blocks laws used held o p c holds h) ∙ h
@@ -52,6 +39,10 @@ places_at : CheckpointLaws → (used held : Place → Option Stored) (o : ℕ) (
     → places_named (of_checkpoints o used) q ≡ places_named (of_checkpoints o held) q
 places_at laws used held o none c None holds known = refl
 places_at laws used held o none c (Some p) holds known = laws.places held used o p (same_blocks laws used held o p c holds known)
+
+pub blocks_at : CheckpointLaws → (held : Place → Option Stored) (o : ℕ) (none : Type 0) (c : CheckpointFields) (q : Option Place) → MatchOption q none (λ p. checkpoint_held held o p ≡ Some c) → HasItsBlocks held o q
+blocks_at laws held o none c None known = λ p is. absurd (false≢true is)
+blocks_at laws held o none c (Some q) known = laws.held held o q (ap is_some known)
 
 pub same_checkpoint : CheckpointLaws → (used held : Place → Option Stored) (o : ℕ) (row : Row) → HoldsUsed used held → IsRow held o row → checkpoint_used used (saved_row o row) ≡ checkpoint_of held o row
 same_checkpoint laws used held o row holds stands =

@@ -1,16 +1,17 @@
 -- Of the blocks of an object, those are held that its row names.
-use Rattle.std.proofs.Common.{◌≡◌, ◌↔◌, inl, inr, ℕ, ◌==◌, ◌&&◌, true, ltb, List, Option, Some, None, refl, sym, ap, ◌∙◌, subst}
+use Rattle.std.proofs.Common.{◌≡◌, ◌↔◌, inl, inr, ℕ, ◌==◌, ◌&&◌, true, ltb, List, Option, Some, None, IsSome, is_some, refl, sym, ap, ◌∙◌, subst}
 use Rattle.std.specs.List.{Contains}
 use Rattle.std.proofs.lemmas.Bool.{cases_Bool, false≢true, and_from, and_parts, eq-eqb, eqb-true, lt-ltb, ltb-true, cond-true, cond-false}
 use Rattle.std.proofs.lemmas.Option.{none-some, same_Some}
 use Rattle.s4_types.specs.Pointer.{Place}
 use Rattle.block_log.specs.Log.{Stored, of_kind, seen_as, same_kind}
 use Rattle.block_log.specs.declared.kinds.BlockKind.{BlockKind}
-use Rattle.block_log.specs.declared.kinds.BlockKind.TheVariants.{Journal, Checkpoint, Data}
+use Rattle.block_log.specs.declared.kinds.BlockKind.TheVariants.{Journal, Checkpoint, Data, Pointers}
 use Rattle.journal_chain.specs.Chain.{BlockView, chain_places, times}
 use Rattle.image_objects.specs.declared.rows.ImageRow.{ImageRow}
 use Rattle.image_objects.specs.Chains.{chain_view}
-use Rattle.checkpoint.specs.Held.{is_one_of}
+use Rattle.checkpoint.specs.Held.{is_checkpoint_kind, is_one_of, of_checkpoints, seen_of}
+use Rattle.checkpoint.proofs.OwnBlocks.{IsOwn, seen_own}
 use Rattle.image_objects.specs.Inodes.{checkpoint_places_used}
 use Rattle.image_objects.specs.VersionChain.{named_at, checkpoint_view}
 use Rattle.image_objects.specs.Objects.{pointers_used}
@@ -24,17 +25,25 @@ pub one_kind : (k l : BlockKind) → same_kind k l ≡ true → l ≡ k
 one_kind Journal Journal h = refl
 one_kind Journal Checkpoint h = absurd (false≢true h)
 one_kind Journal Data h = absurd (false≢true h)
+one_kind Journal Pointers h = absurd (false≢true h)
 one_kind Checkpoint Journal h = absurd (false≢true h)
 one_kind Checkpoint Checkpoint h = refl
 one_kind Checkpoint Data h = absurd (false≢true h)
+one_kind Checkpoint Pointers h = absurd (false≢true h)
 one_kind Data Journal h = absurd (false≢true h)
 one_kind Data Checkpoint h = absurd (false≢true h)
 one_kind Data Data h = refl
+one_kind Data Pointers h = absurd (false≢true h)
+one_kind Pointers Journal h = absurd (false≢true h)
+one_kind Pointers Checkpoint h = absurd (false≢true h)
+one_kind Pointers Data h = absurd (false≢true h)
+one_kind Pointers Pointers h = refl
 
 kind_itself : (k : BlockKind) → same_kind k k ≡ true
 kind_itself Journal = refl
 kind_itself Checkpoint = refl
 kind_itself Data = refl
+kind_itself Pointers = refl
 
 pub record Seen (k : BlockKind) (o : ℕ) (found : Option Stored) (bytes : List ℕ) : Type 0 where
   pub block : Stored
@@ -109,12 +118,49 @@ named_there view places p x h = elim (cases_Bool (is_one_of places p)) [
   | inr ne ↦ absurd (none-some x (sym (cond-false (is_one_of places p) (view p) None ne) ∙ h))
 ]
 
+-- a block of checkpoints is named where its place is one of those of the row's checkpoint, and there alone
+pub kind_named : (used : Place → Option Stored) (row : ImageRow) (p : Place) (k : BlockKind) → is_checkpoint_kind k ≡ true → is_one_of (checkpoint_places_used used row) p ≡ true → IsSome (of_kind k row.object used p) → NamesUsed used row k p
+kind_named used row p Journal own is some = absurd (false≢true own)
+kind_named used row p Checkpoint own is some = (is, some)
+kind_named used row p Data own is some = absurd (false≢true own)
+kind_named used row p Pointers own is some = (is, some)
+
+named_one : (used : Place → Option Stored) (row : ImageRow) (p : Place) (k : BlockKind) → is_checkpoint_kind k ≡ true → NamesUsed used row k p → is_one_of (checkpoint_places_used used row) p ≡ true
+named_one used row p Journal own names = absurd (false≢true own)
+named_one used row p Checkpoint own names = names.0
+named_one used row p Data own names = absurd (false≢true own)
+named_one used row p Pointers own names = names.0
+
+pub own_named : (used : Place → Option Stored) (row : ImageRow) (p : Place) (own : IsOwn row.object (used p)) → is_one_of (checkpoint_places_used used row) p ≡ true → NamesUsed used row own.block.kind p
+own_named used row p own is = kind_named used row p own.block.kind own.kind is (ap is_some (seen_here own.block.kind row.object (used p) own.block own.is refl own.object))
+
+own_held : (used held : Place → Option Stored) (rows : List ImageRow) (row : ImageRow) (p : Place) → HoldsWhatIsNamed used held rows → Contains rows row → (own : IsOwn row.object (used p)) → is_one_of (checkpoint_places_used used row) p ≡ true → held p ≡ Some own.block
+own_held used held rows row p holds there own is =
+    let n : IsNamedBy used rows p own.block = record { row = row; listed = there; object = sym own.object; names = own_named used row p own is } in
+    holds.all p own.block own.is n
+
+held_one : (used held : Place → Option Stored) (rows : List ImageRow) (clock : ℕ) (row : ImageRow) (p : Place) → RowsAscend clock 0 0 rows → HoldsWhatIsNamed used held rows → Contains rows row → IsOwn row.object (held p) → is_one_of (checkpoint_places_used used row) p ≡ true
+held_one used held rows clock row p ascend holds there own =
+    let n : IsNamedBy used rows p own.block = holds.named p own.block own.is in
+    let same : n.row ≡ row = one_row clock 0 0 rows n.row row ascend n.listed there (n.object ∙ own.object) in
+    named_one used row p own.block.kind own.kind (subst (λ (r : ImageRow). NamesUsed used r own.block.kind p) same n.names)
+
 pub checkpoint_held : (used held : Place → Option Stored) (rows : List ImageRow) (clock : ℕ) (row : ImageRow) → RowsAscend clock 0 0 rows → HoldsWhatIsNamed used held rows → Contains rows row
-    → (p : Place) → of_kind Checkpoint row.object held p ≡ checkpoint_view used row p
+    → (p : Place) → of_checkpoints row.object held p ≡ checkpoint_view used row p
 checkpoint_held used held rows clock row ascend holds there p =
-    same_options (of_kind Checkpoint row.object held p) (checkpoint_view used row p)
-    (λ x h. let (is, names) = held_named used held rows clock row Checkpoint p x ascend holds there h in cond-true (is_one_of (checkpoint_places_used used row) p) (of_kind Checkpoint row.object used p) None names ∙ is)
-    (λ x h. let (is, names) = named_there (of_kind Checkpoint row.object used) (checkpoint_places_used used row) p x h in named_held used held rows row Checkpoint p x holds there is names)
+    let o = row.object in
+    let places = checkpoint_places_used used row in
+    same_options (of_checkpoints o held p) (checkpoint_view used row p)
+    (λ x h.
+    (let own : IsOwn o (held p) = seen_own o (held p) (ap is_some h) in
+    let one = held_one used held rows clock row p ascend holds there own in
+    let same : used p ≡ held p = holds.kept p own.block own.is ∙ sym own.is in
+    cond-true (is_one_of places p) (of_checkpoints o used p) None one ∙ ap (seen_of o) same ∙ h))
+    (λ x h.
+    (let (is, one) = named_there (of_checkpoints o used) places p x h in
+    let own : IsOwn o (used p) = seen_own o (used p) (ap is_some is) in
+    let same : held p ≡ used p = own_held used held rows row p holds there own one ∙ sym own.is in
+    ap (seen_of o) same ∙ is))
 
 pub data_held : (used held : Place → Option Stored) (rows : List ImageRow) (clock : ℕ) (row : ImageRow) → RowsAscend clock 0 0 rows → HoldsWhatIsNamed used held rows → Contains rows row
     → (p : Place) (bytes : List ℕ) → (of_kind Data row.object held p ≡ Some bytes) ↔ ((of_kind Data row.object used p ≡ Some bytes) × Contains (pointers_used used row) (Some p))

@@ -5,7 +5,7 @@ use Rattle.std.proofs.lemmas.Bool.{cases_Bool, false≢true}
 use Rattle.std.proofs.lemmas.List.{append-nil}
 use Rattle.s4_types.specs.Pointer.{Place}
 use Rattle.block_log.specs.Log.{Stored, of_kind}
-use Rattle.block_log.specs.declared.kinds.BlockKind.TheVariants.{Journal, Checkpoint}
+use Rattle.block_log.specs.declared.kinds.BlockKind.TheVariants.{Journal}
 use Rattle.codec.specs.Fields.{◌>>=◌}
 use Rattle.codec.specs.declared.inodes.Inode.{Inode}
 use Rattle.codec.specs.Entry.{EntryFields}
@@ -122,7 +122,7 @@ record Same (used held : Place → Option Stored) (row : ImageRow) (stamp : ℕ)
   first : first_of held row.object (kept_row used row stamp) ≡ first_used used row
 
 same : OneName → RestsOnBlocks → OnePacking → ItsEntries → (used held : Place → Option Stored) (row : ImageRow) (clock stamp : ℕ) → VersionChainStands used row clock
-    → ((p : Place) → of_kind Journal row.object held p ≡ chain_view used row p) → ((p : Place) → of_kind Checkpoint row.object held p ≡ checkpoint_view used row p) → Same used held row stamp
+    → ((p : Place) → of_kind Journal row.object held p ≡ chain_view used row p) → ((p : Place) → of_checkpoints row.object held p ≡ checkpoint_view used row p) → Same used held row stamp
 same names rests again its used held row clock stamp h journal checkpoints =
     let chain : Holds held (chain_fields used row) (entries_used used row) = holds names again used held row clock h.chain journal in
     let entries : entries_of held row.object (kept_row used row stamp) ≡ entries_used used row = its held (chain_fields used row) (entries_used used row) chain in
@@ -138,7 +138,7 @@ unfolding inode_of
 current held o row t = refl
 
 pub is_row : OneName → RestsOnBlocks → OnePacking → ItsEntries → (used held : Place → Option Stored) (row : ImageRow) (clock stamp : ℕ) → 1 ≤ row.object → VersionChainStands used row clock
-    → ((p : Place) → of_kind Journal row.object held p ≡ chain_view used row p) → ((p : Place) → of_kind Checkpoint row.object held p ≡ checkpoint_view used row p) → IsRow held row.object (kept_row used row stamp)
+    → ((p : Place) → of_kind Journal row.object held p ≡ chain_view used row p) → ((p : Place) → of_checkpoints row.object held p ≡ checkpoint_view used row p) → IsRow held row.object (kept_row used row stamp)
 is_row names rests again its used held row clock stamp object h journal checkpoints =
     let s : Same used held row stamp = same names rests again its used held row clock stamp h journal checkpoints in
     let kept = kept_row used row stamp in
@@ -161,7 +161,7 @@ is_row names rests again its used held row clock stamp object h journal checkpoi
     }
 
 pub is_orderly : OneName → RestsOnBlocks → OnePacking → ItsEntries → (used held : Place → Option Stored) (row : ImageRow) (clock stamp : ℕ) → IsFromTo 1 clock row.created → VersionChainStands used row clock
-    → ((p : Place) → of_kind Journal row.object held p ≡ chain_view used row p) → ((p : Place) → of_kind Checkpoint row.object held p ≡ checkpoint_view used row p) → IsOrderly held row.object (kept_row used row stamp) clock
+    → ((p : Place) → of_kind Journal row.object held p ≡ chain_view used row p) → ((p : Place) → of_checkpoints row.object held p ≡ checkpoint_view used row p) → IsOrderly held row.object (kept_row used row stamp) clock
 is_orderly names rests again its used held row clock stamp made h journal checkpoints =
     let s : Same used held row stamp = same names rests again its used held row clock stamp h journal checkpoints in
     let first : IsOrderlyChain row.created clock (first_of held row.object (kept_row used row stamp)) (entries_used used row) = subst (λ (i : Inode). IsOrderlyChain row.created clock i (entries_used used row)) (sym s.first) h.order in

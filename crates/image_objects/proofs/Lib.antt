@@ -9,6 +9,7 @@ mod Listed
 mod MomentsOnce
 mod Pointing
 mod Checkpoints
+mod FirstPlaces
 mod SavedObject
 mod SavedRows
 mod SavedStore

@@ -10,11 +10,12 @@ use Rattle.std.proofs.lemmas.List.Sums.{sum_by-cons}
 use Rattle.s4_types.specs.Pointer.{Place}
 use Rattle.block_log.specs.Log.{Stored, of_kind, seen_as, same_kind, same_place, is_data}
 use Rattle.block_log.specs.declared.kinds.BlockKind.{BlockKind}
-use Rattle.block_log.specs.declared.kinds.BlockKind.TheVariants.{Journal, Checkpoint, Data}
+use Rattle.block_log.specs.declared.kinds.BlockKind.TheVariants.{Journal, Checkpoint, Data, Pointers}
 use Rattle.codec.specs.Fields.{bit}
 use Rattle.codec.specs.Entry.{EntryFields}
 use Rattle.journal_chain.specs.Chain.{times}
-use Rattle.checkpoint.specs.Held.{checkpoint_held, is_one_of, HasItsBlocks}
+use Rattle.checkpoint.specs.Held.{checkpoint_held, is_one_of, of_checkpoints, HasItsBlocks}
+use Rattle.checkpoint.proofs.OwnBlocks.{IsOwn, seen_own, has_some, own_no_data}
 use Rattle.time_read.specs.Orderly.{BeginsDead}
 use Rattle.version_store.specs.Store.{IsLed, is_at, times_led}
 use Rattle.image_objects.specs.declared.rows.ImageRow.{ImageRow}
@@ -24,7 +25,7 @@ use Rattle.image_objects.specs.Objects.{ObjectStands, pointers_used}
 use Rattle.image_objects.specs.Naming.{NamesUsed}
 use Rattle.image_objects.specs.private.Places.{places_in, places_of_chain, places_named}
 use Rattle.image_objects.proofs.RowWalk.{in_none, place_there}
-use Rattle.image_objects.proofs.HeldByName.{one_kind}
+use Rattle.image_objects.proofs.HeldByName.{one_kind, own_named}
 
 -- ---- what is listed
 
@@ -99,43 +100,61 @@ one_listed names (q ∷ places) p is = elim (cases_Bool (same_place q p)) [
   | inr other ↦ Contains-append_right (q ∷ []) places p (one_listed names places p (sym (ap (λ b. b || is_one_of places p) other) ∙ is))
 ]
 
--- ---- what a row names
-
-pub listed_is_named : (used : Place → Option Stored) (row : ImageRow) (p : Place) → Contains (places_named used row) p → (kind : BlockKind) × NamesUsed used row kind p
-listed_is_named used row p listed =
-    let c = places_of_chain used row in
-    elim (Contains-append_cases (c ++ checkpoint_places_used used row) (places_in (pointers_used used row)) p listed) [
-      | inl front ↦ (elim (Contains-append_cases c (checkpoint_places_used used row) p front) [
-        | inl chain ↦ (Journal, once_there c chain.0 p chain.1 chain.2)
-        | inr checkpoint ↦ (Checkpoint, listed_one (checkpoint_places_used used row) p checkpoint)
-      ])
-      | inr data_there ↦ (Data, listed_slot (pointers_used used row) p data_there)
-    ]
-
-pub named_is_listed : OneName → (used : Place → Option Stored) (row : ImageRow) (kind : BlockKind) (p : Place) → NamesUsed used row kind p → Contains (places_named used row) p
-named_is_listed names used row Journal p named =
-    let c = places_of_chain used row in
-    Contains-append_left (c ++ checkpoint_places_used used row) (places_in (pointers_used used row)) p (Contains-append_left c (checkpoint_places_used used row) p (there_once names c p named))
-named_is_listed names used row Checkpoint p named =
-    let c = places_of_chain used row in
-    Contains-append_left (c ++ checkpoint_places_used used row) (places_in (pointers_used used row)) p (Contains-append_right c (checkpoint_places_used used row) p (one_listed names (checkpoint_places_used used row) p named))
-named_is_listed names used row Data p named =
-    let c = places_of_chain used row in
-    Contains-append_right (c ++ checkpoint_places_used used row) (places_in (pointers_used used row)) p (slot_listed (pointers_used used row) named.0 p named.1 named.2)
+-- ---- the blocks of a row's checkpoint
 
 abbrev pub HasBlocks : Type 0
 HasBlocks = (held : Place → Option Stored) (o : ℕ) (p : Place) → IsSome (checkpoint_held held o p) → HasItsBlocks held o (Some p)
 
-stands_there : HasBlocks → (used : Place → Option Stored) (row : ImageRow) (clock : ℕ) (entries : List EntryFields) (N : Type 0) (c : Option Place) → MatchOption c N (λ q. CheckpointStands used row clock entries q) → HasItsBlocks used row.object c
-stands_there has used row clock entries N None h p is = absurd (false≢true is)
-stands_there has used row clock entries N (Some q) h p is = has used row.object q (ap is_some h.decodes) p is
+named_blocks : HasBlocks → (used : Place → Option Stored) (row : ImageRow) (clock : ℕ) (entries : List EntryFields) (N : Type 0) (c : Option Place) → MatchOption c N (λ q. CheckpointStands used row clock entries q) → HasItsBlocks used row.object c
+named_blocks has used row clock entries N None h p is = absurd (false≢true is)
+named_blocks has used row clock entries N (Some q) h p is = has used row.object q (ap is_some h.decodes) p is
+
+pub has_its_blocks : HasBlocks → (used : Place → Option Stored) (row : ImageRow) (clock : ℕ) → ObjectStands used row clock → HasItsBlocks used row.object row.checkpoint
+has_its_blocks has used row clock stands =
+    let entries = entries_used used row in
+    named_blocks has used row clock entries ((row.checkpoint_moment ≡ 0) × BeginsDead entries) row.checkpoint stands.versions.beginning
+
+-- each of them is used as a block of the object's checkpoints
+own_there : HasBlocks → (used : Place → Option Stored) (row : ImageRow) (clock : ℕ) (p : Place) → ObjectStands used row clock → is_one_of (checkpoint_places_used used row) p ≡ true → IsOwn row.object (used p)
+own_there has used row clock p stands is = seen_own row.object (used p) (has_some (of_checkpoints row.object used p) (has_its_blocks has used row clock stands p is))
+
+-- ---- what a row names
+
+listed_is_named : HasBlocks → (used : Place → Option Stored) (row : ImageRow) (clock : ℕ) (p : Place) → ObjectStands used row clock → Contains (places_named used row) p → (kind : BlockKind) × NamesUsed used row kind p
+listed_is_named has used row clock p stands listed =
+    let c = places_of_chain used row in
+    elim (Contains-append_cases (c ++ checkpoint_places_used used row) (places_in (pointers_used used row)) p listed) [
+      | inl front ↦ (elim (Contains-append_cases c (checkpoint_places_used used row) p front) [
+        | inl chain ↦ (Journal, once_there c chain.0 p chain.1 chain.2)
+        | inr checkpoint ↦
+            (let is = listed_one (checkpoint_places_used used row) p checkpoint in
+            let own : IsOwn row.object (used p) = own_there has used row clock p stands is in
+            (own.block.kind, own_named used row p own is))
+      ])
+      | inr data_there ↦ (Data, listed_slot (pointers_used used row) p data_there)
+    ]
+
+checkpoint_listed : OneName → (used : Place → Option Stored) (row : ImageRow) (p : Place) → is_one_of (checkpoint_places_used used row) p ≡ true → Contains (places_named used row) p
+checkpoint_listed names used row p is =
+    let c = places_of_chain used row in
+    Contains-append_left (c ++ checkpoint_places_used used row) (places_in (pointers_used used row)) p (Contains-append_right c (checkpoint_places_used used row) p (one_listed names (checkpoint_places_used used row) p is))
+
+named_is_listed : OneName → (used : Place → Option Stored) (row : ImageRow) (kind : BlockKind) (p : Place) → NamesUsed used row kind p → Contains (places_named used row) p
+named_is_listed names used row Journal p named =
+    let c = places_of_chain used row in
+    Contains-append_left (c ++ checkpoint_places_used used row) (places_in (pointers_used used row)) p (Contains-append_left c (checkpoint_places_used used row) p (there_once names c p named))
+named_is_listed names used row Checkpoint p named = checkpoint_listed names used row p named.0
+named_is_listed names used row Data p named =
+    let c = places_of_chain used row in
+    Contains-append_right (c ++ checkpoint_places_used used row) (places_in (pointers_used used row)) p (slot_listed (pointers_used used row) named.0 p named.1 named.2)
+named_is_listed names used row Pointers p named = checkpoint_listed names used row p named.0
 
 -- each named place has a used block of the object, of that kind
-pub named_is_used : OneName → HasBlocks → (used : Place → Option Stored) (row : ImageRow) (clock : ℕ) (kind : BlockKind) (p : Place) → ObjectStands used row clock → NamesUsed used row kind p → IsSome (of_kind kind row.object used p)
-named_is_used names has used row clock Journal p stands named = place_there used row p stands.versions.chain.walk (there_once names (places_of_chain used row) p named)
-named_is_used names has used row clock Checkpoint p stands named =
-    stands_there has used row clock (entries_used used row) ((row.checkpoint_moment ≡ 0) × BeginsDead (entries_used used row)) row.checkpoint stands.versions.beginning p named
-named_is_used names has used row clock Data p stands named = All-contains (IsLed used row.object) (pointers_used used row) (Some p) stands.led named
+pub named_is_used : OneName → (used : Place → Option Stored) (row : ImageRow) (clock : ℕ) (kind : BlockKind) (p : Place) → ObjectStands used row clock → NamesUsed used row kind p → IsSome (of_kind kind row.object used p)
+named_is_used names used row clock Journal p stands named = place_there used row p stands.versions.chain.walk (there_once names (places_of_chain used row) p named)
+named_is_used names used row clock Checkpoint p stands named = named.1
+named_is_used names used row clock Data p stands named = All-contains (IsLed used row.object) (pointers_used used row) (Some p) stands.led named
+named_is_used names used row clock Pointers p stands named = named.1
 
 pub is_used : (kind : BlockKind) (o : ℕ) (block : Option Stored) → IsSome (seen_as kind o block) → IsSome block
 is_used kind o None h = absurd (false≢true h)
@@ -199,9 +218,14 @@ never_listed names places p never = elim (cases_lt 0 (times p places)) [
   | inr few ↦ omega (arith, few)
 ]
 
-named_other : OneName → HasBlocks → (used : Place → Option Stored) (row : ImageRow) (clock : ℕ) (kind : BlockKind) (p : Place) → ObjectStands used row clock → is_data (used p) ≡ true → same_kind kind Data ≡ false → NamesUsed used row kind p → ⊥
-named_other names has used row clock kind p stands is other named =
-    false≢true (sym other ∙ seen_of_data kind row.object (used p) (named_is_used names has used row clock kind p stands named) is)
+named_other : OneName → (used : Place → Option Stored) (row : ImageRow) (clock : ℕ) (kind : BlockKind) (p : Place) → ObjectStands used row clock → is_data (used p) ≡ true → same_kind kind Data ≡ false → NamesUsed used row kind p → ⊥
+named_other names used row clock kind p stands is other named =
+    false≢true (sym other ∙ seen_of_data kind row.object (used p) (named_is_used names used row clock kind p stands named) is)
+
+checkpoint_other : HasBlocks → (used : Place → Option Stored) (row : ImageRow) (clock : ℕ) (p : Place) → ObjectStands used row clock → is_data (used p) ≡ true → is_one_of (checkpoint_places_used used row) p ≡ true → ⊥
+checkpoint_other has used row clock p stands is one =
+    let own : IsOwn row.object (used p) = own_there has used row clock p stands one in
+    false≢true (sym (own_no_data row.object (used p) own) ∙ ap is_data (sym own.is) ∙ is)
 
 -- so a used block of data is listed as often as the row's pointers refer to it
 times_named : OneName → HasBlocks → (used : Place → Option Stored) (row : ImageRow) (clock : ℕ) (p : Place) → ObjectStands used row clock → is_data (used p) ≡ true → times p (places_named used row) ≡ times_led p (pointers_used used row)
@@ -209,8 +233,8 @@ times_named names has used row clock p stands is =
     let chain = places_of_chain used row in
     let checkpoint = checkpoint_places_used used row in
     let slots = pointers_used used row in
-    let no_chain : times p chain ≡ 0 = never_listed names chain p (λ there. named_other names has used row clock Journal p stands is refl (once_there chain there.0 p there.1 there.2)) in
-    let no_checkpoint : times p checkpoint ≡ 0 = never_listed names checkpoint p (λ there. named_other names has used row clock Checkpoint p stands is refl (listed_one checkpoint p there)) in
+    let no_chain : times p chain ≡ 0 = never_listed names chain p (λ there. named_other names used row clock Journal p stands is refl (once_there chain there.0 p there.1 there.2)) in
+    let no_checkpoint : times p checkpoint ≡ 0 = never_listed names checkpoint p (λ there. checkpoint_other has used row clock p stands is (listed_one checkpoint p there)) in
     let whole : times p ((chain ++ checkpoint) ++ places_in slots) ≡ times p (chain ++ checkpoint) + times p (places_in slots) = times_joined p (chain ++ checkpoint) (places_in slots) in
     let front = times_joined p chain checkpoint in
     let led = slots_counted names p slots in
@@ -218,10 +242,10 @@ times_named names has used row clock p stands is =
 
 -- ---- what adding them makes of a list
 
-pub only_named : (used : Place → Option Stored) (row : ImageRow) (before items : List Place) → items ≡ before ++ places_named used row → (p : Place) → Contains items p → Contains before p ⊎ ((kind : BlockKind) × NamesUsed used row kind p)
-only_named used row before items is p listed = elim (Contains-append_cases before (places_named used row) p (subst (λ (l : List Place). Contains l p) is listed)) [
+pub only_named : HasBlocks → (used : Place → Option Stored) (row : ImageRow) (clock : ℕ) (before items : List Place) → ObjectStands used row clock → items ≡ before ++ places_named used row → (p : Place) → Contains items p → Contains before p ⊎ ((kind : BlockKind) × NamesUsed used row kind p)
+only_named has used row clock before items stands is p listed = elim (Contains-append_cases before (places_named used row) p (subst (λ (l : List Place). Contains l p) is listed)) [
   | inl old ↦ inl old
-  | inr new ↦ inr (listed_is_named used row p new)
+  | inr new ↦ inr (listed_is_named has used row clock p stands new)
 ]
 
 pub all_named : OneName → (used : Place → Option Stored) (row : ImageRow) (before items : List Place) → items ≡ before ++ places_named used row → (kind : BlockKind) (p : Place) → NamesUsed used row kind p → Contains items p
@@ -231,9 +255,9 @@ pub all_kept : (used : Place → Option Stored) (row : ImageRow) (before items :
 all_kept used row before items is p old = subst (λ (l : List Place). Contains l p) (sym is) (Contains-append_left before (places_named used row) p old)
 
 pub only_used : OneName → HasBlocks → (used : Place → Option Stored) (row : ImageRow) (clock : ℕ) (before items : List Place) → ObjectStands used row clock → items ≡ before ++ places_named used row → (p : Place) → Contains items p → Contains before p ⊎ IsSome (used p)
-only_used names has used row clock before items stands is p listed = elim (only_named used row before items is p listed) [
+only_used names has used row clock before items stands is p listed = elim (only_named has used row clock before items stands is p listed) [
   | inl old ↦ inl old
-  | inr new ↦ inr (is_used new.0 row.object (used p) (named_is_used names has used row clock new.0 p stands new.1))
+  | inr new ↦ inr (is_used new.0 row.object (used p) (named_is_used names used row clock new.0 p stands new.1))
 ]
 
 pub data_counted : OneName → HasBlocks → (used : Place → Option Stored) (row : ImageRow) (clock : ℕ) (before items : List Place) → ObjectStands used row clock → items ≡ before ++ places_named used row → (p : Place) → is_data (used p) ≡ true

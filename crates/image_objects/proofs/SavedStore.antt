@@ -4,29 +4,33 @@ use Rattle.std.specs.List.{Contains, AllByRecursion}
 use Rattle.std.proofs.lemmas.Bool.{or_cases, or_left, false≢true}
 use Rattle.std.proofs.lemmas.List.Folds.{list_any-append}
 use Rattle.s4_types.specs.Pointer.{Place}
-use Rattle.block_log.specs.Log.{Stored, of_kind, same_place}
+use Rattle.block_log.specs.Log.{Stored, of_kind, seen_as, same_place}
 use Rattle.block_log.specs.declared.kinds.BlockKind.{BlockKind}
-use Rattle.block_log.specs.declared.kinds.BlockKind.TheVariants.{Journal, Checkpoint, Data}
+use Rattle.block_log.specs.declared.kinds.BlockKind.TheVariants.{Journal, Checkpoint, Data, Pointers}
+use Rattle.codec.specs.Checkpoint.{CheckpointFields}
 use Rattle.codec.specs.Entry.{EntryFields}
 use Rattle.codec.specs.Fields.{bit}
 use Rattle.journal_chain.specs.Chain.{times, chain_places}
 use Rattle.object_map.specs.declared.map.Row.{Row}
 use Rattle.object_map.specs.Rows.{row_of}
-use Rattle.time_read.specs.Rows.{IsRow, entries_of, checkpoint_places_of, side_places}
+use Rattle.time_read.specs.Rows.{IsRow, inode_of, entries_of, all_places_of, checkpoint_places_of, side_places}
 use Rattle.time_read.specs.Orderly.{IsOrderly}
 use Rattle.version_store.specs.Across.{ShareNoMoment}
 use Rattle.version_store.specs.Store.{StoreFields, IsObject, IsStore, Names, IsNamed}
 use Rattle.version_store.specs.Laws.{HeldIsWhatRowsName, EachHeldBlockIsNamed}
 use Rattle.image_objects.specs.declared.rows.ImageRow.{ImageRow}
 use Rattle.image_objects.specs.Chains.{entries_used}
+use Rattle.image_objects.specs.Inodes.{checkpoint_places_used}
 use Rattle.image_objects.specs.Objects.{ObjectStands}
 use Rattle.image_objects.specs.Naming.{NamesUsed, IsNamedBy}
 use Rattle.image_objects.specs.Rows.{RowsAscend, RowsShareNoMoment, RowsStand}
 use Rattle.image_objects.specs.Saved.{HoldsUsed, HoldsWhatIsSaved, IsAside, IsSavedAsHeld, ObjectsAscend, saved_row, saved_rows}
-use Rattle.image_objects.proofs.HeldByName.{Seen, seen}
+use Rattle.image_objects.proofs.HeldByName.{Seen, seen, kind_named}
 use Rattle.image_objects.proofs.SavedRows.{first_listed, listed_behind, object_from, listed_found, found_listed, is_saved, was_saved, all_saved, saved_ascend}
-use Rattle.checkpoint.specs.Held.{of_checkpoints, is_one_of}
-use Rattle.image_objects.proofs.Checkpoints.{CheckpointLaws, same_checkpoint_places}
+use Rattle.checkpoint.specs.Held.{of_checkpoints, is_checkpoint_kind, is_one_of, HasItsBlocks}
+use Rattle.checkpoint.proofs.OwnBlocks.{IsOwn, seen_own, has_some}
+use Rattle.image_objects.proofs.Checkpoints.{CheckpointLaws, blocks_at, same_checkpoint_places}
+use Rattle.image_objects.proofs.Using.{used_too}
 use Rattle.image_objects.proofs.Saving.{walked, same_places, saved_as_held}
 
 -- each object that is held stands: the law of one object
@@ -83,21 +87,54 @@ at_most_one : (b : Bool) → bit b ≤ 1
 at_most_one true = omega arith
 at_most_one false = omega arith
 
+some_there : {X : Type 0} (found : Option X) → IsSome found → (x : X) × (found ≡ Some x)
+some_there None some = absurd (false≢true some)
+some_there (Some x) some = (x, refl)
+
+-- a block of a checkpoint that is held is used as that
+used_here : (used held : Place → Option Stored) (k : BlockKind) (o : ℕ) (p : Place) → HoldsUsed used held → IsSome (of_kind k o held p) → IsSome (of_kind k o used p)
+used_here used held k o p holds some =
+    let (bytes, is) = some_there (of_kind k o held p) some in
+    ap is_some (used_too used held k o p bytes holds is)
+
 -- what a row names of what is held it names of what is used, but for the blocks of older checkpoints
-names_used : CheckpointLaws → (used held : Place → Option Stored) (o : ℕ) (row : Row) (k : BlockKind) (p : Place) → HoldsUsed used held → IsRow held o row → Names held o row k p
-    → NamesUsed used (saved_row o row) k p ⊎ ((k ≡ Checkpoint) × (is_one_of (side_places (of_checkpoints o held) row.sides) p ≡ true))
+abbrev NamesOrAside : (Place → Option Stored) → (Place → Option Stored) → ℕ → Row → BlockKind → Place → Type 0
+NamesOrAside used held o row k p = NamesUsed used (saved_row o row) k p ⊎ ((is_checkpoint_kind k ≡ true) × (is_one_of (side_places (of_checkpoints o held) row.sides) p ≡ true))
+
+checkpoint_used_or_aside : CheckpointLaws → (used held : Place → Option Stored) (o : ℕ) (row : Row) (k : BlockKind) (p : Place) → HoldsUsed used held → IsRow held o row → is_checkpoint_kind k ≡ true → is_one_of (all_places_of held o row) p ≡ true → IsSome (of_kind k o held p)
+    → NamesOrAside used held o row k p
+checkpoint_used_or_aside laws used held o row k p holds stands own is some =
+    let newest = checkpoint_places_of held o row in
+    let older = side_places (of_checkpoints o held) row.sides in
+    elim (or_cases (is_one_of newest p) (is_one_of older p) (sym (list_any-append (λ q. same_place q p) newest older) ∙ is)) [
+      | inl here ↦ inl (kind_named used (saved_row o row) p k own (ap (λ (places : List Place). is_one_of places p) (same_checkpoint_places laws used held o row holds stands) ∙ here) (used_here used held k o p holds some))
+      | inr aside ↦ inr (own, aside)
+    ]
+
+names_used : CheckpointLaws → (used held : Place → Option Stored) (o : ℕ) (row : Row) (k : BlockKind) (p : Place) → HoldsUsed used held → IsRow held o row → Names held o row k p → NamesOrAside used held o row k p
 names_used laws used held o row Journal p holds stands names =
     let places : chain_places (of_kind Journal o used) o row.head ≡ chain_places (of_kind Journal o held) o row.head = same_places used held o row (walked used held o row holds stands) in
     let count : times p (chain_places (of_kind Journal o used) o row.head) ≡ 1 = ap (λ (ps : List Place). times p ps) places ∙ names in
     inl (omega (arith, count))
-names_used laws used held o row Checkpoint p holds stands names =
+names_used laws used held o row Checkpoint p holds stands names = checkpoint_used_or_aside laws used held o row Checkpoint p holds stands refl names.0 names.1
+names_used laws used held o row Data p holds stands names = inl (subst (λ (slots : List (Option Place)). Contains slots (Some p)) (sym (saved_as_held laws used held o row holds stands).pointers) names)
+names_used laws used held o row Pointers p holds stands names = checkpoint_used_or_aside laws used held o row Pointers p holds stands refl names.0 names.1
+
+-- what is named of a row's newest checkpoint is held
+has_blocks : CheckpointLaws → (held : Place → Option Stored) (o : ℕ) (row : Row) → IsRow held o row → HasItsBlocks held o row.checkpoint
+has_blocks laws held o row stands =
+    let c : CheckpointFields = record { object = o; moment = row.checkpoint_moment; inode = inode_of held o row row.checkpoint_moment } in
+    blocks_at laws held o (row.checkpoint_moment ≡ 0) c row.checkpoint stands.checkpoint
+
+checkpoint_held_too : CheckpointLaws → (used held : Place → Option Stored) (o : ℕ) (row : Row) (k : BlockKind) (p : Place) → HoldsUsed used held → IsRow held o row → is_one_of (checkpoint_places_used used (saved_row o row)) p ≡ true → IsSome (of_kind k o used p)
+    → (is_one_of (all_places_of held o row) p ≡ true) × IsSome (of_kind k o held p)
+checkpoint_held_too laws used held o row k p holds stands is some =
     let newest = checkpoint_places_of held o row in
     let older = side_places (of_checkpoints o held) row.sides in
-    elim (or_cases (is_one_of newest p) (is_one_of older p) (sym (list_any-append (λ q. same_place q p) newest older) ∙ names)) [
-      | inl here ↦ inl (ap (λ (places : List Place). is_one_of places p) (same_checkpoint_places laws used held o row holds stands) ∙ here)
-      | inr aside ↦ inr (refl, aside)
-    ]
-names_used laws used held o row Data p holds stands names = inl (subst (λ (slots : List (Option Place)). Contains slots (Some p)) (sym (saved_as_held laws used held o row holds stands).pointers) names)
+    let here : is_one_of newest p ≡ true = sym (ap (λ (places : List Place). is_one_of places p) (same_checkpoint_places laws used held o row holds stands)) ∙ is in
+    let own : IsOwn o (held p) = seen_own o (held p) (has_some (of_checkpoints o held p) (has_blocks laws held o row stands p here)) in
+    let same : held p ≡ used p = own.is ∙ sym (holds p own.block own.is) in
+    (list_any-append (λ q. same_place q p) newest older ∙ or_left (is_one_of newest p) (is_one_of older p) here, ap (λ (there : Option Stored). is_some (seen_as k o there)) same ∙ some)
 
 names_held : CheckpointLaws → (used held : Place → Option Stored) (o : ℕ) (row : Row) (k : BlockKind) (p : Place) → HoldsUsed used held → IsRow held o row → NamesUsed used (saved_row o row) k p → Names held o row k p
 names_held laws used held o row Journal p holds stands names =
@@ -107,12 +144,9 @@ names_held laws used held o row Journal p holds stands names =
     let once : times p (chain_places (of_kind Journal o held) o row.head) ≡ bit there = stands.chain.once p in
     let few = at_most_one there in
     omega (arith, names, count, once, few)
-names_held laws used held o row Checkpoint p holds stands names =
-    let newest = checkpoint_places_of held o row in
-    let older = side_places (of_checkpoints o held) row.sides in
-    list_any-append (λ q. same_place q p) newest older
-    ∙ or_left (is_one_of newest p) (is_one_of older p) (sym (ap (λ (places : List Place). is_one_of places p) (same_checkpoint_places laws used held o row holds stands)) ∙ names)
+names_held laws used held o row Checkpoint p holds stands names = checkpoint_held_too laws used held o row Checkpoint p holds stands names.0 names.1
 names_held laws used held o row Data p holds stands names = subst (λ (slots : List (Option Place)). Contains slots (Some p)) (saved_as_held laws used held o row holds stands).pointers names
+names_held laws used held o row Pointers p holds stands names = checkpoint_held_too laws used held o row Pointers p holds stands names.0 names.1
 
 named_by : CheckpointLaws → EachHeldBlockIsNamed → (used : Place → Option Stored) (s : StoreFields) (p : Place) (block : Stored) → IsStore s → HoldsUsed used s.log.held → s.log.held p ≡ Some block → IsNamedBy used (saved_rows s.rows) p block ⊎ IsAside s p block
 named_by laws law used s p block store holds here =
@@ -127,10 +161,6 @@ named_by laws law used s p block store holds here =
       })
       | inr aside ↦ inr (record { row = n.row; there = n.there; kind = aside.0; among = aside.1 })
     ]
-
-some_there : {X : Type 0} (found : Option X) → IsSome found → (x : X) × (found ≡ Some x)
-some_there None some = absurd (false≢true some)
-some_there (Some x) some = (x, refl)
 
 -- a block is held where one that is used there is named by a row that is listed
 held_of : CheckpointLaws → HeldIsWhatRowsName → (used : Place → Option Stored) (s : StoreFields) (low : ℕ) (e : ℕ × Row) (p : Place) (block : Stored) → IsStore s → HoldsUsed used s.log.held → ObjectsAscend low s.rows → Contains s.rows e

@@ -5,7 +5,7 @@ use Rattle.std.proofs.lemmas.Bool.{false≢true, cond-true}
 use Rattle.std.proofs.lemmas.List.Elements.{All-contains, All-from_recursion, Contains-get_or}
 use Rattle.s4_types.specs.Pointer.{Place}
 use Rattle.block_log.specs.Log.{Stored, of_kind}
-use Rattle.block_log.specs.declared.kinds.BlockKind.TheVariants.{Journal, Checkpoint, Data}
+use Rattle.block_log.specs.declared.kinds.BlockKind.TheVariants.{Journal, Data}
 use Rattle.codec.specs.Fields.{◌>>=◌}
 use Rattle.codec.specs.declared.inodes.Inode.{Inode}
 use Rattle.codec.specs.Entry.{EntryFields}
@@ -39,7 +39,7 @@ JournalIsHeld used held row = (p : Place) → of_kind Journal row.object held p 
 
 -- and of its checkpoints' blocks those of the one that the row names
 abbrev pub CheckpointIsHeld : (Place → Option Stored) → (Place → Option Stored) → ImageRow → Type 0
-CheckpointIsHeld used held row = (p : Place) → of_kind Checkpoint row.object held p ≡ checkpoint_view used row p
+CheckpointIsHeld used held row = (p : Place) → of_checkpoints row.object held p ≡ checkpoint_view used row p
 
 -- a checkpoint rests on its blocks
 abbrev pub CheckpointIsTold : Type 0

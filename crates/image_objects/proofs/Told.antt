@@ -5,6 +5,7 @@ use Rattle.std.proofs.lemmas.Bool.{cases_Bool, cases_lt, cond-true, cond-false, 
 use Rattle.std.proofs.lemmas.List.Elements.{All-contains, Contains-append_left, Contains-append_right}
 use Rattle.std.proofs.lemmas.List.Sums.{count_by-le-length}
 use Rattle.s4_types.specs.Pointer.{Place}
+use Rattle.s4_types.specs.declared.limits.TheConstants.{ROW_POINTERS}
 use Rattle.block_log.specs.Log.{Log, Stored, of_kind, seen_as, same_kind, is_data}
 use Rattle.block_log.specs.declared.kinds.BlockKind.{BlockKind}
 use Rattle.block_log.specs.declared.kinds.BlockKind.TheVariants.{Data}
@@ -92,18 +93,18 @@ few_told names used clock low made (x ∷ rows) p most ascend stand each = elim 
 -- ---- what is held of them
 
 few_led : CheckpointIsTold → RowsHaveFewPointers → (used held : Place → Option Stored) (rows : List ImageRow) (row : ImageRow) (clock : ℕ) (p : Place) → RowsAscend clock 0 0 rows → HoldsWhatIsNamed used held rows → Contains rows row → IsHeldAsUsed used held row clock 0
-    → times_led p (pointers_used used row) ≤ 12144
+    → times_led p (pointers_used used row) ≤ ROW_POINTERS
 few_led told law used held rows row clock p ascend holds there as_used =
     let kept = kept_row used row 0 in
-    let few : length (pointers_named held row.object kept) ≤ 12144 = law held row.object kept clock as_used.object (omega arith) in
+    let few : length (pointers_named held row.object kept) ≤ ROW_POINTERS = law held row.object kept clock as_used.object (omega arith) in
     let same : length (pointers_named held row.object kept) ≡ length (pointers_used used row) = ap (λ (slots : List (Option Place)). length slots) (named_as_used told used held rows row clock 0 ascend holds there as_used) in
     let times : times_led p (pointers_used used row) ≤ length (pointers_used used row) = count_by-le-length (λ (x : Option Place). is_at x p) (pointers_used used row) in
     omega (arith, few, same, times)
 
 pub rows_tell_few : OneName → CheckpointIsTold → RowsHaveFewPointers → (used held : Place → Option Stored) (rows : List ImageRow) (clock : ℕ) (p : Place) → RowsAscend clock 0 0 rows → RowsStand used rows clock → HoldsWhatIsNamed used held rows
-    → ((row : ImageRow) → Contains rows row → IsHeldAsUsed used held row clock 0) → times_told used rows p ≤ 12144
+    → ((row : ImageRow) → Contains rows row → IsHeldAsUsed used held row clock 0) → times_told used rows p ≤ ROW_POINTERS
 rows_tell_few names told law used held rows clock p ascend stand holds as_used =
-    few_told names used clock 0 0 rows p 12144 ascend stand.objects (λ row there. few_led told law used held rows row clock p ascend holds there (as_used row there))
+    few_told names used clock 0 0 rows p ROW_POINTERS ascend stand.objects (λ row there. few_led told law used held rows row clock p ascend holds there (as_used row there))
 
 -- each data block of an object that is held has as many names as the pointers of its row refer to it
 abbrev pub IsCounted : Log → ℕ → Row → Type 0

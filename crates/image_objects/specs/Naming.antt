@@ -1,10 +1,10 @@
 -- Which used blocks of an image its rows name, and what is held of it where just these are.
-use Rattle.std.specs.Prelude.{◌≡◌, ℕ, ◌+◌, ◌<◌, true, List, [], ◌∷◌, Option, Some}
+use Rattle.std.specs.Prelude.{◌≡◌, ℕ, ◌+◌, ◌<◌, true, List, [], ◌∷◌, Option, Some, IsSome}
 use Rattle.std.specs.List.{Contains}
 use Rattle.s4_types.specs.Pointer.{Place}
 use Rattle.block_log.specs.Log.{Stored, of_kind, is_data}
 use Rattle.block_log.specs.declared.kinds.BlockKind.{BlockKind}
-use Rattle.block_log.specs.declared.kinds.BlockKind.TheVariants.{Journal, Checkpoint, Data}
+use Rattle.block_log.specs.declared.kinds.BlockKind.TheVariants.{Journal, Checkpoint, Data, Pointers}
 use Rattle.journal_chain.specs.Chain.{times, chain_places}
 use Rattle.image_objects.specs.declared.rows.ImageRow.{ImageRow}
 use Rattle.checkpoint.specs.Held.{is_one_of}
@@ -13,11 +13,12 @@ use Rattle.image_objects.specs.Inodes.{checkpoint_places_used}
 use Rattle.image_objects.specs.Objects.{pointers_used}
 
 -- A row of an image names its object's block of this kind at a place: it is in the row's chain; or it is a block of the
--- row's checkpoint; or a pointer that the row refers to is this place.
+-- row's checkpoint, the first one or that of a part, as it is used there; or a pointer that the row refers to is this place.
 abbrev pub NamesUsed : (Place → Option Stored) → ImageRow → BlockKind → Place → Type 0
 NamesUsed used row Journal p = 0 < times p (chain_places (of_kind Journal row.object used) row.object row.head)
-NamesUsed used row Checkpoint p = is_one_of (checkpoint_places_used used row) p ≡ true
+NamesUsed used row Checkpoint p = (is_one_of (checkpoint_places_used used row) p ≡ true) × IsSome (of_kind Checkpoint row.object used p)
 NamesUsed used row Data p = Contains (pointers_used used row) (Some p)
+NamesUsed used row Pointers p = (is_one_of (checkpoint_places_used used row) p ≡ true) × IsSome (of_kind Pointers row.object used p)
 
 -- a block is one that some row of its object names as what it is
 pub record IsNamedBy (used : Place → Option Stored) (rows : List ImageRow) (p : Place) (block : Stored) : Type 0 where

@@ -2,8 +2,7 @@
 use Rattle.std.specs.Prelude.{◌≡◌, ◌⊎◌, ℕ, ◌+◌, ◌≤◌, true, List, [], ◌∷◌, map, Option, Some}
 use Rattle.s4_types.specs.Pointer.{Place}
 use Rattle.block_log.specs.Log.{Stored}
-use Rattle.block_log.specs.declared.kinds.BlockKind.TheVariants.{Checkpoint}
-use Rattle.checkpoint.specs.Held.{of_checkpoints, is_one_of}
+use Rattle.checkpoint.specs.Held.{of_checkpoints, is_checkpoint_kind, is_one_of}
 use Rattle.object_map.specs.declared.map.Row.{Row}
 use Rattle.object_map.specs.Rows.{row_of}
 use Rattle.version_store.specs.Store.{StoreFields, pointers_of}
@@ -46,7 +45,7 @@ pub record IsSavedAsHeld (used held : Place → Option Stored) (o : ℕ) (row : 
 pub record IsAside (s : StoreFields) (p : Place) (block : Stored) : Type 0 where
   pub row : Row
   pub there : row_of s.rows block.object ≡ Some row
-  pub kind : block.kind ≡ Checkpoint
+  pub kind : is_checkpoint_kind block.kind ≡ true
   pub among : is_one_of (side_places (of_checkpoints block.object s.log.held) row.sides) p ≡ true
 
 -- What a store holds of the used blocks of an image that it is saved as: those that the rows of the image name, and beside them

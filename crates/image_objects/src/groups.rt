@@ -61,8 +61,8 @@ fn count_behind(count: usize, before: &Entry, entry: &Entry) -> Option<usize>
     if is_next { Some(count + 1) } else { None }
 }
 
-/// Whether moments don't descend, and entries of one moment are one change's: at most three, of
-/// which each later one continues the one before it.
+/// Whether moments don't descend, and entries of one moment are one change's: at most
+/// `CHANGE_ENTRIES`, of which each later one continues the one before it.
 pub(crate) fn are_grouped(entries: &[Entry]) -> bool
     ensures { result ≡ grouped entries.now }
 {

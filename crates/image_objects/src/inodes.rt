@@ -2,33 +2,19 @@
 ghost use Rattle.std.specs.Prelude.{◌≡◌, ◌≤◌, true, length, Option, Some, IfSome, IfNone};
 ghost use Rattle.std.specs.Prelude.{MatchOption};
 ghost use Rattle.s4_types.specs.declared.limits.TheConstants.{OBJECT_BLOCKS};
-ghost use Rattle.codec.specs.Checkpoint.{CheckpointFields, CheckpointNumbers};
 ghost use Rattle.undo_redo.specs.Runs.{undone_all, redone_all, entries_by, blank};
-ghost use Rattle.checkpoint.specs.Held.{checkpoint_held};
 ghost use Rattle.time_read.specs.Orderly.{BeginsDead};
 ghost use Rattle.image_objects.specs.Inodes.{TellsTheRow, HasItsPlace, CheckpointStands};
 ghost use Rattle.image_objects.specs.Inodes.{BeginningStands, first_before};
 
 use crate::links::{has_status, is_same_slot};
 use crate::rows::ImageRow;
-use crate::used_blocks::{UsedBlocks, bytes_at};
-use block_log::BlockKind;
-use codec::{Checkpoint, Entry, Inode, Status, decode_checkpoint};
+use crate::{UsedBlocks, read_checkpoint};
+use codec::{Checkpoint, Entry, Inode, Status};
 use s4_types::limits::OBJECT_BLOCKS;
-use s4_types::{Moment, ObjectId, Ptr};
+use s4_types::{Moment, Ptr};
 use undo_redo::laws::a_blank_inode_has_holes_alone;
 use undo_redo::{blank, redo, undo};
-
-/// The object's checkpoint at a place. None where the image has no such used block there, or where
-/// it encodes none.
-#[tactic(auto, unfolding(checkpoint::specs::Held::checkpoint_in))]
-pub fn read_checkpoint<U: UsedBlocks>(used: &U, object: ObjectId, place: Ptr) -> Option<Checkpoint>
-    ensures exact { result ≡ checkpoint_held (U.used used.now) object place }
-    ensures numbers { IfSome result (λ checkpoint. CheckpointNumbers checkpoint) }
-{
-    let bytes = bytes_at(used, BlockKind::Checkpoint, object, place)?;
-    decode_checkpoint(&bytes)
-}
 
 /// Undoes the entries up to a moment, the last one first.
 #[tactic(auto, using(crate::proofs::Undoing::undone_here, crate::proofs::Undoing::undone_past))]

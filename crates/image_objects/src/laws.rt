@@ -6,6 +6,7 @@ ghost use Rattle.std.specs.List.{AllByRecursion, Contains};
 ghost use Rattle.std.specs.List.Sorted.{IsPermutation, IsSorted};
 ghost use Rattle.std.specs.Ordering.{nat_cmp};
 ghost use Rattle.s4_types.specs.Pointer.{Place};
+ghost use Rattle.s4_types.specs.declared.limits.TheConstants.{ROW_POINTERS};
 ghost use Rattle.block_log.specs.Log.{Log, Stored, of_kind, NamesAreOfData};
 ghost use Rattle.block_log.specs.declared.kinds.BlockKind.TheVariants.{Journal, Data};
 ghost use Rattle.checkpoint.specs.Held.{of_checkpoints};
@@ -38,7 +39,7 @@ use version_store::laws::{inodes_point_to_what_rows_name, places_have_few_names}
 
 /// Where just what rows name is held, these blocks are held of an object that has one of the rows,
 /// each as it is used: of its journal those of the row's chain, of its checkpoints those of the one
-/// that the row names, and of its data those that the row refers to.
+/// that the row names, first block and parts, and of its data those that the row refers to.
 pub fn what_is_named_is_held_of_each()
     ensures journal { (used held : Place → Option Stored) (rows : List ImageRow) (clock : ℕ) (row : ImageRow) → RowsAscend clock 0 0 rows → HoldsWhatIsNamed used held rows → Contains rows row
         → (p : Place) → of_kind Journal row.object held p ≡ chain_view used row p }
@@ -92,10 +93,10 @@ pub fn an_object_that_stands_is_held()
 }
 
 /// Where all rows of an image stand and just what they name is held, no place is told by their
-/// pointers more than 12,144 times.
+/// pointers more than `ROW_POINTERS` times.
 pub fn rows_that_stand_tell_few()
     ensures { (used held : Place → Option Stored) (rows : List ImageRow) (clock : ℕ) (p : Place) → RowsAscend clock 0 0 rows → RowsStand used rows clock → HoldsWhatIsNamed used held rows
-        → times_told used rows p ≤ 12144 }
+        → times_told used rows p ≤ ROW_POINTERS }
 {
     one_place_has_one_name();
     a_checkpoint_rests_on_its_blocks();

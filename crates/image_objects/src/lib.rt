@@ -16,6 +16,7 @@
 #![tactic(auto)]
 
 mod chains;
+mod checkpoint_blocks;
 mod groups;
 mod inodes;
 pub mod laws;
@@ -34,7 +35,7 @@ mod version_chains;
 mod walk;
 
 pub use chains::{ImageChain, read_chain};
-pub use inodes::read_checkpoint;
+pub use checkpoint_blocks::read_checkpoint;
 pub use naming::{push_named, what_a_row_names_is_used};
 pub use objects::read_object;
 pub use reading::read_journal;

@@ -6,6 +6,7 @@ ghost use Rattle.s4_types.specs.Pointer.{Place};
 ghost use Rattle.s4_types.specs.declared.refusals.Refusal.TheVariants.{NoMemory};
 ghost use Rattle.block_log.specs.Log.{Stored, of_kind, is_data};
 ghost use Rattle.block_log.specs.declared.kinds.BlockKind.{BlockKind};
+ghost use Rattle.checkpoint.specs.Held.{HasItsBlocks};
 ghost use Rattle.journal_chain.specs.Chain.{times};
 ghost use Rattle.version_store.specs.Store.{sides_of, sides_told, pointers_kept, times_led};
 ghost use Rattle.image_objects.specs.declared.rows.ImageRow.{ImageRow as RowFields};
@@ -13,13 +14,15 @@ ghost use Rattle.image_objects.specs.Chains.{ChainStands, entries_used};
 ghost use Rattle.image_objects.specs.Inodes.{checkpoint_used, checkpoint_places_used};
 ghost use Rattle.image_objects.specs.Objects.{ObjectStands, pointers_used};
 ghost use Rattle.image_objects.specs.Naming.{NamesUsed};
-ghost use Rattle.image_objects.specs.private.Places.{places_in, places_of_chain, places_named};
+ghost use Rattle.image_objects.specs.private.Places.{places_in, places_of_parts, places_of_chain};
+ghost use Rattle.image_objects.specs.private.Places.{places_named};
 
+use crate::checkpoint_blocks::read_first;
 use crate::pointers::checkpoint_of;
 use crate::{ImageRow, UsedBlocks, VersionChain, read_journal};
 use block_log::laws::one_place_has_one_name;
 use checkpoint::laws::a_checkpoint_has_its_blocks;
-use codec::{Entry, Triple};
+use codec::{Entry, FirstBlock, Triple};
 use s4_types::limits::CHAIN_BLOCKS;
 use s4_types::{Ptr, Refusal};
 
@@ -84,7 +87,19 @@ fn push_kept<U: UsedBlocks>(used: &U, row: &ImageRow, places: &mut Vec<Ptr>) -> 
     push_slots(&checkpoint.inode().pointers, places)
 }
 
-/// Adds the places of the blocks of a row's checkpoint.
+/// Adds the places of the parts of a checkpoint, by its first block.
+fn push_parts(first: &Option<FirstBlock>, places: &mut Vec<Ptr>) -> Result<(), Refusal>
+    ensures places { IfOk result
+        (λ _. places.new.items ≡ places.old.items ++ places_of_parts first.now) }
+    ensures refusal { IfErr result (λ e. e ≡ NoMemory) }
+{
+    let Some(first) = first else {
+        return Ok(());
+    };
+    push_slots(&first.parts, places)
+}
+
+/// Adds the places of the blocks of a row's checkpoint: its parts, and then its first block.
 fn push_checkpoint<U: UsedBlocks>(
     used: &U,
     row: &ImageRow,
@@ -95,7 +110,13 @@ fn push_checkpoint<U: UsedBlocks>(
         ≡ places.old.items ++ checkpoint_places_used (U.used used.now) row.now) }
     ensures refusal { IfErr result (λ e. e ≡ NoMemory) }
 {
-    push_slot(row.checkpoint, places)
+    let Some(place) = row.checkpoint else {
+        return Ok(());
+    };
+    let first = read_first(used, row.object, place);
+    push_parts(&first, places)?;
+    places.push(place)?;
+    Ok(())
 }
 
 /// Adds the places of the blocks of a row's chain, the newest first.
@@ -138,9 +159,9 @@ fn push_all<U: UsedBlocks>(
     push_entries(entries, places)
 }
 
-/// Adds the places of all used blocks that a row of an image names: its chain's, its checkpoint's,
-/// and those of its data. The place of a data block is added as often as the row's pointers refer
-/// to it.
+/// Adds the places of all used blocks that a row of an image names: its chain's, those of its
+/// checkpoint and the parts of that, and those of its data. The place of a data block is added as
+/// often as the row's pointers refer to it.
 ///
 /// NoMemory alone, after which some of them may have been added. Linear in the chain's blocks.
 pub fn push_named<U: UsedBlocks>(
@@ -171,10 +192,13 @@ pub fn push_named<U: UsedBlocks>(
 }
 
 /// Each place that a row of an object which is in an image names has a used block of the object, of
-/// that kind.
+/// that kind. Each place of the row's checkpoint has one of the object's checkpoints, which begins
+/// with the number of its kind.
 pub fn what_a_row_names_is_used()
-    ensures { (used : Place → Option Stored) (row : RowFields) (clock : ℕ) (kind : BlockKind) (p : Place) → ObjectStands used row clock
+    ensures named { (used : Place → Option Stored) (row : RowFields) (clock : ℕ) (kind : BlockKind) (p : Place) → ObjectStands used row clock
         → NamesUsed used row kind p → IsSome (of_kind kind row.object used p) }
+    ensures checkpoint { (used : Place → Option Stored) (row : RowFields) (clock : ℕ)
+        → ObjectStands used row clock → HasItsBlocks used row.object row.checkpoint }
 {
     one_place_has_one_name();
     a_checkpoint_has_its_blocks();

@@ -43,6 +43,7 @@ fn is_same_kind(one: BlockKind, other: BlockKind) -> bool
         BlockKind::Journal => matches!(other, BlockKind::Journal),
         BlockKind::Checkpoint => matches!(other, BlockKind::Checkpoint),
         BlockKind::Data => matches!(other, BlockKind::Data),
+        BlockKind::Pointers => matches!(other, BlockKind::Pointers),
     }
 }
 

@@ -13,10 +13,10 @@ AreBytes bytes = (i : ℕ) → slice_index bytes i < 256
 unfoldable pub number_in : Width → List ℕ → ℕ
 number_in w bytes = from_be_bytes w (take (byte_len w) bytes)
 
--- the 512 bytes of a header: "S4IMAGE1", the numbers, and zeros
+-- the 512 bytes of a header: "S4IMAGE2", the numbers, and zeros
 unfoldable pub header_bytes : Header → List ℕ
 header_bytes h =
-    0x53 ∷ 0x34 ∷ 0x49 ∷ 0x4d ∷ 0x41 ∷ 0x47 ∷ 0x45 ∷ 0x31 ∷
+    0x53 ∷ 0x34 ∷ 0x49 ∷ 0x4d ∷ 0x41 ∷ 0x47 ∷ 0x45 ∷ 0x32 ∷
     (number w16 h.frames ++ (zeros 6 ++ (number w64 h.clock ++ (number w64 h.window ++ (number w64 h.floor ++
     (number w64 h.next ++ (number w32 h.rows ++ (number w32 h.spans ++ zeros 456))))))))
 

@@ -45,7 +45,7 @@ pub(crate) fn spelling_of(header: &Header) -> Writing
     ensures { result.items ≡ header_bytes header.now }
 {
     let mut out = Writing::new();
-    put(&mut out, b"S4IMAGE1");
+    put(&mut out, b"S4IMAGE2");
     put_short(&mut out, header.frames);
     put_zeros(&mut out, 6);
     put_long(&mut out, header.clock.number());

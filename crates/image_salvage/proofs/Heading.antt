@@ -1,17 +1,18 @@
 -- The rows that blocks make: each block makes one.
-use Rattle.std.proofs.Common.{◌≡◌, ◌⊎◌, inl, inr, ℕ, ◌==◌, ◌&&◌, if◌then◌else◌, Bool, List, [], ◌∷◌, ◌++◌, Option, Some, None, refl, sym, ap, subst, ◌∙◌}
+use Rattle.std.proofs.Common.{◌≡◌, ◌⊎◌, inl, inr, ℕ, List, [], ◌∷◌, ◌++◌, Option, Some, None, refl, sym, ap, subst, ◌∙◌}
 use Rattle.std.specs.Option.{option_to_list}
 use Rattle.std.specs.Prelude.{IfNone, MatchOption}
 use Rattle.s4_types.specs.Pointer.{Place}
-use Rattle.block_log.specs.Log.{Stored, same_kind, seen_as}
+use Rattle.block_log.specs.Log.{Stored, seen_as}
 use Rattle.block_log.specs.declared.kinds.BlockKind.{BlockKind}
-use Rattle.block_log.specs.declared.kinds.BlockKind.TheVariants.{Journal, Checkpoint, Data}
-use Rattle.codec.specs.Fields.{◌>>=◌}
+use Rattle.block_log.specs.declared.kinds.BlockKind.TheVariants.{Journal, Checkpoint, Data, Pointers}
+use Rattle.codec.specs.Fields.{◌>>=◌, all_of}
 use Rattle.codec.specs.Checkpoint.{CheckpointFields}
 use Rattle.codec.specs.Entry.{EntryFields}
+use Rattle.codec.specs.FirstBlock.{first_at}
 use Rattle.codec.specs.Journal.{JournalFields}
 use Rattle.journal_chain.specs.Chain.{journal_of, journal_held}
-use Rattle.checkpoint.specs.Held.{spelled_checkpoint, checkpoint_in, checkpoint_held}
+use Rattle.checkpoint.specs.Held.{seen_of, of_checkpoints, checkpoint_in, checkpoint_of, checkpoint_held}
 use Rattle.image_objects.specs.declared.rows.ImageRow.{ImageRow}
 use Rattle.image_salvage.specs.declared.newest.Note.{Note}
 use Rattle.image_salvage.specs.Heads.{checkpoint_note, MakesByCheckpoint, row_from, row_alone, LeadsOn, blocks_kept, CountsKept, MakesRow, head_note, last_of, MakesByJournal, MakesHead}
@@ -153,21 +154,23 @@ makes_journal used checkpoints p object block found newest row kept note held of
 
 -- ---- both
 
-kinds : (kind : BlockKind) (b : Bool) (bytes : List ℕ) → ((if same_kind Journal kind && b then Some bytes else None) ≡ None) ⊎ ((if same_kind Checkpoint kind && b then Some bytes else None) ≡ None)
-kinds Journal b bytes = inr refl
-kinds Checkpoint b bytes = inl refl
-kinds Data b bytes = inl refl
+kinds : (kind : BlockKind) (o : ℕ) (block : Stored) → (seen_as Journal o (Some (record block { kind = kind })) ≡ None) ⊎ (seen_of o (Some (record block { kind = kind })) ≡ None)
+kinds Journal o block = inr refl
+kinds Checkpoint o block = inl refl
+kinds Data o block = inl refl
+kinds Pointers o block = inl refl
 
-seen_once : (o : ℕ) (found : Option Stored) → (seen_as Journal o found ≡ None) ⊎ (seen_as Checkpoint o found ≡ None)
+-- a block is seen as a journal block, or as one of a checkpoint, or as neither
+seen_once : (o : ℕ) (found : Option Stored) → (seen_as Journal o found ≡ None) ⊎ (seen_of o found ≡ None)
 seen_once o None = inl refl
-seen_once o (Some block) = kinds block.kind (block.object == o) block.bytes
+seen_once o (Some block) = kinds block.kind o block
 
 -- a block isn't both a journal block and a checkpoint
 one_kind : {P : Type 0} → (used : Place → Option Stored) (o : ℕ) (p : Place) (journal : JournalFields) (checkpoint : CheckpointFields) → journal_held used o p ≡ Some journal → checkpoint_held used o p ≡ Some checkpoint → P
 unfolding checkpoint_in
 one_kind used o p journal checkpoint one other = elim (seen_once o (used p)) [
   | inl none ↦ some_none journal (journal_held used o p) one (ap (λ (bytes : Option (List ℕ)). bytes >>= journal_of o) none)
-  | inr none ↦ some_none checkpoint (checkpoint_held used o p) other (ap spelled_checkpoint none)
+  | inr none ↦ some_none checkpoint (checkpoint_held used o p) other (ap (λ (bytes : Option (List ℕ)). (bytes >>= all_of first_at) >>= checkpoint_of (of_checkpoints o used)) none)
 ]
 
 pub head_used : (used : Place → Option Stored) (checkpoints : ℕ → Option Note) (p : Place) (note : Note) → MakesHead used checkpoints p note → (block : Stored) × (used p ≡ Some block)

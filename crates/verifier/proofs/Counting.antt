@@ -3,6 +3,7 @@ use Rattle.std.proofs.Common.{◌≡◌, inl, inr, ℕ, ◌+◌, ◌-◌, ◌^�
 use Rattle.std.proofs.lemmas.Bool.{cases_Bool, cases_lt, cond-true, cond-false, lt-ltb, le-ltb, ltb-false, false≢true}
 use Rattle.std.proofs.lemmas.List.{take_more}
 use Rattle.s4_types.specs.Pointer.{Place}
+use Rattle.s4_types.specs.declared.limits.TheConstants.{ROW_POINTERS}
 use Rattle.block_log.specs.Log.{Log, Stored, same_place, is_data, NamesAreOfData}
 use Rattle.codec.specs.Fields.{bit}
 use Rattle.journal_chain.specs.Chain.{times}
@@ -111,5 +112,5 @@ names_more used named after rows row places given counted before p of_data =
     ∙ ap (λ (n : ℕ). capped n) (sym (told_push used rows row p))
 
 -- numbers that 32 bits count are what they are counted as
-pub names_counted : (used : Place → Option Stored) (named : Place → ℕ) (rows : List ImageRow) → NamesAreCapped used named rows → ((p : Place) → times_told used rows p ≤ 12144) → NamesAreCounted used named rows
+pub names_counted : (used : Place → Option Stored) (named : Place → ℕ) (rows : List ImageRow) → NamesAreCapped used named rows → ((p : Place) → times_told used rows p ≤ ROW_POINTERS) → NamesAreCounted used named rows
 names_counted used named rows capped_names few p of_data = capped_names p of_data ∙ capped_low (times_told used rows p) (omega (arith, few p))

@@ -2,20 +2,21 @@
 use Rattle.std.proofs.Common.{◌≡◌, ◌⊎◌, inl, inr, ℕ, suc, Bool, true, false, cond, eqb, ◌==◌, ◌&&◌, ◌+◌, ◌-◌, ◌*◌, ◌/◌, ◌%◌, ◌<◌, ◌≤◌, ◌^◌, List, [], ◌∷◌, length, Option, Some, None, IsSome, is_some, refl, sym, ap, ◌∙◌, subst, arith}
 use Rattle.std.specs.Prelude.{IfSome, MatchOption, unwrap_or}
 use Rattle.std.specs.List.{AllByRecursion, IsDistinct, list_any}
-use Rattle.std.proofs.lemmas.Bool.{and_parts, or_cases, cases_Bool, cond-false, eqb-true, ne_eqb, false≢true}
+use Rattle.std.specs.Option.{option_map}
+use Rattle.std.proofs.lemmas.Bool.{and_parts, or_cases, cases_Bool, cond-false, eqb-true, ne_eqb}
 use Rattle.std.proofs.lemmas.Option.{none-some, same_Some}
 use Rattle.std.proofs.lemmas.Map.Steps.{length-le_from_distinct_below}
 use Rattle.s4_types.specs.Pointer.{Place, IsPlace}
 use Rattle.s4_types.specs.declared.limits.TheConstants.{CHAIN_BLOCKS}
 use Rattle.block_log.specs.declared.kinds.BlockKind.{BlockKind}
-use Rattle.block_log.specs.declared.kinds.BlockKind.TheVariants.{Journal, Checkpoint}
+use Rattle.block_log.specs.declared.kinds.BlockKind.TheVariants.{Journal, Checkpoint, Pointers}
 use Rattle.block_log.specs.Log.{Stored, of_kind, seen_as, same_kind}
 use Rattle.codec.specs.Fields.{◌>>=◌}
 use Rattle.codec.specs.Entry.{EntryFields}
 use Rattle.codec.specs.Checkpoint.{CheckpointFields}
 use Rattle.journal_chain.specs.Packing.{joined}
 use Rattle.journal_chain.specs.Chain.{BlockView, linked, links_from, chain_links, chain_entries, journal_in, journal_of, blocks_of}
-use Rattle.checkpoint.specs.Held.{checkpoint_held, checkpoint_places, of_checkpoints, is_one_of, HasItsBlocks}
+use Rattle.checkpoint.specs.Held.{checkpoint_held, checkpoint_places, begun_by, or_others, seen_of, HasBytes, is_one_of, HasItsBlocks}
 use Rattle.object_map.specs.declared.map.Row.{Row}
 use Rattle.time_read.specs.Rows.{IsRow, entries_of, inode_of}
 use Rattle.time_read.specs.Orderly.{IsOrderly, IsFromTo, BeginsDead}
@@ -70,14 +71,22 @@ pub record CheckpointLaws : Type 0 where
   pub held : (held : Place → Option Stored) (o : ℕ) (p : Place) → IsSome (checkpoint_held held o p) → HasItsBlocks held o (Some p)
   pub first : (held : Place → Option Stored) (o : ℕ) (p : Place) → is_one_of (checkpoint_places held o p) p ≡ true
 
-some_is : {A : Type 0} (x : Option A) → IsSome x → (a : A) × (x ≡ Some a)
-some_is None some = absurd (false≢true some)
-some_is (Some a) some = (a, refl)
+-- a block that is seen with some bytes, as one of an object's checkpoints, is there and the object's
+checkpoint_owned : (o : ℕ) (b : Option Stored) → HasBytes (seen_of o b) → (block : Stored) × ((b ≡ Some block) × (block.object ≡ o))
+checkpoint_owned o b has = elim (some_or_none (seen_as Checkpoint o b)) [
+  | inr first ↦ owned Checkpoint o b first.0 first.1
+  | inl no_first ↦ elim (some_or_none (seen_as Pointers o b)) [
+    | inr part ↦ owned Pointers o b part.0 part.1
+    | inl no_part ↦
+        let either : Option (List ℕ) → Option (List ℕ) → Type 0 = λ x y. HasBytes (or_others (option_map (begun_by Checkpoint) x) (option_map (begun_by Pointers) y)) in
+        absurd (subst (either None) no_part (subst (λ (x : Option (List ℕ)). either x (seen_as Pointers o b)) no_first has))
+  ]
+]
 
 checkpointed : CheckpointLaws → (held : Place → Option Stored) (o : ℕ) (p : Place) (c : CheckpointFields) → IsPlace p → checkpoint_held held o p ≡ Some c → Owns held o
 checkpointed laws held o p c is h =
-    let some = some_is (of_checkpoints o held p) (laws.held held o p (ap is_some h) p (laws.first held o p)) in
-    owns held Checkpoint o p some.0 is some.1
+    let (block, (there, own)) = checkpoint_owned o (held p) (laws.held held o p (ap is_some h) p (laws.first held o p)) in
+    record { place = p; is = is; block = block; there = there; own = own }
 
 by_checkpoint : CheckpointLaws → (held : Place → Option Stored) (o : ℕ) (hole dead : Type 0) (kept : Place → Type 0) (c : CheckpointFields) (q : Option Place) → IfSome q IsPlace → MatchOption q hole (λ p. checkpoint_held held o p ≡ Some c) → MatchOption q dead kept → (dead → Owns held o) → Owns held o
 by_checkpoint laws held o hole dead kept c None is stands orderly begins = begins orderly

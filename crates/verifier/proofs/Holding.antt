@@ -8,7 +8,7 @@ use Rattle.std.proofs.lemmas.Option.{none-some}
 use Rattle.s4_types.specs.Pointer.{Place}
 use Rattle.block_log.specs.Log.{Stored, of_kind, seen_as, same_kind, same_place}
 use Rattle.block_log.specs.declared.kinds.BlockKind.{BlockKind}
-use Rattle.block_log.specs.declared.kinds.BlockKind.TheVariants.{Journal, Checkpoint, Data}
+use Rattle.block_log.specs.declared.kinds.BlockKind.TheVariants.{Journal, Checkpoint, Data, Pointers}
 use Rattle.image_objects.specs.declared.rows.ImageRow.{ImageRow}
 use Rattle.image_objects.specs.Naming.{NamesUsed, IsNamedBy, HoldsWhatIsNamed}
 use Rattle.segment_table.specs.Table.{Table}
@@ -91,12 +91,19 @@ kinds : (k l : BlockKind) → same_kind k l ≡ true → k ≡ l
 kinds Journal Journal h = refl
 kinds Journal Checkpoint h = absurd (false≢true h)
 kinds Journal Data h = absurd (false≢true h)
+kinds Journal Pointers h = absurd (false≢true h)
 kinds Checkpoint Journal h = absurd (false≢true h)
 kinds Checkpoint Checkpoint h = refl
 kinds Checkpoint Data h = absurd (false≢true h)
+kinds Checkpoint Pointers h = absurd (false≢true h)
 kinds Data Journal h = absurd (false≢true h)
 kinds Data Checkpoint h = absurd (false≢true h)
 kinds Data Data h = refl
+kinds Data Pointers h = absurd (false≢true h)
+kinds Pointers Journal h = absurd (false≢true h)
+kinds Pointers Checkpoint h = absurd (false≢true h)
+kinds Pointers Data h = absurd (false≢true h)
+kinds Pointers Pointers h = refl
 
 -- a block that is seen as of a kind and an object is of these
 seen : (kind : BlockKind) (o : ℕ) (block : Stored) → IsSome (seen_as kind o (Some block)) → (kind ≡ block.kind) × (block.object ≡ o)

@@ -3,7 +3,7 @@ use Rattle.std.proofs.Common.{◌≡◌, ℕ, ◌+◌, ◌^◌, ◌<◌, ◌≤�
 use Rattle.std.specs.List.{Contains, AllByRecursion}
 use Rattle.s4_types.specs.Pointer.{Place}
 use Rattle.s4_types.specs.declared.spans.Span.{Span}
-use Rattle.s4_types.specs.declared.limits.TheConstants.{RUNS_IN_A_LIST}
+use Rattle.s4_types.specs.declared.limits.TheConstants.{ROW_POINTERS, RUNS_IN_A_LIST}
 use Rattle.block_log.specs.Log.{Log, Stored, NamesAreOfData}
 use Rattle.object_map.specs.declared.map.Row.{Row}
 use Rattle.object_map.specs.Rows.{row_of}
@@ -32,7 +32,7 @@ RowsMakeAStore = (used held : Place → Option Stored) (rows : List ImageRow) (c
     → log.held ≡ held → NamesAreOfData log → NamesAreCounted used log.named rows → log.spent + length log.ahead < 2 ^ 46 → IsStore (record { rows = kept_rows used rows; log = log; latest = clock })
 
 abbrev pub RowsTellFew : Type 0
-RowsTellFew = (used held : Place → Option Stored) (rows : List ImageRow) (clock : ℕ) (p : Place) → RowsAscend clock 0 0 rows → RowsStand used rows clock → HoldsWhatIsNamed used held rows → times_told used rows p ≤ 12144
+RowsTellFew = (used held : Place → Option Stored) (rows : List ImageRow) (clock : ℕ) (p : Place) → RowsAscend clock 0 0 rows → RowsStand used rows clock → HoldsWhatIsNamed used held rows → times_told used rows p ≤ ROW_POINTERS
 
 abbrev pub AreHeldAsUsed : Type 0
 AreHeldAsUsed = (used held : Place → Option Stored) (rows : List ImageRow) (row : ImageRow) (clock stamp : ℕ) → RowsAscend clock 0 0 rows → RowsStand used rows clock → HoldsWhatIsNamed used held rows → Contains rows row

@@ -19,7 +19,7 @@ returns-clause-only g c =
     let row = c.args.row.now in
     let before = c.args.places.now.items in
     let items = c.push_all.new.places.items in
-    IfOk-weaker c.push_all.result (λ _. items ≡ before ++ places_named used row) (λ _. (p : Place) → Contains items p → Contains before p ⊎ ((kind : BlockKind) × NamesUsed used row kind p)) (λ _ is. only_named used row before items is) c.push_all.ensures.places
+    IfOk-weaker c.push_all.result (λ _. items ≡ before ++ places_named used row) (λ _. (p : Place) → Contains items p → Contains before p ⊎ ((kind : BlockKind) × NamesUsed used row kind p)) (λ _ is. only_named c.a_checkpoint_has_its_blocks.ensures.held used row c.requires.stands.0 before items c.requires.stands.1 is) c.push_all.ensures.places
 
 pub returns-clause-all : goal.returns-clause-all
 returns-clause-all g c =

@@ -1,5 +1,8 @@
-use Rattle.image_objects.proofs.Named.{named_is_used}
+use Rattle.image_objects.proofs.Named.{named_is_used, has_its_blocks}
 use Rattle.image_objects.proofs.naming.what_a_row_names_is_used.Goals as goal
 
-pub returns : goal.returns
-returns c = λ used row clock kind p stands named. named_is_used c.one_place_has_one_name.ensures c.a_checkpoint_has_its_blocks.ensures.held used row clock kind p stands named
+pub returns-clause-named : goal.returns-clause-named
+returns-clause-named c = λ used row clock kind p stands named. named_is_used c.one_place_has_one_name.ensures used row clock kind p stands named
+
+pub returns-clause-checkpoint : goal.returns-clause-checkpoint
+returns-clause-checkpoint c = λ used row clock stands. has_its_blocks c.a_checkpoint_has_its_blocks.ensures.held used row clock stands

@@ -1,4 +1,5 @@
 use Rattle.std.proofs.Common.{◌≡◌, ℕ, true, false, sym, ap, ◌∙◌, arith}
+use Rattle.s4_types.specs.declared.limits.TheConstants.{OBJECT_BLOCKS}
 use Rattle.segment_table.specs.Used.{used_at}
 use Rattle.image_salvage.specs.Contents.{gone_below}
 use Rattle.image_salvage.proofs.Going.{none_gone, one_gone}
@@ -22,5 +23,5 @@ loop-index-preserved c = elim c.if-is_gone.branch [
 
 pub returns : goal.returns
 returns c =
-    let end : c.loop-index.index ≡ 48 = omega arith in
+    let end : c.loop-index.index ≡ OBJECT_BLOCKS = omega arith in
     c.loop-index.invariant.counted ∙ ap (λ (n : ℕ). gone_below (used_at c.args.table.now) c.args.object c.args.inode.now n) end

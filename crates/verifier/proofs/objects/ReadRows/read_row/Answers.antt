@@ -33,7 +33,7 @@ returns-clause-read c =
     let named : AreNamed used row places = record {
       only = only_named used row c.clear.new.self.items places c.clear.ensures.items c.in_ok-push_named.ensures.only;
       all = c.in_ok-push_named.ensures.all;
-      used_there = λ kind p names. c.what_a_row_names_is_used.ensures used row c.args.clock kind p stands names;
+      used_there = λ kind p names. c.what_a_row_names_is_used.ensures.named used row c.args.clock kind p stands names;
     } in
     let old = held_at c.args.self.now.table in
     let new = held_at c.hold_all.new.table in
