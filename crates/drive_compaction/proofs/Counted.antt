@@ -1,61 +1,31 @@
 -- What is written of objects.
-use Rattle.std.proofs.Common.{◌≡◌, inl, inr, ℕ, ◌-◌, ◌<◌, ◌≤◌, ◌==◌, Bool, if◌then◌else◌, List, [], Option, Some, None, refl, sym, ap, subst, ◌∙◌, arith}
-use Rattle.std.specs.Prelude.{MatchOption, option_map, unwrap_or}
+use Rattle.std.proofs.Common.{◌≡◌, inl, inr, ℕ, ◌+◌, ◌<◌, ◌≤◌, ◌==◌, Bool, if◌then◌else◌, List, [], Option, Some, None, refl, sym, ap, subst, ◌∙◌, arith}
+use Rattle.std.specs.Prelude.{unwrap_or}
 use Rattle.std.proofs.lemmas.Bool.{cases_lt, eq-eqb, ne_eqb}
-use Rattle.s4_types.specs.Pointer.{Place}
-use Rattle.checkpoint.specs.Held.{checkpoint_blocks, checkpoint_held}
-use Rattle.codec.specs.declared.inodes.Inode.{Inode}
-use Rattle.codec.specs.Checkpoint.{CheckpointFields}
 use Rattle.codec.specs.Entry.{EntryFields}
-use Rattle.codec.specs.Fields.{◌>>=◌}
 use Rattle.journal_chain.specs.Push.{whole_blocks}
 use Rattle.object_map.specs.declared.map.Row.{Row}
 use Rattle.object_map.specs.Rows.{row_of}
 use Rattle.object_map.specs.Objects.{MapOf, value_of, IsNextAbove, Puts}
-use Rattle.row_changes.specs.Moving.{kept_blocks, row_blocks}
-use Rattle.row_changes.specs.Rewritten.{rewritten_blocks}
-use Rattle.time_read.specs.Rows.{inode_of, entries_of, IsRow}
+use Rattle.row_changes.specs.Moving.{kept_blocks, inode_kept, row_blocks}
+use Rattle.time_read.specs.Rows.{entries_of}
 use Rattle.version_store.specs.Store.{StoreFields, IsStore}
 use Rattle.version_store.specs.Versions.{entries_of_object, entries_of_row}
 use Rattle.drive_compaction.specs.Choosing.{blocks_of_row, blocks_rewritten, count_in, AreCounts}
 
 -- ---- one object
 
-kept_one : (f : Place → Option CheckpointFields) (kept : Option Place) (p : Place) (c : CheckpointFields) → kept ≡ Some p → f p ≡ Some c → kept_blocks (option_map (λ x. x.inode) (kept >>= f)) ≡ 1
-unfolding checkpoint_blocks
-kept_one f kept p c is found = ap (λ (k : Option Place). kept_blocks (option_map (λ x. x.inode) (k >>= f))) is ∙ ap (λ (x : Option CheckpointFields). kept_blocks (option_map (λ y. y.inode) x)) found
-
-kept_none : (f : Place → Option CheckpointFields) (kept : Option Place) → kept ≡ None → kept_blocks (option_map (λ x. x.inode) (kept >>= f)) ≡ 0
-kept_none f kept is = ap (λ (k : Option Place). kept_blocks (option_map (λ x. x.inode) (k >>= f))) is
-
-one_checkpoint : (i : Inode) → checkpoint_blocks i ≡ 1
-unfolding checkpoint_blocks
-one_checkpoint i = refl
-
 -- the journal of an object that has a row
 journal_is : (s : StoreFields) (o : ℕ) (row : Row) (entries : List EntryFields) → row_of s.rows o ≡ Some row → entries ≡ entries_of_object s o → whole_blocks entries ≡ whole_blocks (entries_of s.log.held o row)
 journal_is s o row entries has is = ap whole_blocks (is ∙ ap (entries_of_row s.log.held o) has)
 
-pub with_checkpoint : (s : StoreFields) (o : ℕ) (row : Row) (p : Place) (i : Inode) (entries : List EntryFields) (n : ℕ) → IsStore s → row_of s.rows o ≡ Some row → row.checkpoint ≡ Some p → entries ≡ entries_of_object s o
-    → n ≡ rewritten_blocks i entries → n ≡ blocks_rewritten s o
-with_checkpoint s o row p i entries n store has kept is number =
-    let rules : IsRow s.log.held o row = (store.objects o row has).stands in
-    let found : checkpoint_held s.log.held o p ≡ Some (record { object = o; moment = row.checkpoint_moment; inode = inode_of s.log.held o row row.checkpoint_moment }) =
-    subst (λ (k : Option Place). MatchOption k (row.checkpoint_moment ≡ 0) (λ q. checkpoint_held s.log.held o q ≡ Some (record { object = o; moment = row.checkpoint_moment; inode = inode_of s.log.held o row row.checkpoint_moment }))) kept rules.checkpoint in
-    let one = kept_one (checkpoint_held s.log.held o) row.checkpoint p (record { object = o; moment = row.checkpoint_moment; inode = inode_of s.log.held o row row.checkpoint_moment }) kept found in
+-- its checkpoint and its journal were counted
+pub both_counted : (s : StoreFields) (o : ℕ) (row : Row) (entries : List EntryFields) (checkpoint journal : ℕ) → row_of s.rows o ≡ Some row → entries ≡ entries_of_object s o
+    → checkpoint ≡ kept_blocks (inode_kept s.log.held o row) → journal ≡ whole_blocks entries → checkpoint + journal ≡ blocks_rewritten s o
+both_counted s o row entries checkpoint journal has is own whole =
     let its : blocks_rewritten s o ≡ row_blocks s.log.held o row = ap (blocks_of_row s o) has in
-    let journal = journal_is s o row entries has is in
-    let same = one_checkpoint i in
-    omega (arith, one, its, journal, same, number)
-
-pub without_checkpoint : (s : StoreFields) (o : ℕ) (row : Row) (i : Inode) (entries : List EntryFields) (n : ℕ) → row_of s.rows o ≡ Some row → row.checkpoint ≡ None → entries ≡ entries_of_object s o
-    → n ≡ rewritten_blocks i entries → n - 1 ≡ blocks_rewritten s o
-without_checkpoint s o row i entries n has kept is number =
-    let none = kept_none (checkpoint_held s.log.held o) row.checkpoint kept in
-    let its : blocks_rewritten s o ≡ row_blocks s.log.held o row = ap (blocks_of_row s o) has in
-    let journal = journal_is s o row entries has is in
-    let same = one_checkpoint i in
-    omega (arith, none, its, journal, same, number)
+    let same = journal_is s o row entries has is in
+    omega (arith, its, same, own, whole)
 
 -- ---- object after object
 

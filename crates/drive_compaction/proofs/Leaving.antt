@@ -5,7 +5,7 @@ use Rattle.std.proofs.lemmas.Bool.{eq-eqb, and_from}
 use Rattle.s4_types.specs.Pointer.{Place}
 use Rattle.s4_types.specs.declared.refusals.Refusal.{Refusal}
 use Rattle.block_log.specs.declared.kinds.BlockKind.{BlockKind}
-use Rattle.block_log.specs.declared.kinds.BlockKind.TheVariants.{Journal, Checkpoint, Data}
+use Rattle.block_log.specs.declared.kinds.BlockKind.TheVariants.{Journal, Checkpoint, Data, Pointers}
 use Rattle.block_log.specs.Log.{Stored, same_kind, seen_as}
 use Rattle.codec.specs.declared.summaries.BlockRole.{BlockRole}
 use Rattle.object_map.specs.Rows.{row_of}
@@ -21,6 +21,7 @@ same_as_itself : (kind : BlockKind) → same_kind kind kind ≡ true
 same_as_itself Journal = refl
 same_as_itself Checkpoint = refl
 same_as_itself Data = refl
+same_as_itself Pointers = refl
 
 seen_itself : (block : Stored) (o : ℕ) → block.object ≡ o → seen_as block.kind o (Some block) ≡ None → ⊥
 seen_itself block o is none =

@@ -1,4 +1,3 @@
-pub mod Counting
 pub mod Counted
 pub mod Keeping
 pub mod Leaving

@@ -7,10 +7,10 @@ use Rattle.segment_word.specs.Frames.{Free, Sealed, Frame, no_frame}
 use Rattle.segment_word.specs.Layout.{frame_at}
 use Rattle.segment_table.specs.Counts.{held_count}
 use Rattle.drive.specs.Fields.{DriveFields}
+use Rattle.segment_copier.proofs.FrameCounts.{few_held}
 use Rattle.drive_compaction.specs.Choosing.{CanBeFreed, NoneCanBeFreed}
 use Rattle.drive_compaction.specs.Emptying.{KeepsAll, Frees, FreesInTurn}
 use Rattle.drive_compaction.specs.private.Sweeping.{IsNext}
-use Rattle.drive_compaction.proofs.Counting.{few_held}
 use Rattle.drive_compaction.proofs.Keeping.{keeps_all, keeps_on}
 use Rattle.drive_compaction.proofs.Freed.{none_freed, freed_nothing, freed_more, freed_on}
 

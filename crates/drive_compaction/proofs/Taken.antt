@@ -10,8 +10,9 @@ use Rattle.segment_word.specs.Frames.{is_sealed}
 use Rattle.segment_word.specs.Layout.{frame_at}
 use Rattle.segment_table.specs.Table.{Table, held_at}
 use Rattle.segment_table.specs.Room.{whole_of, sum_over}
+use Rattle.segment_copier.specs.private.Surveying.{block_at}
+use Rattle.segment_copier.proofs.Surveyed.{length-whole_of, whole_at, place_is}
 use Rattle.drive_compaction.specs.Choosing.{is_taken, is_life, are_all_taken, is_emptied, frames_emptied}
-use Rattle.drive_compaction.proofs.Counting.{block_at, length-whole_of, whole_at, place_is}
 use Rattle.drive_compaction.proofs.Summing.{sum_more, sum_at}
 
 -- ---- all of a frame

@@ -1,10 +1,8 @@
 -- Which frames are freed.
-use Rattle.std.specs.Prelude.{◌≡◌, ℕ, ◌+◌, ◌*◌, ◌^◌, ◌<◌, ◌≤◌, ◌==◌, nat_lt, min, Bool, true, ◌&&◌, not, if◌then◌else◌, unwrap_or, List, [], ◌∷◌, ◌++◌, length, Option, Some, None}
-use Rattle.std.specs.List.{list_any, list_all}
-use Rattle.s4_types.specs.Pointer.{Place}
+use Rattle.std.specs.Prelude.{◌≡◌, ℕ, ◌+◌, ◌*◌, ◌^◌, ◌<◌, ◌≤◌, ◌==◌, nat_lt, min, Bool, true, ◌&&◌, not, if◌then◌else◌, unwrap_or, List, length, Option, Some, None}
+use Rattle.std.specs.List.{list_all}
 use Rattle.s4_types.specs.declared.limits.TheConstants.{MOVE_BLOCKS, PAYLOAD_BLOCKS}
 use Rattle.block_log.specs.Log.{Stored, same_kind}
-use Rattle.block_log.specs.declared.kinds.BlockKind.{BlockKind}
 use Rattle.block_log.specs.declared.kinds.BlockKind.TheVariants.{Data}
 use Rattle.object_map.specs.declared.map.Row.{Row}
 use Rattle.object_map.specs.Objects.{value_of}
@@ -18,6 +16,7 @@ use Rattle.segment_table.specs.Counts.{held_count}
 use Rattle.version_store.specs.Store.{StoreFields}
 use Rattle.drive.specs.Fields.{DriveFields}
 use Rattle.segment_copier.specs.Choosing.{IsLife}
+use Rattle.segment_copier.specs.Counting.{is_among, objects_in, blocks_to_empty}
 use Rattle.segment_copier.specs.Gathering.{free_count}
 
 -- ---- what is written of an object, whatever frame it leaves
@@ -40,42 +39,15 @@ AreCounts s counts = (o : ℕ) → count_in counts o ≡ blocks_rewritten s o
 
 -- ---- what emptying a frame writes
 
-abbrev pub is_among : ℕ → List ℕ → Bool
-is_among o objects = list_any (λ one. one == o) objects
+-- what is written of an object, by these counts: no more than a move has at most
+abbrev pub written_by : List (ℕ × ℕ) → ℕ → ℕ
+written_by counts o = min MOVE_BLOCKS (count_in counts o)
 
--- How many blocks are written for a held block of this kind: itself where it is of data; and what is written of its object, where
--- none of the objects before it is the same. Of one object no more are counted than a move has at most.
-abbrev pub blocks_added : List (ℕ × ℕ) → List ℕ → BlockKind → ℕ → ℕ
-blocks_added counts before kind o = (if same_kind Data kind then 1 else 0) + (if is_among o before then 0 else min MOVE_BLOCKS (count_in counts o))
-
--- the same of what is held at a place, and the objects up to there
-abbrev pub added_at : List (ℕ × ℕ) → List ℕ → Option Stored → ℕ
-added_at counts before None = 0
-added_at counts before (Some block) = blocks_added counts before block.kind block.object
-
-abbrev pub objects_at : List ℕ → Option Stored → List ℕ
-objects_at before None = before
-objects_at before (Some block) = before ++ block.object ∷ []
-
--- how many blocks are written to move what is held at these places, after blocks of these objects
-abbrev pub blocks_to_move : List (ℕ × ℕ) → Table → List ℕ → List Place → ℕ
-blocks_to_move counts t before [] = 0
-blocks_to_move counts t before (p ∷ places) = added_at counts before (held_at t p) + blocks_to_move counts t (objects_at before (held_at t p)) places
-
--- How many blocks the moves of all objects out of a frame write, by the count of each object.
-abbrev pub blocks_to_empty : List (ℕ × ℕ) → Table → ℕ → ℕ
-blocks_to_empty counts t f = blocks_to_move counts t [] (whole_of t f)
+-- how many blocks the moves of all objects out of a frame write
+abbrev pub blocks_by : List (ℕ × ℕ) → Table → ℕ → ℕ
+blocks_by counts t f = blocks_to_empty (written_by counts) t f
 
 -- ---- which frames that empties
-
--- the objects of what is held at these places, after these ones, in the order of their blocks
-abbrev pub objects_after : Table → List ℕ → List Place → List ℕ
-objects_after t before [] = before
-objects_after t before (p ∷ places) = objects_after t (objects_at before (held_at t p)) places
-
--- the object of each block that a frame holds
-abbrev pub objects_in : Table → ℕ → List ℕ
-objects_in t f = objects_after t [] (whole_of t f)
 
 -- Whether moves of these objects take what is held at a place, whichever frame they leave: a journal block or a checkpoint of one of
 -- them, since a move writes an object's whole journal and its checkpoint anew; or nothing.
@@ -107,8 +79,8 @@ pub record CanBeFreed (counts : List (ℕ × ℕ)) (d : DriveFields) (f : ℕ) :
   pub sealed : (frame_at d.store.table.seat.frames f).phase ≡ Sealed
   pub life : IsLife (frame_at d.store.table.seat.frames f).generation
   pub some : 1 ≤ held_count d.store.table f
-  pub few : blocks_to_empty counts d.store.table f < PAYLOAD_BLOCKS * frames_emptied d.store.table (objects_in d.store.table f) f
-  pub free : blocks_to_empty counts d.store.table f ≤ PAYLOAD_BLOCKS * free_count d.store.table
+  pub few : blocks_by counts d.store.table f < PAYLOAD_BLOCKS * frames_emptied d.store.table (objects_in d.store.table f) f
+  pub free : blocks_by counts d.store.table f ≤ PAYLOAD_BLOCKS * free_count d.store.table
 
 abbrev pub NoneCanBeFreed : List (ℕ × ℕ) → DriveFields → Type 0
 NoneCanBeFreed counts d = (f : ℕ) → CanBeFreed counts d f → ⊥

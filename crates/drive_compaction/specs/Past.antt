@@ -1,6 +1,6 @@
 -- How many blocks are held for the past alone.
 use Rattle.std.specs.Prelude.{◌≡◌, ℕ, ◌+◌, ◌-◌, ◌≤◌, if◌then◌else◌, is_some, count_by, length, Option, Some, None}
-use Rattle.s4_types.specs.declared.limits.TheConstants.{CHECKPOINT_BLOCKS}
+use Rattle.checkpoint.specs.Held.{checkpoint_blocks}
 use Rattle.codec.specs.declared.inodes.Inode.{Inode}
 use Rattle.segment_table.specs.Table.{Table}
 use Rattle.segment_table.specs.Room.{sum_over}
@@ -12,7 +12,7 @@ use Rattle.drive.specs.Fields.{DriveFields, state_in, store_of}
 -- how many blocks an object of this inode needs for it alone: a checkpoint, and its data; none where it isn't live
 abbrev pub blocks_of_inode : Option Inode → ℕ
 blocks_of_inode None = 0
-blocks_of_inode (Some i) = if i.alive then CHECKPOINT_BLOCKS + count_by is_some i.pointers else 0
+blocks_of_inode (Some i) = if i.alive then checkpoint_blocks i + count_by is_some i.pointers else 0
 
 -- how many blocks an object needs for what it is at a moment
 abbrev pub present_blocks : StoreFields → ℕ → ℕ → ℕ

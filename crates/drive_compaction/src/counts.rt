@@ -1,17 +1,66 @@
 //! What the moves of each object write.
-ghost use Rattle.std.specs.Prelude.{◌≡◌, Some, IfOk, IfErr};
+ghost use Rattle.std.specs.Prelude.{◌≡◌, ◌≤◌, Some, IfOk, IfErr};
+ghost use Rattle.s4_types.specs.declared.limits.TheConstants.{CHAIN_ENTRY_BYTES, CHAIN_ENTRIES};
+ghost use Rattle.s4_types.specs.declared.limits.TheConstants.{MOVE_BLOCKS};
 ghost use Rattle.s4_types.specs.declared.refusals.Refusal.TheVariants.{NoMemory};
+ghost use Rattle.codec.specs.Entry.{entries_length};
+ghost use Rattle.journal_chain.specs.Push.{whole_blocks};
 ghost use Rattle.object_map.specs.Rows.{row_of};
 ghost use Rattle.drive.specs.Fields.{store_of};
-ghost use Rattle.drive_compaction.specs.Choosing.{blocks_rewritten, AreCounts};
+ghost use Rattle.drive_compaction.specs.Choosing.{blocks_rewritten, written_by, AreCounts};
 
+use checkpoint::checkpoint_blocks;
+use codec::{Entry, Inode};
 use drive::Drive;
+use journal_chain::packing::laws::{chains_are_short, few_blocks_are_needed};
 use object_map::{ObjectMap, Row};
 use row_changes::rewritten_blocks;
-use s4_types::limits::CHECKPOINT_BLOCKS;
+use s4_types::limits::MOVE_BLOCKS;
 use s4_types::{ObjectId, Refusal};
+use segment_copier::{Rewrites, checkpoint_size};
 use segment_word::Naming;
 use std::alloc::Global;
+
+/// How many blocks are written of each object, as they were counted.
+#[derive(Drop)]
+pub(crate) struct Counts {
+    counted: ObjectMap<usize>,
+}
+
+/// How many blocks are written of an object, as it was counted; no more than a move has are
+/// answered.
+fn count_in(counts: &ObjectMap<usize>, object: ObjectId) -> usize
+    ensures count { result ≡ written_by counts.now.values object }
+    ensures few { result ≤ MOVE_BLOCKS }
+{
+    match counts.get(object) {
+        Some(kept) => kept.value.min(MOVE_BLOCKS),
+        None => 0,
+    }
+}
+
+impl<J: Naming> Rewrites<J> for Counts {
+    ghost use Rattle.drive_compaction.specs.Choosing.{written_by};
+
+    ghost written = { λ counts d. written_by counts.counted.values };
+
+    fn blocks_of(&self, drive: &mut Drive<J>, object: ObjectId) -> usize {
+        let _ = &drive;
+        count_in(&self.counted, object)
+    }
+}
+
+/// How many blocks a whole journal of these entries is: what a rewrite with this inode writes
+/// beside its checkpoint.
+fn journal_blocks(inode: &Inode, entries: &[Entry]) -> usize
+    requires { entries_length entries.now ≤ CHAIN_ENTRY_BYTES }
+    ensures blocks { result ≡ whole_blocks entries.now }
+    ensures few { result ≤ CHAIN_ENTRIES }
+{
+    chains_are_short();
+    few_blocks_are_needed();
+    rewritten_blocks(inode, entries) - checkpoint_blocks(inode)
+}
 
 /// How many blocks the checkpoint of an object of this row, if it has one, and its journal are once
 /// they are written anew.
@@ -25,41 +74,35 @@ fn blocks_of<J: Naming>(drive: &mut Drive<J>, object: ObjectId, row: &Row) -> Re
     ensures store { store_of drive.new ≡ store_of drive.old }
 {
     drive.rules();
+    let checkpoint = checkpoint_size(drive, object, row);
     let clock = drive.clock();
     let Some(inode) = drive.inode_at(object, clock) else {
         unreachable!()
     };
     let entries = drive.entries(object)?;
-    let with_checkpoint = rewritten_blocks(&inode, entries.as_slice());
-    match row.checkpoint {
-        Some(_) => Ok(with_checkpoint),
-        None => Ok(with_checkpoint - CHECKPOINT_BLOCKS),
-    }
+    Ok(checkpoint + journal_blocks(&inode, entries.as_slice()))
 }
 
 /// Of each object that has a row how many blocks its checkpoint and its journal are once they are
 /// written anew. The journals are read, each once.
 ///
 /// NoMemory where the memory for the counts or for the entries of a journal is refused.
-pub(crate) fn count_rows<J: Naming>(
-    alloc: Global,
-    drive: &mut Drive<J>,
-) -> Result<ObjectMap<usize>, Refusal>
-    ensures counts { IfOk result (λ counts. AreCounts (store_of drive.old) counts.values) }
+pub(crate) fn count_rows<J: Naming>(alloc: Global, drive: &mut Drive<J>) -> Result<Counts, Refusal>
+    ensures counts { IfOk result (λ counts. AreCounts (store_of drive.old) counts.counted.values) }
     ensures refusal { IfErr result (λ e. e ≡ NoMemory) }
     ensures ledger { drive.new.ledger ≡ drive.old.ledger }
     ensures store { store_of drive.new ≡ store_of drive.old }
 {
     drive.rules();
     let mut object = ObjectId::new(0);
-    let mut counts = ObjectMap::new(alloc);
+    let mut counted = ObjectMap::new(alloc);
     while let Some(next) = drive.next_row(object) {
         let Some(row) = drive.row(next) else {
             unreachable!()
         };
-        let blocks = blocks_of(drive, next, &row)?;
-        counts.insert(next, &row, blocks)?;
+        let count = blocks_of(drive, next, &row)?;
+        counted.insert(next, &row, count)?;
         object = next;
     }
-    Ok(counts)
+    Ok(Counts { counted })
 }

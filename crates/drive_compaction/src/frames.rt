@@ -1,52 +1,15 @@
 //! What frames are for, and which of them are emptied where objects leave one.
 ghost use Rattle.std.specs.Prelude.{◌≡◌, ◌≤◌};
-ghost use Rattle.block_log.specs.Log.{same_kind};
-ghost use Rattle.block_log.specs.declared.kinds.BlockKind.TheVariants.{Data};
-ghost use Rattle.segment_word.specs.Frames.{is_sealed};
-ghost use Rattle.segment_word.specs.Layout.{frame_at};
 ghost use Rattle.segment_table.specs.Table.{held_at};
-ghost use Rattle.drive_compaction.specs.Choosing.{is_among, is_taken, are_all_taken, is_emptied};
+ghost use Rattle.drive_compaction.specs.Choosing.{is_taken, are_all_taken, is_emptied};
 ghost use Rattle.drive_compaction.specs.Choosing.{frames_emptied};
 
-use block_log::BlockKind;
-use codec::BlockRole;
 use drive::Drive;
+use s4_types::Ptr;
 use s4_types::limits::PAYLOAD_BLOCKS;
-use s4_types::{ObjectId, Ptr};
+use segment_copier::{is_among, is_of_data, is_sealed_now};
 use segment_table::OverFrames;
 use segment_word::Naming;
-
-/// How many states a frame's word has in its low bits.
-const STATES: u64 = 4;
-
-/// The state of a sealed frame.
-const SEALED: u64 = 2;
-
-/// Whether an object is one of these.
-pub(crate) fn is_among(objects: &[u64], object: ObjectId) -> bool
-    ensures { result ≡ is_among object objects.now }
-{
-    let number = object.number();
-    objects.iter().any(|one| *one == number)
-}
-
-/// Whether a block is of data.
-pub(crate) fn is_of_data(role: &BlockRole) -> bool
-    ensures { result ≡ same_kind Data role.now.kind }
-{
-    matches!(role.kind, BlockKind::Data)
-}
-
-/// Whether a frame is sealed; one that isn't there is not.
-pub(crate) fn is_sealed_now<J: Naming>(drive: &mut Drive<J>, frame: u16) -> bool
-    ensures sealed { result ≡ is_sealed (frame_at drive.old.store.table.seat.frames frame).phase }
-    ensures same { drive.new ≡ drive.old }
-{
-    if frame >= drive.frame_count() {
-        return false;
-    }
-    drive.saved_word(frame) % STATES == SEALED
-}
 
 /// Whether moves of these objects take what is held at a place, whichever frame they leave: a
 /// journal block or a checkpoint of one of them, or nothing.

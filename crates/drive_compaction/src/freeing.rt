@@ -6,10 +6,10 @@ ghost use Rattle.drive_compaction.specs.Emptying.{KeepsAll, Frees, Sweeps, Finds
 ghost use Rattle.drive_compaction.specs.private.Sweeping.{IsNext};
 
 use crate::choices::can_be_freed;
+use crate::counts::Counts;
 use crate::emptying::{Emptied, empty_frame};
 use drive::{Drive, Session};
 use history_cleaner::empty_frames;
-use object_map::ObjectMap;
 use s4_types::Refusal;
 use s4_types::limits::PAYLOAD_BLOCKS;
 use segment_table::OverFrames;
@@ -35,10 +35,10 @@ fn free_frame<J: Naming>(
     alloc: Global,
     drive: &mut Drive<J>,
     session: &mut Session<J>,
-    counts: &ObjectMap<usize>,
+    counts: &Counts,
     frame: u16,
 ) -> Result<Emptied, Refusal>
-    requires { CanBeFreed counts.now.values drive.old frame }
+    requires { CanBeFreed counts.now.counted.values drive.old frame }
     ensures frees { IfOk result (λ done. Frees drive.old frame done.moves done.stopped drive.new) }
     ensures few { IfOk result (λ done. done.moves ≤ 15) }
     ensures refusal { IfErr result (FindsReader drive.old drive.new) }
@@ -54,14 +54,9 @@ fn free_frame<J: Naming>(
 }
 
 /// Whether a frame has this number of held blocks, and can be freed at a gain.
-fn is_next<J: Naming>(
-    drive: &mut Drive<J>,
-    counts: &ObjectMap<usize>,
-    held: usize,
-    frame: u16,
-) -> bool
-    ensures next { MatchBool result (IsNext counts.now.values held drive.old frame)
-        (IsNext counts.now.values held drive.old frame → ⊥) }
+fn is_next<J: Naming>(drive: &mut Drive<J>, counts: &Counts, held: usize, frame: u16) -> bool
+    ensures next { MatchBool result (IsNext counts.now.counted.values held drive.old frame)
+        (IsNext counts.now.counted.values held drive.old frame → ⊥) }
     ensures same { drive.new ≡ drive.old }
 {
     if drive.held_count(frame) as usize != held {
@@ -79,13 +74,13 @@ fn sweep_alike<J: Naming>(
     alloc: Global,
     drive: &mut Drive<J>,
     session: &mut Session<J>,
-    counts: &ObjectMap<usize>,
+    counts: &Counts,
     held: usize,
 ) -> Result<Swept, Refusal>
-    ensures sweeps { IfOk result (λ swept. Sweeps counts.now.values drive.old swept.frames
+    ensures sweeps { IfOk result (λ swept. Sweeps counts.now.counted.values drive.old swept.frames
         swept.moves swept.ran_out drive.new) }
     ensures none { IfOk result (λ swept. swept.frames ≡ 0 → swept.ran_out ≡ false → (f : ℕ) →
-        IsNext counts.now.values held drive.old f → ⊥) }
+        IsNext counts.now.counted.values held drive.old f → ⊥) }
     ensures few { IfOk result (λ swept. swept.frames ≤ 65535) }
     ensures few_moves { IfOk result (λ swept. swept.moves ≤ 1000000) }
     ensures refusal { IfErr result (λ e. (e ≡ NoMemory) ⊎
@@ -127,12 +122,12 @@ pub(crate) fn sweep<J: Naming>(
     alloc: Global,
     drive: &mut Drive<J>,
     session: &mut Session<J>,
-    counts: &ObjectMap<usize>,
+    counts: &Counts,
 ) -> Result<Swept, Refusal>
-    ensures sweeps { IfOk result (λ swept. Sweeps counts.now.values drive.old swept.frames
+    ensures sweeps { IfOk result (λ swept. Sweeps counts.now.counted.values drive.old swept.frames
         swept.moves swept.ran_out drive.new) }
     ensures none { IfOk result (λ swept. swept.frames ≡ 0 → swept.ran_out ≡ false → NoneCanBeFreed
-        counts.now.values drive.new) }
+        counts.now.counted.values drive.new) }
     ensures few { IfOk result (λ swept. swept.frames ≤ 1000000) }
     ensures few_moves { IfOk result (λ swept. swept.moves ≤ 100000000) }
     ensures refusal { IfErr result (λ e. (e ≡ NoMemory) ⊎

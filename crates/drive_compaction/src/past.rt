@@ -3,8 +3,8 @@ ghost use Rattle.std.specs.Prelude.{◌≡◌, ◌≤◌, is_some, count_by, len
 ghost use Rattle.drive.specs.Fields.{state_in, store_of};
 ghost use Rattle.drive_compaction.specs.Past.{present_blocks, held_blocks, IsPast};
 
+use checkpoint::checkpoint_blocks;
 use drive::Drive;
-use s4_types::limits::CHECKPOINT_BLOCKS;
 use s4_types::{Moment, ObjectId, Ptr};
 use segment_table::OverFrames;
 use segment_word::Naming;
@@ -31,7 +31,7 @@ fn present_blocks<J: Naming>(drive: &mut Drive<J>, object: ObjectId, at: Moment)
     ensures store { store_of drive.new ≡ store_of drive.old }
 {
     match drive.inode_at(object, at) {
-        Some(inode) if inode.alive => CHECKPOINT_BLOCKS + data_blocks(&inode.pointers),
+        Some(inode) if inode.alive => checkpoint_blocks(&inode) + data_blocks(&inode.pointers),
         _ => 0,
     }
 }

@@ -1,18 +1,18 @@
 -- Objects that have a row are few: each has a block at a place of its own, and the frames have few places.
 use Rattle.std.proofs.Common.{◌≡◌, ◌⊎◌, ℕ, zero, suc, ◌+◌, ◌*◌, ◌/◌, ◌%◌, ◌^◌, ◌<◌, ◌≤◌, ◌==◌, ◌&&◌, Bool, true, false, inl, inr, List, [], ◌∷◌, length, map, Option, Some, None, IsSome, refl, sym, ap, subst, ◌∙◌, arith}
-use Rattle.std.specs.Prelude.{not, IfSome, MatchOption, count_by}
+use Rattle.std.specs.Prelude.{not, is_some, IfSome, MatchOption, count_by}
 use Rattle.std.specs.List.{range_with_len}
-use Rattle.std.proofs.lemmas.List.Folds.{list_any-append}
-use Rattle.std.proofs.lemmas.Bool.{cases_Bool, cases_eq, or_left, and_parts, and_from, and_left, eqb-true, eqb-false, ne_eqb, not-true, cond-false, false≢true, false_from_ne_true}
+use Rattle.std.proofs.lemmas.Bool.{cases_Bool, cases_eq, and_parts, and_from, and_left, eqb-true, eqb-false, ne_eqb, not-true, cond-false, false≢true, false_from_ne_true}
 use Rattle.std.proofs.lemmas.Option.{none-some, same_Some}
 use Rattle.std.proofs.lemmas.List.FromFn.{length-map-range_with_len}
 use Rattle.s4_types.specs.Pointer.{Place, IsPlace}
 use Rattle.block_log.specs.declared.kinds.BlockKind.{BlockKind}
-use Rattle.block_log.specs.declared.kinds.BlockKind.TheVariants.{Journal, Checkpoint}
-use Rattle.block_log.specs.Log.{Stored, of_kind, seen_as, same_kind, same_place}
+use Rattle.block_log.specs.declared.kinds.BlockKind.TheVariants.{Journal}
+use Rattle.block_log.specs.Log.{Stored, of_kind, seen_as, same_kind}
 use Rattle.segment_word.specs.Layout.{frame_at, block_bytes}
 use Rattle.segment_table.specs.Table.{Table, slots_at, held_at, stored, block_slot}
 use Rattle.codec.specs.Fields.{◌>>=◌}
+use Rattle.codec.specs.Checkpoint.{CheckpointFields}
 use Rattle.codec.specs.Entry.{EntryFields}
 use Rattle.codec.specs.Journal.{JournalFields}
 use Rattle.journal_chain.specs.Packing.{joined}
@@ -20,11 +20,11 @@ use Rattle.journal_chain.specs.Chain.{BlockView, Link, journal_of, journal_in, l
 use Rattle.s4_types.specs.declared.limits.TheConstants.{CHAIN_BLOCKS}
 use Rattle.object_map.specs.declared.map.Row.{Row}
 use Rattle.object_map.specs.Rows.{row_of}
-use Rattle.time_read.specs.Rows.{entries_of, checkpoint_places_of, all_places_of, side_places}
+use Rattle.time_read.specs.Rows.{entries_of, inode_of}
 use Rattle.time_read.specs.Orderly.{BeginsDead, IsFromTo}
 use Rattle.version_store.specs.Store.{IsStore}
-use Rattle.checkpoint.specs.Held.{checkpoint_places, places_named, of_checkpoints, is_one_of}
-use Rattle.version_store.specs.Laws.{HeldIsWhatRowsName}
+use Rattle.checkpoint.specs.Held.{checkpoint_held, checkpoint_places, of_checkpoints, is_one_of, HasBytes, HasItsBlocks}
+use Rattle.checkpoint.proofs.OwnBlocks.{IsOwn, seen_own, has_some}
 use Rattle.drive.specs.Fields.{DriveFields, store_of}
 use Rattle.history_cleaner.proofs.Emptied.{tally, count_first, count_alike}
 
@@ -195,23 +195,28 @@ block_at d o kind p place there =
 placed : (slot : Option Place) (p : Place) → slot ≡ Some p → IfSome slot IsPlace → IsPlace p
 placed slot p is h = subst (λ (x : Option Place). IfSome x IsPlace) is h
 
--- The pointer that a checkpoint is told by leads to one of its blocks.
+-- The pointer that a checkpoint is told by leads to a block that is held as one of the object's checkpoints.
 abbrev pub LeadsToItsOwn : Type 0
-LeadsToItsOwn = (held : Place → Option Stored) (o : ℕ) (p : Place) → is_one_of (checkpoint_places held o p) p ≡ true
+LeadsToItsOwn = (held : Place → Option Stored) (o : ℕ) (p : Place) → IsSome (checkpoint_held held o p) → HasBytes (of_checkpoints o held p)
 
-row_block_at : HeldIsWhatRowsName → LeadsToItsOwn → (d : DriveFields) (o : ℕ) (row : Row) (checkpoint : Option Place) → row.checkpoint ≡ checkpoint → IsStore (store_of d) → row_of d.store.rows o ≡ Some row
+-- So it is by the laws of checkpoints.
+pub leads : ((held : Place → Option Stored) (o : ℕ) (p : Place) → IsSome (checkpoint_held held o p) → HasItsBlocks held o (Some p))
+    → ((held : Place → Option Stored) (o : ℕ) (p : Place) → is_one_of (checkpoint_places held o p) p ≡ true) → LeadsToItsOwn
+leads blocks first held o p told = blocks held o p told p (first held o p)
+
+row_block_at : LeadsToItsOwn → (d : DriveFields) (o : ℕ) (row : Row) (checkpoint : Option Place) → row.checkpoint ≡ checkpoint → IsStore (store_of d) → row_of d.store.rows o ≡ Some row
     → MatchOption checkpoint (BeginsDead (entries_of (store_of d).log.held o row)) (λ p. IsFromTo row.created (store_of d).latest row.checkpoint_moment) → IfSome row.checkpoint IsPlace → IfSome row.head IsPlace → HasBlock d.store.table o
-row_block_at exact own d o row None is store there begins first last =
+row_block_at own d o row None is store there begins first last =
     let chain = (store.objects o row there).stands.chain in
     let (p, (at, held)) = head_there (of_kind Journal o (store_of d).log.held) o row.head (entries_of (store_of d).log.held o row) chain.walk begins in
     block_at d o Journal p (placed row.head p at last) held
-row_block_at exact own d o row (Some p) is store there begins first last =
+row_block_at own d o row (Some p) is store there begins first last =
     let held = (store_of d).log.held in
-    let newest : is_one_of (checkpoint_places_of held o row) p ≡ true = ap (λ (c : Option Place). is_one_of (places_named (of_checkpoints o held) c) p) is ∙ own held o p in
-    let older = side_places (of_checkpoints o held) row.sides in
-    let named : is_one_of (all_places_of held o row) p ≡ true = list_any-append (λ q. same_place q p) (checkpoint_places_of held o row) older ∙ or_left (is_one_of (checkpoint_places_of held o row) p) (is_one_of older p) newest in
-    block_at d o Checkpoint p (placed row.checkpoint p is first) ((exact (store_of d) o Checkpoint p store).1 (record { row = row; there = there; names = named }))
+    let c : CheckpointFields = record { object = o; moment = row.checkpoint_moment; inode = inode_of held o row row.checkpoint_moment } in
+    let told : checkpoint_held held o p ≡ Some c = subst (λ (x : Option Place). MatchOption x (row.checkpoint_moment ≡ 0) (λ q. checkpoint_held held o q ≡ Some c)) is (store.objects o row there).stands.checkpoint in
+    let its : IsOwn o (held p) = seen_own o (held p) (has_some (of_checkpoints o held p) (own held o p (ap is_some told))) in
+    record { place = p; is_place = placed row.checkpoint p is first; block = its.block; held = its.is; owned = its.object }
 
 -- an object with a row has a block
-pub row_block : HeldIsWhatRowsName → LeadsToItsOwn → (d : DriveFields) (o : ℕ) (row : Row) → IsStore (store_of d) → row_of d.store.rows o ≡ Some row → IfSome row.checkpoint IsPlace → IfSome row.head IsPlace → HasBlock d.store.table o
-row_block exact own d o row store there first last = row_block_at exact own d o row row.checkpoint refl store there (store.orderly o row there).checkpoint first last
+pub row_block : LeadsToItsOwn → (d : DriveFields) (o : ℕ) (row : Row) → IsStore (store_of d) → row_of d.store.rows o ≡ Some row → IfSome row.checkpoint IsPlace → IfSome row.head IsPlace → HasBlock d.store.table o
+row_block own d o row store there first last = row_block_at own d o row row.checkpoint refl store there (store.orderly o row there).checkpoint first last

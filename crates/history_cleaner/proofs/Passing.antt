@@ -20,7 +20,6 @@ use Rattle.s4_model.specs.State.{State, state_of}
 use Rattle.s4_model.specs.Visible.{IsVisible}
 use Rattle.segment_table.specs.Rules.{HasFramesInOrder}
 use Rattle.version_store.specs.Store.{StoreFields, IsStore}
-use Rattle.version_store.specs.Laws.{HeldIsWhatRowsName}
 use Rattle.version_store.specs.Versions.{inode_in}
 use Rattle.drive.specs.Fields.{DriveFields, state_in, store_of}
 use Rattle.drive.specs.Keeping.{KeepsVersions}
@@ -194,9 +193,9 @@ few_rows p none d later o n blocks is =
     subst (λ (x : ℕ). x ≤ 1048576) (sym is)
     (few_with_blocks d.store.table (λ q. p (row_of d.store.rows q) (row_of later.store.rows q)) (o + 1) (λ q below holds. blocks q (omega (arith, below)) (had_row p none (row_of d.store.rows q) (row_of later.store.rows q) holds)))
 
-named_block : HeldIsWhatRowsName → LeadsToItsOwn → (d : DriveFields) (o : ℕ) (r : Option Row) → IsStore (store_of d) → row_of d.store.rows o ≡ r → IfSome r NamesPlaces → IsSome r → HasBlock d.store.table o
-named_block exact own d o None store is places some = absurd (false≢true some)
-named_block exact own d o (Some row) store is places some = row_block exact own d o row store is places.checkpoint places.head
+named_block : LeadsToItsOwn → (d : DriveFields) (o : ℕ) (r : Option Row) → IsStore (store_of d) → row_of d.store.rows o ≡ r → IfSome r NamesPlaces → IsSome r → HasBlock d.store.table o
+named_block own d o None store is places some = absurd (false≢true some)
+named_block own d o (Some row) store is places some = row_block own d o row store is places.checkpoint places.head
 
 -- the count of a test goes on by one object
 counted_on : (p : Option Row → Option Row → Bool) → ((r : Option Row) → p None r ≡ false) → (d mid later : DriveFields) (o next n more : ℕ) → IsNextAbove mid.store.rows o next → OthersStay (store_of mid) next (store_of later)
@@ -226,16 +225,16 @@ cleaned_since s mid later state o needed is = record {
 state_stays : (d later : DriveFields) → later.ledger ≡ d.ledger → state_in later ≡ state_in d
 state_stays d later same = ap (λ (l : Ledger). state_of l.history) same
 
-pub passed : HeldIsWhatRowsName → LeadsToItsOwn → HeldIsWhatIsReached → (d mid later : DriveFields) (o next n m more lost : ℕ) → IsStore (store_of d) → HasPassed d mid o n m → IsNextAbove mid.store.rows o next → IfSome (row_of mid.store.rows next) NamesPlaces → HasStepped mid later next n m more lost
+pub passed : LeadsToItsOwn → HeldIsWhatIsReached → (d mid later : DriveFields) (o next n m more lost : ℕ) → IsStore (store_of d) → HasPassed d mid o n m → IsNextAbove mid.store.rows o next → IfSome (row_of mid.store.rows next) NamesPlaces → HasStepped mid later next n m more lost
     → HasPassed d later next more lost
-passed exact own reached d mid later o next n m more lost store so is places step =
+passed own reached d mid later o next n m more lost store so is places step =
     let above : o < next = is.above in
     let state : State = state_in d in
     let same : state_in mid ≡ state = state_stays d mid so.ledger in
     let apart : (q : ℕ) → q < next → (next == q) ≡ false = λ q below. ne_eqb next q (λ same. absurd (omega (arith, same, below))) in
     let blocks : (q : ℕ) → q ≤ next → IsSome (row_of d.store.rows q) → HasBlock d.store.table q = λ q le some. elim (cases_lt q next) [
       | inr ge ↦ subst (HasBlock d.store.table) (same_number next q le ge)
-          (named_block exact own d next (row_of d.store.rows next) store refl (subst (λ (r : Option Row). IfSome r NamesPlaces) (so.rest next above).row places) (subst (λ (x : ℕ). IsSome (row_of d.store.rows x)) (sym (same_number next q le ge)) some))
+          (named_block own d next (row_of d.store.rows next) store refl (subst (λ (r : Option Row). IfSome r NamesPlaces) (so.rest next above).row places) (subst (λ (x : ℕ). IsSome (row_of d.store.rows x)) (sym (same_number next q le ge)) some))
       | inl below ↦ elim (cases_lt o q) [
         | inl past ↦ absurd (some_not (row_of d.store.rows q) (sym (so.rest q past).row ∙ is.least q past below) some)
         | inr old ↦ so.blocks q old some

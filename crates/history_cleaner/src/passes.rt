@@ -26,7 +26,6 @@ use object_map::Row;
 use s4_types::{ObjectId, Refusal};
 use segment_word::Naming;
 use std::alloc::Global;
-use version_store::laws::what_is_held_is_what_rows_name;
 
 /// What a full pass came to.
 #[derive(Clone, Copy)]
@@ -117,7 +116,6 @@ fn clean_all<J: Naming>(alloc: Global, drive: &mut Drive<J>) -> Result<Cleanings
     ensures needed { KeepsVersions (state_in drive.old) (store_of drive.old) (store_of drive.new) }
 {
     held_is_what_is_reached();
-    what_is_held_is_what_rows_name();
     a_checkpoint_has_its_blocks();
     drive.rules();
     let mut object = ObjectId::new(0);

@@ -1,19 +1,17 @@
 -- What emptying a frame may take is no less than what the move of an object out of it takes.
-use Rattle.std.proofs.Common.{◌≡◌, inl, inr, ℕ, ◌+◌, ◌*◌, ◌/◌, ◌<◌, ◌≤◌, ◌==◌, Bool, true, false, cond, if◌then◌else◌, List, [], ◌∷◌, length, map, filter, Option, Some, None, refl, sym, ap, subst, ◌∙◌, arith}
-use Rattle.std.specs.Prelude.{option_map}
-use Rattle.std.proofs.lemmas.Bool.{cases_Bool, eqb-true, eq-eqb, ne_eqb, leb-false, true≢false}
+use Rattle.std.proofs.Common.{◌≡◌, inl, inr, ℕ, ◌+◌, ◌*◌, ◌/◌, ◌<◌, ◌≤◌, ◌==◌, ◌||◌, Bool, true, false, cond, if◌then◌else◌, List, [], ◌∷◌, ◌++◌, length, map, filter, Option, Some, None, refl, sym, ap, subst, ◌∙◌, arith}
+use Rattle.std.proofs.lemmas.Bool.{cases_Bool, eqb-true, leb-false}
+use Rattle.std.proofs.lemmas.List.Folds.{list_any-append}
 use Rattle.s4_types.specs.Pointer.{Place}
-use Rattle.block_log.specs.Log.{Stored}
-use Rattle.codec.specs.Checkpoint.{CheckpointFields}
+use Rattle.block_log.specs.Log.{Stored, same_kind}
+use Rattle.block_log.specs.declared.kinds.BlockKind.TheVariants.{Data}
 use Rattle.codec.specs.Entry.{EntryFields, entry_length, entries_length}
-use Rattle.codec.specs.Fields.{◌>>=◌}
-use Rattle.checkpoint.specs.Held.{checkpoint_blocks, checkpoint_held}
 use Rattle.journal_chain.specs.Packing.{packed, filled_bytes, AllFit, KeepsTheRule}
 use Rattle.journal_chain.specs.Push.{whole_blocks}
 use Rattle.journal_chain.specs.Sizes.{fits, filled_with, breaks}
 use Rattle.object_map.specs.declared.map.Row.{Row}
 use Rattle.object_map.specs.Rows.{row_of}
-use Rattle.row_changes.specs.Moving.{kept_blocks, row_blocks}
+use Rattle.row_changes.specs.Moving.{row_blocks}
 use Rattle.time_read.specs.Rows.{IsRow, entries_of}
 use Rattle.segment_table.specs.Table.{Table, held_at, is_of}
 use Rattle.segment_table.specs.Room.{whole_of, pointers_in}
@@ -21,7 +19,8 @@ use Rattle.version_store.specs.Store.{IsStore}
 use Rattle.drive.specs.Fields.{DriveFields, store_of}
 use Rattle.segment_copier.specs.Choosing.{HoldsIn}
 use Rattle.segment_copier.specs.Commits.{blocks_moved}
-use Rattle.segment_copier.specs.Gathering.{most_journal, most_checkpoint, most_rewritten, blocks_added, added_at, last_at, most_to_move, most_to_empty}
+use Rattle.segment_copier.specs.Counting.{is_among, objects_at, added_at, blocks_to_move}
+use Rattle.segment_copier.specs.Gathering.{most_journal, most_of_row, most_rewritten, most_to_empty}
 use Rattle.segment_copier.specs.Moves.{is_data, data_in}
 use Rattle.segment_copier.proofs.Listed.{some_sealed}
 
@@ -96,79 +95,98 @@ journal_few entries bytes head rule is filled =
           ])
     ]
 
--- ---- a checkpoint
+-- ---- an object's checkpoint and journal
 
-found_few : (p : Place) (found : Option CheckpointFields) → kept_blocks (option_map (λ c. c.inode) found) ≤ most_checkpoint (Some p)
-unfolding checkpoint_blocks
-found_few p None = omega arith
-found_few p (Some c) = omega arith
-
-kept_few : (kept : Option Place) (find : Place → Option CheckpointFields) → kept_blocks (option_map (λ c. c.inode) (kept >>= find)) ≤ most_checkpoint kept
-kept_few None find = omega arith
-kept_few (Some p) find = found_few p (find p)
-
-rewritten_few : ((entries : List EntryFields) → AllFit entries → KeepsTheRule (packed entries)) → (held : Place → Option Stored) (o : ℕ) (row : Row) → IsRow held o row → row_blocks held o row ≤ most_rewritten (Some row)
-rewritten_few packing held o row is =
-    let entries : List EntryFields = entries_of held o row in
+rewritten_few : ((entries : List EntryFields) → AllFit entries → KeepsTheRule (packed entries)) → (t : Table) (o : ℕ) (row : Row) → IsRow (held_at t) o row → row_blocks (held_at t) o row ≤ most_of_row t o (Some row)
+rewritten_few packing t o row is =
+    let entries : List EntryFields = entries_of (held_at t) o row in
     let journal : whole_blocks entries ≤ most_journal row.journal_bytes row.head_bytes = journal_few entries row.journal_bytes row.head_bytes (packing entries is.chain.fit) is.chain.bytes is.chain.filled in
-    let kept = kept_few row.checkpoint (checkpoint_held held o) in
-    omega (arith, journal, kept)
+    omega (arith, journal)
 
 -- ---- the blocks of a frame
 
-fewer : (test : Place → Bool) (places : List Place) → length (filter test places) ≤ length places
-fewer test [] = omega arith
-fewer test (p ∷ places) = let rest = fewer test places in elim (cases_Bool (test p)) [
-  | inl its ↦ (let here : length (filter test (p ∷ places)) ≡ length (p ∷ filter test places) = ap (λ (b : Bool). length (cond b (p ∷ filter test places) (filter test places))) its in omega (arith, here, rest))
-  | inr other ↦ (let here : length (filter test (p ∷ places)) ≡ length (filter test places) = ap (λ (b : Bool). length (cond b (p ∷ filter test places) (filter test places))) other in omega (arith, here, rest))
+-- an object's blocks at these places, and those of data among them
+abbrev own : Table → ℕ → List Place → List Place
+own t o places = filter (λ p. is_of o (held_at t p)) places
+
+abbrev own_data : Table → ℕ → List Place → List Place
+own_data t o places = filter (λ p. is_data (held_at t p)) (own t o places)
+
+abbrev one_if : Bool → ℕ
+one_if b = if b then 1 else 0
+
+-- an object's data blocks are counted, and what is written of it, where its is none of the blocks before
+record AreCounted (t : Table) (written : ℕ → ℕ) (o : ℕ) (before : List ℕ) (places : List Place) : Type 0 where
+  pub copied : length (own_data t o places) ≤ blocks_to_move written t before places
+  pub with_row : is_among o before ≡ false → (own t o places ≡ [] → ⊥) → length (own_data t o places) + written o ≤ blocks_to_move written t before places
+
+among_more : (o other : ℕ) (before : List ℕ) → (other == o) ≡ false → is_among o before ≡ false → is_among o (before ++ other ∷ []) ≡ false
+among_more o other before apart none = list_any-append (λ (one : ℕ). one == o) before (other ∷ [])
+    ∙ ap (λ (b : Bool). b || ((other == o) || false)) none ∙ ap (λ (b : Bool). b || false) apart
+
+-- a place where nothing of the object is held
+beside : (t : Table) (o : ℕ) (p : Place) (places : List Place) → is_of o (held_at t p) ≡ false → own t o (p ∷ places) ≡ own t o places
+beside t o p places none = ap (λ (b : Bool). cond b (p ∷ own t o places) (own t o places)) none
+
+-- a place where a block of the object is
+here : (t : Table) (o : ℕ) (p : Place) (places : List Place) → is_of o (held_at t p) ≡ true → own t o (p ∷ places) ≡ p ∷ own t o places
+here t o p places is = ap (λ (b : Bool). cond b (p ∷ own t o places) (own t o places)) is
+
+longer : (b : Bool) (p : Place) (places : List Place) → length (cond b (p ∷ places) places) ≡ one_if b + length places
+longer true p places = omega arith
+longer false p places = omega arith
+
+data_here : (t : Table) (o : ℕ) (p : Place) (places : List Place) (b : Bool) → is_of o (held_at t p) ≡ true → is_data (held_at t p) ≡ b → length (own_data t o (p ∷ places)) ≡ one_if b + length (own_data t o places)
+data_here t o p places b is kind =
+    ap (λ (l : List Place). length (filter (λ q. is_data (held_at t q)) l)) (here t o p places is)
+    ∙ ap (λ (x : Bool). length (cond x (p ∷ own_data t o places) (own_data t o places))) kind
+    ∙ longer b p (own_data t o places)
+
+-- what is written for a held block
+sum_here : (t : Table) (written : ℕ → ℕ) (before : List ℕ) (p : Place) (places : List Place) (held : Option Stored) → held_at t p ≡ held
+    → blocks_to_move written t before (p ∷ places) ≡ added_at written before held + blocks_to_move written t (objects_at before held) places
+sum_here t written before p places held e = ap (λ (x : Option Stored). added_at written before x + blocks_to_move written t (objects_at before x) places) e
+
+counted_beside : (t : Table) (written : ℕ → ℕ) (o : ℕ) (before after : List ℕ) (p : Place) (places : List Place) → is_of o (held_at t p) ≡ false → (is_among o before ≡ false → is_among o after ≡ false)
+    → blocks_to_move written t after places ≤ blocks_to_move written t before (p ∷ places) → AreCounted t written o after places → AreCounted t written o before (p ∷ places)
+counted_beside t written o before after p places none apart more rest =
+    let same : own t o (p ∷ places) ≡ own t o places = beside t o p places none in
+    let long : length (own_data t o (p ∷ places)) ≡ length (own_data t o places) = ap (λ (l : List Place). length (filter (λ q. is_data (held_at t q)) l)) same in
+    let each = rest.copied in
+    record {
+      copied = omega (arith, long, each, more);
+      with_row = λ far some. (let all = rest.with_row (apart far) (λ empty. some (same ∙ empty)) in omega (arith, long, all, more));
+    }
+
+counted_block : (t : Table) (written : ℕ → ℕ) (o : ℕ) (before : List ℕ) (p : Place) (places : List Place) (block : Stored) → held_at t p ≡ Some block → (block.object == o) ≡ true
+    → AreCounted t written o (before ++ block.object ∷ []) places → AreCounted t written o before (p ∷ places)
+counted_block t written o before p places block e its rest =
+    let same : block.object ≡ o = eqb-true block.object o its in
+    let kind : Bool = same_kind Data block.kind in
+    let long : length (own_data t o (p ∷ places)) ≡ one_if kind + length (own_data t o places) = data_here t o p places kind (ap (is_of o) e ∙ its) (ap is_data e) in
+    let sum : blocks_to_move written t before (p ∷ places) ≡ (one_if kind + (if is_among block.object before then 0 else written block.object)) + blocks_to_move written t (before ++ block.object ∷ []) places = sum_here t written before p places (Some block) e in
+    let each = rest.copied in
+    record {
+      copied = omega (arith, long, sum, each);
+      with_row = λ far some.
+          (let once : (if is_among block.object before then 0 else written block.object) ≡ written o = ap (λ (n : ℕ). if is_among n before then 0 else written n) same ∙ ap (λ (b : Bool). if b then 0 else written o) far in
+          omega (arith, long, sum, each, once));
+    }
+
+counted_next : (t : Table) (written : ℕ → ℕ) (o : ℕ) (before : List ℕ) (p : Place) (places : List Place) (held : Option Stored) → held_at t p ≡ held → ((after : List ℕ) → AreCounted t written o after places) → AreCounted t written o before (p ∷ places)
+counted_next t written o before p places None e rest =
+    let sum = sum_here t written before p places None e in
+    counted_beside t written o before before p places (ap (is_of o) e) (λ far. far) (omega (arith, sum)) (rest before)
+counted_next t written o before p places (Some block) e rest = elim (cases_Bool (block.object == o)) [
+  | inl its ↦ counted_block t written o before p places block e its (rest (before ++ block.object ∷ []))
+  | inr other ↦
+      let sum = sum_here t written before p places (Some block) e in
+      counted_beside t written o before (before ++ block.object ∷ []) p places (ap (is_of o) e ∙ other) (among_more o block.object before other) (omega (arith, sum)) (rest (before ++ block.object ∷ []))
 ]
 
--- an object's blocks are counted, and what must be written anew of it, where the block before them isn't its
-record AreCounted (d : DriveFields) (o last total : ℕ) (mine : List Place) : Type 0 where
-  pub each : length mine ≤ total
-  pub with_row : (last ≡ o → ⊥) → (mine ≡ [] → ⊥) → length mine + most_rewritten (row_of d.store.rows o) ≤ total
-
--- the blocks that an object holds at these places
-abbrev own : DriveFields → ℕ → List Place → List Place
-own d o places = filter (λ p. is_of o (held_at d.store.table p)) places
-
-at_least_one : (rows : List (ℕ × Row)) (last o : ℕ) → 1 ≤ blocks_added rows last o
-at_least_one rows last o = elim (cases_Bool (o == last)) [
-  | inl same ↦ (let one : blocks_added rows last o ≡ 1 = ap (λ (b : Bool). if b then 1 else most_rewritten (row_of rows o) + 1) same in omega (arith, one))
-  | inr other ↦ (let more : blocks_added rows last o ≡ most_rewritten (row_of rows o) + 1 = ap (λ (b : Bool). if b then 1 else most_rewritten (row_of rows o) + 1) other in omega (arith, more))
-]
-
-rewritten_once : (rows : List (ℕ × Row)) (last o : ℕ) → (last ≡ o → ⊥) → blocks_added rows last o ≡ most_rewritten (row_of rows o) + 1
-rewritten_once rows last o far = ap (λ (b : Bool). if b then 1 else most_rewritten (row_of rows o) + 1) (ne_eqb o last (λ e. far (sym e)))
-
-counted_next : (d : DriveFields) (o last : ℕ) (p : Place) (places : List Place) (held : Option Stored) → ((after : ℕ) → AreCounted d o after (most_to_move d after places) (own d o places))
-    → AreCounted d o last (added_at d.store.rows last held + most_to_move d (last_at last held) places) (cond (is_of o held) (p ∷ own d o places) (own d o places))
-counted_next d o last p places None rest = record {
-  each = (let each = (rest last).each in omega (arith, each));
-  with_row = λ far some. (let more = (rest last).with_row far some in omega (arith, more));
-}
-counted_next d o last p places (Some block) rest =
-    let rows : List (ℕ × Row) = d.store.rows in
-    let total : ℕ = blocks_added rows last block.object + most_to_move d block.object places in
-    let each : length (own d o places) ≤ most_to_move d block.object places = (rest block.object).each in
-    elim (cases_Bool (block.object == o)) [
-      | inl its ↦ (let same : block.object ≡ o = eqb-true block.object o its in
-          subst (λ (b : Bool). AreCounted d o last total (cond b (p ∷ own d o places) (own d o places))) (sym its) (record {
-            each = omega (arith, each, at_least_one rows last block.object);
-            with_row = λ far some. (let once = rewritten_once rows last block.object (λ e. far (e ∙ same)) in
-                let row : most_rewritten (row_of rows block.object) ≡ most_rewritten (row_of rows o) = ap (λ (n : ℕ). most_rewritten (row_of rows n)) same in
-                omega (arith, each, once, row));
-          }))
-      | inr other ↦ (let far_too : block.object ≡ o → ⊥ = (λ e. true≢false (sym (eq-eqb block.object o e) ∙ other)) in
-          subst (λ (b : Bool). AreCounted d o last total (cond b (p ∷ own d o places) (own d o places))) (sym other) (record {
-            each = omega (arith, each);
-            with_row = λ far some. (let more = (rest block.object).with_row far_too some in omega (arith, more));
-          }))
-    ]
-
-counted_own : (d : DriveFields) (o : ℕ) (places : List Place) (last : ℕ) → AreCounted d o last (most_to_move d last places) (own d o places)
-counted_own d o [] last = record { each = omega arith; with_row = λ far some. absurd (some refl) }
-counted_own d o (p ∷ places) last = counted_next d o last p places (held_at d.store.table p) (counted_own d o places)
+counted_own : (t : Table) (written : ℕ → ℕ) (o : ℕ) (places : List Place) (before : List ℕ) → AreCounted t written o before places
+counted_own t written o [] before = record { copied = omega arith; with_row = λ far some. absurd (some refl) }
+counted_own t written o (p ∷ places) before = counted_next t written o before p places (held_at t p) refl (counted_own t written o places)
 
 -- ---- the law
 
@@ -176,12 +194,11 @@ pub takes_the_move : ((entries : List EntryFields) → AllFit entries → KeepsT
     → HoldsIn d.store.table f o → blocks_moved d f o row ≤ most_to_empty d f
 takes_the_move packing d f o row rules has holds =
     let t : Table = d.store.table in
-    let is : IsRow (store_of d).log.held o row = (rules.objects o row has).stands in
-    let listed : pointers_in t o f ≡ own d o (whole_of t f) = ap (λ (b : Bool). if b then own d o (whole_of t f) else []) (some_sealed t o f holds) in
-    let least : 1 ≤ o = is.object in
-    let counted : length (own d o (whole_of t f)) + most_rewritten (row_of d.store.rows o) ≤ most_to_empty d f =
-    (counted_own d o (whole_of t f) 0).with_row (λ e. omega (arith, least, e)) (λ none. holds (listed ∙ none)) in
-    let listed_data : length (data_in t o f) ≤ length (own d o (whole_of t f)) = subst (λ (l : List Place). length (data_in t o f) ≤ length l) listed (fewer (λ p. is_data (held_at t p)) (pointers_in t o f)) in
-    let written : row_blocks (store_of d).log.held o row ≤ most_rewritten (Some row) = rewritten_few packing (store_of d).log.held o row is in
-    let its : most_rewritten (row_of d.store.rows o) ≡ most_rewritten (Some row) = ap most_rewritten has in
-    omega (arith, counted, listed_data, written, its)
+    let is : IsRow (held_at t) o row = (rules.objects o row has).stands in
+    let listed : pointers_in t o f ≡ own t o (whole_of t f) = ap (λ (b : Bool). if b then own t o (whole_of t f) else []) (some_sealed t o f holds) in
+    let copied : length (data_in t o f) ≡ length (own_data t o (whole_of t f)) = ap (λ (l : List Place). length (filter (λ p. is_data (held_at t p)) l)) listed in
+    let counted : length (own_data t o (whole_of t f)) + most_rewritten d o ≤ most_to_empty d f =
+    (counted_own t (most_rewritten d) o (whole_of t f) []).with_row refl (λ none. holds (listed ∙ none)) in
+    let written : row_blocks (held_at t) o row ≤ most_of_row t o (Some row) = rewritten_few packing t o row is in
+    let its : most_rewritten d o ≡ most_of_row t o (Some row) = ap (most_of_row t o) has in
+    omega (arith, counted, copied, written, its)

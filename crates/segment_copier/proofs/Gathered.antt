@@ -6,7 +6,7 @@ use Rattle.s4_types.specs.declared.limits.TheConstants.{MOVE_BLOCKS, PAYLOAD_BLO
 use Rattle.s4_types.specs.declared.refusals.Refusal.{Refusal}
 use Rattle.s4_types.specs.declared.refusals.Refusal.TheVariants.{NoRoom}
 use Rattle.block_log.specs.declared.kinds.BlockKind.{BlockKind}
-use Rattle.block_log.specs.declared.kinds.BlockKind.TheVariants.{Journal, Checkpoint, Data}
+use Rattle.block_log.specs.declared.kinds.BlockKind.TheVariants.{Journal, Checkpoint, Data, Pointers}
 use Rattle.block_log.specs.Log.{of_kind}
 use Rattle.object_map.specs.declared.map.Row.{Row}
 use Rattle.object_map.specs.Rows.{row_of}
@@ -74,7 +74,8 @@ has_row law d f o store holds none =
     let listed : IsListed t o f p = law t o f p first.1 in
     elim (seen_of o (held_at t p) listed.held) [
       | inl journal ↦ none_there d o Journal p store none journal
-      | inr (inl checkpoint) ↦ none_there d o Checkpoint p store none checkpoint
+      | inr (inl (inl first)) ↦ none_there d o Checkpoint p store none first
+      | inr (inl (inr part)) ↦ none_there d o Pointers p store none part
       | inr (inr contents) ↦ none_there d o Data p store none contents
     ]
 

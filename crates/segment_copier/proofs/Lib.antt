@@ -7,4 +7,5 @@ pub mod Chosen
 pub mod Gathered
 pub mod Stated
 pub mod Emptied
+pub mod FrameCounts
 pub mod Costly

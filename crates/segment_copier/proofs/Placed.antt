@@ -10,7 +10,7 @@ use Rattle.std.proofs.lemmas.List.Elements.{All-from_recursion, All-contains}
 use Rattle.std.proofs.lemmas.List.{length-map}
 use Rattle.s4_types.specs.Pointer.{Place}
 use Rattle.block_log.specs.declared.kinds.BlockKind.{BlockKind}
-use Rattle.block_log.specs.declared.kinds.BlockKind.TheVariants.{Journal, Checkpoint, Data}
+use Rattle.block_log.specs.declared.kinds.BlockKind.TheVariants.{Journal, Checkpoint, Data, Pointers}
 use Rattle.block_log.specs.Log.{Stored, same_kind, seen_as, of_kind}
 use Rattle.object_map.specs.declared.map.Row.{Row}
 use Rattle.atomic_table.specs.Seated.{TableId}
@@ -23,6 +23,8 @@ use Rattle.segment_table.specs.Slots.{is_held}
 use Rattle.segment_table.specs.Table.{Table, slots_at, block_slot, stored, held_at, is_of}
 use Rattle.segment_table.specs.Room.{places, whole_of, places_ahead, pointers_in}
 use Rattle.segment_table.specs.Laws.{IsListed, WhatIsListedIsHeld, ListsAllHeld, PlacesAheadAreInNoSealedFrame}
+use Rattle.checkpoint.specs.Held.{seen_of as checkpoint_seen}
+use Rattle.checkpoint.proofs.OwnBlocks.{first_is_seen, part_is_seen}
 use Rattle.chain_rewriting.specs.Renaming.{is_in}
 use Rattle.version_store.specs.declared.copies.CopiedBlock.{CopiedBlock}
 use Rattle.version_store.specs.Relocating.{AreCopies, IsRelocated, frame_of_copies, blocks_ascend_from, blocks_relocated}
@@ -237,21 +239,29 @@ same_copies t (c ∷ copies) (p ∷ places) are held is =
 
 -- ---- the frame that is left
 
-kind_is : (kind : BlockKind) → (same_kind Journal kind ≡ true) ⊎ ((same_kind Checkpoint kind ≡ true) ⊎ (same_kind Data kind ≡ true))
+kind_is : (kind : BlockKind) → (same_kind Journal kind ≡ true) ⊎ (((same_kind Checkpoint kind ≡ true) ⊎ (same_kind Pointers kind ≡ true)) ⊎ (same_kind Data kind ≡ true))
 kind_is Journal = inl refl
-kind_is Checkpoint = inr (inl refl)
+kind_is Checkpoint = inr (inl (inl refl))
+kind_is Pointers = inr (inl (inr refl))
 kind_is Data = inr (inr refl)
 
 pub seen : (kind : BlockKind) (o : ℕ) (block : Stored) → same_kind kind block.kind ≡ true → (block.object == o) ≡ true → IsSome (seen_as kind o (Some block))
 seen kind o block is mine = subst (λ (b : Bool). IsSome (if b then Some block.bytes else None)) (sym (both_true _ _ is mine)) refl
 
-pub seen_of : (o : ℕ) (held : Option Stored) → is_of o held ≡ true → IsSome (seen_as Journal o held) ⊎ (IsSome (seen_as Checkpoint o held) ⊎ IsSome (seen_as Data o held))
+-- a block of an object is one of its journal, of its checkpoints or of its data
+pub seen_of : (o : ℕ) (held : Option Stored) → is_of o held ≡ true → IsSome (seen_as Journal o held) ⊎ ((IsSome (seen_as Checkpoint o held) ⊎ IsSome (seen_as Pointers o held)) ⊎ IsSome (seen_as Data o held))
 seen_of o None mine = absurd (cc)
 seen_of o (Some block) mine = elim (kind_is block.kind) [
   | inl is ↦ inl (seen Journal o block is mine)
-  | inr (inl is) ↦ inr (inl (seen Checkpoint o block is mine))
+  | inr (inl (inl is)) ↦ inr (inl (inl (seen Checkpoint o block is mine)))
+  | inr (inl (inr is)) ↦ inr (inl (inr (seen Pointers o block is mine)))
   | inr (inr is) ↦ inr (inr (seen Data o block is mine))
 ]
+
+-- a block of either kind is seen as one of its checkpoints
+either_seen : (o : ℕ) (held : Option Stored) → IsSome (seen_as Checkpoint o held) ⊎ IsSome (seen_as Pointers o held) → IsSome (checkpoint_seen o held)
+either_seen o held (inl first) = first_is_seen o held first
+either_seen o held (inr part) = part_is_seen o held part
 
 abbrev pub none_of : Stored → Option (List ℕ)
 none_of block = None
@@ -293,7 +303,7 @@ holds_none ahead d later f o row copies lists there moved p at =
       | inr none ↦ none
       | inl mine ↦ absurd (elim (seen_of o (held_at later.store.table p) mine) [
         | inl journal ↦ taken_elsewhere ahead t f n p sealed at (moved.chains p journal)
-        | inr (inl checkpoint) ↦ taken_elsewhere ahead t f n p sealed at (moved.checkpoints p checkpoint)
+        | inr (inl checkpoint) ↦ taken_elsewhere ahead t f n p sealed at (moved.checkpoints p (either_seen o (held_at later.store.table p) checkpoint))
         | inr (inr contents) ↦ elim (moved.blocks p contents) [
           | inl same ↦ (let before : IsSome (of_kind Data o (store_of d).log.held p) = subst (λ (held : Option (List ℕ)). IsSome held) same contents in
               let gone : held_at later.store.table p ≡ None = left_data d later f o row copies p lists there sealed moved at before in

@@ -7,7 +7,7 @@ use Rattle.std.proofs.lemmas.Option.{none-some}
 use std.Path.{fun_ext}
 use Rattle.s4_types.specs.Pointer.{Place}
 use Rattle.block_log.specs.declared.kinds.BlockKind.{BlockKind}
-use Rattle.block_log.specs.declared.kinds.BlockKind.TheVariants.{Journal, Checkpoint, Data}
+use Rattle.block_log.specs.declared.kinds.BlockKind.TheVariants.{Journal, Checkpoint, Data, Pointers}
 use Rattle.block_log.specs.Log.{Stored, same_kind, seen_as, of_kind}
 use Rattle.segment_word.specs.Frames.{Phase, Free, Open, Sealed, Draining, code_of, is_open, is_sealed}
 use Rattle.segment_word.specs.FrameRule.{AllRemembered, IsRemembered}
@@ -53,7 +53,8 @@ SeenAlike o x y = (kind : BlockKind) → seen_as kind o y ≡ seen_as kind o x
 carry : (o : ℕ) (x y : Option Stored) → SeenAlike o x y → is_of o x ≡ true → is_of o y ≡ true
 carry o x y same is = elim (seen_of o x is) [
   | inl journal ↦ mine Journal o y (subst (λ (b : Option (List ℕ)). IsSome b) (sym (same Journal)) journal)
-  | inr (inl checkpoint) ↦ mine Checkpoint o y (subst (λ (b : Option (List ℕ)). IsSome b) (sym (same Checkpoint)) checkpoint)
+  | inr (inl (inl first)) ↦ mine Checkpoint o y (subst (λ (b : Option (List ℕ)). IsSome b) (sym (same Checkpoint)) first)
+  | inr (inl (inr part)) ↦ mine Pointers o y (subst (λ (b : Option (List ℕ)). IsSome b) (sym (same Pointers)) part)
   | inr (inr contents) ↦ mine Data o y (subst (λ (b : Option (List ℕ)). IsSome b) (sym (same Data)) contents)
 ]
 

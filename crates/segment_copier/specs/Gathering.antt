@@ -1,21 +1,20 @@
 -- What gathering comes to.
-use Rattle.std.specs.Prelude.{◌≡◌, ◌⊎◌, ℕ, ◌+◌, ◌*◌, ◌/◌, ◌<◌, ◌≤◌, ◌==◌, if◌then◌else◌, count_by, length, List, [], ◌∷◌, Option, None, Some, Result, Ok}
-use Rattle.s4_types.specs.Pointer.{Place}
-use Rattle.s4_types.specs.declared.limits.TheConstants.{CHECKPOINT_BLOCKS, JOURNAL_ENTRY_BYTES, MOVE_BLOCKS, PAYLOAD_BLOCKS}
+use Rattle.std.specs.Prelude.{◌≡◌, ◌⊎◌, ℕ, ◌+◌, ◌*◌, ◌/◌, ◌<◌, ◌≤◌, ◌==◌, if◌then◌else◌, count_by, length, Option, None, Some, Result, Ok}
+use Rattle.s4_types.specs.declared.limits.TheConstants.{JOURNAL_ENTRY_BYTES, MOVE_BLOCKS, PAYLOAD_BLOCKS}
 use Rattle.s4_types.specs.declared.refusals.Refusal.{Refusal}
 use Rattle.s4_types.specs.declared.refusals.Refusal.TheVariants.{NoObject, NoMemory, NoRoom, Busy}
-use Rattle.block_log.specs.Log.{Stored}
 use Rattle.object_map.specs.declared.map.Row.{Row}
 use Rattle.object_map.specs.Rows.{row_of}
+use Rattle.row_changes.specs.Moving.{kept_blocks, inode_kept}
 use Rattle.segment_word.specs.Frames.{is_free}
 use Rattle.segment_table.specs.Table.{Table, held_at}
-use Rattle.segment_table.specs.Room.{whole_of}
 use Rattle.version_store.specs.Costs.{room}
 use Rattle.drive.specs.Fields.{DriveFields, store_of}
 use Rattle.interleaving.specs.Moving.{Move, IsMoveOf}
 use Rattle.interleaving.specs.Acting.{Commits}
 use Rattle.segment_copier.specs.Choosing.{IsFirstFrame, IsLowestObject, NoneIsSparse}
 use Rattle.segment_copier.specs.Commits.{CommitsMove, blocks_moved}
+use Rattle.segment_copier.specs.Counting.{blocks_to_empty}
 use Rattle.segment_copier.specs.declared.candidates.Candidate.{Candidate}
 
 -- how many frames are free, retired ones among them
@@ -29,39 +28,17 @@ free_count t = count_by (λ k. is_free k.phase) t.seat.frames
 abbrev pub most_journal : ℕ → ℕ → ℕ
 most_journal bytes in_newest = if bytes == 0 then 0 else (if bytes == in_newest then 1 else bytes / JOURNAL_ENTRY_BYTES * 2 + 1)
 
--- how many blocks a checkpoint has at most, where there is one
-abbrev pub most_checkpoint : Option Place → ℕ
-most_checkpoint None = 0
-most_checkpoint (Some p) = CHECKPOINT_BLOCKS
+-- how many blocks the journal of an object of this row has at most, with those that its checkpoint has, if there is one
+abbrev pub most_of_row : Table → ℕ → Option Row → ℕ
+most_of_row t o None = 0
+most_of_row t o (Some row) = most_journal row.journal_bytes row.head_bytes + kept_blocks (inode_kept (held_at t) o row)
 
--- how many blocks an object's journal and checkpoint have at most, by its row
-abbrev pub most_rewritten : Option Row → ℕ
-most_rewritten None = 0
-most_rewritten (Some row) = most_journal row.journal_bytes row.head_bytes + most_checkpoint row.checkpoint
+abbrev pub most_rewritten : DriveFields → ℕ → ℕ
+most_rewritten d o = most_of_row d.store.table o (row_of d.store.rows o)
 
--- how many blocks it may take more, where the next held block is of an object, and the one before it of the last one: the block, and
--- where the two objects aren't the same, what the object's journal and checkpoint have at most
-abbrev pub blocks_added : List (ℕ × Row) → ℕ → ℕ → ℕ
-blocks_added rows last object = if object == last then 1 else most_rewritten (row_of rows object) + 1
-
--- the same of what is held at a place, and the object of the last held block then
-abbrev pub added_at : List (ℕ × Row) → ℕ → Option Stored → ℕ
-added_at rows last None = 0
-added_at rows last (Some block) = blocks_added rows last block.object
-
-abbrev pub last_at : ℕ → Option Stored → ℕ
-last_at last None = last
-last_at last (Some block) = block.object
-
--- how many blocks it may take to move what is held at these places, where the held block before them is of the last object
-abbrev pub most_to_move : DriveFields → ℕ → List Place → ℕ
-most_to_move d last [] = 0
-most_to_move d last (p ∷ places) = added_at d.store.rows last (held_at d.store.table p) + most_to_move d (last_at last (held_at d.store.table p)) places
-
--- How many blocks it may take to empty a frame. An object whose blocks there aren't neighbours counts more than once. No object has
--- the number 0.
+-- how many blocks it takes at most to empty a frame
 abbrev pub most_to_empty : DriveFields → ℕ → ℕ
-most_to_empty d f = most_to_move d 0 (whole_of d.store.table f)
+most_to_empty d f = blocks_to_empty (most_rewritten d) d.store.table f
 
 -- ---- a step
 

@@ -1,24 +1,24 @@
 //! Gathering: where there is too little room for the copier's moves, a frame that holds little is
 //! emptied within the reserve.
-ghost use Rattle.std.specs.Prelude.{◌≡◌, ◌+◌, ◌≤◌, OnOk, OnErr, IfOk, IfErr, IfSome, IfNone};
+ghost use Rattle.std.specs.Prelude.{◌≡◌, OnOk, OnErr, IfOk, IfErr, IfSome, IfNone};
 ghost use Rattle.std.specs.Prelude.{nat_lt};
 ghost use Rattle.s4_types.specs.declared.limits.TheConstants.{PAYLOAD_BLOCKS};
-ghost use Rattle.object_map.specs.Rows.{row_of};
 ghost use Rattle.drive.specs.Fields.{state_in, store_of};
 ghost use Rattle.drive.specs.Keeping.{KeepsVersions};
 ghost use Rattle.segment_copier.specs.Choosing.{IsSparse};
-ghost use Rattle.segment_copier.specs.Gathering.{free_count, most_journal, most_rewritten};
-ghost use Rattle.segment_copier.specs.Gathering.{blocks_added, most_to_empty, MovesNow, IsUnmade};
+ghost use Rattle.segment_copier.specs.Gathering.{free_count, most_to_empty, MovesNow, IsUnmade};
 ghost use Rattle.segment_copier.specs.Gathering.{IsGathered, GathersNothing, FailsToGather};
 
 use crate::candidates::Candidate;
 use crate::choices::sparsest;
 use crate::commits::commit;
+use crate::counting::count_frame;
 use crate::plans::plan_move;
+use crate::rewriting::ByRow;
 use crate::states::is_free_now;
 use drive::{Drive, Session};
-use s4_types::limits::{CHECKPOINT_BLOCKS, JOURNAL_ENTRY_BYTES, MOVE_BLOCKS, PAYLOAD_BLOCKS};
-use s4_types::{ObjectId, Ptr, Refusal};
+use s4_types::limits::{MOVE_BLOCKS, PAYLOAD_BLOCKS};
+use s4_types::{ObjectId, Refusal};
 use segment_table::OverFrames;
 use segment_table::laws::what_is_listed_is_held;
 use segment_word::Naming;
@@ -38,93 +38,16 @@ pub fn free_frames<J: Naming>(drive: &mut Drive<J>) -> u16
     count
 }
 
-/// How many blocks a journal has at most, by the bytes of its entries and of those in its newest
-/// block: of two neighbouring blocks the entries have more bytes together than one block holds.
-fn most_in_journal(bytes: u16, in_newest: u16) -> usize
-    ensures most { result ≡ most_journal bytes in_newest }
-    ensures few { result ≤ 300 }
-{
-    if bytes == 0 {
-        return 0;
-    }
-    if bytes == in_newest {
-        return 1;
-    }
-    bytes as usize / JOURNAL_ENTRY_BYTES * 2 + 1
-}
-
-/// How many blocks an object's checkpoint and its journal have at most.
-fn most_of_row<J: Naming>(drive: &Drive<J>, object: ObjectId) -> usize
-    ensures most { result ≡ most_rewritten (row_of drive.now.store.rows object) }
-    ensures few { result ≤ 301 }
-{
-    let Some(row) = drive.row(object) else {
-        return 0;
-    };
-    let journal = most_in_journal(row.journal_bytes, row.head_bytes);
-    match row.checkpoint {
-        Some(_) => journal + CHECKPOINT_BLOCKS,
-        None => journal,
-    }
-}
-
-/// How many blocks it may take to move the blocks of a frame that were looked at, and the object of
-/// the last one that is held.
-#[derive(Clone, Copy)]
-struct Counted {
-    count: usize,
-    last: ObjectId,
-}
-
-/// How many blocks it may take more, where the next held block is of this object, and the one
-/// before it of the last one.
-fn added_by<J: Naming>(drive: &Drive<J>, last: ObjectId, object: ObjectId) -> usize
-    ensures added { result ≡ blocks_added drive.now.store.rows last object }
-    ensures few { result ≤ 302 }
-{
-    if object == last {
-        return 1;
-    }
-    most_of_row(drive, object) + 1
-}
-
-/// With one held block more, which is of this object.
-fn with_held<J: Naming>(drive: &Drive<J>, so_far: Counted, object: ObjectId) -> Counted
-    requires few { so_far.count ≤ 5000 }
-    ensures count { result.count
-        ≡ so_far.count + blocks_added drive.now.store.rows so_far.last object }
-    ensures last { result.last ≡ object }
-    ensures few { result.count ≤ so_far.count + 302 }
-{
-    Counted {
-        count: so_far.count + added_by(drive, so_far.last, object),
-        last: object,
-    }
-}
-
-/// Whether a frame that a move can be made out of is emptied by fewer blocks than it has. An object
-/// whose blocks there aren't neighbours counts more than once.
+/// Whether a frame that a move can be made out of is emptied by fewer blocks than it has.
 fn takes_few<J: Naming>(drive: &mut Drive<J>, frame: u16) -> bool
     requires sparse { IsSparse drive.old.store.table frame }
     ensures few { result ≡ nat_lt (most_to_empty drive.old frame) PAYLOAD_BLOCKS }
     ensures same { drive.new ≡ drive.old }
 {
-    let Some(generation) = drive.generation(frame) else {
+    let Some(counted) = count_frame(drive, &ByRow, frame) else {
         return false;
     };
-    let mut so_far = Counted {
-        count: 0,
-        last: ObjectId::new(0),
-    };
-    for index in 0..PAYLOAD_BLOCKS {
-        let Some(place) = Ptr::new(frame, index as u8 + 1, generation) else {
-            return false;
-        };
-        if let Some(role) = drive.role(place) {
-            so_far = with_held(drive, so_far, role.object);
-        }
-    }
-    so_far.count < PAYLOAD_BLOCKS
+    counted.blocks < PAYLOAD_BLOCKS
 }
 
 /// A whole move of an object's held blocks out of a frame, planned, copied and put in place before

@@ -14,8 +14,8 @@ use segment_table::OverFrames;
 use segment_word::Naming;
 use std::alloc::Global;
 
-/// Whether a part is that of a data block.
-fn is_of_data(role: &BlockRole) -> bool
+/// Whether a block is of data.
+pub fn is_of_data(role: &BlockRole) -> bool
     ensures { result ≡ same_kind Data role.now.kind }
 {
     matches!(role.kind, BlockKind::Data)

@@ -35,7 +35,7 @@ pub(crate) fn is_free_now<J: Naming>(drive: &mut Drive<J>, frame: u16) -> bool
 }
 
 /// Whether a frame is sealed; one that isn't there is not.
-pub(crate) fn is_sealed_now<J: Naming>(drive: &mut Drive<J>, frame: u16) -> bool
+pub fn is_sealed_now<J: Naming>(drive: &mut Drive<J>, frame: u16) -> bool
     ensures sealed { result ≡ is_sealed (frame_at drive.old.store.table.seat.frames frame).phase }
     ensures same { drive.new ≡ drive.old }
 {

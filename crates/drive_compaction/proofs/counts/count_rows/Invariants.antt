@@ -9,7 +9,7 @@ invariant-loop-next g l =
     record {
       store : store_of l.drive ≡ store_of l.fn.drive;
       ledger : l.drive.ledger ≡ l.fn.drive.ledger;
-      counted : CountsUpTo (store_of l.fn.drive) l.counts l.object;
+      counted : CountsUpTo (store_of l.fn.drive) l.counted l.object;
     }
 
 abbrev pub decreases-loop-next : goal.decreases-loop-next

@@ -3,4 +3,4 @@ use Rattle.drive_compaction.proofs.Sweeping.{SweepsFew}
 use Rattle.drive_compaction.proofs.freeing.sweep.Given as goal
 
 abbrev pub invariant-loop-index : goal.invariant-loop-index
-invariant-loop-index g l = SweepsFew l.counts.values l.initial.drive l.index l.frames l.moves l.drive
+invariant-loop-index g l = SweepsFew l.counts.counted.values l.initial.drive l.index l.frames l.moves l.drive

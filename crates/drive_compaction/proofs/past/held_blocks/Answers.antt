@@ -1,7 +1,7 @@
 use Rattle.std.proofs.Common.{◌≡◌, ◌+◌, ap, arith}
 use Rattle.segment_table.specs.Table.{Table}
 use Rattle.segment_table.specs.Counts.{held_count}
-use Rattle.drive_compaction.proofs.Counting.{few_held}
+use Rattle.segment_copier.proofs.FrameCounts.{few_held}
 use Rattle.drive_compaction.proofs.Summing.{sum_more}
 use Rattle.drive_compaction.proofs.past.held_blocks.Goals as goal
 

@@ -13,5 +13,5 @@ returns-in_err-swept-clause-refusal g c =
 
 pub returns-clause-none : goal.returns-clause-none
 returns-clause-none g c nothing room =
-    left_bare c.in_ok-counts.counts.values c.prepare.new.drive c.count_rows.new.drive c.sweep.new.drive c.in_ok-swept.swept.frames c.in_ok-swept.swept.moves c.in_ok-swept.swept.ran_out
+    left_bare c.in_ok-counts.counts.counted.values c.prepare.new.drive c.count_rows.new.drive c.sweep.new.drive c.in_ok-swept.swept.frames c.in_ok-swept.swept.moves c.in_ok-swept.swept.ran_out
     c.count_rows.ensures.store c.in_ok-counts.ensures.counts c.in_ok-swept.ensures.sweeps (c.in_ok-swept.ensures.none nothing room) nothing room
