@@ -5,6 +5,7 @@ ghost use Rattle.s4_types.specs.declared.refusals.Refusal.TheVariants.{NoMemory,
 ghost use Rattle.s4_types.specs.declared.replies.Reply.TheVariants.{Data};
 ghost use Rattle.s4_types.specs.declared.requests.Request.TheVariants.{Query};
 ghost use Rattle.s4_types.specs.declared.requests.Question.TheVariants.{Read};
+ghost use Rattle.s4_types.specs.declared.versions.Version.TheVariants.{Live};
 ghost use Rattle.s4_model.specs.Refusals.{first_refusal, moment_refusal};
 ghost use Rattle.s4_model.specs.Step.{data_of};
 ghost use Rattle.s4_model.specs.VersionAt.{version_of};
@@ -37,8 +38,8 @@ pub fn moment_refusal<J: Naming>(drive: &Drive<J>, object: ObjectId, at: Moment)
     }
 }
 
-/// What an object was at a moment: at most `READ_BYTES` bytes, which one read gives. The drive and
-/// its clock stay, whatever is answered.
+/// What an object was at a moment, all its bytes: read in pieces of `READ_BYTES`. The drive and its
+/// clock stay, whatever is answered.
 ///
 /// Future, Expired or Flushed exactly where the moment of the object can't be read; else NoMemory
 /// where memory is refused, and Busy as a read may be.
@@ -84,8 +85,7 @@ fn live_version<J: Naming>(
     ensures state { state_in drive.new ≡ state_in drive.old }
     ensures store { store_of drive.new ≡ store_of drive.old }
 {
-    drive.rules();
-    let bytes = read_whole(drive, session, object, at)?;
+    let bytes = read_whole(drive, session, object, at, inode)?;
     let Ok(attribute) = Bytes::from_slice(alloc, inode.attribute.as_slice()) else {
         return Err(Refusal::NoMemory);
     };
@@ -97,19 +97,49 @@ fn live_version<J: Naming>(
     })
 }
 
-// The first bytes of an object at a moment, as many as a read gives.
+// All bytes of it: as many reads as its size takes, one at least.
 fn read_whole<J: Naming>(
     drive: &mut Drive<J>,
     session: &mut Session<J>,
     object: ObjectId,
     at: Moment,
+    inode: &Inode,
+) -> Result<Bytes, Refusal>
+    requires visible { IsVisible (state_in drive.old) object at }
+    requires there { inode_in (store_of drive.old) object at ≡ Some inode.now }
+    requires alive { inode.now.alive ≡ true }
+    ensures whole { IfOk result
+        (λ bytes. Live bytes inode.now.attribute inode.now.created inode.now.changed
+        ≡ version_of (state_in drive.old) object at) }
+    ensures refused { IfErr result (λ e. (e ≡ NoMemory) ⊎ (e ≡ Busy)) }
+    ensures state { state_in drive.new ≡ state_in drive.old }
+    ensures store { store_of drive.new ≡ store_of drive.old }
+{
+    drive.rules();
+    let mut bytes = read_piece(drive, session, object, at, 0)?.into_vec();
+    let mut offset = READ_BYTES;
+    while offset < u64::from(inode.size) {
+        let piece = read_piece(drive, session, object, at, offset)?;
+        bytes.extend_from_slice(piece.as_slice())?;
+        offset += READ_BYTES;
+    }
+    Ok(Bytes::from_vec(bytes))
+}
+
+// The bytes of an object at a moment from an offset on, as many as one read gives.
+fn read_piece<J: Naming>(
+    drive: &mut Drive<J>,
+    session: &mut Session<J>,
+    object: ObjectId,
+    at: Moment,
+    offset: u64,
 ) -> Result<Bytes, Refusal>
     ensures read { IfOk result
-        (λ bytes. data_of (version_of (state_in drive.old) object at) 0 READ_BYTES
+        (λ bytes. data_of (version_of (state_in drive.old) object at) offset READ_BYTES
         ≡ Some (Data bytes)) }
     ensures refused { IfErr result
         (λ e. (first_refusal (state_in drive.old) session.old.role
-        (Query (Read object 0 READ_BYTES (Some at))) ≡ Some e) ⊎ ((e ≡ NoMemory) ⊎ (e ≡ Busy))) }
+        (Query (Read object offset READ_BYTES (Some at))) ≡ Some e) ⊎ ((e ≡ NoMemory) ⊎ (e ≡ Busy))) }
     ensures state { state_in drive.new ≡ state_in drive.old }
     ensures store { store_of drive.new ≡ store_of drive.old }
 {
@@ -117,7 +147,7 @@ fn read_whole<J: Naming>(
     the_state_goes_on_record_by_record();
     let request = Request::Query(Question::Read {
         object,
-        offset: 0,
+        offset,
         length: READ_BYTES as u32,
         at: Some(at),
     });

@@ -122,6 +122,7 @@ pub(crate) enum Beginning {
     Drive,
     Alone,
     Caching,
+    Retired,
     Open,
 }
 
@@ -141,10 +142,14 @@ pub(crate) enum Verb {
 
 /// How commands are encoded: `$` represents a name, `#` for a number, `%` for bytes, `[at]` and
 /// `[now]` for such a word and a number, or for none.
-static COMMANDS: [(&str, Verb); 79] = [
+static COMMANDS: [(&str, Verb); 80] = [
     ("drive # window #", Verb::Begin(Beginning::Drive)),
     ("drive # window # alone", Verb::Begin(Beginning::Alone)),
     ("drive # window # inodes #", Verb::Begin(Beginning::Caching)),
+    (
+        "drive # window # retired #",
+        Verb::Begin(Beginning::Retired),
+    ),
     ("open", Verb::Begin(Beginning::Open)),
     ("session $ client", Verb::Sit(Sitting::Come(Role::Client))),
     ("session $ admin", Verb::Sit(Sitting::Come(Role::Admin))),

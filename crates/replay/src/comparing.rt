@@ -9,22 +9,23 @@ use interleaving::{Act, Answer, Step};
 use s4_types::limits::READ_BYTES;
 use s4_types::{Moment, ObjectId, Question, Refusal, Reply, Request, Role};
 
-/// All bytes of an object at a moment, or its size, moments and attribute.
-fn question(object: u64, at: u64, is_read: bool) -> Request {
+/// Asks for an object's bytes at a moment from an offset on, as many as one read gives; without an
+/// offset for its size, moments and attribute.
+fn question(object: u64, at: u64, offset: Option<u64>) -> Request {
     let object = ObjectId::new(object);
     let at = Some(Moment::new(at));
-    if !is_read {
-        return Request::Query(Question::GetAttr { object, at });
-    }
-    Request::Query(Question::Read {
-        object,
-        offset: 0,
-        length: READ_BYTES as u32,
-        at,
+    Request::Query(match offset {
+        None => Question::GetAttr { object, at },
+        Some(offset) => Question::Read {
+            object,
+            offset,
+            length: READ_BYTES as u32,
+            at,
+        },
     })
 }
 
-/// What the drive replies to a session's question.
+/// What the drive replies to a session's request.
 fn drive_reply<D: Played>(
     drive: &mut D,
     actor: usize,
@@ -39,21 +40,35 @@ fn drive_reply<D: Played>(
     }
 }
 
-/// The same; a question that is refused memory is asked once more.
-fn drive_answer<D: Played>(
+/// What the drive and the plain drive reply to a question. One that the drive refuses memory is
+/// asked once more.
+fn both_replies<D: Played>(
+    stage: &mut Stage,
     drive: &mut D,
     actor: usize,
     object: u64,
     at: u64,
-    is_read: bool,
-) -> Result<Option<Reply>, Refusal> {
-    match drive_reply(drive, actor, question(object, at, is_read)) {
-        Err(_) => drive_reply(drive, actor, question(object, at, is_read)),
-        reply => reply,
+    offset: Option<u64>,
+) -> Result<(Option<Reply>, Option<Reply>), Refusal> {
+    let given = match drive_reply(drive, actor, question(object, at, offset)) {
+        Err(_) => drive_reply(drive, actor, question(object, at, offset))?,
+        Ok(reply) => reply,
+    };
+    let told = stage.reply(usize::MAX, question(object, at, offset), Moment::new(0))?;
+    Ok((given, told))
+}
+
+/// How many bytes a reply tells that an object has: none where it is no reply to the question for
+/// its attributes.
+fn size_told(reply: &Option<Reply>) -> u64 {
+    match reply {
+        Some(Reply::Attr { size, .. }) => u64::from(*size),
+        _ => 0,
     }
 }
 
-/// Whether both drives tell the same of an object at a moment.
+/// Whether both drives tell the same of an object at a moment: its size, moments and attribute, and
+/// all its bytes, by as many reads as these take, one at least.
 fn is_alike<D: Played>(
     stage: &mut Stage,
     drive: &mut D,
@@ -61,9 +76,14 @@ fn is_alike<D: Played>(
     object: u64,
     at: u64,
 ) -> Result<bool, Refusal> {
-    for is_read in [true, false] {
-        let given = drive_answer(drive, actor, object, at, is_read)?;
-        let told = stage.reply(usize::MAX, question(object, at, is_read), Moment::new(0))?;
+    let (given, told) = both_replies(stage, drive, actor, object, at, None)?;
+    if given != told {
+        return Ok(false);
+    }
+    let last = size_told(&told).saturating_sub(1) / READ_BYTES;
+    for piece in 0..=last {
+        let offset = Some(piece * READ_BYTES);
+        let (given, told) = both_replies(stage, drive, actor, object, at, offset)?;
         if given != told {
             return Ok(false);
         }

@@ -43,6 +43,32 @@ fn put(image: &mut [u8], place: usize, new: &[u8]) -> bool {
     true
 }
 
+/// The image of a new drive with this window. The last frames, this many, are free in the last of
+/// their lives: they are never opened.
+pub(crate) fn new_image(
+    alloc: Global,
+    frames: usize,
+    window: u64,
+    retired: usize,
+) -> Result<Vec<u8>, Refusal> {
+    let words = frames.saturating_mul(WORD_BYTES);
+    let length = FRAMES.saturating_add(words).saturating_add(DIGEST_BYTES);
+    let mut image = Vec::from_elem(alloc, 0, length)?;
+    let number = u16::try_from(frames).unwrap_or(u16::MAX);
+    put(image.as_mut_slice(), 0, b"S4IMAGE2");
+    put(image.as_mut_slice(), 8, &number.to_be_bytes());
+    put(image.as_mut_slice(), 24, &window.to_be_bytes());
+    put(image.as_mut_slice(), 40, &1u64.to_be_bytes());
+    for frame in 0..frames {
+        let is_used = frame.saturating_add(retired) < frames;
+        let generation = if is_used { 1u32 } else { u32::MAX };
+        let place = FRAMES.saturating_add(frame.saturating_mul(WORD_BYTES));
+        put(image.as_mut_slice(), place, &generation.to_be_bytes());
+    }
+    sign(image.as_mut_slice());
+    Ok(image)
+}
+
 /// Makes the digest of the whole image anew.
 fn sign(image: &mut [u8]) {
     let end = image.len().saturating_sub(DIGEST_BYTES);

@@ -7,7 +7,7 @@ ghost use Rattle.checkpoint.specs.declared.cache.TheConstants.{CACHED_INODES as 
 use crate::acting::{perform_acting, perform_asking, perform_tidying, perform_upkeep};
 use crate::commands::{Beginning, Command, Exchange, Line, Verb, line_of};
 use crate::comparing::{perform_comparing, watch, watch_line};
-use crate::imaging::perform_imaging;
+use crate::imaging::{new_image, perform_imaging};
 use crate::looking::perform_look;
 use crate::party::{Played, play_image, play_new};
 use crate::sitting::{come, perform_sitting};
@@ -23,7 +23,8 @@ use std::str::from_utf8;
 use std::thread::Threads;
 use verifier::verify;
 
-/// What comes after a drive: the script's end, a new drive, or the one of the image that is kept.
+/// What comes after a drive: the script's end, a new drive, one whose last frames are retired, or
+/// the one of the image that is kept.
 #[derive(Clone, Copy)]
 pub(crate) enum Start {
     End,
@@ -32,6 +33,11 @@ pub(crate) enum Start {
         window: u64,
         inodes: usize,
         is_alone: bool,
+    },
+    Retired {
+        frames: usize,
+        window: u64,
+        retired: usize,
     },
     Image,
 }
@@ -311,14 +317,22 @@ impl<'a> Player<'a> {
             verify(rt, self.alloc, self.stage.image.as_slice())?;
             return Ok(Some(Start::Image));
         }
-        let [frames, window, inodes] = command.asked(0).numbers;
+        let [frames, window, third] = command.asked(0).numbers;
         let frames = usize::try_from(frames).unwrap_or(0);
+        let third = usize::try_from(third).unwrap_or(0);
         let inodes = match beginning {
-            Beginning::Caching => usize::try_from(inodes).unwrap_or(0),
+            Beginning::Caching => third,
             _ => self.manner.inodes,
         };
         if !can_be_made(frames, inodes) {
             return Ok(None);
+        }
+        if matches!(beginning, Beginning::Retired) {
+            return Ok(Some(Start::Retired {
+                frames,
+                window,
+                retired: third,
+            }));
         }
         Ok(Some(Start::New {
             frames,
@@ -416,6 +430,15 @@ impl<'a> Player<'a> {
                     return Ok(Start::End);
                 }
                 play_new(rt, self.alloc, frames, window, inodes, self)
+            }
+            Start::Retired {
+                frames,
+                window,
+                retired,
+            } => {
+                self.stage.begin(Some(PlainDrive::new(self.alloc, window)));
+                let image = new_image(self.alloc, frames, window, retired)?;
+                play_image(rt, self.alloc, image.as_slice(), self)
             }
             Start::Image => {
                 self.stage.begin(None);

@@ -103,7 +103,7 @@ fn named<'a>(alloc: Global, name: &'a str) -> Result<Command<'a>, AllocError>
 fn default_frames() -> &'static str
     ensures { result.now ≡ decimal DEFAULT_FRAMES }
 {
-    "16"
+    "24"
 }
 
 fn pipe_command<'a>(alloc: Global) -> Result<Command<'a>, AllocError>

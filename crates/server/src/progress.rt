@@ -11,8 +11,8 @@ use std::mem::replace;
 /// Room that is none: the smallest Write takes as much.
 const LITTLE_ROOM: u64 = 2;
 
-/// Blocks that a round writes for an object, by which the reserve is judged: a checkpoint and a
-/// journal block.
+/// Blocks that a round writes for an object at least, by which the reserve is judged: a checkpoint
+/// of one block, and a journal block.
 const ROUND_BLOCKS: u64 = 2;
 
 /// Rounds in the time of one window that are worth their cost, and rounds that remove objects

@@ -23,6 +23,7 @@ mod ordered;
 
 use drive::NewDrive;
 use s4_types::Moment;
+use s4_types::limits::FEWEST_FRAMES;
 use server::{Blanks, Client, Outcome, Running, SharedDrive, UpkeepStep};
 use serving::{MemorySink, MemorySource, ServeEnd};
 use std::alloc::Global;
@@ -34,7 +35,7 @@ use std::test::Fail;
 use std::thread::{Threads, yield_now};
 use std::time::Clock;
 
-/// What a test does with a new drive of 16 frames, with a window of 100 moments.
+/// What a test does with a new drive of `FEWEST_FRAMES` frames, with a window of 100 moments.
 #[derive(Clone, Copy)]
 enum Scene {
     /// Two sessions in turn, over a clock with this start and tick.
@@ -101,7 +102,7 @@ fn play<R: Abort + Threads + Wait + Clock + Sync>(
     alloc: Global,
     scene: Scene,
 ) -> Result<(), Fail> {
-    let made = NewDrive::new(alloc, 16, 100)?;
+    let made = NewDrive::new(alloc, FEWEST_FRAMES, 100)?;
     let blanks = Blanks::new(PARTS);
     play_named::<Brand, R>(rt, alloc, made, blanks, clock_of(scene), scene)
 }
