@@ -65,10 +65,10 @@ def flooded(objects, changes, flood):
         yield request(WRITE, objects + 1, step, b"!")
 
 
-def thrown(dice, frames):
-    """Random requests, and a window that they may end with."""
+def thrown(dice, steps):
+    """Random requests, fewer than these steps, and a window that they may end with."""
     most, made = dice.randrange(1, 40), 0
-    for step in range(dice.randrange(30, 25 * frames)):
+    for step in range(dice.randrange(30, steps)):
         if made == 0 or made < most and dice.random() < 0.15:
             made += 1
             yield request(CREATE, text(b"A" * dice.randrange(20)))
@@ -101,17 +101,17 @@ def live_only(objects):
 
 def loads(count, first):
     """Kinds of images: a name, and for each image its frames, its window, whether cleaner and copier run, and requests."""
-    yield "flooded, 1,024 frames", [(1024, 100_000, False, flooded(1000, 3000, 227)), (1024, 3000, False, flooded(1000, 4000, 227)),
-                                    (1024, 100_000, False, flooded(300, 4500, 230))]
-    yield "flooded, 16 frames", [(16, window, upkeep, flooded(9, changes, 60)) for window in (20, 100_000) for upkeep in (False, True)
+    yield "flooded, 1,024 frames", [(1024, 100_000, False, flooded(1000, 3000, 786)), (1024, 3000, False, flooded(1000, 4000, 786)),
+                                    (1024, 100_000, False, flooded(300, 4500, 790))]
+    yield "flooded, 24 frames", [(24, window, upkeep, flooded(9, changes, 60)) for window in (20, 100_000) for upkeep in (False, True)
                                  for changes in (20, 45, 60)]
     thrown_images = []
     for seed in range(first, first + count):
         dice = random.Random(seed)
-        frames, window, upkeep = dice.randrange(8, 65), dice.choice([0, 5, 20, 100, 100_000]), dice.random() < 0.3
-        thrown_images.append((frames, window, upkeep, thrown(dice, frames)))
-    yield f"random, {count} images of 8 to 64 frames", thrown_images
-    yield "live only, 60 objects on 8 frames", [(8, 0, True, live_only(60))]
+        frames, window, upkeep = dice.randrange(24, 73), dice.choice([0, 5, 20, 100, 100_000]), dice.random() < 0.3
+        thrown_images.append((frames, window, upkeep, thrown(dice, 25 * (frames - 8))))
+    yield f"random, {count} images of 24 to 72 frames", thrown_images
+    yield "live only, 180 objects on 24 frames", [(24, 0, True, live_only(180))]
 
 
 def room(program, path):

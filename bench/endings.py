@@ -1,7 +1,7 @@
 #!/usr/bin/env python3
 """Whether each run of `s4d` ends: runs it over a small image again and again, and counts.
 
-A run has a number, and its number is its seed. It serves one administrator's session over an image of 8 or 16 frames: a Create, some
+A run has a number, and its number is its seed. It serves one administrator's session over an image of 24 or 32 frames: a Create, some
 small Writes, and a Flush of moment 0 at its end, which hides nothing and calls the cleaner for a round more. With `--sessions` it
 serves 2 to 16 sessions at once, which ask small changes, Reads and flushes of the same objects, over images that are empty or have no room
 left, so that changes wait for rounds. What threads do at once is no part of a seed, so a run that hung may end the next time.
@@ -30,7 +30,7 @@ from typing import NamedTuple
 
 import wire
 
-FRAMES = (8, 16)
+FRAMES = (24, 32)
 WINDOW = 20
 LIMIT = 20.0  # seconds of a run
 PATIENCE = 10  # limits of a run that goes on: it may only lack a processor

@@ -18,14 +18,15 @@ import time
 import wire
 from wire import ratio, spread
 
-OBJECTS = 300
-WHOLE = bytes(range(256)) * 96  # the most bytes that an object may have
+OBJECTS = 75
+WHOLE = bytes(range(256)) * (wire.WHOLE // 256)  # the most bytes that an object may have
+WRITES = wire.WHOLE // wire.PIECE  # of an object
 RUNS = 7
 
 
 def requests():
     """Objects are made, and each is written whole: more than the drive has room for."""
-    return wire.create() * OBJECTS + b"".join(wire.write(number, 0, WHOLE) for number in range(1, OBJECTS + 1))
+    return wire.create() * OBJECTS + b"".join(wire.write_whole(number, WHOLE) for number in range(1, OBJECTS + 1))
 
 
 def run(program, words, folder):
@@ -69,11 +70,11 @@ def main():
         run(programs[0], ["new", "--window", "1000000", "image", "1024"], folder)
         run(programs[0], ["run", "--no-upkeep", "--tick", "0", "image", "client:in:out"], folder)
         image = bytes_of(os.path.join(folder, "image"))
-        written = wire.kinds(bytes_of(os.path.join(folder, "out"))).count(wire.CHANGED)
+        written = wire.kinds(bytes_of(os.path.join(folder, "out"))).count(wire.CHANGED) // WRITES
         print(f"an image of {len(image):,} bytes, {OBJECTS} objects of which {written} are written whole")
         print(f"a digest: {spread([digest(image) for _ in range(RUNS)])} s")
         measure(programs, "verify", ["verify", "image"], image, folder)
-        measure(programs, "at", ["at", "image", "1", str(OBJECTS + 1)], image, folder)
+        measure(programs, "at", ["at", "image", "1", str(OBJECTS + WRITES)], image, folder)
         measure(programs, "run without a request", ["run", "--no-upkeep", "image", "client:none:out"], image, folder)
         if bytes_of(os.path.join(folder, "image")) != image:
             sys.exit("images.py: what was saved again without a request are other bytes")

@@ -17,7 +17,8 @@ import time
 import wire
 from wire import CHANGED, SMALL
 
-FRAMES = (16, 64, 1_024)
+FRAMES = (24, 64, 1_024)
+RESERVE = 12  # frames that no change takes a block of
 WINDOWS = (100, 1_000, 1_000_000)
 OBJECTS = (1, 16, 200)
 PAUSE = 0.001  # seconds between a live client's requests
@@ -111,7 +112,7 @@ def main():
     for frames in FRAMES:
         for window in WINDOWS:
             for objects in OBJECTS:
-                if objects < 15 * (frames - 4):
+                if objects < 15 * (frames - RESERVE):
                     print(row(program, line.most, frames, window, objects), flush=True)
 
 

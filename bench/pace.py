@@ -9,7 +9,7 @@ depend on what else the machine does.
 With `--many` it is one of 15,000 objects on 1,024 frames that is written, 100,000 times; the others have no history left then. So the
 seconds are what rounds cost that have one object to clean.
 
-Beside it: what a million Writes would take that need no upkeep, by the time of 3,600 Writes (all that 1,024 frames take) of a run
+Beside it: what a million Writes would take that need no upkeep, by the time of 7,488 Writes (all that 1,024 frames take) of a run
 without upkeep, the shortest of some trials; and a million Reads of 100 bytes without upkeep and with it.
 
 With `--deleting` the session makes 3,000 files of 300 bytes on 64 frames, with a window of 400 moments, and deletes each 60 files later:
@@ -17,9 +17,9 @@ how many of these 8,940 requests are accepted, and the same where an administrat
 file. A file's number is known before, so that after a Create that was refused all files have another: then requests are NoObject.
 
 With `--busy` a program has one processor, which a process beside it wants, too, that computes and never waits. A run whose session asks
-nothing, over 1,000 and 15,300 objects that were made, and a million Writes on 64 frames: seconds by the clock and of the processor, and
+nothing, over 1,000 and 15,180 objects that were made, and a million Writes on 64 frames: seconds by the clock and of the processor, and
 how many times as many the first are, without that process and beside it. A run is ended after 300 seconds. And by `strace` the calls to the
-system of the run over 15,300 objects, with those of the same run without upkeep taken away.
+system of the run over 15,180 objects, with those of the same run without upkeep taken away.
 
     pace.py [--count N] [PROGRAM]             N Writes and Reads in place of 1,000,000
     pace.py --many [--count N] [PROGRAM ..]   one line for each program
@@ -39,16 +39,16 @@ import time
 import wire
 from wire import CHANGED, SMALL
 
-FRAMES = (16, 64, 1_024)
+FRAMES = (24, 64, 1_024)
 OBJECTS = 16
-TAKEN = 3_600  # Writes that 1,024 frames take without upkeep
+TAKEN = 7_488  # Writes that 1,024 frames take without upkeep
 TRIALS = 5
 WINDOW = 100
 MANY = 15_000
 FILES, FILE, KEPT = 3_000, 300, 60  # how many there are, their bytes, and after how many others a file is deleted
 FILE_FRAMES, FILE_WINDOW = 64, 400
 FLUSHED = 20  # files between two flushes
-NOT_MOVED = (1_000, 15_300)  # objects of a run that is asked nothing
+NOT_MOVED = (1_000, 15_180)  # objects of a run that is asked nothing
 LIMIT = 300  # seconds of a run beside a busy process
 NAMES = {1: "NoObject", 9: "NoSpace", 12: "ChainFull"}
 

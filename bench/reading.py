@@ -3,7 +3,7 @@
 
     reading.py [S4D S4 [OTHER]]      crates/s4d/out/s4d and crates/s4/out/s4 where they aren't given; the best of three runs
 
-Three images are read: one of 15,300 objects, one of few objects whose journals are full, and one of the longest texts, of which each line was
+Three images are read: one of 15,180 objects, one of few objects whose journals are full, and one of the longest texts, of which each line was
 changed. OTHER is an `s4` of another commit, which runs beside the first one. What is printed goes to /dev/null; `export` writes into a folder in memory, and into one on the disk.
 """
 import os
@@ -14,9 +14,9 @@ import tempfile
 import wire
 
 S4 = os.path.join(wire.HERE, "..", "crates", "s4", "out", "s4")
-FRAMES, OBJECTS = 1_024, 15_300
-JOURNALS, CHANGES = 33, 231  # objects, and changes that fill the journal of each
-TEXTS = 155  # objects of the longest texts, each written twice
+FRAMES, OBJECTS = 1_024, 15_180
+JOURNALS, CHANGES = 9, 790  # objects, and changes that fill the journal of each
+TEXTS = 37  # objects of the longest texts, each written twice
 RUNS = 3
 MEMORY = "/dev/shm"
 
@@ -34,9 +34,9 @@ def few():
 
 def texts():
     """Objects that are written whole, and once more with other lines."""
-    before, after = [b"".join(b"%d %s\n" % (line, name) for line in range(5_000))[:wire.WHOLE] for name in (b"before", b"after")]
+    before, after = [b"".join(b"%d %s\n" % (line, name) for line in range(10_000))[:wire.WHOLE] for name in (b"before", b"after")]
     made = wire.create() * TEXTS
-    return made + b"".join(wire.write(key, 0, it) for it in (before, after) for key in range(1, TEXTS + 1))
+    return made + b"".join(wire.write_whole(key, it) for it in (before, after) for key in range(1, TEXTS + 1))
 
 
 def seconds(words, folder):
@@ -93,7 +93,7 @@ def main():
         sys.exit(__doc__)
     s4d, *programs = wire.programs(sys.argv[1:] or [wire.BUILT, S4])
     images = [(f"{OBJECTS:,} objects", many(), OBJECTS // 2), (f"{JOURNALS} full journals", few(), JOURNALS * CHANGES // 2),
-              (f"{TEXTS} texts", texts(), 2 * TEXTS)]
+              (f"{TEXTS} texts", texts(), (1 + wire.WHOLE // wire.PIECE) * TEXTS)]
     for name, requests, past in images:
         with tempfile.TemporaryDirectory() as folder:
             make(s4d, name, requests, folder)

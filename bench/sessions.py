@@ -2,8 +2,8 @@
 """Requests a second that `s4d run` answers 1, 2, 4 and 16 sessions at once, without upkeep and with the history cleaner and the
 segment copier beside them, and how many times as many that is as one session is answered.
 
-Each session has an object of its own, of 16 of a drive of 1,024 frames, which was written whole, and reads its requests from a file:
-Reads of all 24,576 bytes, or rounds of a Write of 64 bytes and 999 Reads of 64 bytes. Its replies go to /dev/null. The seconds
+Each session has an object of its own, of 16 of a drive of 1,024 frames, of 24,576 bytes, and reads its requests from a file:
+Reads of all of these, or rounds of a Write of 64 bytes and 999 Reads of 64 bytes. Its replies go to /dev/null. The seconds
 by the clock are those of a run without the ones of a run whose sessions ask nothing, which verifies, opens and saves the image, too.
 With upkeep they end after the copier's last step and the cleaner's last round. The image is the same before each run. Of some trials the
 shortest counts; of three rounds the median is printed with the least and the most. First each number of sessions is asked once with the
@@ -22,7 +22,7 @@ import time
 from typing import Callable, NamedTuple
 
 import wire
-from wire import DATA, WHOLE, ratio, spread
+from wire import DATA, PIECE, ratio, spread
 
 ROUNDS = 3
 TRIALS = 5
@@ -43,8 +43,8 @@ class Load(NamedTuple):
     times: int
 
 
-def whole_read(o):
-    return wire.read(o, 0, WHOLE)
+def long_read(o):
+    return wire.read(o, 0, PIECE)
 
 
 def small_round(o):
@@ -52,7 +52,7 @@ def small_round(o):
 
 
 LOADS = (
-    Load("Reads of 24,576 bytes", whole_read, 1, 5 + WHOLE, 10_000),
+    Load("Reads of 24,576 bytes", long_read, 1, 5 + PIECE, 10_000),
     # The object's journal has room for this number of Writes.
     Load("a Write and 999 Reads of 64 bytes", small_round, 1 + READS_A_WRITE, 13 + READS_A_WRITE * (5 + PART), 200),
 )
@@ -65,7 +65,7 @@ class Drive:
         self.program, self.folder = program, folder
         os.mkdir(folder)
         self.perform("new", "--window", "1000000", "full", "1024")
-        made = wire.create() * OBJECTS + b"".join(wire.write(o + 1, 0, b"a" * WHOLE) for o in range(OBJECTS))
+        made = wire.create() * OBJECTS + b"".join(wire.write(o + 1, 0, b"a" * PIECE) for o in range(OBJECTS))
         self.put("made", made)
         self.put("nothing", b"")
         self.perform("run", "--no-upkeep", "--tick", "0", "full", "client:made:replies")

@@ -24,19 +24,19 @@ import time
 from typing import NamedTuple
 
 import wire
-from wire import ATTRIBUTE, CHANGED, DATA, SMALL, WHOLE, ratio, spread
+from wire import ATTRIBUTE, CHANGED, DATA, PIECE, SMALL, ratio, spread
 
 ROUNDS = 3
 TRIALS = 5
 LEAST = 1_000  # requests of a pass over the table that changes nothing
 OBJECTS = range(1, 36)
-SMALL_WRITES, WHOLE_WRITES = 200, 8  # of each object: its journal and the drive have room for them
+SMALL_WRITES, LONG_WRITES = 200, 8  # of each object: its journal and the drive have room for them
 STEP, PLACES = 128, 192  # how far small Writes of an object are apart, so that each stays in one block
 SHORT, LONG = 10, 300  # changes of an object whose past is read
 RUNS = 50  # of hidden moments
 LATER = 400  # by how many moments each run is made longer
 MANY, HIDDEN = 1_000, 60  # objects, and moments that are hidden of each: a list may have 64 runs
-BYTES = bytes(k % 251 for k in range(WHOLE))
+BYTES = bytes(k % 251 for k in range(PIECE))
 
 
 class Load(NamedTuple):
@@ -94,15 +94,15 @@ def writes():
     """Writes of as many bytes each to all objects in turn."""
     created = [("create",)] * len(OBJECTS)
     small = [("write", o, k % PLACES * STEP, BYTES[:SMALL]) for k in range(SMALL_WRITES) for o in OBJECTS]
-    whole = [("write", o, 0, BYTES) for _ in range(WHOLE_WRITES) for o in OBJECTS]
-    return [Load("Writes of 100 bytes", created, small, 1, CHANGED), Load("Writes of 24,576 bytes", created, whole, 1, CHANGED)]
+    long = [("write", o, 0, BYTES) for _ in range(LONG_WRITES) for o in OBJECTS]
+    return [Load("Writes of 100 bytes", created, small, 1, CHANGED), Load("Writes of 24,576 bytes", created, long, 1, CHANGED)]
 
 
 def reads():
-    """Reads of all objects in turn, each written whole before."""
+    """Reads of all objects in turn, each of as many bytes as one Read may have."""
     made = [("create",)] * len(OBJECTS) + [("write", o, 0, BYTES) for o in OBJECTS]
     return [Load(f"Reads of {size:,} bytes, now", made, [("read", o, 0, size) for o in OBJECTS], passes, DATA)
-            for size, passes in ((SMALL, 10_000), (WHOLE, 800))]
+            for size, passes in ((SMALL, 10_000), (PIECE, 800))]
 
 
 def of_the_past(changes):
@@ -114,7 +114,7 @@ def of_the_past(changes):
     moments, often = range(2, changes + 1), 300_000 // changes
     past = f"at moments of {changes} changes"
     return [Load(f"Reads of {size:,} bytes {past}", made(size), [("read", 1, 0, size, at) for at in moments], passes, DATA)
-            for size, passes in ((SMALL, often), (WHOLE, often // 10))] \
+            for size, passes in ((SMALL, often), (PIECE, often // 10))] \
         + [Load(f"GetAttr {past}", made(SMALL), [("get_attr", 1, at) for at in moments], often, ATTRIBUTE)]
 
 
@@ -214,7 +214,7 @@ def row(cells):
 
 def print_starts(programs, measure, unit):
     """Prints what a run without a request costs, in this unit."""
-    for frames in (16, 1024):
+    for frames in (24, 1024):
         costs = [f"{start(it, frames, measure) / unit:,.1f}" for it in programs]
         print(f"A start with {frames} frames: {', other '.join(costs)}", flush=True)
     print()

@@ -16,7 +16,7 @@ import tempfile
 BUILT = os.path.join(os.path.dirname(os.path.abspath(__file__)), "..", "crates", "replay", "out", "replay")
 WINDOW = 1_000_000
 OBJECTS, WRITES, SMALL = 200, 34, 100  # they fill the drive but for the cleaner's reserve and what a pass writes
-LARGE_OBJECTS, WHOLE = 100, 24_576  # each written whole twice
+LARGE = ((100, 24_576), (25, 98_304))  # objects, and the bytes of each, which are written whole twice
 MOVES = 60
 
 
@@ -28,7 +28,7 @@ def filled(objects, writes, size):
     for k in range(writes):
         for o in range(1, objects + 1):
             clock += 1
-            offset = 0 if size == WHOLE else k % 5 * size
+            offset = k % 5 * size if size == SMALL else 0
             lines.append(f"admin Write {o} {offset} {97 + k % 26:02x}*{size} now {clock}")
     return lines, clock
 
@@ -41,12 +41,12 @@ def led(lines, clock):
 def loads():
     """What is measured: a name, the lines before, those of it, and how many steps they are."""
     small, clock = filled(OBJECTS, WRITES, SMALL)
-    large, _ = filled(LARGE_OBJECTS, 2, WHOLE)
     aged = led(small, 3 * WINDOW)
     yield "a pass, all history has aged", aged, ["pass"], 1
     yield "a pass, half of it has aged", led(small, WINDOW + clock // 2), ["pass"], 1
     yield "a pass, none has", led(small, clock + 1), ["pass"], 1
-    yield "a pass, all has, objects of 24,576 bytes", led(large, 3 * WINDOW), ["pass"], 1
+    for objects, size in LARGE:
+        yield f"a pass, all has, objects of {size:,} bytes", led(filled(objects, 2, size)[0], 3 * WINDOW), ["pass"], 1
     yield "a move", aged + ["pass", "seal"], ["move"] * MOVES, MOVES
 
 

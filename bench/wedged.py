@@ -2,12 +2,12 @@
 """How many of some random loads leave a drive wedged: with room for no change, also once all history has left the window.
 
 A load is random, by its seed: 1, 2 or 16 sessions ask small Writes, Appends, Creates and Deletes of some objects, with the default window
-and tick, over a new drive of 16, 64 or 1,024 frames. Once all have ended, and the cleaner's last round with them, as many Reads as the
+and tick, over a new drive of 24, 64 or 1,024 frames. Once all have ended, and the cleaner's last round with them, as many Reads as the
 window has moments age all history, and the drive is served twice more without a request. It is wedged where each of some
 changes, a Create and small Writes, is then refused as NoSpace. Why is read from the image: `full` where the blocks that are held would
 leave no room however they lay, `spread` where they are few and lie in too many frames.
 
-For each number of frames and sessions a line says how many of the loads ended wedged, and why. With `--wedged N` the loads of 16 frames
+For each number of frames and sessions a line says how many of the loads ended wedged, and why. With `--wedged N` the loads of 24 frames
 are made, one number of sessions after the other, until N ended wedged, and these again with OTHER; for each that is wedged then, too, a
 line has its seed and why. With `--flush` an administrator hides all history in place of the Reads. What sessions, cleaner and copier do
 at once is no part of a seed, so a load may end otherwise each time.
@@ -24,10 +24,11 @@ from typing import NamedTuple
 
 import wire
 
-FRAMES = (16, 64, 1_024)
+FRAMES = (24, 64, 1_024)
 SESSIONS = (1, 2, 16)
 WINDOW = 100
-BLOCK, BLOCKS, PAYLOAD, RESERVE = 512, 16, 15, 60
+BLOCK, BLOCKS, PAYLOAD, RESERVE = 512, 16, 15, 180
+POINTER, POINTERS, PARTS = 8, 48, 3  # bytes of a pointer, those in a block of a checkpoint, and its blocks besides the first
 HEADER, SUMS, ROW, SPAN = 512, 32, 40, 24  # bytes of the parts of an image
 NO_SPACE = 9
 PROBES = 8
@@ -98,16 +99,26 @@ class Blocks:
                 at += 1 + block[at]
                 at += 1 + block[at]
             for _ in range(triples):
-                self.taken(block[at + 1:at + 9])
-                self.taken(block[at + 9:at + 17])
-                at += 17
+                self.taken(block[at + 2:at + 10])
+                self.taken(block[at + 10:at + 18])
+                at += 18
+
+    def pointers(self, block, at, count):
+        """The blocks that as many pointers of a block refer to."""
+        return [self.taken(block[at + POINTER * index:at + POINTER * (index + 1)]) for index in range(count)]
+
+    def take_checkpoint(self, pointer):
+        """All that a checkpoint points to is held, its parts too."""
+        first = self.taken(pointer)
+        if first is not None:
+            self.pointers(first, 104, POINTERS)
+            for part in self.pointers(first, 488, PARTS):
+                if part is not None:
+                    self.pointers(part, 24, POINTERS)
 
     def take_row(self, row):
         """All that a row names is held."""
-        checkpoint = self.taken(row[16:24])
-        if checkpoint is not None:
-            for index in range(48):
-                self.taken(checkpoint[104 + 8 * index:112 + 8 * index])
+        self.take_checkpoint(row[16:24])
         block = self.taken(row[32:40])
         while block is not None:
             self.take_entries(block)
@@ -132,9 +143,9 @@ class Thrown:
 
     def __init__(self, load):
         self.dice = random.Random(f"{load.seed} {load.frames} {load.sessions}")
-        blocks = PAYLOAD * load.frames
-        self.objects = self.dice.randint(blocks // 20, blocks // 5)
-        self.count = self.dice.randint(blocks // 2, 2 * blocks)
+        room = PAYLOAD * load.frames - RESERVE
+        self.objects = self.dice.randint(room // 15, room // 4)
+        self.count = self.dice.randint(2 * room // 3, 8 * room // 3)
         self.drifts = self.dice.random() < 0.5  # whether the objects that are written are others as time goes on
         self.weights = [self.dice.randint(4, 12), self.dice.randint(0, 3), self.dice.randint(0, 1), self.dice.randint(0, 1)]
 

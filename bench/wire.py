@@ -6,7 +6,7 @@ import sys
 
 HERE = os.path.dirname(os.path.abspath(__file__))
 BUILT = os.path.join(HERE, "..", "crates", "s4d", "out", "s4d")
-SMALL, WHOLE = 100, 24_576  # bytes of a small Write or Read, and the most that an object has
+SMALL, PIECE, WHOLE = 100, 24_576, 98_304  # bytes of a small Write or Read, the most that one Read has, and the most that an object has
 WATCHER = """
 import os, sys
 child = os.posix_spawn(sys.argv[1], sys.argv[1:], os.environ)
@@ -46,6 +46,11 @@ def read(o, offset, count, at=None):
 
 def write(o, offset, data):
     return frame(b"\x04" + long(o) + long(offset) + data)
+
+
+def write_whole(o, data):
+    """Writes of an object piece by piece: one body hasn't room for a large one."""
+    return b"".join(write(o, at, data[at:at + PIECE]) for at in range(0, len(data), PIECE))
 
 
 def delete(o):

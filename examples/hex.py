@@ -15,7 +15,7 @@ import subprocess
 import sys
 
 sys.path.insert(0, os.path.join(os.path.dirname(os.path.abspath(__file__)), "..", "python"))
-from s4d import BODY_BYTES, OBJECT_BYTES, REFUSALS  # noqa: E402: from this repository, also where it isn't installed
+from s4d import BODY_BYTES, READ_BYTES, REFUSALS  # noqa: E402: from this repository, also where it isn't installed
 
 MOST_SHOWN = 24  # bytes of a frame that are shown, after the first of its body
 
@@ -139,7 +139,7 @@ def tell_reply(body):
     """What a whole body says; NoSuch where it is no reply."""
     if not body or body[0] not in REPLIES:
         raise NoSuch(f"begins with {body[0]:02x}" if body else "is empty")
-    if body[0] == 3 and len(body) > OBJECT_BYTES + 1:
+    if body[0] == 3 and len(body) > READ_BYTES + 1:
         raise NoSuch(f"has {len(body) - 1:,} bytes of data")
     name, tell = REPLIES[body[0]]
     fields = Fields(body[1:])

@@ -1,7 +1,7 @@
 #!/usr/bin/env python3
 """Runs `s4d` and `s4` under ever higher limits of stack and of address space.
 
-`s4d pipe client` answers an example, with a Write of 48 blocks and an Append after it. Each run ends with status 0, or with status 1
+`s4d pipe client` answers an example, with a Write of 64 blocks and an Append after it. Each run ends with status 0, or with status 1
 and one line on standard error. What it wrote is a beginning of the full output, or differs from it first by a reply of
 NoMemory; from there on each reply is of the kind of the full one's, or a refusal. Limits of address space begin where the program can be
 loaded at all, and end where all is answered.
@@ -33,8 +33,9 @@ SPACE_MOST = 192 * 1024
 LOADED_MOST = 64 * 1024  # a program that isn't loaded by then lacks something else
 NO_MEMORY = bytes.fromhex("00000002000a")
 OBJECT = (1).to_bytes(8, "big")
-LARGE_WRITE = b"\x04" + OBJECT + bytes(8) + bytes(range(256)) * 96  # 24,576 bytes from the first on
-SMALLER = b"\x06" + OBJECT + (3).to_bytes(8, "big")  # so that an Append has room
+READ_BYTES, WRITE_BYTES, OBJECT_BYTES = 24_576, 32_751, 98_304  # of one Read, of one Write over the wire, and of an object, at most
+LARGE_WRITE = b"\x04" + OBJECT + bytes(8) + bytes(k % 251 for k in range(WRITE_BYTES))
+SMALLER = b"\x06" + OBJECT + (3).to_bytes(8, "big")
 APPEND = b"\x05" + OBJECT + b"appended"
 
 
@@ -174,14 +175,14 @@ def look(number):
 
 NOTHING = b""
 SMALL = create() + b"".join(write(1, bytes([byte])) for byte in range(82))  # one object's, so that its history is joined and freed
-DIES = create() + b"".join(write(1, bytes([byte]) * 24576) for byte in range(3)) + delete(1)
-THINS = create() + write(1, b"a") + create() + write(2, bytes(24576)) + delete(2)  # one block is left of the first frame
+DIES = create() + b"".join(write(1, bytes([byte]) * READ_BYTES) for byte in range(3)) + delete(1)
+THINS = create() + write(1, b"a") + create() + write(2, bytes(READ_BYTES)) + delete(2)  # one block is left of the first frame
 SCATTERS = create() * 16 + b"".join(write(number, bytes([byte]) * 100) for number in range(1, 17) for byte in range(5))
 SCATTERED = SCATTERS + write(16, b"6" * 100) * 3
 AGES = look(1) * 101  # until nothing before them can be read
-VARIED = create() * 3 + b"".join(
-    write(1, bytes([byte]) * 700, 300 * byte) + write(2, bytes([byte])) + write(3, bytes(24576)) for byte in range(9)) + delete(3)
-LONG = create() + b"".join(write(1, bytes([byte % 256]) * 600) for byte in range(400))  # until its journal is full
+VARIED = create() * 3 + write(2, b"end", OBJECT_BYTES - 3) + b"".join(
+    write(1, bytes([byte]) * 700, 300 * byte) + write(2, bytes([byte])) + write(3, bytes(READ_BYTES)) for byte in range(9)) + delete(3)
+LONG = create() + b"".join(write(1, bytes([byte % 256]) * 600) for byte in range(600))  # until its journal is full
 
 
 class Images:
@@ -191,10 +192,10 @@ class Images:
         self.program, self.folder = program, folder
         self.make("new", 0)
         self.make("dead", 0, DIES)
-        self.make("thin", 0, THINS)
+        self.make("thin", 0, THINS, frames=32)  # with 24 no move has room
         self.make("scattered", 100, SCATTERED, AGES)
         self.make("past", 1000, VARIED, frames=64)
-        self.make("long", 10000, LONG, frames=64)
+        self.make("long", 10000, LONG, frames=160)
         for name, requests in (("nothing", NOTHING), ("small", SMALL), ("varied", VARIED)):
             with open(self.path(name + ".requests"), "wb") as file:
                 file.write(requests)
@@ -206,7 +207,7 @@ class Images:
     def path(self, name):
         return os.path.join(self.folder, name)
 
-    def make(self, name, window, *sessions, frames=16):
+    def make(self, name, window, *sessions, frames=24):
         image, asked = self.path(name), self.path("asked")
         run(self.program, ["new", "--window", str(window), image, str(frames)], b"", None, None)
         for requests in sessions:
@@ -234,7 +235,7 @@ class Images:
 def commands_of_s4d(images):
     """The image that each command is run over, and its words."""
     image = images.path("image")
-    yield None, ["new", image, "16"]
+    yield None, ["new", image, "24"]
     yield "past", ["verify", image]
     yield "past", ["at", image, "1", "5"]
     yield "new", images.served(["small"])

@@ -34,7 +34,7 @@ show() {
 }
 
 echo "# A new drive"
-run new drive.image 16
+run new drive.image 24
 run verify drive.image
 echo
 echo "# BEFORE. Its owner makes two objects"

@@ -67,7 +67,7 @@ class Reports(unittest.TestCase):
         self.folder = tempfile.TemporaryDirectory()
         self.addCleanup(self.folder.cleanup)
         image = Image(f"{self.folder.name}/image", S4D)
-        image.make(16)
+        image.make(24)
         with image.session() as drive:
             for number, attribute in enumerate(ATTRIBUTES, 1):
                 drive.create(attribute.encode())

@@ -13,7 +13,7 @@ trap 'rm -rf "$folder"' EXIT
 cd "$folder"
 python3 -B "$here/hex.py" bytes "$file" > requests.bin
 for name in one two; do
-    "$program" new "$name.image" 16
+    "$program" new "$name.image" 24
     "$program" run --no-upkeep "$name.image" "client:requests.bin:$name.out"
 done
 cmp one.out two.out

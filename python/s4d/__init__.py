@@ -29,7 +29,7 @@ from .pipeline import Pipeline, Reply
 from .retry import NEVER, Retry
 from .rows import (Change, ChangeKind, Checked, Compacted, Difference, Hidden, HiddenCounts, HiddenVersions, Info,
                    Listed, Range, Restored, Stat, Times, Widened)
-from .wire import ATTRIBUTE_BYTES, BODY_BYTES, LAST, OBJECT_BYTES, Attributes, Created
+from .wire import ATTRIBUTE_BYTES, BODY_BYTES, LAST, OBJECT_BYTES, READ_BYTES, WRITE_BYTES, Attributes, Created
 
 __version__ = "0.1.0"
 
@@ -38,7 +38,7 @@ __all__ = [
     "ChainFull", "Change", "ChangeKind", "Checked", "ClockEnd", "Compacted", "Created", "Difference",
     "Disconnected", "Drive", "Ended", "Error", "Expired", "Facts", "Flushed", "Future", "Hidden", "HiddenCounts",
     "HiddenVersions", "Image", "InUse", "Info", "Kind", "LAST", "Listed", "Moment", "NEVER", "NoMemory", "NoObject",
-    "NoRoom", "NoSpace", "NotAdmin", "OBJECT_BYTES", "Past", "Peer", "Pipeline", "ProgramFailed", "REFUSALS",
-    "Range", "Reader", "Refused", "Reply", "Restored", "Retry", "Span", "Stale", "Stat", "Times", "TooLarge",
-    "TooManySpans", "Widened", "Writer",
+    "NoRoom", "NoSpace", "NotAdmin", "OBJECT_BYTES", "Past", "Peer", "Pipeline", "ProgramFailed", "READ_BYTES",
+    "REFUSALS", "Range", "Reader", "Refused", "Reply", "Restored", "Retry", "Span", "Stale", "Stat", "Times",
+    "TooLarge", "TooManySpans", "WRITE_BYTES", "Widened", "Writer",
 ]

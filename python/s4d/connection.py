@@ -5,7 +5,7 @@ import socket
 from typing import Optional, Protocol
 
 from .errors import BadReply, Disconnected, Ended
-from .wire import OBJECT_BYTES
+from .wire import READ_BYTES
 
 
 class Reader(Protocol):
@@ -66,7 +66,7 @@ class Connection:
     def receive(self) -> bytes:
         """The body of the next reply."""
         length = int.from_bytes(self._bytes(4), "big")
-        if not 1 <= length <= OBJECT_BYTES + 1:
+        if not 1 <= length <= READ_BYTES + 1:
             raise self.bad(f"a reply has no {length:,} bytes")
         return self._bytes(length)
 

@@ -8,12 +8,12 @@ from typing import List, Optional, Type, TypeVar, Union
 
 from . import wire
 from .connection import Connection, Peer, Reader, SocketPeer, Writer, dialled
-from .errors import Ended, ProgramFailed
+from .errors import Ended, Expired, Flushed, ProgramFailed
 from .history import Span, history_of
 from .pipeline import Pipeline, Reply
 from .program import Program
 from .retry import NEVER, Retry
-from .wire import OBJECT_BYTES, Attributes, Created, Request
+from .wire import READ_BYTES, Attributes, Created, Request
 
 T = TypeVar("T")
 
@@ -32,7 +32,7 @@ class Drive:
         self._retry = retry
 
     @classmethod
-    def pipe(cls, program: str = "s4d", role: str = "client", *, frames: int = 16, window: int = 100, tick: int = 1,
+    def pipe(cls, program: str = "s4d", role: str = "client", *, frames: int = 24, window: int = 100, tick: int = 1,
              timeout: Optional[float] = None, retry: Retry = NEVER) -> Drive:
         """A session with a new drive in memory, by `s4d pipe`. All its data is gone when the session ends."""
         options = ["--frames", str(frames), "--window", str(window), "--tick", str(tick)]
@@ -117,13 +117,56 @@ class Drive:
         """Deletes an object. Its versions can still be read. The moment of the change."""
         return self._ask(wire.delete(object))
 
-    def read(self, object: int, offset: int = 0, length: int = OBJECT_BYTES, at: Optional[int] = None) -> bytes:
-        """The bytes of a range, now or at a moment; fewer where the object ends before."""
-        return self._ask(wire.read(object, offset, length, at))
+    def read(self, object: int, offset: int = 0, length: Optional[int] = None, at: Optional[int] = None) -> bytes:
+        """The bytes of a range of at most `READ_BYTES`, now or at a moment; fewer where the object ends before.
+
+        Without a length all bytes from the offset on, of one version, by as many requests as that takes.
+        """
+        if length is not None:
+            return self._ask(wire.read(object, offset, length, at))
+        if at is not None:
+            return self._read_on(object, offset, at)
+        data = self._ask(wire.read(object, offset, READ_BYTES, None))
+        return data if len(data) < READ_BYTES else self._read_version(object, offset)
+
+    def _read_on(self, object: int, offset: int, at: Optional[int]) -> bytes:
+        """All bytes from an offset on; where no moment is given each piece is of a moment of its own."""
+        pieces = [self._ask(wire.read(object, offset, READ_BYTES, at))]
+        while len(pieces[-1]) == READ_BYTES:
+            offset += READ_BYTES
+            pieces.append(self._ask(wire.read(object, offset, READ_BYTES, at)))
+        return b"".join(pieces)
+
+    def _read_version(self, object: int, offset: int) -> bytes:
+        """All bytes of the present version from an offset on.
+
+        The pieces are of one version where the last change is the same before and after them. Else another session
+        changed the object meanwhile: it is read at that change, or anew where that moment can't be read.
+        """
+        changed = self.attributes(object).changed
+        data = self._read_on(object, offset, None)
+        while (later := self.attributes(object).changed) != changed:
+            changed = later
+            try:
+                return self._read_on(object, offset, changed)
+            except (Expired, Flushed):
+                data = self._read_on(object, offset, None)
+        return data
 
     def write(self, object: int, offset: int, data: bytes) -> int:
-        """Puts bytes at an offset, after zeros where the object is shorter. The moment of the change."""
+        """Puts bytes at an offset, after zeros where the object is shorter. The moment of the change.
+
+        At most `WRITE_BYTES`: more are written by `write_pieces`.
+        """
         return self._ask(wire.write(object, offset, data))
+
+    def write_pieces(self, object: int, offset: int, data: bytes) -> List[int]:
+        """Puts any number of bytes at an offset, by several changes where one hasn't room for them. Their moments.
+
+        Each change makes a version of its own, which others may read; where one is refused those before it stay.
+        """
+        starts = range(0, max(len(data), 1), READ_BYTES)  # whole blocks each, if the offset is the start of one
+        return [self.write(object, offset + start, data[start:start + READ_BYTES]) for start in starts]
 
     def append(self, object: int, data: bytes) -> int:
         """Puts bytes at the object's end. The moment of the change."""
@@ -160,8 +203,8 @@ class Past:
     def __init__(self, drive: Drive, moment: int) -> None:
         self._drive, self.moment = drive, moment
 
-    def read(self, object: int, offset: int = 0, length: int = OBJECT_BYTES) -> bytes:
-        """The bytes of a range at the moment; fewer where the object ended before."""
+    def read(self, object: int, offset: int = 0, length: Optional[int] = None) -> bytes:
+        """The bytes of a range at the moment; without a length, all from the offset on."""
         return self._drive.read(object, offset, length, at=self.moment)
 
     def attributes(self, object: int) -> Attributes:

@@ -87,7 +87,7 @@ class Flushed(Refused):
 
 
 class TooLarge(Refused):
-    """The object or the read would have more than 24,576 bytes."""
+    """The object would have more than 98,304 bytes, or the read more than 24,576."""
 
     number = 6
 

@@ -8,7 +8,7 @@ from typing import Any, Generic, List, Optional, Type, TypeVar, Union
 from . import wire
 from .connection import Connection
 from .errors import BadReply, Disconnected, Refused
-from .wire import OBJECT_BYTES, Attributes, Created, Request
+from .wire import READ_BYTES, Attributes, Created, Request
 
 T = TypeVar("T")
 
@@ -54,7 +54,8 @@ class Reply(Generic[T]):
 class Pipeline:
     """Collects requests. The end of a `with` block, or `run`, sends them.
 
-    Each method asks what the method of the same name asks of a `Drive`, and gives a `Reply`.
+    Each method asks what the method of the same name asks of a `Drive`, and gives a `Reply`. Each is one request, so a read
+    without a length gives at most `READ_BYTES`.
 
     Replies are read while requests are written, so that neither side waits for the other for ever, however many there are.
     Nothing is asked again after a refusal: later requests have been sent by then.
@@ -109,7 +110,7 @@ class Pipeline:
     def delete(self, object: int) -> Reply[int]:
         return self._add(wire.delete(object))
 
-    def read(self, object: int, offset: int = 0, length: int = OBJECT_BYTES, at: Optional[int] = None) -> Reply[bytes]:
+    def read(self, object: int, offset: int = 0, length: int = READ_BYTES, at: Optional[int] = None) -> Reply[bytes]:
         return self._add(wire.read(object, offset, length, at))
 
     def write(self, object: int, offset: int, data: bytes) -> Reply[int]:

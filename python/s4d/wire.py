@@ -6,9 +6,11 @@ from typing import Callable, Generic, NamedTuple, Optional, TypeVar, Union
 
 from .errors import REFUSALS, BadReply, Refused
 
-OBJECT_BYTES = 24_576  # the greatest size of an object, and the most bytes of one read
+OBJECT_BYTES = 98_304  # the greatest size of an object
+READ_BYTES = 24_576  # the most bytes of one read
 ATTRIBUTE_BYTES = 64  # the longest attribute
 BODY_BYTES = 32_768  # the longest body of a frame
+WRITE_BYTES = BODY_BYTES - 17  # the most bytes of one write, after its kind, object and offset
 LAST = 2**64 - 1  # the last moment, and the greatest number of an object
 
 T = TypeVar("T")
@@ -87,7 +89,7 @@ def read_created(kind: int, rest: bytes) -> Created:
 
 
 def read_data(kind: int, rest: bytes) -> bytes:
-    if kind != 3 or len(rest) > OBJECT_BYTES:
+    if kind != 3 or len(rest) > READ_BYTES:
         raise BadReply("no Data came")
     return rest
 

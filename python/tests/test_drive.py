@@ -54,7 +54,8 @@ class Requests(unittest.TestCase):
             for kind, ask in (
                     (s4d.NotAdmin, lambda: it.set_window(1)),
                     (s4d.BadAttr, lambda: it.set_attribute(1, b"x" * 65)),
-                    (s4d.TooLarge, lambda: it.write(1, 24_576, b"x")),
+                    (s4d.TooLarge, lambda: it.write(1, 98_304, b"x")),
+                    (s4d.TooLarge, lambda: it.read(1, 0, 24_577)),
                     (s4d.Future, lambda: it.read(1, at=1_000)),
                     (s4d.Expired, lambda: it.read(1, at=0)),
                     (s4d.NoObject, lambda: it.delete(2))):
@@ -70,11 +71,13 @@ class Requests(unittest.TestCase):
                 it.at(1).read(1)
 
     def test_the_greatest_requests(self):
-        with drive() as it:
+        with drive(frames=64) as it:
             it.create(b"x" * 64)
-            whole = bytes(range(256)) * 96
-            it.write(1, 0, whole)
+            whole = bytes(range(256)) * 384
+            self.assertEqual(it.write_pieces(1, 0, whole), [2, 3, 4, 5])
             self.assertEqual(it.read(1), whole)
+            self.assertEqual(it.read(1, 98_000), whole[98_000:])
+            self.assertEqual((it.at(3).read(1), it.at(5).read(1, 1)), (whole[:49_152], whole[1:]))
             with self.assertRaises(s4d.TooLarge):
                 it.append(1, b"x" * (s4d.BODY_BYTES - 9))
             self.assertEqual(it.at(1).attributes(1).attribute, b"x" * 64)
@@ -174,7 +177,7 @@ class Ends(unittest.TestCase):
         it = drive()
         it.create()
         it.truncate(1, 24_576)
-        it._connection.send(s4d.wire.read(1, 0, s4d.OBJECT_BYTES, None).frame() * 100)
+        it._connection.send(s4d.wire.read(1, 0, s4d.READ_BYTES, None).frame() * 100)
         with self.assertRaises(s4d.ProgramFailed):
             it.close()
 
@@ -309,8 +312,8 @@ class Images(unittest.TestCase):
         self.image = s4d.Image(os.path.join(folder.name, "drive.image"), PROGRAM)
 
     def test_sessions_one_after_another(self):
-        self.image.make(16, window=50)
-        self.assertEqual(self.image.verify(), s4d.Facts(frames=16, objects=0, clock=0, window=50, floor=0))
+        self.image.make(24, window=50)
+        self.assertEqual(self.image.verify(), s4d.Facts(frames=24, objects=0, clock=0, window=50, floor=0))
         with self.image.session() as it:
             it.create(b"note")
             it.write(1, 0, b"mill")
@@ -324,20 +327,20 @@ class Images(unittest.TestCase):
         self.assertEqual(self.image.verify().clock, 3)
 
     def test_refusals(self):
-        self.image.make(16)
+        self.image.make(24)
         with self.assertRaisesRegex(s4d.NoObject, "read of object 7 at moment 0"):
             self.image.read(7, at=0)
         with self.assertRaisesRegex(s4d.Future, "read of object 7 at moment 1"):
             self.image.read(7, at=1)
 
     def test_a_drive_is_not_wiped_by_a_second_one(self):
-        self.image.make(16)
+        self.image.make(24)
         with self.assertRaises(s4d.ProgramFailed):
-            self.image.make(8)
-        self.assertEqual(self.image.verify().frames, 16)
+            self.image.make(32)
+        self.assertEqual(self.image.verify().frames, 24)
 
     def test_a_live_session_over_fifos(self):
-        self.image.make(16)
+        self.image.make(24)
         requests, replies = f"{self.image.path}.in", f"{self.image.path}.out"
         os.mkfifo(requests)
         os.mkfifo(replies)
@@ -355,7 +358,7 @@ class Images(unittest.TestCase):
             for _ in range(objects):
                 kept = it.write(it.create().object, 0, b"mill")
             with it.pipeline() as batch:
-                replies = [batch.write(1 + turn % objects, 0, b"moor") for turn in range(300)]
+                replies = [batch.write(1 + turn % objects, 0, b"moor") for turn in range(1_000)]
         flooded = max(reply.result() for reply in replies if not reply.refusal())
         return kept, flooded, type(replies[-1].refusal())
 
@@ -367,17 +370,17 @@ class Images(unittest.TestCase):
             self.assertEqual((it.read(1), it.at(kept).read(1)), (b"mill", b"mill"))
 
     def test_the_way_out_of_a_full_journal(self):
-        kept, flooded, refusal = self.flood(frames=64, objects=1)
+        kept, flooded, refusal = self.flood(frames=256, objects=1)
         self.assertIs(refusal, s4d.ChainFull)
         self.restore(kept, flooded, lambda it, first, last: it.flush_object(1, first, last))
 
     def test_the_way_out_of_a_full_drive(self):
-        kept, flooded, refusal = self.flood(frames=16, objects=4)
+        kept, flooded, refusal = self.flood(frames=24, objects=4)
         self.assertIs(refusal, s4d.NoSpace)
         self.restore(kept, flooded, lambda it, first, last: it.flush(first, last))
 
     def test_a_dropped_session_leaves_no_lock(self):
-        self.image.make(16)
+        self.image.make(24)
         for number in range(1, 4):
             it = self.image.session()
             self.assertEqual(it.create().object, number)
@@ -391,7 +394,7 @@ class Images(unittest.TestCase):
             self.assertEqual(it.create().object, 4)
 
     def test_a_session_that_python_ends(self):
-        self.image.make(16)
+        self.image.make(24)
         words = [sys.executable, "-c", "import s4d, sys; it = s4d.Image(*sys.argv[1:]).session(); it.create()"]
         subprocess.run([*words, self.image.path, PROGRAM], cwd=TOP / "python", check=True)
         with self.image.session() as it:

@@ -22,7 +22,7 @@ class Images(unittest.TestCase):
         folder = tempfile.TemporaryDirectory()
         self.addCleanup(folder.cleanup)
         self.image = s4d.Image(os.path.join(folder.name, "-drive.image"), PROGRAM, S4, timeout=600)
-        self.image.make(16)
+        self.image.make(24)
         with self.image.session("admin", upkeep=False) as it:
             it.create(b"note")
             it.write(1, 0, b"meet at the mill\n")
@@ -88,7 +88,7 @@ class Images(unittest.TestCase):
     def test_numbers(self):
         info = self.image.info()
         self.assertEqual((info.frames, info.live, info.deleted, info.next, info.clock, info.window, info.floor),
-                         (16, 2, 1, 4, 9, 100, 0))
+                         (24, 2, 1, 4, 9, 100, 0))
         self.assertIsNone(info.time)
         self.assertEqual(info.hidden, s4d.HiddenCounts(runs=0, objects=1))
         checked = self.image.check()
@@ -125,11 +125,11 @@ class Images(unittest.TestCase):
 
     def test_a_full_journal(self):
         image = s4d.Image(f"{self.image.path}.flooded", PROGRAM, S4)
-        image.make(64, window=100_000)
+        image.make(256, window=100_000)
         with image.session(upkeep=False) as it:
             before = it.write(it.create().object, 0, b"mine")
             with it.pipeline() as batch:
-                for step in range(300):
+                for step in range(1_000):
                     batch.write(1, step, b"!")
         with self.assertRaisesRegex(s4d.ProgramFailed, "its journal is full"):
             image.restore(before)
@@ -177,7 +177,7 @@ class DatedImages(unittest.TestCase):
         folder = tempfile.TemporaryDirectory()
         self.addCleanup(folder.cleanup)
         self.image = s4d.Image(pathlib.Path(folder.name) / "drive.image", PROGRAM, S4)
-        self.image.make(16, window=10**15)
+        self.image.make(24, window=10**15)
         self.moment = 1_795_785_482_000_123
         with self.image.session(tick=self.moment) as it:
             self.assertEqual(it.create(b"note").moment, self.moment)

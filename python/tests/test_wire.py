@@ -40,6 +40,9 @@ class Spelling(unittest.TestCase):
                 wire.delete(wrong)
         with self.assertRaises(ValueError):
             wire.append(1, b"x" * (s4d.BODY_BYTES - 8))
+        self.assertEqual(len(wire.write(1, 0, bytes(s4d.WRITE_BYTES)).body), s4d.BODY_BYTES)
+        with self.assertRaisesRegex(ValueError, "a request has at most 32,768 bytes, this one 32,769"):
+            wire.write(1, 0, bytes(s4d.WRITE_BYTES + 1))
 
     def test_replies(self):
         reply = b"\x04" + (5).to_bytes(4, "big") + (1).to_bytes(8, "big") + (2).to_bytes(8, "big") + b"\x01x"
@@ -48,13 +51,74 @@ class Spelling(unittest.TestCase):
         self.assertEqual(drive(frames(b"\x02" + bytes(7) + b"\1" + bytes(7) + b"\2")).create(), s4d.Created(1, 2))
 
     def test_bytes_that_are_no_reply(self):
-        for reply in (b"\0\0\0\0", b"\0\0\0\2\0\x10", b"\0\0\0\1\5", b"\0\0\0\1\3", b"\xff\0\0\0", b"\0\0\0\2\1\0"):
+        for reply in (b"\0\0\0\0", b"\0\0\x60\2\3", b"\0\0\0\2\0\x10", b"\0\0\0\1\5", b"\0\0\0\1\3", b"\xff\0\0\0", b"\0\0\0\2\1\0"):
             with self.subTest(reply=reply):
                 it = drive(reply)
                 with self.assertRaises(s4d.BadReply):
                     it.append(1, b"x")
                 with self.assertRaises(s4d.Disconnected):
                     it.append(1, b"x")
+
+
+class Pieces(unittest.TestCase):
+    """Objects that are larger than a reply or a request."""
+
+    FULL, REST = b"\x03" + b"a" * s4d.READ_BYTES, b"\x03" + b"b" * 7
+
+    def check_read(self, bodies, asked, **how):
+        """What is read of object 1 over these replies, and that these requests were written."""
+        sent = io.BytesIO()
+        found = s4d.Drive(io.BytesIO(frames(*bodies)), sent).read(1, **how)
+        self.assertEqual(sent.getvalue(), b"".join(request.frame() for request in asked))
+        return found
+
+    @staticmethod
+    def of_version(moment):
+        return b"\x04" + bytes(4) + bytes(8) + moment.to_bytes(8, "big") + b"\0"
+
+    @staticmethod
+    def reads(*offsets, at=None):
+        return [wire.read(1, offset, s4d.READ_BYTES, at) for offset in offsets]
+
+    def test_a_small_object_is_one_request(self):
+        self.assertEqual(self.check_read([self.REST], self.reads(0)), b"b" * 7)
+
+    def test_a_length_is_one_request(self):
+        self.assertEqual(self.check_read([self.FULL], self.reads(5), offset=5, length=s4d.READ_BYTES), self.FULL[1:])
+
+    def test_at_a_moment(self):
+        found = self.check_read([self.FULL, self.FULL, b"\x03"], self.reads(1, 24_577, 49_153, at=9), offset=1, at=9)
+        self.assertEqual(found, b"a" * 49_152)
+
+    def test_one_version_now(self):
+        asked = [*self.reads(0), wire.attributes(1, None), *self.reads(0, 24_576), wire.attributes(1, None)]
+        bodies = [self.FULL, self.of_version(4), self.FULL, self.REST, self.of_version(4)]
+        self.assertEqual(self.check_read(bodies, asked), b"a" * 24_576 + b"b" * 7)
+
+    def test_another_session_changes_it_meanwhile(self):
+        asked = [*self.reads(0), wire.attributes(1, None), *self.reads(0, 24_576), wire.attributes(1, None), *self.reads(0, at=5)]
+        bodies = [self.FULL, self.of_version(4), self.FULL, self.REST, self.of_version(5), b"\x03new"]
+        self.assertEqual(self.check_read(bodies, asked), b"new")
+
+    def test_a_change_that_can_not_be_read(self):
+        look = wire.attributes(1, None)
+        asked = [*self.reads(0), look, *self.reads(0, 24_576), look, *self.reads(0, at=5), *self.reads(0), look]
+        bodies = [self.FULL, self.of_version(4), self.FULL, self.REST, self.of_version(5), b"\0\3", b"\x03new", self.of_version(5)]
+        self.assertEqual(self.check_read(bodies, asked), b"new")
+
+    def test_writes(self):
+        moments = [b"\x01" + moment.to_bytes(8, "big") for moment in (5, 6, 7)]
+        sent = io.BytesIO()
+        it = s4d.Drive(io.BytesIO(frames(*moments, moments[0])), sent)
+        self.assertEqual(it.write_pieces(1, 3, b"x" * 50_000), [5, 6, 7])
+        self.assertEqual(it.write_pieces(1, 3, b""), [5])
+        parts = [wire.write(1, 3 + 24_576 * k, b"x" * size) for k, size in enumerate((24_576, 24_576, 848))]
+        self.assertEqual(sent.getvalue(), b"".join(it.frame() for it in [*parts, wire.write(1, 3, b"")]))
+
+    def test_a_write_that_is_refused(self):
+        it = drive(frames(b"\x01" + bytes(7) + b"\5", b"\0\x09"))
+        with self.assertRaises(s4d.NoSpace):
+            it.write_pieces(1, 0, b"x" * 50_000)
 
 
 class Refusals(unittest.TestCase):
@@ -122,7 +186,7 @@ class Ends(unittest.TestCase):
         with ours, theirs, ours.makefile("rb") as reader, ours.makefile("wb") as writer:
             theirs.sendall(frames(b"\x03abc"))
             self.assertEqual(s4d.Drive(reader, writer).read(1), b"abc")
-            self.assertEqual(theirs.recv(100), wire.read(1, 0, s4d.OBJECT_BYTES, None).frame())
+            self.assertEqual(theirs.recv(100), wire.read(1, 0, s4d.READ_BYTES, None).frame())
 
     def test_addresses_that_are_none(self):
         for address in ("here", "here:", ":1", "here:x"):
