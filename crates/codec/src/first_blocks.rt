@@ -37,7 +37,7 @@ fn read_padded(length: u8, bytes: &[u8]) -> Option<(Attribute, &[u8])>
 {
     let length = length as usize;
     let (text, rest) = read_bytes(length, bytes)?;
-    let rest = read_zeros(64usize.saturating_sub(length), rest)?;
+    let rest = read_zeros(ATTRIBUTE_BYTES.saturating_sub(length), rest)?;
     let attribute = Attribute::new(text)?;
     Some((attribute, rest))
 }

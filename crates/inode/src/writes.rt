@@ -76,20 +76,22 @@ fn write_block<B: Blocks>(
     append_data(table, object, &block)
 }
 
-/// Appends each block that a write touches, by ascending index, and answers the inode with pointers
-/// to them.
+/// Appends each block that a write touches, by ascending index, and puts pointers to them into a
+/// copy of the inode.
 fn write_blocks<B: Blocks>(
     table: &mut B,
     object: ObjectId,
     inode: &Inode,
     offset: usize,
     bytes: &[u8],
-) -> Inode
+    next: &mut Inode,
+)
     requires object { 1 ≤ object }
     requires end { offset + length bytes.now ≤ OBJECT_BYTES }
     requires count { length inode.now.pointers ≡ OBJECT_BLOCKS }
     requires lead { PointersLead (B.log table.old).held inode.now }
     requires room { touched_count offset (length bytes.now) ≤ length (B.log table.old).ahead }
+    requires copy { next.old ≡ inode.now }
     ensures log { B.log table.new
         ≡ with_data object
         (blocks_written (contents_of (B.log table.old).held) inode.now offset bytes.now)
@@ -97,22 +99,20 @@ fn write_blocks<B: Blocks>(
     ensures growth { GrowsBy object
         (blocks_written (contents_of (B.log table.old).held) inode.now offset bytes.now)
         (B.log table.old) (B.log table.new) }
-    ensures count { length result.pointers ≡ OBJECT_BLOCKS }
-    ensures rest { result ≡ record inode.now { pointers = result.pointers } }
+    ensures count { length next.new.pointers ≡ OBJECT_BLOCKS }
+    ensures rest { next.new ≡ record inode.now { pointers = next.new.pointers } }
     ensures pointers { (k : ℕ)
-        → pointer_at result k
+        → pointer_at next.new k
         ≡ (if is_touched offset (length bytes.now) k
         then slice_get (B.log table.old).ahead (k - offset / 512)
         else pointer_at inode.now k) }
 {
     let first = offset / BLOCK_BYTES;
     let count = blocks_of_write(offset as u64, bytes.len());
-    let mut next = *inode;
     for index in first..first + count {
         let place = write_block(table, object, inode, index, offset, bytes);
         next.pointers[index] = Some(place);
     }
-    next
 }
 
 /// The size after a write of `len` bytes.
@@ -126,10 +126,10 @@ fn size_after(size: u32, offset: usize, len: usize) -> u32
     size.max((offset + len) as u32)
 }
 
-/// Writes bytes at an offset of a live object, up to a size of at most `OBJECT_BYTES`, and answers
-/// its next inode, changed at the moment. Each block that has one of the bytes is appended anew, by
-/// ascending index, as `blocks_of_write` counts them; between the old end and the offset stand
-/// zeros. Without bytes nothing but the moment changes.
+/// Writes bytes at an offset of a live object, up to a size of at most `OBJECT_BYTES`, and makes of
+/// a copy of its inode the next one, changed at the moment. Each block that has one of the bytes is
+/// appended anew, by ascending index, as `blocks_of_write` counts them; between the old end and the
+/// offset stand zeros. Without bytes nothing but the moment changes.
 pub fn write<B: Blocks>(
     table: &mut B,
     object: ObjectId,
@@ -137,19 +137,21 @@ pub fn write<B: Blocks>(
     moment: Moment,
     offset: u64,
     bytes: &[u8],
-) -> Inode
+    next: &mut Inode,
+)
     requires object { 1 ≤ object }
     requires end { offset + length bytes.now ≤ OBJECT_BYTES }
     requires tidy { Tidy (contents_of (B.log table.old).held) inode.now }
     requires pointers { PointersHeld (B.log table.old).held object inode.now }
     requires room { touched_count offset (length bytes.now) ≤ length (B.log table.old).ahead }
-    ensures meaning { meaning (contents_of (B.log table.new).held) result
+    requires copy { next.old ≡ inode.now }
+    ensures meaning { meaning (contents_of (B.log table.new).held) next.new
         ≡ effect (Write object offset bytes.now) moment
         (meaning (contents_of (B.log table.old).held) inode.now) }
-    ensures tidy { Tidy (contents_of (B.log table.new).held) result }
-    ensures pointers { PointersHeld (B.log table.new).held object result }
+    ensures tidy { Tidy (contents_of (B.log table.new).held) next.new }
+    ensures pointers { PointersHeld (B.log table.new).held object next.new }
     ensures inode { Written (B.log table.old).ahead moment offset (length bytes.now) inode.now
-        result }
+        next.new }
     ensures log { B.log table.new
         ≡ with_data object
         (blocks_written (contents_of (B.log table.old).held) inode.now offset bytes.now)
@@ -159,8 +161,7 @@ pub fn write<B: Blocks>(
         (B.log table.old) (B.log table.new) }
 {
     let offset = offset as usize;
-    let mut next = write_blocks(table, object, inode, offset, bytes);
+    write_blocks(table, object, inode, offset, bytes, next);
     next.size = size_after(inode.size, offset, bytes.len());
     next.changed = moment;
-    next
 }

@@ -1,24 +1,21 @@
 -- Laws of the entries between two inodes.
-use Rattle.std.proofs.Common.{◌≡◌, ℕ, zero, suc, ◌+◌, ◌-◌, ◌*◌, ◌<◌, ◌≤◌, ◌==◌, ◌&&◌, Bool, true, false, ltb, cond, min, inl, inr, ◌⊎◌, List, [], ◌∷◌, ◌++◌, length, map, take, drop, Option, Some, None, refl, sym, ap, subst, ◌∙◌, append_assoc, arith}
-use Rattle.std.specs.Prelude.{◌||◌, is_none, is_some}
+use Rattle.std.proofs.Common.{◌≡◌, ℕ, zero, suc, ◌+◌, ◌-◌, ◌*◌, ◌<◌, ◌≤◌, ◌==◌, ◌&&◌, Bool, true, false, ltb, cond, min, inl, inr, ◌⊎◌, List, [], ◌∷◌, ◌++◌, length, map, take, drop, Option, refl, sym, ap, subst, ◌∙◌, append_assoc, arith}
+use Rattle.std.specs.Prelude.{◌||◌, is_none}
 use Rattle.std.specs.List.{AllByRecursion, list_all}
 use Rattle.std.proofs.lemmas.List.{append-nil, length-take, length-drop, take-append-drop}
 use Rattle.std.proofs.lemmas.Bool.{cases_Bool, and_parts, and_from, or_cases, or_left, or_right, eqb-true, eq-eqb, cond-true, cond-false, both_ways, lt-ltb}
-use Rattle.std.proofs.lemmas.Option.{cond_some, none-some}
 use Rattle.s4_types.specs.Pointer.{Place}
 use Rattle.s4_types.specs.declared.limits.TheConstants.{OBJECT_BYTES, ENTRY_TRIPLES, OBJECT_BLOCKS, CHANGE_ENTRIES, SHORTEST_ENTRY_BYTES, TRIPLE_BYTES}
 use Rattle.codec.specs.declared.inodes.Inode.{Inode}
 use Rattle.codec.specs.declared.entries.Status.{Status}
 use Rattle.codec.specs.declared.entries.Triple.{Triple}
-use Rattle.codec.specs.Fields.{Reads}
 use Rattle.codec.specs.Checkpoint.{pointer_at}
-use Rattle.codec.specs.Entry.{EntryFields, ascend_from, entry_rules, checked_entry, pair_length, entry_length}
+use Rattle.codec.specs.Entry.{EntryFields, ascend_from, entry_rules, pair_length, entry_length}
 use Rattle.undo_redo.specs.Linked.{status_of, pointer_after, pointer_before, StandsBefore}
 use Rattle.undo_redo.specs.Redone.{with_after, redone}
 use Rattle.undo_redo.specs.Runs.{Run, AllAt}
 use Rattle.undo_redo.specs.Groups.{above, continues, grouped_behind, grouped}
 use Rattle.undo_redo.specs.Between.{pair_between, triples_between, leading_entry, further_entry, pieces, later_entries, entries_between, AreOf, CanLead}
-use Rattle.undo_redo.specs.private.Checking.{checked_between}
 use Rattle.undo_redo.specs.Sizes.{later_sizes, entry_sizes}
 use Rattle.undo_redo.proofs.Pointers.{length-with_after, at-with_after, same_pointers}
 use Rattle.undo_redo.proofs.Indices.{rules_of, rules_made, ascend_take, ascend_drop, ascend_front, above_pieces}

@@ -11,7 +11,7 @@ use Rattle.codec.specs.Checkpoint.{pointer_at}
 use Rattle.codec.specs.Entry.{same_slot, ascend_from}
 use Rattle.undo_redo.specs.Linked.{pointer_after, pointer_before}
 use Rattle.undo_redo.specs.Between.{triple_between, tells_apart, triples_below, triples_between, AreOf}
-use Rattle.undo_redo.specs.private.Further.{triples_from}
+use Rattle.undo_redo.specs.private.Further.{AreSameFrom, triples_from}
 use Rattle.undo_redo.proofs.Pointers.{Leaves}
 use Rattle.undo_redo.proofs.Indices.{ascends, ascend_none, ascend_made, ascend_weaker, ascend_reaches}
 use Rattle.undo_redo.proofs.Slots.{same_slot_true, same_slot_same}
@@ -42,12 +42,6 @@ unfolding triples_from
 from_more i j n lt =
     let one : OBJECT_BLOCKS - n ≡ suc (OBJECT_BLOCKS - (n + 1)) = omega (arith, lt) in
     ap (λ (k : ℕ). stretch i j n k) one ∙ stretch_more i j n (OBJECT_BLOCKS - (n + 1))
-
-pub from_end : (i j : Inode) (n : ℕ) → OBJECT_BLOCKS ≤ n → triples_from n i j ≡ []
-unfolding triples_from
-from_end i j n le =
-    let none : OBJECT_BLOCKS - n ≡ 0 = omega (arith, le) in
-    ap (λ (k : ℕ). stretch i j n k) none
 
 -- ---- in order
 
@@ -100,11 +94,29 @@ stretch_tells i j a (suc m) n le lt differ p = elim (cases_eq a n) [
       stretch_tests i j a m (λ triples. pointer_after triples n p ≡ pointer_at j n) (λ is. behind (cond (a == n) (pointer_at j a) p)) (λ no_triple. behind p))
 ]
 
-stretch_none : (i j : Inode) (a n : ℕ) → ((k : ℕ) → pointer_at i k ≡ pointer_at j k) → stretch i j a n ≡ []
+-- equal pointers aren't told
+not_apart : (i j : Inode) (n : ℕ) → pointer_at i n ≡ pointer_at j n → tells_apart (triple_between i j n) ≡ false
+not_apart i j n same = not_from_true (same_slot (pointer_at i n) (pointer_at j n)) (same_slot_same (pointer_at i n) (pointer_at j n) same)
+
+stretch_none : (i j : Inode) (a n : ℕ) → ((k : ℕ) → a ≤ k → k < a + n → pointer_at i k ≡ pointer_at j k) → stretch i j a n ≡ []
 stretch_none i j a zero same = refl
 stretch_none i j a (suc n) same =
-    let told : tells_apart (triple_between i j a) ≡ false = not_from_true (same_slot (pointer_at i a) (pointer_at j a)) (same_slot_same (pointer_at i a) (pointer_at j a) (same a)) in
-    ap (λ b. cond b (triple_between i j a ∷ stretch i j (a + 1) n) (stretch i j (a + 1) n)) told ∙ stretch_none i j (a + 1) n same
+    ap (λ b. cond b (triple_between i j a ∷ stretch i j (a + 1) n) (stretch i j (a + 1) n)) (not_apart i j a (same a (omega arith) (omega arith)))
+    ∙ stretch_none i j (a + 1) n (λ k le lt. same k (omega arith) (omega arith))
+
+-- where none differs from an index on, none is left there, nor later
+pub from_none : (i j : Inode) (end n : ℕ) → AreSameFrom end i j → end ≤ n → triples_from n i j ≡ []
+unfolding triples_from
+from_none i j end n same le = stretch_none i j n (OBJECT_BLOCKS - n) (λ k above lt. same k (omega arith) (omega arith))
+
+-- where none differs below an index, those that differ begin there
+pub from_first : (i j : Inode) (n : ℕ) → n ≤ OBJECT_BLOCKS → ((k : ℕ) → k < n → pointer_at i k ≡ pointer_at j k) → triples_from n i j ≡ triples_from 0 i j
+from_first i j zero le same = refl
+from_first i j (suc n) le same =
+    let here : triples_from n i j ≡ triples_from (n + 1) i j =
+    from_more i j n (omega arith) ∙ ap (λ b. cond b (triple_between i j n ∷ []) [] ++ triples_from (n + 1) i j) (not_apart i j n (same n (omega arith))) in
+    let one : n + 1 ≡ suc n = omega arith in
+    subst (λ (k : ℕ). triples_from k i j ≡ triples_from 0 i j) one (sym here ∙ from_first i j n (omega arith) (λ k lt. same k (omega arith)))
 
 -- at each index the two pairs of inodes agree, or neither pair differs there
 abbrev pub AgreeAt : Inode → Inode → Inode → Inode → ℕ → Type 0
@@ -144,7 +156,7 @@ between_reaches i j n lt = elim (cases_Bool (same_slot (pointer_at i n) (pointer
 
 pub between_none : (i j : Inode) → ((k : ℕ) → pointer_at i k ≡ pointer_at j k) → triples_between i j ≡ []
 unfolding triples_between triples_below
-between_none i j same = stretch_none i j 0 OBJECT_BLOCKS same
+between_none i j same = stretch_none i j 0 OBJECT_BLOCKS (λ k le lt. same k)
 
 pub none_between : (i j : Inode) (n : ℕ) → triples_between i j ≡ [] → n < OBJECT_BLOCKS → pointer_at i n ≡ pointer_at j n
 none_between i j n none lt = subst (λ (triples : List Triple). pointer_after triples n (pointer_at i n) ≡ pointer_at j n) none (between_reaches i j n lt)

@@ -1,5 +1,5 @@
 -- The entries between two inodes, as the code makes them: each tells the next piece of the pointers that differ.
-use Rattle.std.proofs.Common.{◌≡◌, ◌≢◌, ℕ, suc, ◌+◌, ◌-◌, ◌<◌, ◌≤◌, true, cond, min, List, [], ◌∷◌, ◌++◌, length, take, drop, Option, Some, None, refl, sym, ap, subst, ◌∙◌, append_assoc, arith}
+use Rattle.std.proofs.Common.{◌≡◌, ◌≢◌, ℕ, suc, ◌+◌, ◌-◌, ◌<◌, ◌≤◌, true, cond, min, inl, inr, List, [], ◌∷◌, ◌++◌, length, take, drop, Option, Some, None, refl, sym, ap, subst, ◌∙◌, append_assoc, arith}
 use Rattle.std.specs.Prelude.{is_some}
 use Rattle.std.specs.List.{AllByRecursion}
 use Rattle.std.proofs.lemmas.List.{append-nil, length-append, length-take, length-drop, take_at, drop_at, take_all, drop_all}
@@ -10,10 +10,10 @@ use Rattle.codec.specs.declared.inodes.Inode.{Inode}
 use Rattle.codec.specs.declared.entries.Triple.{Triple}
 use Rattle.codec.specs.Fields.{Reads}
 use Rattle.codec.specs.Entry.{EntryFields, entry_rules, checked_entry}
-use Rattle.undo_redo.specs.Between.{triple_between, tells_apart, triples_between, leading_entry, further_entry, later_entries, entries_between, CanLead}
+use Rattle.undo_redo.specs.Between.{triple_between, tells_apart, triples_between, leading_entry, further_entry, later_entries, entries_between, AreSameOutside, CanLead}
 use Rattle.undo_redo.specs.private.Checking.{checked_between}
-use Rattle.undo_redo.specs.private.Further.{triples_from, entries_from}
-use Rattle.undo_redo.proofs.Differing.{from_all, from_more, from_end}
+use Rattle.undo_redo.specs.private.Further.{AreLeft, AreSameFrom, triples_from, entries_from}
+use Rattle.undo_redo.proofs.Differing.{from_all, from_more, from_none, from_first}
 use Rattle.undo_redo.proofs.BetweenLaws.{can_keep, later_none, later_more, later_rules, between_count}
 
 -- ---- pieces
@@ -38,13 +38,34 @@ cut_full piece rest all h most least =
       back = sym (drop_at piece rest ENTRY_TRIPLES count) ∙ ap (λ (ts : List Triple). drop ENTRY_TRIPLES ts) h;
     }
 
-pub cut_end : (i j : Inode) (n : ℕ) (piece all : List Triple) → piece ++ triples_from n i j ≡ all → length piece ≤ ENTRY_TRIPLES → OBJECT_BLOCKS ≤ n → IsCut piece (triples_from OBJECT_BLOCKS i j) all
-cut_end i j n piece all h most end =
-    let whole : piece ≡ all = sym (append-nil piece) ∙ ap (λ (ts : List Triple). piece ++ ts) (sym (from_end i j n end)) ∙ h in
+pub cut_end : (i j : Inode) (n end : ℕ) (piece all : List Triple) → piece ++ triples_from n i j ≡ all → length piece ≤ ENTRY_TRIPLES → AreSameFrom end i j → end ≤ n → IsCut piece (triples_from end i j) all
+cut_end i j n end piece all h most same le =
+    let whole : piece ≡ all = sym (append-nil piece) ∙ ap (λ (ts : List Triple). piece ++ ts) (sym (from_none i j end n same le)) ∙ h in
     record {
       front = sym (take_all ENTRY_TRIPLES piece most) ∙ ap (λ (ts : List Triple). take ENTRY_TRIPLES ts) whole;
-      back = from_end i j OBJECT_BLOCKS (omega arith) ∙ sym (drop_all ENTRY_TRIPLES piece most) ∙ ap (λ (ts : List Triple). drop ENTRY_TRIPLES ts) whole;
+      back = from_none i j end end same (omega arith) ∙ sym (drop_all ENTRY_TRIPLES piece most) ∙ ap (λ (ts : List Triple). drop ENTRY_TRIPLES ts) whole;
     }
+
+-- ---- the range that is compared
+
+-- beyond the last index there is nothing to compare
+pub same_beyond : (i j : Inode) → AreSameFrom OBJECT_BLOCKS i j
+same_beyond i j k le lt = absurd (omega (arith, le, lt))
+
+pub same_outside_all : (i j : Inode) → AreSameOutside 0 OBJECT_BLOCKS i j
+same_outside_all i j k lt (inl low) = absurd (omega (arith, low))
+same_outside_all i j k lt (inr high) = absurd (omega (arith, high, lt))
+
+pub same_from : (i j : Inode) (first end : ℕ) → AreSameOutside first end i j → AreSameFrom end i j
+same_from i j first end same k le lt = same k lt (inr le)
+
+-- those that differ from the range's first index on are all of them
+pub from_range : (i j : Inode) (first end : ℕ) → first ≤ OBJECT_BLOCKS → AreSameOutside first end i j → triples_from first i j ≡ triples_from 0 i j
+from_range i j first end le same = from_first i j first le (λ k lt. same k (omega (arith, le, lt)) (inl lt))
+
+-- what is left of the range is left of all
+pub left_of : (i j : Inode) (first from : ℕ) → triples_from first i j ≡ triples_from 0 i j → triples_from from i j ≡ drop ENTRY_TRIPLES (triples_from first i j) → triples_from from i j ≡ drop ENTRY_TRIPLES (triples_from 0 i j)
+left_of i j first from whole cut = cut ∙ ap (λ (ts : List Triple). drop ENTRY_TRIPLES ts) whole
 
 -- ---- the first entry
 
@@ -98,6 +119,11 @@ none_behind i j m n end piece is cut none =
     let count : length piece ≡ min ENTRY_TRIPLES (length (triples_from n i j)) = ap (λ (ts : List Triple). length ts) is ∙ length-take ENTRY_TRIPLES (triples_from n i j) in
     let left : length (triples_from end i j) ≡ length (triples_from n i j) - ENTRY_TRIPLES = ap (λ (ts : List Triple). length ts) cut ∙ length-drop ENTRY_TRIPLES (triples_from n i j) in
     later_none j m (triples_from end i j) (omega (arith, count, left, none))
+
+-- from the end on none is left
+pub ended : (i j : Inode) (m from end : ℕ) → AreLeft i j m from end → end ≤ from → entries_from i j m from ≡ []
+unfolding entries_from
+ended i j m from end left le = later_none j m (triples_from from i j) (ap (λ (ts : List Triple). length ts) (from_none i j end from left.same le))
 
 -- the next keeps the rules, and so do those after it
 pub next_keep : (i j : Inode) (m n end : ℕ) (piece : List Triple) → piece ≡ take ENTRY_TRIPLES (triples_from n i j) → triples_from end i j ≡ drop ENTRY_TRIPLES (triples_from n i j) → length piece ≢ 0 → AllByRecursion (λ e. entry_rules e ≡ true) (entries_from i j m n) → (entry_rules (further_entry j m piece) ≡ true) × AllByRecursion (λ e. entry_rules e ≡ true) (entries_from i j m end)

@@ -1,5 +1,5 @@
 -- The entries of one moment that lead from an inode to another.
-use Rattle.std.specs.Prelude.{◌≡◌, ℕ, zero, suc, ◌≤◌, Bool, true, false, not, if◌then◌else◌, List, [], ◌∷◌, length, map, take, drop, Option, Some, None}
+use Rattle.std.specs.Prelude.{◌≡◌, ◌⊎◌, ℕ, zero, suc, ◌<◌, ◌≤◌, Bool, true, false, not, if◌then◌else◌, List, [], ◌∷◌, length, map, take, drop, Option, Some, None}
 use Rattle.std.specs.List.{filter, range_with_len, AllByRecursion}
 use Rattle.std.specs.Cmp.Lexicographic.{pointwise}
 use Rattle.std.specs.Prelude.{◌==◌}
@@ -69,3 +69,7 @@ pub record CanLead (i j : Inode) (m : ℕ) : Type 0 where
   pub was_nothing : i.alive ≡ false → (i.size ≡ 0) × (i.changed ≡ 0)
   pub changed : j.alive ≡ true → j.changed ≡ m
   pub flag_alone : j.alive ≡ false → i ≡ record j { alive = true }
+
+-- The pointers of two inodes are equal below the first index of a range, and from its end on.
+abbrev pub AreSameOutside : ℕ → ℕ → Inode → Inode → Type 0
+AreSameOutside first end i j = (k : ℕ) → k < OBJECT_BLOCKS → (k < first) ⊎ (end ≤ k) → pointer_at i k ≡ pointer_at j k

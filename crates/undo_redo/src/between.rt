@@ -1,16 +1,16 @@
 ghost use Rattle.std.specs.Iterator.{YieldsFirst, item_count};
 ghost use Rattle.std.specs.Prelude.{◌≡◌, ◌≤◌, ◌∷◌, true, take};
-ghost use Rattle.std.specs.List.{AllByRecursion};
 ghost use Rattle.s4_types.specs.declared.limits.TheConstants.{ENTRY_TRIPLES, OBJECT_BLOCKS};
 ghost use Rattle.codec.specs.Fields.{Reads};
 ghost use Rattle.codec.specs.Entry.{entry_rules, checked_entry};
 ghost use Rattle.undo_redo.specs.Between.{CanLead, triples_between, leading_entry, further_entry};
-ghost use Rattle.undo_redo.specs.Between.{entries_between};
-ghost use Rattle.undo_redo.specs.private.Further.{entries_from};
+ghost use Rattle.undo_redo.specs.Between.{AreSameOutside, entries_between};
+ghost use Rattle.undo_redo.specs.private.Further.{AreLeft, entries_from};
 
 use crate::pieces::{pair_between, piece_from, status_of};
 use codec::{Entry, Inode, Triples};
 use s4_types::Moment;
+use s4_types::limits::OBJECT_BLOCKS;
 use std::marker::Model;
 
 /// The entries of a moment that lead from an inode to another, the first of which is made.
@@ -39,11 +39,28 @@ impl<'a> EntriesBetween<'a> {
         requires { CanLead before.now after.now moment }
         ensures { result ≡ entries_between before.entry.now after.entry.now moment }
     {
-        let (triples, end) = piece_from(before, after, 0);
-        let first = leading_entry(before, after, moment, triples).unwrap();
+        EntriesBetween::within(before, after, 0, OBJECT_BLOCKS, moment)
+    }
+
+    /// The entries of a moment that lead from an inode to another. Only pointers in a range of
+    /// indices may differ: those outside of it aren't compared.
+    pub fn within(
+        before: &'a Inode,
+        after: &'a Inode,
+        first: usize,
+        end: usize,
+        moment: Moment,
+    ) -> Self
+        requires lead { CanLead before.now after.now moment }
+        requires range { (first ≤ end) × (end ≤ OBJECT_BLOCKS) }
+        requires same { AreSameOutside first end before.now after.now }
+        ensures { result ≡ entries_between before.entry.now after.entry.now moment }
+    {
+        let (triples, from) = piece_from(before, after, first, end);
+        let leading = leading_entry(before, after, moment, triples).unwrap();
         EntriesBetween {
-            first,
-            others: OtherEntries::new(before, after, moment, end),
+            first: leading,
+            others: OtherEntries::new(before, after, moment, from, end),
         }
     }
 
@@ -72,28 +89,32 @@ pub struct OtherEntries<'a> {
     moment: Moment,
     // The pointers from this index on were not told.
     from: usize,
+    // From this index on none differs.
+    end: usize,
 }
 
 impl<'a> Model for OtherEntries<'a> {
-    ghost use Rattle.std.specs.Prelude.{◌≡◌, ◌≤◌, true, List};
-    ghost use Rattle.std.specs.List.{AllByRecursion};
-    ghost use Rattle.s4_types.specs.declared.limits.TheConstants.{OBJECT_BLOCKS};
-    ghost use Rattle.codec.specs.Entry.{EntryFields, entry_rules};
-    ghost use Rattle.undo_redo.specs.private.Further.{entries_from};
+    ghost use Rattle.std.specs.Prelude.{List};
+    ghost use Rattle.codec.specs.Entry.{EntryFields};
+    ghost use Rattle.undo_redo.specs.private.Further.{AreLeft, entries_from};
 
     ghost Value = { List EntryFields };
 
     ghost view = { λ e. entries_from e.before.now e.after.now e.moment e.from };
 
-    ghost invariant = { λ e. (e.from ≤ OBJECT_BLOCKS) × AllByRecursion (λ x. entry_rules x ≡ true) (entries_from e.before.now e.after.now e.moment e.from) };
+    ghost invariant = { λ e. AreLeft e.before.now e.after.now e.moment e.from e.end };
 }
 
 impl<'a> OtherEntries<'a> {
-    /// The entries that tell the pointers from an index on.
-    pub(crate) fn new(before: &'a Inode, after: &'a Inode, moment: Moment, from: usize) -> Self
-        requires end { from ≤ OBJECT_BLOCKS }
-        requires rules { AllByRecursion (λ e. entry_rules e ≡ true)
-            (entries_from before.now after.now moment from) }
+    /// The entries that tell the pointers from an index on; from an end on none differs.
+    pub(crate) fn new(
+        before: &'a Inode,
+        after: &'a Inode,
+        moment: Moment,
+        from: usize,
+        end: usize,
+    ) -> Self
+        requires { AreLeft before.now after.now moment from end }
         ensures { result ≡ entries_from before.entry.now after.entry.now moment from }
     {
         OtherEntries {
@@ -101,6 +122,7 @@ impl<'a> OtherEntries<'a> {
             after,
             moment,
             from,
+            end,
         }
     }
 
@@ -113,6 +135,7 @@ impl<'a> OtherEntries<'a> {
             after: self.after,
             moment: self.moment,
             from: self.from,
+            end: self.end,
         }
     }
 }
@@ -125,8 +148,11 @@ impl<'a> Iterator for OtherEntries<'a> {
     ghost remaining = { item_count (λ e. e) };
 
     fn next(&mut self) -> Option<Entry> {
-        let (triples, end) = piece_from(self.before, self.after, self.from);
-        self.from = end;
+        if self.from >= self.end {
+            return None;
+        }
+        let (triples, next) = piece_from(self.before, self.after, self.from, self.end);
+        self.from = next;
         if triples.len() == 0 {
             return None;
         }

@@ -12,7 +12,7 @@ use crate::pieces::piece_from;
 use arrayvec::ArrayVec;
 use codec::{Entry, Inode};
 use s4_types::Moment;
-use s4_types::limits::CHANGE_ENTRIES;
+use s4_types::limits::{CHANGE_ENTRIES, OBJECT_BLOCKS};
 
 /// The entries of one change: one, and one more for each piece of pointers for which the first has
 /// no room.
@@ -58,13 +58,13 @@ fn told_between(before: &Inode, after: &Inode, moment: Moment) -> Option<Entries
     ensures { Reads (λ entries. entries.items) result
         (checked_between before.now after.now moment) }
 {
-    let (triples, end) = piece_from(before, after, 0);
+    let (triples, from) = piece_from(before, after, 0, OBJECT_BLOCKS);
     let Some(leading) = leading_entry(before, after, moment, triples) else {
         return None;
     };
     let mut entries = Entries::new();
     entries.push(leading);
-    for entry in OtherEntries::new(before, after, moment, end) {
+    for entry in OtherEntries::new(before, after, moment, from, OBJECT_BLOCKS) {
         entries.push(entry);
     }
     Some(entries)

@@ -4,11 +4,11 @@ ghost use Rattle.s4_types.specs.declared.limits.TheConstants.{ENTRY_TRIPLES, OBJ
 ghost use Rattle.codec.specs.Entry.{same_slot};
 ghost use Rattle.undo_redo.specs.Linked.{status_of};
 ghost use Rattle.undo_redo.specs.Between.{pair_between, triple_between, tells_apart};
-ghost use Rattle.undo_redo.specs.private.Further.{triples_from};
+ghost use Rattle.undo_redo.specs.private.Further.{AreSameFrom, triples_from};
 
 use codec::{Attribute, Inode, Pair, PointerIndex, Status, Triple, Triples};
 use s4_types::Ptr;
-use s4_types::limits::{ENTRY_TRIPLES, OBJECT_BLOCKS};
+use s4_types::limits::ENTRY_TRIPLES;
 
 pub(crate) fn status_of(inode: &Inode) -> Status
     ensures { result ≡ status_of inode.now }
@@ -63,20 +63,23 @@ fn push_apart(triples: &mut Triples, triple: Triple)
 }
 
 /// The pointers that differ from an index on, by ascending index, as many as one entry has room
-/// for; and the index from which on the others differ.
-pub(crate) fn piece_from(before: &Inode, after: &Inode, from: usize) -> (Triples, usize)
-    requires { from ≤ OBJECT_BLOCKS }
+/// for; and the index from which on the others differ. From an end on none differs, so these
+/// aren't compared.
+pub(crate) fn piece_from(before: &Inode, after: &Inode, from: usize, end: usize) -> (Triples, usize)
+    requires from { from ≤ OBJECT_BLOCKS }
+    requires end { end ≤ OBJECT_BLOCKS }
+    requires same { AreSameFrom end before.now after.now }
     ensures piece { result.0.items ≡ take ENTRY_TRIPLES (triples_from from before.now after.now) }
     ensures others { triples_from result.1 before.now after.now
         ≡ drop ENTRY_TRIPLES (triples_from from before.now after.now) }
     ensures end { result.1 ≤ OBJECT_BLOCKS }
 {
     let mut triples = Triples::new();
-    for index in from..OBJECT_BLOCKS {
+    for index in from..end {
         if triples.len() >= ENTRY_TRIPLES {
             return (triples, index);
         }
         push_apart(&mut triples, triple_at(before, after, index));
     }
-    (triples, OBJECT_BLOCKS)
+    (triples, end)
 }

@@ -1,12 +1,12 @@
 -- One object's row is changed, added, or goes: in whatever way that was done, the store stays one, and what is beside its rows follows.
-use Rattle.std.proofs.Common.{◌≡◌, inl, inr, ℕ, ◌+◌, ◌^◌, ◌<◌, ◌≤◌, ◌==◌, ◌&&◌, ◌||◌, Bool, false, cond, List, length, Option, Some, None, refl, sym, ap, subst, ◌∙◌, arith}
+use Rattle.std.proofs.Common.{◌≡◌, inl, inr, ℕ, ◌+◌, ◌^◌, ◌<◌, ◌≤◌, ◌==◌, ◌&&◌, Bool, false, cond, List, length, Option, Some, None, refl, sym, ap, subst, ◌∙◌, arith}
 use Rattle.std.specs.Prelude.{option_map}
 use Rattle.std.proofs.lemmas.Bool.{cases_Bool, cond-true, cond-false, and_right, eqb-true}
 use Rattle.std.proofs.lemmas.Option.{none-some, same_Some}
 use Rattle.s4_types.specs.Pointer.{Place}
 use Rattle.s4_types.specs.declared.limits.TheConstants.{SIDES}
 use Rattle.block_log.specs.Taken.{TakesPlaces}
-use Rattle.block_log.specs.Log.{Log, NamesAreOfData, Stored, of_kind, same_kind}
+use Rattle.block_log.specs.Log.{NamesAreOfData, Stored, of_kind, same_kind}
 use Rattle.block_log.specs.declared.kinds.BlockKind.TheVariants.{Journal, Checkpoint, Data, Pointers}
 use Rattle.codec.specs.declared.inodes.Inode.{Inode}
 use Rattle.codec.specs.Entry.{EntryFields}
@@ -24,7 +24,7 @@ use Rattle.version_store.specs.Store.{StoreFields, IsStore, IsObject, IsNamedBy,
 use Rattle.version_store.specs.Versions.{Stays, entries_of_row, entries_of_object, inode_by, inode_in, version_by, version_in}
 use Rattle.version_store.specs.Replacing.{OtherObjectsStay}
 use Rattle.version_store.specs.private.Below.{ChangesStand, LastInodeStays}
-use Rattle.version_store.specs.private.Beside.{inode_beside, IsBeside, IsTrueCache}
+use Rattle.version_store.specs.private.Beside.{IsBeside, IsTrueCache}
 use Rattle.version_store.proofs.Frames.{stays_object, inode_in_stays, version_by_stays}
 use Rattle.version_store.proofs.Telling.{same_entries}
 use Rattle.version_store.proofs.Recounted.{counted_beside}

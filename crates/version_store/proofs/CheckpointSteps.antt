@@ -1,13 +1,13 @@
 -- What a checkpoint that is written leaves of a store.
 use Rattle.std.proofs.Common.{cond, ◌≡◌, ℕ, suc, ◌+◌, ◌*◌, ◌-◌, ◌^◌, ◌<◌, ◌≤◌, ◌==◌, ◌&&◌, ◌||◌, leb, ltb, true, false, List, [], ◌∷◌, length, slice_index_or, Option, Some, None, IsSome, IfSome, MatchOption, is_some, refl, sym, ap, subst, ◌∙◌, inl, inr, arith}
 use Rattle.std.specs.Prelude.{is_none}
-use Rattle.std.proofs.lemmas.Bool.{cases_Bool, and_from, and_parts, and_right, or_left, or_right, eqb-true, ltb-true, ltb-false, leb-true, le-leb, false≢true}
+use Rattle.std.proofs.lemmas.Bool.{cases_Bool, and_from, and_parts, or_left, or_right, eqb-true, ltb-true, ltb-false, leb-true, le-leb, false≢true}
 use Rattle.std.proofs.lemmas.List.{append-nil}
 use Rattle.s4_types.specs.Pointer.{Place}
-use Rattle.s4_types.specs.declared.limits.TheConstants.{OBJECT_BYTES, SIDES}
+use Rattle.s4_types.specs.declared.limits.TheConstants.{OBJECT_BYTES}
 use Rattle.block_log.specs.Taken.{TakesPlaces}
 use Rattle.s4_types.specs.declared.versions.Version.{Version}
-use Rattle.block_log.specs.Log.{Log, Stored, same_kind}
+use Rattle.block_log.specs.Log.{Log, Stored}
 use Rattle.block_log.specs.declared.kinds.BlockKind.TheVariants.{Journal, Checkpoint, Data, Pointers}
 use Rattle.codec.specs.Checkpoint.{holes_past, checkpoint_rules}
 use Rattle.codec.specs.Entry.{EntryFields}
@@ -25,19 +25,18 @@ use Rattle.time_read.specs.Rows.{IsRow, entries_of, inode_of, checkpoint_places_
 use Rattle.time_read.specs.Orderly.{IsOrderly}
 use Rattle.row_changes.specs.Recent.{IsBy}
 use Rattle.row_changes.specs.Moved.{IsMoved, places_gone}
-use Rattle.version_store.specs.Store.{HasNothing, IsNamedBy, StoreFields, IsStore, IsObject, pointers_named, pointers_of}
+use Rattle.version_store.specs.Store.{HasNothing, StoreFields, IsStore, IsObject, pointers_of}
 use Rattle.version_store.specs.Versions.{Stays, inode_by, inode_in, version_by, version_in}
 use Rattle.version_store.specs.Checkpointing.{last_entry, is_behind, IsCheckpointed}
 use Rattle.version_store.specs.private.CheckpointSteps.{CanCheckpoint, Checkpointed}
 use Rattle.version_store.specs.private.Recounting.{Counts}
-use Rattle.version_store.specs.private.Below.{ChangesStand, OrderlyStays, RowStays, RowInodeStays, IsByStays, IsByLater, LastInodeStays, GroupsAscend, RowsKeepTheMaking, CheckpointsTakeBlocks}
-use Rattle.version_store.proofs.Frames.{DataStays, data_there, data_agree, data_pointers, stays_object, inode_in_stays, version_in_stays}
+use Rattle.version_store.specs.private.Below.{ChangesStand, IsByLater, LastInodeStays, GroupsAscend, RowsKeepTheMaking, CheckpointsTakeBlocks}
+use Rattle.version_store.proofs.Frames.{DataStays, data_there, data_agree, data_pointers}
 use Rattle.version_store.proofs.Telling.{Moves, same_entries, leads_later, moved_leads}
-use Rattle.version_store.proofs.Recounted.{counted_beside}
 use Rattle.version_store.proofs.Changed.{Changes, own_or_other, some_keeps, some_stays, checkpoint_others, changed_inodes, changed_store, changed_versions, store_others}
 use Rattle.version_store.proofs.Across.{IsAcross, changed_across}
 use Rattle.version_store.proofs.Spending.{sum_stays}
-use Rattle.version_store.proofs.Steps.{row_here, row_beside, row_cases, none_cases, stamped_row, stamped_inode}
+use Rattle.version_store.proofs.Steps.{row_here, row_beside, stamped_row, stamped_inode}
 
 -- ---- the last moment of a journal
 

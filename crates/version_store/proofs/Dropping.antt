@@ -20,7 +20,7 @@ use Rattle.version_store.specs.Store.{HasNothing, IsNamedBy, times_led}
 use Rattle.version_store.specs.Replacing.{OnlyDataChanged, OtherObjectsStay}
 use Rattle.version_store.specs.private.Recounting.{Recounts, Uncounts}
 use Rattle.version_store.specs.private.Below.{CheckpointsHaveBlocks}
-use Rattle.version_store.proofs.Named.{named_alike, named_there, times_joined}
+use Rattle.version_store.proofs.Named.{named_alike, named_there}
 use Rattle.version_store.proofs.Naming.{checkpoint_there}
 
 -- what is seen where some places are emptied

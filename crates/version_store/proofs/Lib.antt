@@ -26,6 +26,7 @@ pub mod Planned
 pub mod Costing
 pub mod Turning
 pub mod Making
+pub mod Touched
 pub mod Sealing
 pub mod InPlace
 pub mod Checkpointing

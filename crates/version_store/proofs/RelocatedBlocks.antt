@@ -11,7 +11,7 @@ use std.Path.{fun_ext}
 use Rattle.s4_types.specs.Pointer.{Place}
 use Rattle.block_log.specs.Log.{Log, Stored, of_kind, seen_as, same_kind, same_place}
 use Rattle.block_log.specs.Taken.{TakesPlaces}
-use Rattle.block_log.specs.declared.kinds.BlockKind.TheVariants.{Journal, Checkpoint, Data}
+use Rattle.block_log.specs.declared.kinds.BlockKind.TheVariants.{Journal, Data}
 use Rattle.checkpoint.specs.Held.{is_checkpoint_kind}
 use Rattle.codec.specs.Checkpoint.{CheckpointFields}
 use Rattle.codec.specs.Entry.{EntryFields, entry_length}

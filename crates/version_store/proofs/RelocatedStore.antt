@@ -9,7 +9,7 @@ use Rattle.s4_types.specs.Pointer.{Place}
 use Rattle.s4_types.specs.declared.versions.Version.{Version}
 use Rattle.block_log.specs.Log.{Log, Stored, of_kind, seen_as}
 use Rattle.block_log.specs.Taken.{TakesPlaces}
-use Rattle.block_log.specs.declared.kinds.BlockKind.TheVariants.{Journal, Checkpoint, Data}
+use Rattle.block_log.specs.declared.kinds.BlockKind.TheVariants.{Journal, Data}
 use Rattle.codec.specs.Checkpoint.{CheckpointFields, pointer_at}
 use Rattle.codec.specs.Entry.{EntryFields, entry_length}
 use Rattle.codec.specs.Fields.{◌>>=◌}
@@ -18,13 +18,12 @@ use Rattle.codec.specs.declared.inodes.Inode.{Inode}
 use Rattle.undo_redo.specs.Runs.{AllBy}
 use Rattle.inode.specs.Contents.{contents_of, meaning}
 use Rattle.inode.specs.Tidiness.{Tidy, PointersHeld}
-use Rattle.inode.specs.Laws.{OnlyItsBlocksMatter}
 use Rattle.object_map.specs.declared.map.Row.{Row}
 use Rattle.object_map.specs.declared.sides.Side.{Side}
 use Rattle.s4_types.specs.declared.limits.TheConstants.{SIDES}
 use Rattle.object_map.specs.Rows.{row_of}
 use Rattle.time_read.specs.Rows.{entries_of, checkpoint_of, inode_of}
-use Rattle.time_read.specs.Orderly.{IsOrderly, IsFromTo, BeginsDead}
+use Rattle.time_read.specs.Orderly.{IsFromTo, BeginsDead}
 use Rattle.journal_chain.specs.Push.{whole_blocks}
 use Rattle.row_changes.specs.Moving.{kept_blocks, moved_blocks}
 use Rattle.chain_rewriting.specs.Renaming.{RenamingFields, new_place, renamed, renamed_slot, renamed_entries, renamed_inode}
@@ -32,17 +31,17 @@ use Rattle.chain_rewriting.specs.Apart.{Passes, HasCopies}
 use Rattle.chain_rewriting.specs.Places.{ARenamedChainTellsInOrder}
 use Rattle.chain_rewriting.specs.RenamingLaws.{APointerIsRenamed, ARenamedInodeMeansTheSame, RenamedEntriesHaveOldMoments, TheMomentsOfRenamedEntriesAreOld}
 use Rattle.version_store.specs.declared.copies.CopiedBlock.{CopiedBlock}
-use Rattle.version_store.specs.Store.{HasNothing, StoreFields, IsStore, IsObject, IsNamedBy, IsLed, sides_told, pointers_aside, pointers_kept, pointers_named, pointers_of, pointers_of_sides, times_led}
+use Rattle.version_store.specs.Store.{HasNothing, StoreFields, IsStore, IsObject, IsLed, sides_told, pointers_aside, pointers_kept, pointers_named, pointers_of, pointers_of_sides, times_led}
 use Rattle.version_store.specs.Versions.{inode_by, inode_in, version_by, version_in}
 use Rattle.version_store.specs.Relocating.{IsRelocated, blocks_relocated, renaming_by, renamed_checkpoint}
-use Rattle.version_store.specs.private.Below.{ChangesStand, OrderlyStays, RowStays, RowInodeStays, IsByStays, SomeBlocksAreNeeded, CheckpointsTakeBlocks}
+use Rattle.version_store.specs.private.Below.{ChangesStand, SomeBlocksAreNeeded, CheckpointsTakeBlocks}
 use Rattle.version_store.specs.private.Relocating.{IsOldOrNew, NamesMove, Relocates, RelocatesIn}
 use Rattle.version_store.specs.private.Recounting.{Counts}
-use Rattle.version_store.proofs.Frames.{same_bytes, stays_object, inode_in_stays, version_in_stays}
+use Rattle.version_store.proofs.Frames.{same_bytes}
 use Rattle.version_store.proofs.Telling.{Leads, same_entries}
-use Rattle.version_store.proofs.Steps.{row_here, row_beside, row_cases, none_cases, stamped_row, stamped_inode}
+use Rattle.version_store.proofs.Steps.{stamped_row, stamped_inode}
 use Rattle.version_store.proofs.Spending.{sum_stays}
-use Rattle.version_store.proofs.Across.{IsAcross, renewed_across}
+use Rattle.version_store.proofs.Across.{renewed_across}
 use Rattle.version_store.proofs.CheckpointSteps.{next_store}
 use Rattle.version_store.proofs.Replaced.{IsPut, put_row}
 use Rattle.version_store.proofs.Changed.{Changes, own_or_other, own_there, some_keeps, some_stays, changed_inodes, changed_store, changed_versions, store_others}

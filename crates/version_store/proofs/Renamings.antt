@@ -1,6 +1,5 @@
 -- The names of an object's data where copies of its blocks were appended and its pointers are renamed.
 use Rattle.std.proofs.Common.{◌≡◌, ◌⊎◌, inl, inr, ℕ, zero, suc, ◌+◌, ◌*◌, ◌≤◌, ◌<◌, ◌==◌, ◌&&◌, ◌++◌, leb, cond, true, false, List, [], ◌∷◌, length, map, Option, Some, None, IsSome, is_some, unwrap_or, refl, sym, ap, subst, ◌∙◌, arith}
-use Rattle.std.specs.Prelude.{option_map}
 use Rattle.std.specs.List.{All, Contains}
 use Rattle.std.proofs.lemmas.Bool.{cases_Bool, cases_lt, cond-true, cond-false, and_from, and_parts, eq-eqb, leb-true, ltb-false, false≢true}
 use Rattle.std.proofs.lemmas.List.{get_or_default, get_or_past, length-append}
@@ -9,19 +8,16 @@ use Rattle.std.proofs.lemmas.Option.{none-some, same_Some}
 use Rattle.s4_types.specs.Pointer.{Place}
 use Rattle.s4_types.specs.declared.limits.TheConstants.{PAYLOAD_BLOCKS, ROW_POINTERS}
 use Rattle.block_log.specs.Log.{Log, Stored, of_kind, seen_as, is_data, NamesAreOfData}
-use Rattle.block_log.specs.declared.kinds.BlockKind.TheVariants.{Checkpoint, Data}
-use Rattle.codec.specs.Checkpoint.{CheckpointFields}
+use Rattle.block_log.specs.declared.kinds.BlockKind.TheVariants.{Data}
 use Rattle.chain_rewriting.specs.Renaming.{RenamingFields, move_of, new_place, renamed, renamed_slot}
 use Rattle.object_map.specs.declared.map.Row.{Row}
 use Rattle.row_changes.specs.Rewritten.{OnlyMetadataChanged}
-use Rattle.time_read.specs.Journals.{IsJournalOf}
-use Rattle.time_read.specs.Rows.{IsRow, checkpoint_of}
-use Rattle.time_read.specs.declared.journals.ObjectJournal.{ObjectJournal}
+use Rattle.time_read.specs.Rows.{IsRow}
 use Rattle.version_store.specs.declared.copies.CopiedBlock.{CopiedBlock}
-use Rattle.version_store.specs.Store.{DataIsNamed, IsLed, IsNamedBy, named_of, pointers_aside, pointers_kept, pointers_named, pointers_of, sides_told, times_led}
+use Rattle.version_store.specs.Store.{DataIsNamed, IsLed, IsNamedBy, named_of, pointers_aside, pointers_named, pointers_of, times_led}
 use Rattle.version_store.specs.Relocating.{AreCopies, IsCopied, blocks_ascend_from}
 use Rattle.version_store.specs.private.Below.{OnePlace}
-use Rattle.version_store.specs.private.Names.{TakesAway, places_copied, pointers_in, pointers_journaled}
+use Rattle.version_store.specs.private.Names.{TakesAway, places_copied}
 use Rattle.version_store.specs.private.Recounting.{Recounts}
 use Rattle.version_store.specs.private.Relocating.{Appending, NamesMove, stood_at}
 use Rattle.version_store.proofs.Telling.{led_there}

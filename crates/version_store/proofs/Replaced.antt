@@ -1,7 +1,7 @@
 -- What the replacement of an object's journal leaves of a whole store.
 use Rattle.std.proofs.Common.{◌≡◌, inl, inr, ℕ, ◌+◌, ◌<◌, ◌≤◌, ◌==◌, ◌||◌, ◌++◌, true, cond, List, [], ◌∷◌, length, Option, Some, None, IsSome, MatchOption, refl, sym, ap, subst, ◌∙◌, arith}
 use Rattle.std.specs.List.{Contains, AllByRecursion}
-use Rattle.std.proofs.lemmas.Bool.{cases_Bool, cond-true, cond-false, and_right, eqb-true, le-leb, leb-true}
+use Rattle.std.proofs.lemmas.Bool.{and_right, le-leb, leb-true}
 use Rattle.std.proofs.lemmas.List.{append-nil}
 use Rattle.std.proofs.lemmas.List.Elements.{All-weaker, All-contains_itself, Contains-append_left, Contains-append_right}
 use Rattle.s4_types.specs.Pointer.{Place}
@@ -9,7 +9,7 @@ use Rattle.s4_types.specs.declared.versions.Version.{Version}
 use Rattle.s4_types.specs.declared.limits.TheConstants.{SIDES}
 use Rattle.block_log.specs.Taken.{TakesPlaces}
 use Rattle.block_log.specs.Log.{Log, NamesAreOfData, Stored, of_kind, same_kind, seen_as}
-use Rattle.block_log.specs.declared.kinds.BlockKind.TheVariants.{Journal, Checkpoint, Data}
+use Rattle.block_log.specs.declared.kinds.BlockKind.TheVariants.{Journal, Data}
 use Rattle.codec.specs.Fields.{◌>>=◌}
 use Rattle.codec.specs.Checkpoint.{pointer_at, checkpoint_rules}
 use Rattle.codec.specs.Entry.{EntryFields}
@@ -26,20 +26,20 @@ use Rattle.object_map.specs.Rows.{row_of, with_row}
 use Rattle.time_read.specs.Rows.{entries_of, checkpoint_of, inode_of}
 use Rattle.time_read.specs.Orderly.{IsOrderly, IsFromTo}
 use Rattle.version_store.specs.Store.{HasNothing, IsNamedBy, StoreFields, IsStore, IsObject, IsLed, named_of, pointers_aside, pointers_kept, pointers_named, pointers_of, pointers_of_sides, sides_told, times_led}
-use Rattle.version_store.specs.Versions.{inode_by, inode_in, version_by, version_in}
+use Rattle.version_store.specs.Versions.{inode_in, version_in}
 use Rattle.version_store.specs.Checkpointing.{last_entry}
 use Rattle.version_store.specs.Replacing.{IsMomentOf, OtherObjectsStay, CanReplace, IsReplaced, inode_led, pointers_told}
 use Rattle.row_changes.specs.Rewritten.{OnlyMetadataChanged, rewritten_blocks}
-use Rattle.version_store.specs.private.Below.{ChangesStand, OnePlace, OrderlyStays, RowStays, RowInodeStays, IsByStays, IsByLater, CheckpointsTakeBlocks}
+use Rattle.version_store.specs.private.Below.{ChangesStand, OnePlace, IsByLater}
 use Rattle.version_store.specs.private.Recounting.{Counts, Recounts}
 use Rattle.version_store.specs.private.Replacing.{Rewrites, Replaces, AllAreDone, RunsEnd}
-use Rattle.version_store.proofs.Frames.{same_bytes, stays_object, inode_in_stays, version_in_stays}
+use Rattle.version_store.proofs.Frames.{same_bytes}
 use Rattle.version_store.proofs.Telling.{same_entries, Leads, redone_cases, undone_cases, by_told, slot_there, led_there}
-use Rattle.version_store.proofs.Steps.{row_here, row_beside, row_cases, none_cases, stamped_row, stamped_inode}
+use Rattle.version_store.proofs.Steps.{stamped_row, stamped_inode}
 use Rattle.version_store.proofs.Spending.{sum_stays}
-use Rattle.version_store.proofs.Across.{IsAcross, renewed_across}
+use Rattle.version_store.proofs.Across.{renewed_across}
 use Rattle.version_store.proofs.CheckpointSteps.{next_store, keeps_rules, holes_all, some_place}
-use Rattle.version_store.proofs.Named.{contained_times, named_alike, named_there, recounts_data, recounts_kept, there_named, times_contained, times_joined}
+use Rattle.version_store.proofs.Named.{contained_times, named_alike, named_there, recounts_data, recounts_kept, there_named, times_contained}
 use Rattle.version_store.proofs.Changed.{Changes, some_keeps, some_stays, changed_inodes, changed_store, changed_versions, store_others}
 
 -- ---- what is asked of the checkpoint

@@ -1,26 +1,20 @@
 -- What the removal of an object's row leaves of a whole store, and what its replacement does.
-use Rattle.std.proofs.Common.{◌≡◌, inl, inr, ℕ, ◌+◌, ◌==◌, false, cond, List, length, Option, Some, None, sym, ap, subst, ◌∙◌, arith}
-use Rattle.std.proofs.lemmas.Bool.{cases_Bool, cond-true, cond-false, eqb-true}
+use Rattle.std.proofs.Common.{inl, inr, ℕ, ◌==◌, List, None, sym, ◌∙◌, arith}
+use Rattle.std.proofs.lemmas.Bool.{cases_Bool, cond-true, cond-false}
 use Rattle.std.proofs.lemmas.Option.{none-some}
-use Rattle.s4_types.specs.Pointer.{Place}
-use Rattle.s4_types.specs.declared.versions.Version.TheVariants.{Absent}
-use Rattle.block_log.specs.Log.{Log, Stored}
-use Rattle.block_log.specs.declared.kinds.BlockKind.TheVariants.{Journal, Checkpoint, Data}
-use Rattle.inode.specs.Laws.{OnlyItsBlocksMatter}
+use Rattle.block_log.specs.Log.{Log}
+use Rattle.block_log.specs.declared.kinds.BlockKind.TheVariants.{Journal}
 use Rattle.object_map.specs.declared.map.Row.{Row}
 use Rattle.object_map.specs.Rows.{row_of}
-use Rattle.version_store.specs.Store.{IsNamedBy, StoreFields, IsStore, HasNothing, named_of, pointers_named}
-use Rattle.version_store.specs.Versions.{Stays, inode_by, inode_in, version_by, version_in}
-use Rattle.version_store.specs.Replacing.{OtherObjectsStay, IsRemoved}
-use Rattle.version_store.specs.private.Below.{ChangesStand, OrderlyStays, RowStays, RowInodeStays, IsByStays}
+use Rattle.version_store.specs.Store.{StoreFields, IsStore}
+use Rattle.version_store.specs.Replacing.{IsRemoved}
+use Rattle.version_store.specs.private.Below.{ChangesStand}
 use Rattle.version_store.specs.private.Recounting.{Uncounts}
 use Rattle.version_store.specs.private.Replacing.{Removes}
-use Rattle.version_store.proofs.Frames.{stays_object, inode_in_stays, version_in_stays}
 use Rattle.version_store.proofs.Telling.{same_entries}
-use Rattle.version_store.proofs.Recounted.{counted_beside}
 use Rattle.version_store.proofs.Changed.{Changes, changed_inodes, changed_store, changed_versions, store_others}
 use Rattle.version_store.proofs.Spending.{sum_stays}
-use Rattle.version_store.proofs.Across.{IsAcross, fewer_across}
+use Rattle.version_store.proofs.Across.{fewer_across}
 use Rattle.version_store.proofs.CheckpointSteps.{next_store}
 
 -- ---- the other objects

@@ -33,11 +33,10 @@ use Rattle.version_store.specs.Versions.{inode_by, version_by, version_in}
 use Rattle.version_store.specs.Taking.{RowChanges, IsAboveAll}
 use Rattle.version_store.specs.private.Turning.{IsOpenFor, Turns, times_given}
 use Rattle.version_store.specs.private.Recounting.{Counts}
-use Rattle.version_store.specs.private.Below.{ChangesStand, OnePlace, OrderlyStays, RowStays, RowInodeStays, IsByStays, IsByLater, LastInodeStays, FreshRowStands, FreshRowIsBy, FreshInode, BlankCount, BlankHoles}
+use Rattle.version_store.specs.private.Below.{ChangesStand, OnePlace, OrderlyStays, RowStays, RowInodeStays, IsByStays, IsByLater, FreshRowStands, FreshRowIsBy, FreshInode, BlankCount, BlankHoles}
 use Rattle.version_store.proofs.Frames.{DataStays, data_there, data_agree, data_pointers, stays_object, growth_stays, journal_stays, version_by_stays}
 use Rattle.version_store.proofs.Telling.{Leads, Grows, leads_later, same_entries, grown_leads, fresh_pointers}
 use Rattle.version_store.proofs.Named.{named_none}
-use Rattle.version_store.proofs.Recounted.{counted_beside}
 use Rattle.version_store.proofs.Handed.{IsInHand, grown_counted, none_contained}
 use Rattle.version_store.proofs.Changed.{OthersKeep, Changes, own_within, some_keeps, some_stays, journal_others, changed_store, changed_versions}
 use Rattle.version_store.proofs.Across.{IsAcross, kept_across, changed_across, added_across, above_has_none}

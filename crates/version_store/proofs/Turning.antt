@@ -17,7 +17,6 @@ use Rattle.journal_chain.specs.Sizes.{blocks_needed}
 use Rattle.undo_redo.specs.Between.{AreOf, entries_between}
 use Rattle.journal_chain.specs.Chain.{OnlyJournalChanged}
 use Rattle.journal_chain.specs.Push.{HasRoom, pushed_blocks}
-use Rattle.inode.specs.Laws.{OnlyItsBlocksMatter}
 use Rattle.inode.specs.Tidiness.{PointersHeld}
 use Rattle.checkpoint.proofs.OwnBlocks.{same_checkpoints}
 use Rattle.object_map.specs.declared.map.Row.{Row}
@@ -31,7 +30,7 @@ use Rattle.version_store.specs.Costs.{row_or_fresh, subject_row}
 use Rattle.version_store.specs.Taking.{RowChanges}
 use Rattle.version_store.specs.private.Turning.{CanTurn, IsOpenFor, Turns, blocks_turned, times_given}
 use Rattle.version_store.specs.private.Recounting.{Counts, Recounts}
-use Rattle.version_store.specs.private.Below.{ChangesStand, OnePlace, OrderlyStays, RowStays, RowInodeStays, IsByStays, IsByLater, LastInodeStays, EntriesAreAt, EntriesAreSome, SomeBlocksAreNeeded}
+use Rattle.version_store.specs.private.Below.{ChangesStand, OnePlace, OrderlyStays, IsByLater, LastInodeStays, EntriesAreAt}
 use Rattle.version_store.proofs.Telling.{Grows, between_led, grown_sides, inode_told, leads_later, same_checkpoint}
 use Rattle.version_store.proofs.Named.{contained_times, named_alike, named_there, recounts_all, there_named, times_contained, times_few, times_joined}
 use Rattle.version_store.proofs.Recounted.{names_few, pointers_few, same_aside, told_led}

@@ -40,11 +40,10 @@ pub struct Store<B: Blocks> {
     alloc: Global,
     // The present inode and an index of the journal are kept beside each row, so that neither a
     // change nor a read goes through a journal, unless memory for the index was refused. An inode
-    // takes 2,400 bytes, its row some 200, the index's own part some 80; with the gaps of the tree
-    // these take up to 5,400. At most 15,180 objects can have a row, each with at least one block
-    // of 512 bytes in the table: so at worst this takes eleven times the memory of the table's
-    // blocks, and the indexes' lists as much as the journals at most, but for growth and
-    // attributes.
+    // takes 2,400 bytes, its row some 200, the index's own part some 80, in a box of their own. At
+    // most 15,180 objects can have a row, each with at least one block of 512 bytes in the table:
+    // so at worst this takes six times the memory of the table's blocks, and the indexes' lists as
+    // much as the journals at most, but for growth and attributes.
     objects: ObjectMap<Present>,
     table: B,
     // The moment of the last change, 0 where there was none.

@@ -1,19 +1,20 @@
 //! A change of an object, from the count of what it takes to its row.
 ghost use Rattle.std.specs.Prelude.{◌≡◌, ◌⊎◌, ℕ, ◌+◌, ◌<◌, ◌≤◌, ◌==◌, ◌||◌, Some, None, IfOk};
+ghost use Rattle.std.specs.Prelude.{IfSome, IfNone};
 ghost use Rattle.std.specs.Prelude.{IfErr, OnOk, OnErr, MatchResult, is_some, length, take, drop};
 ghost use Rattle.std.specs.Prelude.{sum};
 ghost use Rattle.s4_types.specs.declared.changes.Change.TheVariants.{Create, Delete, Write};
 ghost use Rattle.s4_types.specs.declared.changes.Change.TheVariants.{Truncate, SetAttr};
 ghost use Rattle.s4_types.specs.declared.refusals.Refusal.TheVariants.{NoMemory};
 ghost use Rattle.undo_redo.specs.Runs.{blank};
-ghost use Rattle.undo_redo.specs.Between.{entries_between};
+ghost use Rattle.undo_redo.specs.Between.{AreSameOutside, entries_between};
 ghost use Rattle.object_map.specs.Rows.{row_of, with_row, fresh_row};
 ghost use Rattle.version_store.specs.Store.{fields_of, IsStore};
 ghost use Rattle.version_store.specs.Versions.{version_in, version_taken};
 ghost use Rattle.version_store.specs.Costs.{subject_row, subject_inode, sizes_by, change_refusal};
 ghost use Rattle.codec.specs.Entry.{entries_length};
 ghost use Rattle.std.specs.List.{AllByRecursion};
-ghost use Rattle.s4_types.specs.declared.limits.TheConstants.{JOURNAL_ENTRY_BYTES};
+ghost use Rattle.s4_types.specs.declared.limits.TheConstants.{JOURNAL_ENTRY_BYTES, OBJECT_BLOCKS};
 ghost use Rattle.s4_model.specs.Effect.{object_of};
 ghost use Rattle.version_store.specs.Taking.{Takes, RowChanges, AppendsBy};
 ghost use Rattle.version_store.specs.private.Turning.{CanTake, CanTurn, Turns, IsTaken};
@@ -28,10 +29,10 @@ use codec::{Attribute, Inode};
 use inode::{
     blocks_of_truncate, blocks_of_write, created, deleted, truncate, with_attribute, write,
 };
-use object_map::Row;
+use object_map::{Kept, Row};
 use row_changes::laws::a_fresh_row_stands;
 use row_changes::record_change;
-use s4_types::limits::BLOCK_BYTES;
+use s4_types::limits::{BLOCK_BYTES, OBJECT_BLOCKS};
 use s4_types::{Change, Moment, ObjectId, Ptr, Refusal};
 use time_read::{Present, UndoIndex, turn_beside};
 use undo_redo::laws::a_blank_inode_has_holes_alone;
@@ -54,117 +55,93 @@ fn appended(inode: &Inode, first: usize, count: usize) -> &[Option<Ptr>]
     &pointers[first..first + count]
 }
 
-/// What a change of an object begins with: its present row and inode, and a fresh row and the blank
-/// inode of the change's moment where it has none.
-#[derive(Drop)]
-struct Subject {
-    row: Row,
-    inode: Inode,
-}
-
 /// A change of an object that nothing refuses any more: the row and the inode that it begins with,
 /// and how many bytes its journal entries have. All is found and counted once.
 #[derive(Drop)]
-struct PlannedChange {
-    row: Row,
-    inode: Inode,
+struct PlannedChange<'a> {
+    row: &'a Row,
+    inode: &'a Inode,
     bytes: usize,
 }
 
 impl<B: Blocks> Store<B> {
-    /// What a change of an object at a moment begins with. One search of the map finds the row and
-    /// the inode.
-    fn subject(&self, object: ObjectId, moment: Moment) -> Subject
-        ensures row { result.row ≡ subject_row (fields_of B.log self.now) object moment }
-        ensures inode { result.inode ≡ subject_inode (fields_of B.log self.now) object moment }
+    /// The row and the present inode of an object, with which its change begins. None where it has
+    /// no row: then a change at the moment begins with a fresh row and the blank inode.
+    fn begins_with(&self, object: ObjectId, moment: Moment) -> Option<&Kept<Present>>
+        ensures row { IfSome result
+            (λ kept. kept.now.row ≡ subject_row (fields_of B.log self.now) object moment) }
+        ensures inode { IfSome result
+            (λ kept. kept.now.value.inode
+            ≡ subject_inode (fields_of B.log self.now) object moment) }
+        ensures none { IfNone result
+            ((fresh_row moment ≡ subject_row (fields_of B.log self.now) object moment)
+            × (blank moment ≡ subject_inode (fields_of B.log self.now) object moment)) }
     {
         changes_begin_with_the_present();
-        match self.objects.get(object) {
-            Some(kept) => Subject {
-                row: kept.row,
-                inode: kept.value.inode,
-            },
-            None => Subject {
-                row: Row::fresh(moment),
-                inode: blank(moment),
-            },
-        }
+        let Some(kept) = self.objects.get(object) else {
+            return None;
+        };
+        Some(kept)
     }
 
-    /// How many bytes the journal entries of a change at a moment have. ChainFull or NoSpace, where
-    /// it is refused.
-    fn count(&self, change: &Change, subject: &Subject, moment: Moment) -> Result<usize, Refusal>
+    /// How many bytes the journal entries of a change at a moment have, which begins with this row
+    /// and this inode. ChainFull or NoSpace, where it is refused.
+    fn count(
+        &self,
+        change: &Change,
+        row: &Row,
+        inode: &Inode,
+        moment: Moment,
+    ) -> Result<usize, Refusal>
         requires store { IsStore (fields_of B.log self.now) }
         requires takes { Takes (fields_of B.log self.now) change.now }
-        requires row { subject.now.row
+        requires row { row.now
             ≡ subject_row (fields_of B.log self.now) (object_of change.now) moment }
-        requires inode { subject.now.inode
+        requires inode { inode.now
             ≡ subject_inode (fields_of B.log self.now) (object_of change.now) moment }
-        ensures bytes { IfOk result (λ bytes. bytes ≡ sum (sizes_by change.now subject.now.inode)) }
+        ensures bytes { IfOk result (λ bytes. bytes ≡ sum (sizes_by change.now inode.now)) }
         ensures fit { OnOk result
-            (AllByRecursion (λ size. size ≤ JOURNAL_ENTRY_BYTES)
-            (sizes_by change.now subject.now.inode)) }
+            (AllByRecursion (λ size. size ≤ JOURNAL_ENTRY_BYTES) (sizes_by change.now inode.now)) }
         ensures answer { MatchResult result (λ _. change_refusal (fields_of B.log self.now) change.now moment ≡ None)
             (λ e. change_refusal (fields_of B.log self.now) change.now moment ≡ Some e) }
     {
         a_fresh_row_stands();
         a_blank_inode_has_holes_alone();
-        bytes_of_entries(self.room(), change, &subject.row, &subject.inode)
-    }
-
-    /// Plans a change at a moment. ChainFull or NoSpace, where it is refused.
-    fn plan_change(&self, change: &Change, moment: Moment) -> Result<PlannedChange, Refusal>
-        requires store { IsStore (fields_of B.log self.now) }
-        requires takes { Takes (fields_of B.log self.now) change.now }
-        ensures row { IfOk result
-            (λ plan. plan.row
-            ≡ subject_row (fields_of B.log self.now) (object_of change.now) moment) }
-        ensures inode { IfOk result
-            (λ plan. plan.inode
-            ≡ subject_inode (fields_of B.log self.now) (object_of change.now) moment) }
-        ensures bytes { IfOk result (λ plan. plan.bytes ≡ sum (sizes_by change.now plan.inode)) }
-        ensures fit { IfOk result
-            (λ plan. AllByRecursion (λ size. size ≤ JOURNAL_ENTRY_BYTES)
-            (sizes_by change.now plan.inode)) }
-        ensures answer { MatchResult result (λ _. change_refusal (fields_of B.log self.now) change.now moment ≡ None)
-            (λ e. change_refusal (fields_of B.log self.now) change.now moment ≡ Some e) }
-    {
-        let subject = self.subject(object_of(change), moment);
-        let bytes = self.count(change, &subject, moment)?;
-        Ok(PlannedChange {
-            row: subject.row,
-            inode: subject.inode,
-            bytes,
-        })
+        bytes_of_entries(self.room(), change, row, inode)
     }
 
     /// From a moment on an object has another inode: the entries that lead there are appended to
-    /// its journal, and its row is changed. Data blocks that were appended for it have the names of
-    /// these pointers, which go once the journal gives them names.
+    /// its journal, and its row is changed. Only pointers in a range of indices differ. Data blocks
+    /// that were appended for it have the names of these pointers, which go once the journal gives
+    /// them names.
     fn turn(
         &mut self,
         object: ObjectId,
-        plan: &PlannedChange,
+        plan: &PlannedChange<'_>,
         after: &Inode,
+        first: usize,
+        end: usize,
         hand: &[Option<Ptr>],
         moment: Moment,
     )
-        requires can { CanTurn (fields_of B.log self.old) object plan.now.inode after.now hand.now
+        requires can { CanTurn (fields_of B.log self.old) object plan.now.inode.now after.now hand.now
             moment }
-        requires row { row_of self.old.rows object ≡ Some plan.now.row }
+        requires row { row_of self.old.rows object ≡ Some plan.now.row.now }
         requires bytes { plan.now.bytes
-            ≡ entries_length (entries_between plan.now.inode after.now moment) }
+            ≡ entries_length (entries_between plan.now.inode.now after.now moment) }
+        requires range { (first ≤ end) × (end ≤ OBJECT_BLOCKS) }
+        requires same { AreSameOutside first end plan.now.inode.now after.now }
         ensures { Turns (fields_of B.log self.old) object moment after.now
-            (blocks_turned (fields_of B.log self.old) object plan.now.inode after.now moment)
+            (blocks_turned (fields_of B.log self.old) object plan.now.inode.now after.now moment)
             (fields_of B.log self.new) }
     {
         what_changes_rest_on();
-        let entries = EntriesBetween::new(&plan.inode, after, moment);
+        let entries = EntriesBetween::within(plan.inode, after, first, end, moment);
         let next = record_change(
             &mut self.table,
             object,
-            &plan.row,
-            &plan.inode,
+            plan.row,
+            plan.inode,
             after,
             moment,
             &entries,
@@ -176,16 +153,16 @@ impl<B: Blocks> Store<B> {
     }
 
     /// Takes a deletion.
-    fn delete(&mut self, object: ObjectId, plan: &PlannedChange, moment: Moment)
-        requires can { CanTake (fields_of B.log self.old) (Delete object) moment plan.now.inode }
-        requires row { plan.now.row ≡ subject_row (fields_of B.log self.old) object moment }
-        requires bytes { plan.now.bytes ≡ sum (sizes_by (Delete object) plan.now.inode) }
-        ensures { IsTaken (fields_of B.log self.old) (Delete object) moment plan.now.inode
+    fn delete(&mut self, object: ObjectId, plan: &PlannedChange<'_>, moment: Moment)
+        requires can { CanTake (fields_of B.log self.old) (Delete object) moment plan.now.inode.now }
+        requires row { plan.now.row.now ≡ subject_row (fields_of B.log self.old) object moment }
+        requires bytes { plan.now.bytes ≡ sum (sizes_by (Delete object) plan.now.inode.now) }
+        ensures { IsTaken (fields_of B.log self.old) (Delete object) moment plan.now.inode.now
             (fields_of B.log self.new) }
     {
         what_changes_rest_on();
-        let after = deleted(&plan.inode);
-        self.turn(object, plan, &after, &[], moment);
+        let after = deleted(plan.inode);
+        self.turn(object, plan, &after, 0, 0, &[], moment);
     }
 
     /// Takes a change of the attribute.
@@ -193,21 +170,21 @@ impl<B: Blocks> Store<B> {
         &mut self,
         object: ObjectId,
         attribute: &[u8],
-        plan: &PlannedChange,
+        plan: &PlannedChange<'_>,
         moment: Moment,
     )
         requires can { CanTake (fields_of B.log self.old) (SetAttr object attribute.now) moment
-            plan.now.inode }
-        requires row { plan.now.row ≡ subject_row (fields_of B.log self.old) object moment }
+            plan.now.inode.now }
+        requires row { plan.now.row.now ≡ subject_row (fields_of B.log self.old) object moment }
         requires bytes { plan.now.bytes
-            ≡ sum (sizes_by (SetAttr object attribute.now) plan.now.inode) }
+            ≡ sum (sizes_by (SetAttr object attribute.now) plan.now.inode.now) }
         ensures { IsTaken (fields_of B.log self.old) (SetAttr object attribute.now) moment
-            plan.now.inode (fields_of B.log self.new) }
+            plan.now.inode.now (fields_of B.log self.new) }
     {
         what_changes_rest_on();
         let attribute = attribute_of(attribute);
-        let after = with_attribute(&plan.inode, attribute, moment);
-        self.turn(object, plan, &after, &[], moment);
+        let after = with_attribute(plan.inode, attribute, moment);
+        self.turn(object, plan, &after, 0, 0, &[], moment);
     }
 
     /// Takes a write.
@@ -216,40 +193,50 @@ impl<B: Blocks> Store<B> {
         object: ObjectId,
         offset: u64,
         bytes: &[u8],
-        plan: &PlannedChange,
+        plan: &PlannedChange<'_>,
         moment: Moment,
     )
         requires can { CanTake (fields_of B.log self.old) (Write object offset bytes.now) moment
-            plan.now.inode }
-        requires row { plan.now.row ≡ subject_row (fields_of B.log self.old) object moment }
+            plan.now.inode.now }
+        requires row { plan.now.row.now ≡ subject_row (fields_of B.log self.old) object moment }
         requires bytes { plan.now.bytes
-            ≡ sum (sizes_by (Write object offset bytes.now) plan.now.inode) }
+            ≡ sum (sizes_by (Write object offset bytes.now) plan.now.inode.now) }
         ensures { IsTaken (fields_of B.log self.old) (Write object offset bytes.now) moment
-            plan.now.inode (fields_of B.log self.new) }
+            plan.now.inode.now (fields_of B.log self.new) }
     {
         what_changes_rest_on();
-        let after = write(&mut self.table, object, &plan.inode, moment, offset, bytes);
+        let mut after = *plan.inode;
+        write(
+            &mut self.table,
+            object,
+            plan.inode,
+            moment,
+            offset,
+            bytes,
+            &mut after,
+        );
         self.table.names();
         let first = offset as usize / BLOCK_BYTES;
-        let hand = appended(&after, first, blocks_of_write(offset, bytes.len()));
-        self.turn(object, plan, &after, hand, moment);
+        let count = blocks_of_write(offset, bytes.len());
+        let hand = appended(&after, first, count);
+        self.turn(object, plan, &after, first, first + count, hand, moment);
     }
 
     /// Takes a truncation.
-    fn truncate(&mut self, object: ObjectId, size: u64, plan: &PlannedChange, moment: Moment)
+    fn truncate(&mut self, object: ObjectId, size: u64, plan: &PlannedChange<'_>, moment: Moment)
         requires can { CanTake (fields_of B.log self.old) (Truncate object size) moment
-            plan.now.inode }
-        requires row { plan.now.row ≡ subject_row (fields_of B.log self.old) object moment }
-        requires bytes { plan.now.bytes ≡ sum (sizes_by (Truncate object size) plan.now.inode) }
-        ensures { IsTaken (fields_of B.log self.old) (Truncate object size) moment plan.now.inode
+            plan.now.inode.now }
+        requires row { plan.now.row.now ≡ subject_row (fields_of B.log self.old) object moment }
+        requires bytes { plan.now.bytes ≡ sum (sizes_by (Truncate object size) plan.now.inode.now) }
+        ensures { IsTaken (fields_of B.log self.old) (Truncate object size) moment plan.now.inode.now
             (fields_of B.log self.new) }
     {
         what_changes_rest_on();
-        let after = truncate(&mut self.table, object, &plan.inode, moment, size as u32);
+        let after = truncate(&mut self.table, object, plan.inode, moment, size as u32);
         self.table.names();
         let first = size as usize / BLOCK_BYTES;
-        let hand = appended(&after, first, blocks_of_truncate(&plan.inode, size as u32));
-        self.turn(object, plan, &after, hand, moment);
+        let hand = appended(&after, first, blocks_of_truncate(plan.inode, size as u32));
+        self.turn(object, plan, &after, first, OBJECT_BLOCKS, hand, moment);
     }
 
     /// Gives an object its first row, and its inode beside it. NoMemory where they couldn't be
@@ -281,25 +268,25 @@ impl<B: Blocks> Store<B> {
         &mut self,
         object: ObjectId,
         attribute: &[u8],
-        plan: &PlannedChange,
+        plan: &PlannedChange<'_>,
         moment: Moment,
     ) -> Result<(), Refusal>
         requires can { CanTake (fields_of B.log self.old) (Create object attribute.now) moment
-            plan.now.inode }
-        requires row { plan.now.row ≡ subject_row (fields_of B.log self.old) object moment }
+            plan.now.inode.now }
+        requires row { plan.now.row.now ≡ subject_row (fields_of B.log self.old) object moment }
         requires bytes { plan.now.bytes
-            ≡ sum (sizes_by (Create object attribute.now) plan.now.inode) }
+            ≡ sum (sizes_by (Create object attribute.now) plan.now.inode.now) }
         ensures taken { OnOk result
-            (IsTaken (fields_of B.log self.old) (Create object attribute.now) moment plan.now.inode
+            (IsTaken (fields_of B.log self.old) (Create object attribute.now) moment plan.now.inode.now
             (fields_of B.log self.new)) }
         ensures refusal { IfErr result (λ e. e ≡ NoMemory) }
         ensures unchanged { OnErr result (fields_of B.log self.new ≡ fields_of B.log self.old) }
     {
         what_changes_rest_on();
         let attribute = attribute_of(attribute);
-        self.add_object(object, &plan.inode, moment)?;
+        self.add_object(object, plan.inode, moment)?;
         let after = created(attribute, moment);
-        self.turn(object, plan, &after, &[], moment);
+        self.turn(object, plan, &after, 0, 0, &[], moment);
         Ok(())
     }
 
@@ -309,15 +296,15 @@ impl<B: Blocks> Store<B> {
     fn perform(
         &mut self,
         change: &Change,
-        plan: &PlannedChange,
+        plan: &PlannedChange<'_>,
         moment: Moment,
     ) -> Result<(), Refusal>
-        requires can { CanTake (fields_of B.log self.old) change.now moment plan.now.inode }
-        requires row { plan.now.row
+        requires can { CanTake (fields_of B.log self.old) change.now moment plan.now.inode.now }
+        requires row { plan.now.row.now
             ≡ subject_row (fields_of B.log self.old) (object_of change.now) moment }
-        requires bytes { plan.now.bytes ≡ sum (sizes_by change.now plan.now.inode) }
+        requires bytes { plan.now.bytes ≡ sum (sizes_by change.now plan.now.inode.now) }
         ensures taken { OnOk result
-            (IsTaken (fields_of B.log self.old) change.now moment plan.now.inode
+            (IsTaken (fields_of B.log self.old) change.now moment plan.now.inode.now
             (fields_of B.log self.new)) }
         ensures refusal { IfErr result
             (λ e. (e ≡ NoMemory) × (row_of self.old.rows (object_of change.now) ≡ None)) }
@@ -342,6 +329,64 @@ impl<B: Blocks> Store<B> {
             Change::FlushO { .. } => unreachable!(),
         }
         Ok(())
+    }
+
+    /// Takes a change that begins with this row and this inode, as [`Store::take`] says.
+    fn take_from(
+        &mut self,
+        change: &Change,
+        row: &Row,
+        inode: &Inode,
+        moment: Moment,
+    ) -> Result<(), Refusal>
+        requires store { IsStore (fields_of B.log self.old) }
+        requires later { self.old.latest < moment }
+        requires takes { Takes (fields_of B.log self.old) change.now }
+        requires row { row.now
+            ≡ subject_row (fields_of B.log self.old) (object_of change.now) moment }
+        requires inode { inode.now
+            ≡ subject_inode (fields_of B.log self.old) (object_of change.now) moment }
+        ensures taken { OnOk result
+            (IsTaken (fields_of B.log self.old) change.now moment inode.now
+            (fields_of B.log self.new)) }
+        ensures answer { MatchResult result (λ _. change_refusal (fields_of B.log self.old) change.now moment ≡ None)
+            (λ e. (e ≡ NoMemory)
+            ⊎ (change_refusal (fields_of B.log self.old) change.now moment ≡ Some e)) }
+        ensures memory { IfErr result
+            (λ e. e ≡ NoMemory
+            → (change_refusal (fields_of B.log self.old) change.now moment ≡ None)
+            × (row_of self.old.rows (object_of change.now) ≡ None)) }
+        ensures unchanged { OnErr result (fields_of B.log self.new ≡ fields_of B.log self.old) }
+    {
+        let bytes = self.count(change, row, inode, moment)?;
+        let plan = PlannedChange { row, inode, bytes };
+        self.perform(change, &plan, moment)
+    }
+
+    /// Takes a change of an object without a row, as [`Store::take`] says.
+    fn take_first(&mut self, change: &Change, moment: Moment) -> Result<(), Refusal>
+        requires store { IsStore (fields_of B.log self.old) }
+        requires later { self.old.latest < moment }
+        requires takes { Takes (fields_of B.log self.old) change.now }
+        requires row { fresh_row moment
+            ≡ subject_row (fields_of B.log self.old) (object_of change.now) moment }
+        requires inode { blank moment
+            ≡ subject_inode (fields_of B.log self.old) (object_of change.now) moment }
+        ensures taken { OnOk result
+            (IsTaken (fields_of B.log self.old) change.now moment (blank moment)
+            (fields_of B.log self.new)) }
+        ensures answer { MatchResult result (λ _. change_refusal (fields_of B.log self.old) change.now moment ≡ None)
+            (λ e. (e ≡ NoMemory)
+            ⊎ (change_refusal (fields_of B.log self.old) change.now moment ≡ Some e)) }
+        ensures memory { IfErr result
+            (λ e. e ≡ NoMemory
+            → (change_refusal (fields_of B.log self.old) change.now moment ≡ None)
+            × (row_of self.old.rows (object_of change.now) ≡ None)) }
+        ensures unchanged { OnErr result (fields_of B.log self.new ≡ fields_of B.log self.old) }
+    {
+        let row = Row::fresh(moment);
+        let inode = blank(moment);
+        self.take_from(change, &row, &inode, moment)
     }
 
     /// Takes a change of an object at a moment later than that of each change before; a creation is
@@ -380,7 +425,13 @@ impl<B: Blocks> Store<B> {
             × (row_of self.old.rows (object_of change.now) ≡ None)) }
         ensures unchanged { OnErr result (fields_of B.log self.new ≡ fields_of B.log self.old) }
     {
-        let plan = self.plan_change(change, moment)?;
-        self.perform(change, &plan, moment)
+        if let Some(kept) = self.begins_with(object_of(change), moment) {
+            // Each is copied by a statement of its own, where it is needed: so no room is cleared
+            // for it first.
+            let row = kept.row;
+            let inode = kept.value.inode;
+            return self.take_from(change, &row, &inode, moment);
+        }
+        self.take_first(change, moment)
     }
 }

@@ -1,15 +1,18 @@
-use Rattle.std.proofs.Common.{◌/◌, length, refl, arith, ◌∙◌, length-set}
+use Rattle.std.proofs.Common.{◌≡◌, ◌/◌, length, refl, sym, subst, arith, ◌∙◌, length-set}
+use Rattle.s4_types.specs.declared.limits.TheConstants.{OBJECT_BLOCKS}
+use Rattle.codec.specs.declared.inodes.Inode.{Inode}
 use Rattle.inode.specs.Contents.{contents_of}
 use Rattle.inode.specs.Changed.{byte_written}
 use Rattle.inode.proofs.Touching.{touched_within}
-use Rattle.inode.proofs.Stepping.{upto-none, upto-room, write-more, rest_more}
+use Rattle.inode.proofs.Stepping.{Upto, upto-none, upto-room, write-more, rest_more}
 use Rattle.inode.proofs.writes.write_blocks.Goals as goal
 
 pub loop-index-init : goal.loop-index-init
 loop-index-init g c = record {
-  upto = upto-none c.args.object (byte_written (contents_of (g.B.Blocks.log c.args.table.now).held) c.args.inode.now c.args.offset c.args.bytes.now) c.args.inode.now (c.args.offset / 512) (g.B.Blocks.log c.args.table.now);
-  count = c.requires.count;
-  rest = refl;
+  upto = subst (λ (i : Inode). Upto c.args.object (byte_written (contents_of (g.B.Blocks.log c.args.table.now).held) c.args.inode.now c.args.offset c.args.bytes.now) c.args.inode.now (c.args.offset / 512) (c.args.offset / 512) (g.B.Blocks.log c.args.table.now) (g.B.Blocks.log c.args.table.now) i.pointers) (sym c.requires.copy)
+      (upto-none c.args.object (byte_written (contents_of (g.B.Blocks.log c.args.table.now).held) c.args.inode.now c.args.offset c.args.bytes.now) c.args.inode.now (c.args.offset / 512) (g.B.Blocks.log c.args.table.now));
+  count = subst (λ (i : Inode). length i.pointers ≡ OBJECT_BLOCKS) (sym c.requires.copy) c.requires.count;
+  rest = subst (λ (i : Inode). i ≡ record c.args.inode.now { pointers = i.pointers }) (sym c.requires.copy) refl;
 }
 
 pub write_block-place-requires-clause-low : goal.write_block-place-requires-clause-low

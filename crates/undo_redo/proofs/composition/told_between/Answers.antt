@@ -1,15 +1,22 @@
 use Rattle.std.proofs.Common.{◌≡◌, ◌∷◌, ◌++◌, [], ◌∙◌, List, sym, ap, append-nil, arith}
 use Rattle.codec.specs.Entry.{EntryFields}
 use Rattle.undo_redo.specs.Between.{leading_entry, entries_between}
-use Rattle.undo_redo.proofs.Making.{checked_some, first_piece, others_keep, all_told, kept_made, one_more, one_fits}
+use Rattle.undo_redo.proofs.Making.{checked_some, first_piece, others_keep, all_told, kept_made, one_more, one_fits, same_beyond}
 use Rattle.undo_redo.proofs.composition.told_between.Goals as goal
 
 pub leading_entry-requires : goal.leading_entry-requires
 leading_entry-requires c = first_piece c.args.before.now c.args.after.now _ c.piece_from-triples.ensures.piece
 
-pub new-entry-items-requires-clause-rules : goal.new-entry-items-requires-clause-rules
-new-entry-items-requires-clause-rules c =
-    others_keep c.args.before.now c.args.after.now c.args.moment _ c.piece_from-triples.ensures.others (checked_some (leading_entry c.args.before.now c.args.after.now c.args.moment) c.in-Some.leading c.in-Some.ensures).0
+pub piece_from-triples-requires-clause-same : goal.piece_from-triples-requires-clause-same
+piece_from-triples-requires-clause-same c = same_beyond c.args.before.now c.args.after.now
+
+pub new-entry-items-requires : goal.new-entry-items-requires
+new-entry-items-requires c = record {
+  start = c.piece_from-triples.ensures.end;
+  stop = omega arith;
+  same = same_beyond c.args.before.now c.args.after.now;
+  rules = others_keep c.args.before.now c.args.after.now c.args.moment _ c.piece_from-triples.ensures.others (checked_some (leading_entry c.args.before.now c.args.after.now c.args.moment) c.in-Some.leading c.in-Some.ensures).0;
+}
 
 pub loop-entry-init : goal.loop-entry-init
 loop-entry-init c =

@@ -12,7 +12,7 @@ loop-index-init c = record {
 
 pub loop-index-preserved : goal.loop-index-preserved
 loop-index-preserved c = record {
-  items = piece_more c.args.before.now c.args.after.now c.loop-index.index c.triple_at.result c.loop-index.triples.items c.push_apart.new.triples.items _ c.loop-index-test.true c.triple_at.ensures c.push_apart.ensures.items c.loop-index.invariant.items;
+  items = piece_more c.args.before.now c.args.after.now c.loop-index.index c.triple_at.result c.loop-index.triples.items c.push_apart.new.triples.items _ (omega (arith, c.loop-index-test.true, c.requires.end)) c.triple_at.ensures c.push_apart.ensures.items c.loop-index.invariant.items;
   room = omega (arith, c.push_apart.ensures.len);
 }
 
@@ -23,7 +23,7 @@ pub returns-then-len-ge-ENTRY_TRIPLES-clause-others : goal.returns-then-len-ge-E
 returns-then-len-ge-ENTRY_TRIPLES-clause-others c = (cut_full c.loop-index.triples.items (triples_from c.loop-index.index c.args.before.now c.args.after.now) _ c.loop-index.invariant.items c.loop-index.invariant.room (omega arith)).back
 
 pub returns-clause-piece : goal.returns-clause-piece
-returns-clause-piece c = (cut_end c.args.before.now c.args.after.now c.loop-index.index c.loop-index.triples.items _ c.loop-index.invariant.items c.loop-index.invariant.room c.loop-index-test.false).front
+returns-clause-piece c = (cut_end c.args.before.now c.args.after.now c.loop-index.index c.args.end c.loop-index.triples.items _ c.loop-index.invariant.items c.loop-index.invariant.room c.requires.same c.loop-index-test.false).front
 
 pub returns-clause-others : goal.returns-clause-others
-returns-clause-others c = (cut_end c.args.before.now c.args.after.now c.loop-index.index c.loop-index.triples.items _ c.loop-index.invariant.items c.loop-index.invariant.room c.loop-index-test.false).back
+returns-clause-others c = (cut_end c.args.before.now c.args.after.now c.loop-index.index c.args.end c.loop-index.triples.items _ c.loop-index.invariant.items c.loop-index.invariant.room c.requires.same c.loop-index-test.false).back

@@ -1,4 +1,4 @@
-use Rattle.std.proofs.Common.{ap, refl, ◌∙◌, [], ◌+◌, arith}
+use Rattle.std.proofs.Common.{ap, refl, ◌∙◌, [], arith}
 use Rattle.block_log.specs.declared.kinds.BlockKind.TheVariants.{Journal, Checkpoint, Pointers}
 use Rattle.object_map.specs.declared.map.Row.{Row}
 use Rattle.std.proofs.lemmas.List.Elements.{All-nil}

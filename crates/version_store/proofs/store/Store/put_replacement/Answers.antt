@@ -1,5 +1,5 @@
 -- The store's facts are those of the opened store; what is to be shown is of the store as it was passed.
-use Rattle.std.proofs.Common.{◌≡◌, ℕ, ◌≤◌, ◌<◌, ◌+◌, ◌++◌, ◌^◌, List, length, Option, Some, IfSome, refl, sym, ap, subst, ◌∙◌, arith}
+use Rattle.std.proofs.Common.{◌≡◌, ℕ, ◌≤◌, ◌<◌, ◌+◌, ◌^◌, List, length, Option, Some, IfSome, refl, sym, ap, subst, ◌∙◌, arith}
 use Rattle.std.proofs.lemmas.Option.{same_Some}
 use Rattle.std.specs.List.{All}
 use Rattle.std.proofs.lemmas.List.{length-append}
@@ -8,7 +8,6 @@ use Rattle.block_log.specs.Taken.{TakesPlaces}
 use Rattle.block_log.specs.Log.{Log}
 use Rattle.block_log.specs.declared.kinds.BlockKind.TheVariants.{Journal, Checkpoint, Pointers}
 use Rattle.codec.specs.declared.inodes.Inode.{Inode}
-use Rattle.time_read.specs.Rows.{IsRow}
 use Rattle.s4_types.specs.declared.limits.TheConstants.{OBJECT_BLOCKS}
 use Rattle.object_map.specs.declared.map.Row.{Row}
 use Rattle.object_map.specs.Objects.{Puts}
