@@ -6,12 +6,13 @@ use Rattle.std.proofs.lemmas.Option.{none-some}
 use Rattle.std.proofs.lemmas.List.{map-append}
 use Rattle.std.proofs.lemmas.List.Elements.{All-nil, All-cons, All-head, All-tail}
 use Rattle.std.proofs.lemmas.Map.Made.{lookup-map_values}
+use Rattle.std.specs.Global.{Box}
 use Rattle.std.specs.BTreeMap.{is_at, insert_entry}
 use Rattle.std.specs.Ordering.{nat_cmp, match_ordering}
 use Rattle.std.specs.declared.cmp.Ordering.TheVariants.{Greater}
 use Rattle.object_map.specs.declared.map.Row.{Row}
 use Rattle.object_map.specs.declared.map.Kept.{Kept}
-use Rattle.object_map.specs.Objects.{value_of, with_value, without_value, IsNextAbove, MapOf, parts_of, IsKeptOf, AreBelow, Puts, PutsBehind, PutsRow, Removes}
+use Rattle.object_map.specs.Objects.{value_of, with_value, without_value, IsNextAbove, MapOf, parts_of, unboxed, PutsAt, IsKeptOf, AreBelow, Puts, PutsBehind, PutsRow, Removes}
 
 pub on_ok : {T E : Type 0} {P Q : Type 0} → (P → Q) → (result : Result T E) → OnOk result P → OnOk result Q
 on_ok f (Ok x) is = f is
@@ -56,6 +57,15 @@ module _ {X Y : Type 0} (g : X → Y) where
   some_mapped : (found : Option X) → IsSome found → IsSome (option_map g found)
   some_mapped None some = some
   some_mapped (Some x) some = some
+
+module _ {X Y : Type 0} (g : X → Y) where
+  -- the next key of a list is that of its mapped one
+  next_mapped : (es : List (ℕ × X)) (fs : List (ℕ × Y)) (o next : ℕ) → ((q : ℕ) → value_of fs q ≡ option_map g (value_of es q)) → IsNextAbove es o next → IsNextAbove fs o next
+  next_mapped es fs o next at is = record {
+    above = is.above;
+    there = subst (λ (r : Option Y). IsSome r) (sym (at next)) (some_mapped g (value_of es next) is.there);
+    least = λ q over under. at q ∙ ap (option_map g) (is.least q over under);
+  }
 
 module _ {V : Type 0} where
   row_at : (es : List (ℕ × Kept V)) (q : ℕ) → value_of (parts_of es).rows q ≡ option_map (λ k. k.row) (value_of es q)
@@ -116,14 +126,13 @@ module _ {V : Type 0} where
 
   -- where a value is written through, beside another row with the next stamp
   pub lent : (es fs : List (ℕ × Kept V)) (o n : ℕ) (row next : Row) (value : V) (old : Kept V) → n ≡ o → Some old ≡ value_of es n → next ≡ record row { stamp = old.row.stamp + 1 }
-      → ((q : ℕ) → value_of fs q ≡ cond (is_at (nat_cmp n) q) (Some (record { row = next; value = value })) (value_of es q))
+      → PutsAt es n (record { row = next; value = value }) fs
       → IfSome (value_of (parts_of es).rows o) (λ before. Puts (parts_of es) o (record row { stamp = before.stamp + 1 }) value (parts_of fs))
   lent es fs o n row next value old number there is put =
       let found : value_of es o ≡ Some old = ap (value_of es) (sym number) ∙ sym there in
-      let kept : Kept V = record { row = record row { stamp = old.row.stamp + 1 }; value = value } in
-      let written : (q : ℕ) → value_of fs q ≡ with_value (value_of es) o kept q = λ q.
-      put q ∙ ap (λ (b : Bool). cond b (Some (record { row = next; value = value })) (value_of es q)) (same_key n q ∙ ap (λ (k : ℕ). k == q) number)
-      ∙ ap (λ (r : Row). cond (o == q) (Some (record { row = r; value = value })) (value_of es q)) is in
+      let written : PutsAt es o (record { row = record row { stamp = old.row.stamp + 1 }; value = value }) fs =
+      subst (λ (k : ℕ). PutsAt es k (record { row = record row { stamp = old.row.stamp + 1 }; value = value }) fs) number
+      (subst (λ (r : Row). PutsAt es n (record { row = r; value = value }) fs) is put) in
       changed es fs o row value (subst (λ (f : Option (Kept V)). IfSome f (λ before. (q : ℕ) → value_of fs q ≡ with_value (value_of es) o (record { row = record row { stamp = before.row.stamp + 1 }; value = value }) q)) (sym found) written)
 
   -- what is found of an object, by its number
@@ -186,11 +195,68 @@ module _ {V : Type 0} where
 
   -- the next object of which something is kept is the next that has a row
   pub next_row : (es : List (ℕ × Kept V)) (o next : ℕ) → IsNextAbove es o next → IsNextAbove (parts_of es).rows o next
-  next_row es o next is = record {
-    above = is.above;
-    there = subst (λ (r : Option Row). IsSome r) (sym (row_at es next)) (some_mapped (λ (k : Kept V). k.row) (value_of es next) is.there);
-    least = λ q over under. row_at es q ∙ ap (option_map (λ k. k.row)) (is.least q over under);
-  }
+  next_row es o next is = next_mapped (λ (k : Kept V). k.row) es (parts_of es).rows o next (row_at es) is
 
   pub none_above : (es : List (ℕ × Kept V)) (o : ℕ) → ((q : ℕ) → o < q → value_of es q ≡ None) → (q : ℕ) → o < q → value_of (parts_of es).rows q ≡ None
   none_above es o none q over = row_at es q ∙ ap (option_map (λ k. k.row)) (none q over)
+
+-- Each thing is in a box of its own.
+module _ {X : Type 0} where
+  pub unboxed_at : (es : List (ℕ × Box X)) (q : ℕ) → value_of (unboxed es) q ≡ option_map (λ b. b.value) (value_of es q)
+  unboxed_at es q = lookup-map_values (λ (b : Box X). b.value) (is_at (nat_cmp q)) es
+
+  -- what is in a box that is found
+  pub found_in_box : (es : List (ℕ × Box X)) (k : ℕ) (b : Box X) → Some b ≡ value_of es k → value_of (unboxed es) k ≡ Some b.value
+  found_in_box es k b is = unboxed_at es k ∙ ap (option_map (λ (x : Box X). x.value)) (sym is)
+
+  -- where there is no box, there is nothing
+  pub not_in_box : (es : List (ℕ × Box X)) (k : ℕ) → None ≡ value_of es k → value_of (unboxed es) k ≡ None
+  not_in_box es k none = unboxed_at es k ∙ ap (option_map (λ (x : Box X). x.value)) (sym none)
+
+  -- where there is nothing, there is no box
+  pub no_box : (es : List (ℕ × Box X)) (o : ℕ) → value_of (unboxed es) o ≡ None → value_of es o ≡ None
+  no_box es o none = none_mapped (λ (b : Box X). b.value) (value_of es o) (sym (unboxed_at es o) ∙ none)
+
+  -- where a box is put, what is in it is
+  pub puts_unboxed : (es fs : List (ℕ × Box X)) (o : ℕ) (b : Box X) → PutsAt es o b fs → PutsAt (unboxed es) o b.value (unboxed fs)
+  puts_unboxed es fs o b put q =
+      unboxed_at fs q ∙ ap (option_map (λ (x : Box X). x.value)) (put q) ∙ mapped_if (λ (x : Box X). x.value) (o == q) b (value_of es q)
+      ∙ ap (λ (v : Option X). if o == q then Some b.value else v) (sym (unboxed_at es q))
+
+  boxes_below : (es : List (ℕ × Box X)) (o : ℕ) → AreBelow (unboxed es) o → AreBelow es o
+  boxes_below [] o below = All-nil (λ (e : ℕ × Box X). e.0 < o)
+  boxes_below (e ∷ es) o below =
+      let P : ℕ × X → Type 0 = λ r. r.0 < o in
+      All-cons (λ (k : ℕ × Box X). k.0 < o) e es (All-head P (e.0, e.1.value) (unboxed es) below) (boxes_below es o (All-tail P (e.0, e.1.value) (unboxed es) below))
+
+  -- a box whose key is above all others goes to the end
+  pub boxed_behind : (es fs : List (ℕ × Box X)) (k : ℕ) (b : Box X) → fs ≡ insert_entry nat_cmp es k b → AreBelow (unboxed es) k → unboxed fs ≡ unboxed es ++ (k, b.value) ∷ []
+  boxed_behind es fs k b is below =
+      ap unboxed (is ∙ inserted_behind es k b (boxes_below es k below)) ∙ map-append (λ (e : ℕ × Box X). (e.0, e.1.value)) es ((k, b) ∷ [])
+
+  -- what is taken out with its box
+  pub unboxed_without : (es fs : List (ℕ × Box X)) (o : ℕ) → ((q : ℕ) → value_of fs q ≡ without_value (value_of es) o q) → (q : ℕ) → value_of (unboxed fs) q ≡ without_value (value_of (unboxed es)) o q
+  unboxed_without es fs o gone q =
+      unboxed_at fs q ∙ ap (option_map (λ (b : Box X). b.value)) (gone q) ∙ mapped_without (λ (b : Box X). b.value) (o == q) (value_of es q)
+      ∙ ap (λ (v : Option X). if o == q then None else v) (sym (unboxed_at es q))
+
+  pub next_unboxed : (es : List (ℕ × Box X)) (o next : ℕ) → IsNextAbove es o next → IsNextAbove (unboxed es) o next
+  next_unboxed es o next is = next_mapped (λ (b : Box X). b.value) es (unboxed es) o next (unboxed_at es) is
+
+  pub none_unboxed : (es : List (ℕ × Box X)) (o : ℕ) → ((q : ℕ) → o < q → value_of es q ≡ None) → (q : ℕ) → o < q → value_of (unboxed es) q ≡ None
+  none_unboxed es o none q over = unboxed_at es q ∙ ap (option_map (λ (b : Box X). b.value)) (none q over)
+
+  pub put_at : (es fs : List (ℕ × Box X)) (k : ℕ) (b : Box X) → ((q : ℕ) → value_of fs q ≡ cond (is_at (nat_cmp k) q) (Some b) (value_of es q)) → PutsAt es k b fs
+  put_at es fs k b put q = put q ∙ ap (λ (test : Bool). cond test (Some b) (value_of es q)) (same_key k q)
+
+  -- where another box is found at a key, what is in it is put there
+  pub replaced : (es fs : List (ℕ × Box X)) (k : ℕ) (old new : Box X) (P : X → X) → Some old ≡ value_of es k → new.value ≡ P old.value
+      → ((q : ℕ) → value_of fs q ≡ cond (is_at (nat_cmp k) q) (Some new) (value_of es q)) → IfSome (value_of (unboxed es) k) (λ before. PutsAt (unboxed es) k (P before) (unboxed fs))
+  replaced es fs k old new P there is put =
+      let written : PutsAt es k new fs = put_at es fs k new put in
+      let now : PutsAt (unboxed es) k (P old.value) (unboxed fs) = subst (λ (x : X). PutsAt (unboxed es) k x (unboxed fs)) is (puts_unboxed es fs k new written) in
+      subst (λ (f : Option X). IfSome f (λ before. PutsAt (unboxed es) k (P before) (unboxed fs))) (sym (found_in_box es k old there)) now
+
+  -- where no box is found, nothing is asked
+  pub none_replaced : (es : List (ℕ × Box X)) (k : ℕ) (P : X → Type 0) → None ≡ value_of es k → IfSome (value_of (unboxed es) k) P
+  none_replaced es k P none = if_none P (value_of (unboxed es) k) (not_in_box es k none)

@@ -2,6 +2,7 @@
 use Rattle.std.specs.Prelude.{◌≡◌, ℕ, ◌==◌, ◌<◌, if◌then◌else◌, List, [], ◌∷◌, ◌++◌, map, Option, Some, None, IsSome, option_map}
 use Rattle.std.specs.List.{All}
 use Rattle.std.specs.Map.{lookup}
+use Rattle.std.specs.Global.{Box}
 use Rattle.std.specs.BTreeMap.{is_at}
 use Rattle.std.specs.Ordering.{nat_cmp}
 use Rattle.object_map.specs.declared.map.Row.{Row}
@@ -37,6 +38,10 @@ pub record IsNextAbove {V : Type 0} (values : List (ℕ × V)) (o next : ℕ) : 
 pub record MapOf (V : Type 0) : Type 0 where
   pub rows : List (ℕ × Row)
   pub values : List (ℕ × V)
+
+-- what is kept of objects, each out of its box
+abbrev pub unboxed : {X : Type 0} → List (ℕ × Box X) → List (ℕ × X)
+unboxed boxes = map (λ e. (e.0, e.1.value)) boxes
 
 -- the two lists of what is kept of objects
 abbrev pub parts_of : {V : Type 0} → List (ℕ × Kept V) → MapOf V

@@ -2,6 +2,7 @@ ghost use Rattle.std.specs.Prelude.{◌≡◌, ℕ, ◌+◌, ◌<◌, ◌^◌, S
 ghost use Rattle.std.specs.Prelude.{IfOk, IfErr, OnOk, OnErr, [], ◌∷◌, ◌++◌, length, option_copied};
 ghost use Rattle.std.specs.Prelude.{option_map};
 ghost use Rattle.object_map.specs.Objects.{value_of, without_value, PutsAt, IsNextAbove, IsKeptOf};
+ghost use Rattle.object_map.specs.Objects.{unboxed};
 ghost use Rattle.object_map.specs.Objects.{AreBelow, Puts, PutsBehind, PutsRow, Removes};
 ghost use Rattle.object_map.specs.Rows.{row_of, fresh_row};
 ghost use Rattle.object_map.specs.Sides.{sides_after, side_gone, sides_named};
@@ -85,27 +86,35 @@ pub struct Kept<V: Drop> {
 /// A map from objects to their rows, with a value beside each.
 #[derive(Drop)]
 pub struct ObjectMap<V: Drop> {
-    objects: BTreeMap<u64, Kept<V>>,
+    alloc: Global,
+    // Each in a box of its own, so that the gaps in the tree's nodes are small.
+    objects: BTreeMap<u64, Box<Kept<V>>>,
 }
 
 impl<V: Drop> Model for ObjectMap<V> {
-    ghost use Rattle.object_map.specs.Objects.{MapOf, parts_of};
+    ghost use Rattle.object_map.specs.Objects.{MapOf, parts_of, unboxed};
 
     ghost Value = { MapOf V };
 
-    ghost view = { λ m. parts_of m.objects.entries };
+    ghost view = { λ m. parts_of (unboxed m.objects.entries) };
 }
 
-// A value at a key that has none.
-fn put<V: Drop>(map: &mut BTreeMap<u64, V>, key: u64, value: V) -> Result<(), Refusal>
-    requires fresh { value_of map.old.entries key ≡ None }
-    ensures put { OnOk result (PutsAt map.old.entries key value map.new.entries) }
-    ensures behind { AreBelow map.old.entries key
-        → OnOk result (map.new.entries ≡ map.old.entries ++ (key, value) ∷ []) }
+// What is kept at a key that has nothing.
+fn put<V: Drop>(
+    alloc: Global,
+    map: &mut BTreeMap<u64, Box<Kept<V>>>,
+    key: u64,
+    kept: Kept<V>,
+) -> Result<(), Refusal>
+    requires fresh { value_of (unboxed map.old.entries) key ≡ None }
+    ensures put { OnOk result (PutsAt (unboxed map.old.entries) key kept (unboxed map.new.entries)) }
+    ensures behind { AreBelow (unboxed map.old.entries) key
+        → OnOk result (unboxed map.new.entries ≡ unboxed map.old.entries ++ (key, kept) ∷ []) }
     ensures refusal { IfErr result (λ e. e ≡ NoMemory) }
     ensures unchanged { OnErr result (map.new.entries ≡ map.old.entries) }
 {
-    map.insert(key, value)?;
+    let place = Box::new(alloc, kept)?;
+    map.insert(key, place)?;
     Ok(())
 }
 
@@ -120,26 +129,54 @@ fn next_of(old: &Row, row: &Row) -> Row
     }
 }
 
+// Another row, whose stamp is one above the old one's, and another value in their place.
+fn put_anew<V: Drop>(place: &mut Box<Kept<V>>, row: &Row, value: V)
+    requires { place.old.value.row.stamp + 1 < 2 ^ 64 }
+    ensures { place.new.value
+        ≡ record { row = record row.now { stamp = place.old.value.row.stamp + 1 }; value = value } }
+{
+    let kept = &mut **place;
+    kept.row = next_of(&kept.row, row);
+    kept.value = value;
+}
+
+// Another row, whose stamp is one above the old one's; the value stays.
+fn put_row<V: Drop>(place: &mut Box<Kept<V>>, row: &Row)
+    requires { place.old.value.row.stamp + 1 < 2 ^ 64 }
+    ensures { place.new.value
+        ≡ record place.old.value { row = record row.now { stamp = place.old.value.row.stamp + 1 } } }
+{
+    let kept = &mut **place;
+    kept.row = next_of(&kept.row, row);
+}
+
 // At a key another row, whose stamp is one above the old one's, and another value.
-fn replace<V: Drop>(map: &mut BTreeMap<u64, Kept<V>>, key: u64, row: &Row, value: V)
-    requires there { IfSome (value_of map.old.entries key) (λ old. old.row.stamp + 1 < 2 ^ 64) }
-    requires some { IsSome (value_of map.old.entries key) }
-    ensures changed { IfSome (value_of map.old.entries key) (λ old. PutsAt map.old.entries key (record { row = record row.now { stamp = old.row.stamp + 1 }; value = value }) map.new.entries) }
+fn replace<V: Drop>(map: &mut BTreeMap<u64, Box<Kept<V>>>, key: u64, row: &Row, value: V)
+    requires there { IfSome (value_of (unboxed map.old.entries) key)
+        (λ old. old.row.stamp + 1 < 2 ^ 64) }
+    requires some { IsSome (value_of (unboxed map.old.entries) key) }
+    ensures changed { IfSome (value_of (unboxed map.old.entries) key) (λ old.
+        PutsAt (unboxed map.old.entries) key
+        (record { row = record row.now { stamp = old.row.stamp + 1 }; value = value })
+        (unboxed map.new.entries)) }
 {
     if let Some(kept) = map.get_mut(&key) {
-        kept.row = next_of(&kept.row, row);
-        kept.value = value;
+        put_anew(kept, row, value);
     }
 }
 
 // At a key another row, whose stamp is one above the old one's; the value stays.
-fn replace_row<V: Drop>(map: &mut BTreeMap<u64, Kept<V>>, key: u64, row: &Row)
-    requires there { IfSome (value_of map.old.entries key) (λ old. old.row.stamp + 1 < 2 ^ 64) }
-    requires some { IsSome (value_of map.old.entries key) }
-    ensures changed { IfSome (value_of map.old.entries key) (λ old. PutsAt map.old.entries key (record old { row = record row.now { stamp = old.row.stamp + 1 } }) map.new.entries) }
+fn replace_row<V: Drop>(map: &mut BTreeMap<u64, Box<Kept<V>>>, key: u64, row: &Row)
+    requires there { IfSome (value_of (unboxed map.old.entries) key)
+        (λ old. old.row.stamp + 1 < 2 ^ 64) }
+    requires some { IsSome (value_of (unboxed map.old.entries) key) }
+    ensures changed { IfSome (value_of (unboxed map.old.entries) key) (λ old.
+        PutsAt (unboxed map.old.entries) key
+        (record old { row = record row.now { stamp = old.row.stamp + 1 } })
+        (unboxed map.new.entries)) }
 {
     if let Some(place) = map.get_mut(&key) {
-        place.row = next_of(&place.row, row);
+        put_row(place, row);
     }
 }
 
@@ -168,6 +205,7 @@ impl<V: Drop> ObjectMap<V> {
         ensures values { result.values ≡ [] }
     {
         ObjectMap {
+            alloc,
             objects: BTreeMap::new(alloc),
         }
     }
@@ -176,7 +214,8 @@ impl<V: Drop> ObjectMap<V> {
     pub fn get(&self, object: ObjectId) -> Option<&Kept<V>>
         ensures { IsKeptOf self.now object (option_copied result) }
     {
-        self.objects.get(&object.number())
+        let kept = self.objects.get(&object.number())?;
+        Some(&**kept)
     }
 
     /// This row, with its own stamp, for an object that has none, and a value beside it. NoMemory,
@@ -190,7 +229,7 @@ impl<V: Drop> ObjectMap<V> {
         ensures unchanged { OnErr result (self.new ≡ self.old) }
     {
         let kept = Kept { row: *row, value };
-        put(&mut self.objects, object.number(), kept)
+        put(self.alloc, &mut self.objects, object.number(), kept)
     }
 
     /// A row for an object that has none, without journal and checkpoint and with stamp 0, and a
@@ -225,8 +264,9 @@ impl<V: Drop> ObjectMap<V> {
         ensures none { IfNone result (row_of self.old.rows object ≡ None) }
     {
         let found = self.objects.get_mut(&object.number())?;
-        found.row = next_of(&found.row, row);
-        Some(&mut found.value)
+        let kept = &mut **found;
+        kept.row = next_of(&kept.row, row);
+        Some(&mut kept.value)
     }
 
     /// An object's row becomes this one, but for the stamp, which is one above the old row's; the
