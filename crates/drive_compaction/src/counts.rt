@@ -1,20 +1,14 @@
 //! What the moves of each object write.
 ghost use Rattle.std.specs.Prelude.{◌≡◌, ◌≤◌, Some, IfOk, IfErr};
-ghost use Rattle.s4_types.specs.declared.limits.TheConstants.{CHAIN_ENTRY_BYTES, CHAIN_ENTRIES};
 ghost use Rattle.s4_types.specs.declared.limits.TheConstants.{MOVE_BLOCKS};
 ghost use Rattle.s4_types.specs.declared.refusals.Refusal.TheVariants.{NoMemory};
-ghost use Rattle.codec.specs.Entry.{entries_length};
-ghost use Rattle.journal_chain.specs.Push.{whole_blocks};
 ghost use Rattle.object_map.specs.Rows.{row_of};
 ghost use Rattle.drive.specs.Fields.{store_of};
 ghost use Rattle.drive_compaction.specs.Choosing.{blocks_rewritten, written_by, AreCounts};
 
-use checkpoint::checkpoint_blocks;
-use codec::{Entry, Inode};
 use drive::Drive;
-use journal_chain::packing::laws::{chains_are_short, few_blocks_are_needed};
 use object_map::{ObjectMap, Row};
-use row_changes::rewritten_blocks;
+use row_changes::journal_blocks;
 use s4_types::limits::MOVE_BLOCKS;
 use s4_types::{ObjectId, Refusal};
 use segment_copier::{Rewrites, checkpoint_size};
@@ -50,18 +44,6 @@ impl<J: Naming> Rewrites<J> for Counts {
     }
 }
 
-/// How many blocks a whole journal of these entries is: what a rewrite with this inode writes
-/// beside its checkpoint.
-fn journal_blocks(inode: &Inode, entries: &[Entry]) -> usize
-    requires { entries_length entries.now ≤ CHAIN_ENTRY_BYTES }
-    ensures blocks { result ≡ whole_blocks entries.now }
-    ensures few { result ≤ CHAIN_ENTRIES }
-{
-    chains_are_short();
-    few_blocks_are_needed();
-    rewritten_blocks(inode, entries) - checkpoint_blocks(inode)
-}
-
 /// How many blocks the checkpoint of an object of this row, if it has one, and its journal are once
 /// they are written anew.
 ///
@@ -75,12 +57,8 @@ fn blocks_of<J: Naming>(drive: &mut Drive<J>, object: ObjectId, row: &Row) -> Re
 {
     drive.rules();
     let checkpoint = checkpoint_size(drive, object, row);
-    let clock = drive.clock();
-    let Some(inode) = drive.inode_at(object, clock) else {
-        unreachable!()
-    };
     let entries = drive.entries(object)?;
-    Ok(checkpoint + journal_blocks(&inode, entries.as_slice()))
+    Ok(checkpoint + journal_blocks(entries.as_slice()))
 }
 
 /// Of each object that has a row how many blocks its checkpoint and its journal are once they are

@@ -16,4 +16,4 @@ mod rewrites;
 pub use changes::record_change;
 pub use checkpoints::{drop_sides, record_checkpoint};
 pub use moves::{move_row, moved_blocks};
-pub use rewrites::{rewrite_row, rewritten_blocks};
+pub use rewrites::{journal_blocks, rewrite_row, rewritten_blocks};

@@ -45,8 +45,9 @@ fn sizes_of(entries: &[Entry]) -> ArrayVec<usize, CHAIN_ENTRIES>
     sizes
 }
 
-/// How many places it takes to write a whole journal of these entries anew.
-pub(crate) fn journal_blocks(entries: &[Entry]) -> usize
+/// How many places it takes to write a whole journal of these entries anew, of at most
+/// `CHAIN_ENTRY_BYTES`.
+pub fn journal_blocks(entries: &[Entry]) -> usize
     requires { entries_length entries.now ≤ CHAIN_ENTRY_BYTES }
     ensures blocks { result ≡ whole_blocks entries.now }
     ensures few { result ≤ CHAIN_ENTRIES }

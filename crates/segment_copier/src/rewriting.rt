@@ -1,11 +1,9 @@
 //! What a move writes of an object beside the data blocks that it copies: the object's checkpoint
 //! and its journal.
-ghost use Rattle.std.specs.Prelude.{◌≡◌, ◌<◌, ◌≤◌, length, Some};
-ghost use Rattle.std.specs.Option.{option_to_list};
+ghost use Rattle.std.specs.Prelude.{◌≡◌, ◌≤◌, length, is_some};
+ghost use Rattle.std.specs.List.{count_by};
 ghost use Rattle.s4_types.specs.declared.limits.TheConstants.{CHECKPOINT_BLOCKS, CHECKPOINT_PARTS};
-ghost use Rattle.codec.specs.Fields.{Reads};
-ghost use Rattle.checkpoint.specs.Held.{checkpoint_places, of_checkpoints, first_in, part_place};
-ghost use Rattle.checkpoint.specs.Held.{HasBytes};
+ghost use Rattle.checkpoint.specs.Held.{checkpoint_places, of_checkpoints, HasBytes};
 ghost use Rattle.time_read.specs.Rows.{IsRow};
 ghost use Rattle.row_changes.specs.Moving.{kept_blocks, inode_kept};
 ghost use Rattle.segment_table.specs.Table.{held_at};
@@ -13,7 +11,6 @@ ghost use Rattle.segment_copier.specs.declared.rewriting.TheConstants.{MOST_IN_J
 ghost use Rattle.segment_copier.specs.declared.rewriting.TheConstants.{MOST_REWRITTEN};
 ghost use Rattle.segment_copier.specs.Gathering.{most_journal, most_rewritten};
 
-use block_log::Block;
 use checkpoint::laws::{a_checkpoint_has_its_blocks, a_checkpoint_takes_its_blocks};
 use codec::{FirstBlock, decode_first_block};
 use drive::Drive;
@@ -45,51 +42,17 @@ pub trait Rewrites<J: Naming> {
         ensures same { drive.new ≡ drive.old };
 }
 
-/// How many blocks are at a place.
-fn count_at(place: Option<Ptr>) -> usize
-    ensures count { result ≡ length (option_to_list place) }
-    ensures few { result ≤ 1 }
+/// How many parts of a checkpoint have a block of their own.
+fn parts_placed(first: &FirstBlock) -> usize
+    ensures count { result ≡ count_by is_some first.now.parts }
+    ensures few { result ≤ CHECKPOINT_PARTS }
 {
-    match place {
-        None => 0,
-        Some(_) => 1,
-    }
-}
-
-/// The block of an object's checkpoints at a place.
-#[tactic(auto, using(checkpoint::proofs::OwnBlocks::seen_is, checkpoint::proofs::OwnBlocks::held_there, checkpoint::proofs::OwnBlocks::has_some))]
-fn block_at<J: Naming>(drive: &mut Drive<J>, object: ObjectId, place: Ptr) -> Block
-    requires { HasBytes (of_checkpoints object (held_at drive.old.store.table) place) }
-    ensures exact { of_checkpoints object (held_at drive.old.store.table) place ≡ Some result }
-    ensures same { drive.new ≡ drive.old }
-{
-    drive.block(place)
-}
-
-/// The first block of the checkpoint of an object that a pointer refers to.
-fn first_block<J: Naming>(drive: &mut Drive<J>, object: ObjectId, place: Ptr) -> Option<FirstBlock>
-    requires { HasBytes (of_checkpoints object (held_at drive.old.store.table) place) }
-    ensures exact { Reads (λ first. first) result
-        (first_in (of_checkpoints object (held_at drive.old.store.table)) place) }
-    ensures same { drive.new ≡ drive.old }
-{
-    decode_first_block(&block_at(drive, object, place))
-}
-
-/// Where the block of a part of a checkpoint is, of parts that are counted from 0 on.
-fn part_place(first: &Option<FirstBlock>, part: usize) -> Option<Ptr>
-    requires { part < CHECKPOINT_PARTS }
-    ensures { result ≡ part_place first.now part }
-{
-    match first {
-        None => None,
-        Some(first) => first.parts[part],
-    }
+    first.parts.iter().filter(|part| part.is_some()).count()
 }
 
 /// How many blocks the checkpoint of an object that a pointer refers to is in. Its first block
 /// alone is read.
-#[tactic(auto, unfolding(checkpoint::specs::Held::places_in))]
+#[tactic(auto, unfolding(checkpoint::specs::Held::places_in), using(checkpoint::proofs::OwnBlocks::seen_is, checkpoint::proofs::OwnBlocks::held_there, checkpoint::proofs::OwnBlocks::has_some))]
 fn placed_blocks<J: Naming>(drive: &mut Drive<J>, object: ObjectId, place: Ptr) -> usize
     requires { HasBytes (of_checkpoints object (held_at drive.old.store.table) place) }
     ensures blocks { result
@@ -97,11 +60,10 @@ fn placed_blocks<J: Naming>(drive: &mut Drive<J>, object: ObjectId, place: Ptr) 
     ensures few { result ≤ CHECKPOINT_BLOCKS }
     ensures same { drive.new ≡ drive.old }
 {
-    let first = first_block(drive, object, place);
-    let one = count_at(part_place(&first, 0));
-    let two = count_at(part_place(&first, 1));
-    let three = count_at(part_place(&first, 2));
-    one + (two + (three + 1))
+    match decode_first_block(&drive.block(place)) {
+        None => 1,
+        Some(first) => parts_placed(&first) + 1,
+    }
 }
 
 /// How many blocks the checkpoint is in that the row of an object names, if it names one.

@@ -10,4 +10,4 @@ checkpoint_size-checkpoint-requires g c = (c.rules.ensures.store.objects c.args.
 pub returns-clause-blocks : goal.returns-clause-blocks
 returns-clause-blocks g c =
     both_counted (store_of c.args.drive.now) c.args.object c.args.row.now c.as_slice.result.now c.checkpoint_size-checkpoint.result c.journal_blocks.result c.requires.row
-    (c.as_slice.ensures.value ∙ c.in_ok-entries.ensures.entries ∙ ap (λ s. entries_of_object s c.args.object) (c.inode_at.ensures.store ∙ ap store_of c.checkpoint_size-checkpoint.ensures.same)) c.checkpoint_size-checkpoint.ensures.blocks c.journal_blocks.ensures.blocks
+    (c.as_slice.ensures.value ∙ c.in_ok-entries.ensures.entries ∙ ap (λ s. entries_of_object s c.args.object) (ap store_of c.checkpoint_size-checkpoint.ensures.same)) c.checkpoint_size-checkpoint.ensures.blocks c.journal_blocks.ensures.blocks
