@@ -7,7 +7,6 @@ use Rattle.s4_model.specs.VersionAt.{version_of}
 use Rattle.history_diff.specs.declared.ranges.ByteRange.{ByteRange}
 use Rattle.history_diff.specs.declared.differences.AttributePair.{AttributePair}
 use Rattle.history_diff.specs.declared.differences.DifferenceKind.{DifferenceKind}
-use Rattle.history_diff.specs.declared.diffing.Comparison.{Comparison}
 use Rattle.history_diff.specs.Differences.{AreAlike, Told, TellsAttributes, IsDifferenceOf, content_of, attribute_of}
 use Rattle.history_diff.specs.Diffing.{ObjectDifference, IsPassed, IsDifferenceAt, AreDifferencesFrom, AreDifferencesOf, DifferencesAreOnly}
 use Rattle.history_diff.proofs.Apart.{ranges_are_only}
@@ -31,10 +30,10 @@ told_is_only v w t u told also =
     ∙ ap (λ (x : List ByteRange). record u { ranges = x }) (ranges_are_only (content_of v) (content_of w) t.ranges u.ranges told.ranges also.ranges)
 
 -- and one of an object
-row_is_only : (s : State) (c : Comparison) (d e : ObjectDifference) → d.object ≡ e.object → IsDifferenceAt s c d → IsDifferenceAt s c e → d ≡ e
-row_is_only s c d e object one other =
-    let before : d.before ≡ e.before = one.before ∙ ap (λ o. version_of s o c.before) object ∙ sym other.before in
-    let after : d.after ≡ e.after = one.after ∙ ap (λ o. version_of s o c.after) object ∙ sym other.after in
+row_is_only : (s : State) (t u : ℕ) (d e : ObjectDifference) → d.object ≡ e.object → IsDifferenceAt s t u d → IsDifferenceAt s t u e → d ≡ e
+row_is_only s t u d e object one other =
+    let before : d.before ≡ e.before = one.before ∙ ap (λ o. version_of s o t) object ∙ sym other.before in
+    let after : d.after ≡ e.after = one.after ∙ ap (λ o. version_of s o u) object ∙ sym other.after in
     let told : IsDifferenceOf e.before e.after d.told = subst (λ v. IsDifferenceOf v e.after d.told) before (subst (λ w. IsDifferenceOf d.before w d.told) after one.told) in
     ap (λ (x : ℕ). record d { object = x }) object
     ∙ ap (λ (x : Version). record d { object = e.object; before = x }) before
@@ -42,34 +41,34 @@ row_is_only s c d e object one other =
     ∙ ap (λ (x : Told). record e { told = x }) (told_is_only e.before e.after d.told e.told told other.told)
 
 -- an object that differs isn't passed
-not_passed : (s : State) (c : Comparison) (d : ObjectDifference) → IsDifferenceAt s c d → IsPassed s c d.object → ⊥
-not_passed s c d here passed =
-    here.told.apart (subst (λ v. AreAlike v d.after) (sym here.before) (subst (AreAlike (version_of s d.object c.before)) (sym here.after) (passed here.visible_before here.visible_after)))
+not_passed : (s : State) (t u : ℕ) (d : ObjectDifference) → IsDifferenceAt s t u d → IsPassed s t u d.object → ⊥
+not_passed s t u d here passed =
+    here.told.apart (subst (λ v. AreAlike v d.after) (sym here.before) (subst (AreAlike (version_of s d.object t)) (sym here.after) (passed here.visible_before here.visible_after)))
 
-from_is_only : (s : State) (c : Comparison) (above : ℕ) (one other : List ObjectDifference) → AreDifferencesFrom s c above one → AreDifferencesFrom s c above other → one ≡ other
-from_is_only s c above [] [] these those = refl
-from_is_only s c above [] (e ∷ other) these those = absurd (not_passed s c e those.0.here (these e.object those.0.behind))
-from_is_only s c above (d ∷ one) [] these those = absurd (not_passed s c d these.0.here (those d.object these.0.behind))
-from_is_only s c above (d ∷ one) (e ∷ other) these those =
+from_is_only : (s : State) (t u above : ℕ) (one other : List ObjectDifference) → AreDifferencesFrom s t u above one → AreDifferencesFrom s t u above other → one ≡ other
+from_is_only s t u above [] [] these those = refl
+from_is_only s t u above [] (e ∷ other) these those = absurd (not_passed s t u e those.0.here (these e.object those.0.beyond))
+from_is_only s t u above (d ∷ one) [] these those = absurd (not_passed s t u d these.0.here (those d.object these.0.beyond))
+from_is_only s t u above (d ∷ one) (e ∷ other) these those =
     let object : d.object ≡ e.object = elim (cases_order d.object e.object) [
       | inl same ↦ same
       | inr apart ↦ elim apart [
-        | inl below ↦ absurd (not_passed s c d these.0.here (those.0.least d.object these.0.behind below))
-        | inr beyond ↦ absurd (not_passed s c e those.0.here (these.0.least e.object those.0.behind beyond))
+        | inl below ↦ absurd (not_passed s t u d these.0.here (those.0.least d.object these.0.beyond below))
+        | inr beyond ↦ absurd (not_passed s t u e those.0.here (these.0.least e.object those.0.beyond beyond))
       ]
     ] in
-    let rest : one ≡ other = from_is_only s c d.object one other these.1 (subst (λ o. AreDifferencesFrom s c o other) (sym object) those.1) in
-    ap₂ (λ (x : ObjectDifference) (l : List ObjectDifference). x ∷ l) (row_is_only s c d e object these.0.here those.0.here) rest
+    let rest : one ≡ other = from_is_only s t u d.object one other these.1 (subst (λ o. AreDifferencesFrom s t u o other) (sym object) those.1) in
+    ap₂ (λ (x : ObjectDifference) (l : List ObjectDifference). x ∷ l) (row_is_only s t u d e object these.0.here those.0.here) rest
 
-of_is_only : (s : State) (c : Comparison) (o : ℕ) (one other : List ObjectDifference) → AreDifferencesOf s c o one → AreDifferencesOf s c o other → one ≡ other
-of_is_only s c o [] [] these those = refl
-of_is_only s c o [] (e ∷ []) these those = absurd (not_passed s c e those.1 (subst (IsPassed s c) (sym those.0) these))
-of_is_only s c o (d ∷ []) [] these those = absurd (not_passed s c d these.1 (subst (IsPassed s c) (sym these.0) those))
-of_is_only s c o (d ∷ []) (e ∷ []) these those = ap (λ (x : ObjectDifference). x ∷ []) (row_is_only s c d e (these.0 ∙ sym those.0) these.1 those.1)
-of_is_only s c o (d ∷ f ∷ one) other these those = absurd these
-of_is_only s c o [] (e ∷ f ∷ other) these those = absurd those
-of_is_only s c o (d ∷ []) (e ∷ f ∷ other) these those = absurd those
+of_is_only : (s : State) (t u o : ℕ) (one other : List ObjectDifference) → AreDifferencesOf s t u o one → AreDifferencesOf s t u o other → one ≡ other
+of_is_only s t u o [] [] these those = refl
+of_is_only s t u o [] (e ∷ []) these those = absurd (not_passed s t u e those.1 (subst (IsPassed s t u) (sym those.0) these))
+of_is_only s t u o (d ∷ []) [] these those = absurd (not_passed s t u d these.1 (subst (IsPassed s t u) (sym these.0) those))
+of_is_only s t u o (d ∷ []) (e ∷ []) these those = ap (λ (x : ObjectDifference). x ∷ []) (row_is_only s t u d e (these.0 ∙ sym those.0) these.1 those.1)
+of_is_only s t u o (d ∷ f ∷ one) other these those = absurd these
+of_is_only s t u o [] (e ∷ f ∷ other) these those = absurd those
+of_is_only s t u o (d ∷ []) (e ∷ f ∷ other) these those = absurd those
 
 pub differences_are_only : DifferencesAreOnly
-differences_are_only s c None one other these those = from_is_only s c 0 one other these those
-differences_are_only s c (Some o) one other these those = of_is_only s c o one other these those
+differences_are_only s c None one other these those = from_is_only s c.before c.after 0 one other these those
+differences_are_only s c (Some o) one other these those = of_is_only s c.before c.after o one other these those

@@ -1,5 +1,5 @@
--- What is written of a difference for programs.
-use Rattle.std.proofs.Common.{◌≡◌, ◌∙◌, ℕ, Bool, true, List, Option, if◌then◌else◌, ap, sym}
+-- What is written of a difference.
+use Rattle.std.proofs.Common.{◌≡◌, ◌∙◌, ℕ, Bool, List, Option, if◌then◌else◌, ap, sym}
 use Rattle.std.specs.Io.KnownBytes.{Appends}
 use Rattle.history_diff.specs.declared.diffing.Comparison.{Comparison}
 use Rattle.history_diff.specs.declared.texts.Detail.{Detail}
@@ -8,14 +8,17 @@ use Rattle.history_diff.specs.Diffing.{ObjectDifference, json_of, text_of}
 use Rattle.history_diff.specs.Texts.{IsAskedText}
 use Rattle.history_diff.specs.private.Writing.{WritesLines}
 
-pub json_written : (c : Comparison) (row : ObjectDifference) (detail : Detail) (text : Option (List ℕ)) (a b : Option (List ℕ)) → c.json ≡ true → detail ≡ c.detail
-    → IsAskedText c.detail row.object c (content_of row.before) (content_of row.after) text → Appends a b (json_of detail row text) → WritesLines c row a b
-json_written c row detail text a b json is unified wrote = record {
-  text = json_of detail row text;
+-- the lines for programs or for people are those of a comparison that asks for them
+pub lines_written : (c : Comparison) (row : ObjectDifference) (json : Bool) (detail : Detail) (text : Option (List ℕ)) (a b : Option (List ℕ)) → c.json ≡ json → detail ≡ c.detail
+    → IsAskedText c.detail row.object c (content_of row.before) (content_of row.after) text → Appends a b (if json then json_of detail row text else text_of detail row text) → WritesLines c row a b
+lines_written c row json detail text a b asked is unified wrote = record {
+  text = if json then json_of detail row text else text_of detail row text;
   lines = record {
     text = text;
     unified = unified;
-    lines_are = ap (λ (d : Detail). json_of d row text) is ∙ ap (λ (x : Bool). if x then json_of c.detail row text else text_of c.detail row text) (sym json);
+    lines_are =
+        ap (λ (d : Detail). if json then json_of d row text else text_of d row text) is
+        ∙ ap (λ (x : Bool). if x then json_of c.detail row text else text_of c.detail row text) (sym asked);
   };
   wrote = wrote;
 }

@@ -9,10 +9,11 @@ use Rattle.history_text.specs.Json.{json_line}
 use Rattle.history_diff.specs.declared.diffing.Comparison.{Comparison}
 use Rattle.history_diff.specs.declared.texts.Detail.{Detail}
 use Rattle.history_diff.specs.declared.texts.Detail.TheVariants.{Ranges, Bytes, Lines}
+use Rattle.history_diff.specs.declared.differing.DifferingObject.{DifferingObject}
 use Rattle.history_diff.specs.declared.diffing.DiffAsked.{DiffAsked}
 use Rattle.history_diff.specs.declared.faults.DiffFault.{DiffFault}
 use Rattle.history_diff.specs.declared.faults.DiffFault.TheVariants.{Unreadable, Stopped}
-use Rattle.history_diff.specs.Differences.{AreAlike, IsDifferenceOf, Told, content_of}
+use Rattle.history_diff.specs.Differences.{AreAlike, IsDifferenceOf, Told, content_of, told_of}
 use Rattle.history_diff.specs.Lines.{difference_line}
 use Rattle.history_diff.specs.Patches.{patch_lines}
 use Rattle.history_diff.specs.Json.{difference_data, ranges_data, text_members, has_bytes}
@@ -24,6 +25,9 @@ pub record ObjectDifference : Type 0 where
   pub before : Version
   pub after : Version
   pub told : Told
+
+abbrev pub row_of : DifferingObject → ObjectDifference
+row_of d = record { object = d.object; before = d.before; after = d.after; told = told_of d.difference }
 
 -- what follows the line of an object: nothing, the lines of its bytes, or those of a unified difference
 abbrev pub detail_lines : Detail → ObjectDifference → Option (List ℕ) → List ℕ
@@ -54,39 +58,39 @@ abbrev pub AreAllLinesOf : Comparison → List ObjectDifference → List ℕ →
 AreAllLinesOf c [] text = text ≡ []
 AreAllLinesOf c (d ∷ differences) text = (first : List ℕ) × (rest : List ℕ) × (text ≡ first ++ rest) × AreLinesOf c d first × AreAllLinesOf c differences rest
 
--- An object is passed: its versions at the two moments are alike, or one of these moments of it can't be read.
-abbrev pub IsPassed : State → Comparison → ℕ → Type 0
-IsPassed s c o = IsVisible s o c.before → IsVisible s o c.after → AreAlike (version_of s o c.before) (version_of s o c.after)
+-- An object is passed: its versions at two moments are alike, or one of these moments of it can't be read.
+abbrev pub IsPassed : State → (t u o : ℕ) → Type 0
+IsPassed s t u o = IsVisible s o t → IsVisible s o u → AreAlike (version_of s o t) (version_of s o u)
 
--- This is what differs of an object between the two moments, which can be read.
-pub record IsDifferenceAt (s : State) (c : Comparison) (d : ObjectDifference) : Type 0 where
-  pub visible_before : IsVisible s d.object c.before
-  pub visible_after : IsVisible s d.object c.after
-  pub before : d.before ≡ version_of s d.object c.before
-  pub after : d.after ≡ version_of s d.object c.after
+-- This is what differs of an object between two moments, which can be read.
+pub record IsDifferenceAt (s : State) (t u : ℕ) (d : ObjectDifference) : Type 0 where
+  pub visible_before : IsVisible s d.object t
+  pub visible_after : IsVisible s d.object u
+  pub before : d.before ≡ version_of s d.object t
+  pub after : d.after ≡ version_of s d.object u
   pub told : IsDifferenceOf d.before d.after d.told
 
 -- This is the difference of the least object above one that isn't passed.
-pub record IsDifferenceNext (s : State) (c : Comparison) (above : ℕ) (d : ObjectDifference) : Type 0 where
-  pub behind : above < d.object
-  pub here : IsDifferenceAt s c d
-  pub least : (o : ℕ) → above < o → o < d.object → IsPassed s c o
+pub record IsDifferenceNext (s : State) (t u above : ℕ) (d : ObjectDifference) : Type 0 where
+  pub beyond : above < d.object
+  pub here : IsDifferenceAt s t u d
+  pub least : (o : ℕ) → above < o → o < d.object → IsPassed s t u o
 
 -- These are the differences of all objects above one, by ascending number.
-abbrev pub AreDifferencesFrom : State → Comparison → ℕ → List ObjectDifference → Type 0
-AreDifferencesFrom s c above [] = (o : ℕ) → above < o → IsPassed s c o
-AreDifferencesFrom s c above (d ∷ differences) = IsDifferenceNext s c above d × AreDifferencesFrom s c d.object differences
+abbrev pub AreDifferencesFrom : State → (t u above : ℕ) → List ObjectDifference → Type 0
+AreDifferencesFrom s t u above [] = (o : ℕ) → above < o → IsPassed s t u o
+AreDifferencesFrom s t u above (d ∷ differences) = IsDifferenceNext s t u above d × AreDifferencesFrom s t u d.object differences
 
 -- These are the differences of the one object: one, or none.
-abbrev pub AreDifferencesOf : State → Comparison → ℕ → List ObjectDifference → Type 0
-AreDifferencesOf s c o [] = IsPassed s c o
-AreDifferencesOf s c o (d ∷ []) = (d.object ≡ o) × IsDifferenceAt s c d
-AreDifferencesOf s c o (d ∷ e ∷ differences) = ⊥
+abbrev pub AreDifferencesOf : State → (t u o : ℕ) → List ObjectDifference → Type 0
+AreDifferencesOf s t u o [] = IsPassed s t u o
+AreDifferencesOf s t u o (d ∷ []) = (d.object ≡ o) × IsDifferenceAt s t u d
+AreDifferencesOf s t u o (d ∷ e ∷ differences) = ⊥
 
 -- the differences of the object that is asked for, or of all
 abbrev pub AreAsked : State → Comparison → Option ℕ → List ObjectDifference → Type 0
-AreAsked s c None differences = AreDifferencesFrom s c 0 differences
-AreAsked s c (Some o) differences = AreDifferencesOf s c o differences
+AreAsked s c None differences = AreDifferencesFrom s c.before c.after 0 differences
+AreAsked s c (Some o) differences = AreDifferencesOf s c.before c.after o differences
 
 -- The differences that are asked for are the only ones: it is a clause of a function with an empty body.
 abbrev pub DifferencesAreOnly : Type 0

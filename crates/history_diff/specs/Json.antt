@@ -3,8 +3,8 @@ use Rattle.std.specs.Prelude.{ℕ, if◌then◌else◌, Bool, true, false, List,
 use Rattle.hex.specs.Hex.{encode_lower}
 use Rattle.serde_json.specs.Data.{Data, null, number, unsigned, string, array, object, Members, member, no_members}
 use Rattle.serde_json.specs.View.{items_of}
+use Rattle.history_text.specs.Json.{side_data}
 use Rattle.history_diff.specs.declared.ranges.ByteRange.{ByteRange}
-use Rattle.history_diff.specs.declared.differences.AttributePair.{AttributePair}
 use Rattle.history_diff.specs.declared.differences.DifferenceKind.{DifferenceKind}
 use Rattle.history_diff.specs.declared.differences.DifferenceKind.TheVariants.{Made, Deleted, Changed}
 use Rattle.history_diff.specs.declared.texts.Detail.{Detail}
@@ -45,11 +45,6 @@ range_data patch before after range = if patch then patch_data before after rang
 abbrev pub ranges_data : Bool → List ℕ → List ℕ → List ByteRange → Data
 ranges_data patch before after ranges = array (items_of (map (range_data patch before after) ranges))
 
--- an attribute of a pair in hex; null where the attributes are the same
-abbrev pub side_data : (AttributePair → List ℕ) → Option AttributePair → Data
-side_data side None = null
-side_data side (Some pair) = string (encode_lower (side pair))
-
 -- the unified difference; null where a version isn't text
 abbrev pub text_data : Option (List ℕ) → Data
 text_data None = null
@@ -62,12 +57,15 @@ text_members Bytes text = no_members
 text_members Lines text = member (codes "text") (text_data text) no_members
 
 -- what differs of an object: the attributes after and before, what was done, the object, its ranges, the sizes in bytes after and before, and the last member
-abbrev pub difference_data : ℕ → Data → Members → Told → Data
-difference_data o ranges rest told =
-    object (member (codes "attribute_after") (side_data (λ p. p.after) told.attributes)
+abbrev pub difference_members : ℕ → Data → Members → Told → Members
+difference_members o ranges rest told =
+    member (codes "attribute_after") (side_data (λ p. p.after) told.attributes)
     (member (codes "attribute_before") (side_data (λ p. p.before) told.attributes)
     (member (codes "kind") (string (kind_word told.kind))
     (member (codes "object") (number (unsigned o))
     (member (codes "ranges") ranges
     (member (codes "size_after") (number (unsigned told.size_after))
-    (member (codes "size_before") (number (unsigned told.size_before)) rest)))))))
+    (member (codes "size_before") (number (unsigned told.size_before)) rest))))))
+
+abbrev pub difference_data : ℕ → Data → Members → Told → Data
+difference_data o ranges rest told = object (difference_members o ranges rest told)

@@ -1,7 +1,7 @@
 -- The lines that people read.
 use Rattle.std.specs.Prelude.{ℕ, ◌++◌, List, [], ◌∷◌, Option, Some, None, codes, decimal}
 use Rattle.std.specs.List.{flat_map}
-use Rattle.history_text.specs.Lines.{column, printed_attribute}
+use Rattle.history_text.specs.Lines.{attributes_text, column}
 use Rattle.history_diff.specs.declared.ranges.ByteRange.{ByteRange}
 use Rattle.history_diff.specs.declared.differences.AttributePair.{AttributePair}
 use Rattle.history_diff.specs.declared.differences.DifferenceKind.{DifferenceKind}
@@ -24,18 +24,12 @@ ranges_text [] = []
 ranges_text (range ∷ ranges) = codes "  bytes" ++ flat_map range_text (range ∷ ranges)
 
 -- the attributes before and after; nothing where they are the same
-abbrev pub attributes_text : Option AttributePair → List ℕ
-attributes_text None = []
-attributes_text (Some pair) = codes "  " ++ (printed_attribute pair.before ++ (codes " -> " ++ printed_attribute pair.after))
+abbrev pub pair_text : Option AttributePair → List ℕ
+pair_text None = []
+pair_text (Some pair) = attributes_text pair.before pair.after
 
--- the sizes before and after, in bytes
-abbrev pub sizes_text : Told → List ℕ
-sizes_text told = column 6 told.size_before ++ (codes "  " ++ column 6 told.size_after)
-
--- what differs
-abbrev pub detail_text : Told → List ℕ
-detail_text told = ranges_text told.ranges ++ attributes_text told.attributes
-
--- the line of what differs of an object: its number, what was done, its sizes, and what differs
+-- the line of what differs of an object: its number, what was done, its sizes in bytes before and after, the ranges of bytes and the attributes
 abbrev pub difference_line : ℕ → Told → List ℕ
-difference_line o told = column 10 o ++ (codes "  " ++ (kind_text told.kind ++ (codes "  " ++ (sizes_text told ++ (detail_text told ++ codes "\n")))))
+difference_line o told =
+    column 10 o ++ (codes "  " ++ (kind_text told.kind ++ (codes "  " ++ (column 6 told.size_before
+    ++ (codes "  " ++ (column 6 told.size_after ++ (ranges_text told.ranges ++ (pair_text told.attributes ++ codes "\n"))))))))

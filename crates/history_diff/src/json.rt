@@ -1,22 +1,21 @@
 //! The lines that programs read.
-ghost use Rattle.std.specs.Prelude.{◌≡◌, IfOk, false, option_map, codes, string_bytes};
-ghost use Rattle.hex.specs.Hex.{encode_lower};
-ghost use Rattle.serde_json.specs.Data.{string, member, no_members};
-ghost use Rattle.serde_json.specs.View.{view};
-ghost use Rattle.serde_json.specs.Written.{has_float};
-ghost use Rattle.history_text.specs.Json.{json_line};
+ghost use Rattle.std.specs.Prelude.{◌≡◌, IfOk, option_map, string_bytes};
+ghost use Rattle.serde_json.specs.Data.{no_members};
+ghost use Rattle.serde_json.specs.View.{view, members_view};
+ghost use Rattle.history_text.specs.Json.{json_line, side_data};
 ghost use Rattle.history_diff.specs.Differences.{told_of};
 ghost use Rattle.history_diff.specs.Json.{kind_word, place_data, patch_data, range_data};
-ghost use Rattle.history_diff.specs.Json.{ranges_data, side_data, text_data, text_members};
-ghost use Rattle.history_diff.specs.Json.{has_bytes, difference_data};
+ghost use Rattle.history_diff.specs.Json.{ranges_data, text_data, text_members, has_bytes};
+ghost use Rattle.history_diff.specs.Json.{difference_members, difference_data};
 ghost use Rattle.history_diff.specs.Texts.{detail_of, text_shown};
 
 use crate::differences::{AttributePair, Difference, DifferenceKind};
 use crate::patches::bytes_in;
 use crate::ranges::ByteRange;
 use crate::texts::Shown;
+use history_text::json_line;
 use s4_types::ObjectId;
-use serde_json::{Value, json};
+use serde_json::{Map, Value, json, put};
 use std::alloc::{AllocError, Global};
 
 fn kind_word(kind: DifferenceKind) -> &'static str
@@ -88,28 +87,20 @@ fn ranges_value(
     Ok(Value::from(values))
 }
 
-fn attribute_before(alloc: Global, pair: &Option<AttributePair>) -> Result<Value, AllocError>
-    ensures { IfOk result (λ value. view value ≡ side_data (λ p. p.before) pair.now) }
+// The attributes before and after in hex; null where they are the same.
+fn attribute_values(
+    alloc: Global,
+    pair: &Option<AttributePair>,
+) -> Result<(Value, Value), AllocError>
+    ensures before { IfOk result (λ values. view values.0 ≡ side_data (λ p. p.before) pair.now) }
+    ensures after { IfOk result (λ values. view values.1 ≡ side_data (λ p. p.after) pair.now) }
 {
-    match pair {
-        Some(pair) => attribute_value(alloc, pair.before.as_slice()),
-        None => Ok(Value::Null),
-    }
-}
-
-fn attribute_after(alloc: Global, pair: &Option<AttributePair>) -> Result<Value, AllocError>
-    ensures { IfOk result (λ value. view value ≡ side_data (λ p. p.after) pair.now) }
-{
-    match pair {
-        Some(pair) => attribute_value(alloc, pair.after.as_slice()),
-        None => Ok(Value::Null),
-    }
-}
-
-fn attribute_value(alloc: Global, attribute: &[u8]) -> Result<Value, AllocError>
-    ensures { IfOk result (λ value. view value ≡ string (encode_lower attribute.now)) }
-{
-    Ok(Value::from(hex::encode(alloc, attribute)?))
+    let Some(pair) = pair else {
+        return Ok((Value::Null, Value::Null));
+    };
+    let before = hex::encode(alloc, pair.before.as_slice())?;
+    let after = hex::encode(alloc, pair.after.as_slice())?;
+    Ok((Value::from(before), Value::from(after)))
 }
 
 // The unified difference that is shown; null where a version isn't text.
@@ -122,63 +113,33 @@ fn text_value(alloc: Global, text: &Option<String>) -> Result<Value, AllocError>
     }
 }
 
-// The value of a difference, with the value of its ranges.
-fn difference_value(
+// The members of a difference, with the value of its ranges.
+fn difference_members(
     alloc: Global,
     object: ObjectId,
     difference: &Difference,
     ranges: Value,
-) -> Result<Value, AllocError>
+) -> Result<Map<String, Value>, AllocError>
     ensures { IfOk result
-        (λ value. view value
-        ≡ difference_data object (view ranges) no_members (told_of difference.now)) }
+        (λ members. members_view members.entries
+        ≡ difference_members object (view ranges) no_members (told_of difference.now)) }
 {
-    let (object, kind) = (object.number(), kind_word(difference.kind));
+    let kind = Value::try_from_str(alloc, kind_word(difference.kind))?;
     let (before, after) = (difference.size_before, difference.size_after);
-    let attribute_before = attribute_before(alloc, &difference.attributes)?;
-    let attribute_after = attribute_after(alloc, &difference.attributes)?;
-    json!(in alloc; {
-        "object": object,
-        "kind": kind,
-        "size_before": before,
-        "size_after": after,
-        "attribute_before": attribute_before,
-        "attribute_after": attribute_after,
-        "ranges": ranges
-    })
-}
-
-// The same with the value of its unified difference.
-fn difference_with_text(
-    alloc: Global,
-    object: ObjectId,
-    difference: &Difference,
-    ranges: Value,
-    text: Value,
-) -> Result<Value, AllocError>
-    ensures { IfOk result
-        (λ value. view value
-        ≡ difference_data object (view ranges) (member (codes "text") (view text) no_members)
-        (told_of difference.now)) }
-{
-    let (object, kind) = (object.number(), kind_word(difference.kind));
-    let (before, after) = (difference.size_before, difference.size_after);
-    let attribute_before = attribute_before(alloc, &difference.attributes)?;
-    let attribute_after = attribute_after(alloc, &difference.attributes)?;
-    json!(in alloc; {
-        "object": object,
-        "kind": kind,
-        "size_before": before,
-        "size_after": after,
-        "attribute_before": attribute_before,
-        "attribute_after": attribute_after,
-        "ranges": ranges,
-        "text": text
-    })
+    let (attribute_before, attribute_after) = attribute_values(alloc, &difference.attributes)?;
+    let mut members = Map::new(alloc);
+    put(&mut members, alloc, "object", Value::from(object.number()))?;
+    put(&mut members, alloc, "kind", kind)?;
+    put(&mut members, alloc, "size_before", Value::from(before))?;
+    put(&mut members, alloc, "size_after", Value::from(after))?;
+    put(&mut members, alloc, "attribute_before", attribute_before)?;
+    put(&mut members, alloc, "attribute_after", attribute_after)?;
+    put(&mut members, alloc, "ranges", ranges)?;
+    Ok(members)
 }
 
 // The value of a difference, with the value of its ranges and what is shown.
-fn shown_value(
+fn difference_value(
     alloc: Global,
     object: ObjectId,
     difference: &Difference,
@@ -191,14 +152,11 @@ fn shown_value(
         (text_members (detail_of shown.now) (text_shown shown.now))
         (told_of difference.now)) }
 {
-    match shown {
-        Shown::Ranges => difference_value(alloc, object, difference, ranges),
-        Shown::Bytes => difference_value(alloc, object, difference, ranges),
-        Shown::Lines(text) => {
-            let text = text_value(alloc, text)?;
-            difference_with_text(alloc, object, difference, ranges, text)
-        }
+    let mut members = difference_members(alloc, object, difference, ranges)?;
+    if let Shown::Lines(text) = shown {
+        put(&mut members, alloc, "text", text_value(alloc, text)?)?;
     }
+    Ok(Value::from(members))
 }
 
 fn has_bytes(shown: &Shown) -> bool
@@ -209,16 +167,6 @@ fn has_bytes(shown: &Shown) -> bool
         Shown::Bytes => true,
         Shown::Lines(_) => false,
     }
-}
-
-// The line of a value.
-fn line_of(alloc: Global, value: &Value) -> Result<String, AllocError>
-    requires { has_float (view value.now) ≡ false }
-    ensures { IfOk result (λ line. string_bytes line ≡ json_line (view value.now)) }
-{
-    let mut line = value.to_string(alloc)?;
-    line.push_str("\n")?;
-    Ok(line)
 }
 
 /// The line of what differs of an object: with the bytes of its ranges, of those that it had before
@@ -242,6 +190,6 @@ pub fn difference_json(
 {
     let patch = has_bytes(shown);
     let ranges = ranges_value(alloc, difference.ranges.as_slice(), before, after, patch)?;
-    let value = shown_value(alloc, object, difference, ranges, shown)?;
-    line_of(alloc, &value)
+    let value = difference_value(alloc, object, difference, ranges, shown)?;
+    json_line(alloc, &value)
 }

@@ -3,14 +3,16 @@
 //!
 //! The layers above may rely on this: `difference_of` gives nothing exactly where two versions are
 //! alike, and else all that differs, with exactly the positions of the bytes that do.
-//! `write_differences` writes exactly the lines of the objects that differ, by ascending number,
-//! and says whether any does; where lines are asked for, each with the unified difference of its
-//! versions if both are UTF-8 text. Nothing here changes what a drive has. Moments are not
-//! compared: an object that was changed to what it was has no difference. No call takes memory
-//! beyond a constant number of bytes for each byte of the two versions it looks at.
+//! `next_differing` gives the objects that differ, one after the other. `write_differences` writes
+//! exactly the lines of the objects that differ, by ascending number, and says whether any does;
+//! where lines are asked for, each with the unified difference of its versions if both are UTF-8
+//! text. Nothing here changes what a drive has. Moments are not compared: an object that was
+//! changed to what it was has no difference. No call takes memory beyond a constant number of bytes
+//! for each byte of the two versions it looks at.
 #![tactic(auto)]
 
 mod differences;
+mod differing;
 mod diffing;
 mod faults;
 mod json;
@@ -23,10 +25,13 @@ mod texts;
 mod versions;
 
 pub use differences::{AttributePair, Difference, DifferenceKind, difference_of};
-pub use diffing::{DiffAsked, write_differences};
+pub use differing::{DifferingObject, next_differing};
+pub use diffing::{DiffAsked, write_differences, write_line};
 pub use faults::{DiffFault, Stop};
 pub use json::difference_json;
 pub use lines::difference_line;
+pub use output::write_out;
 pub use patches::{PATCH_LINE_BYTES, write_patch};
 pub use ranges::{ByteRange, ranges_of};
 pub use texts::{Detail, Shown, hunks_between};
+pub use versions::content_of;

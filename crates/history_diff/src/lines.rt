@@ -1,30 +1,15 @@
 //! The lines that people read.
 ghost use Rattle.std.specs.Prelude.{◌≡◌, ◌++◌, IfOk, OnOk, string_bytes};
 ghost use Rattle.std.specs.List.{flat_map};
-ghost use Rattle.history_text.specs.Lines.{column};
 ghost use Rattle.history_diff.specs.Differences.{told_of};
-ghost use Rattle.history_diff.specs.Lines.{kind_text, range_text, ranges_text, attributes_text};
-ghost use Rattle.history_diff.specs.Lines.{sizes_text, detail_text, difference_line};
+ghost use Rattle.history_diff.specs.Lines.{kind_text, range_text, ranges_text, pair_text};
+ghost use Rattle.history_diff.specs.Lines.{difference_line};
 
 use crate::differences::{AttributePair, Difference, DifferenceKind};
 use crate::ranges::ByteRange;
-use history_text::printed_attribute;
+use history_text::attributes_text;
 use s4_types::ObjectId;
 use std::alloc::{AllocError, Global};
-
-// The number of an object, in its column.
-fn object_text(alloc: Global, object: u64) -> Result<String, AllocError>
-    ensures { IfOk result (λ text. string_bytes text ≡ column 10 object) }
-{
-    format!(in alloc; "{object:10}")
-}
-
-// A size, in its column.
-fn size_text(alloc: Global, size: usize) -> Result<String, AllocError>
-    ensures { IfOk result (λ text. string_bytes text ≡ column 6 size) }
-{
-    format!(in alloc; "{size:6}")
-}
 
 fn kind_text(kind: DifferenceKind) -> &'static str
     ensures { result.now ≡ kind_text kind }
@@ -66,31 +51,13 @@ fn ranges_text(alloc: Global, ranges: &[ByteRange]) -> Result<String, AllocError
     Ok(text)
 }
 
-fn attributes_text(alloc: Global, pair: &Option<AttributePair>) -> Result<String, AllocError>
-    ensures { IfOk result (λ text. string_bytes text ≡ attributes_text pair.now) }
+fn pair_text(alloc: Global, pair: &Option<AttributePair>) -> Result<String, AllocError>
+    ensures { IfOk result (λ text. string_bytes text ≡ pair_text pair.now) }
 {
-    let Some(pair) = pair else {
-        return Ok(String::new(alloc));
-    };
-    let before = printed_attribute(alloc, pair.before.as_slice())?;
-    let after = printed_attribute(alloc, pair.after.as_slice())?;
-    format!(in alloc; "  {before} -> {after}")
-}
-
-fn sizes_text(alloc: Global, difference: &Difference) -> Result<String, AllocError>
-    ensures { IfOk result (λ text. string_bytes text ≡ sizes_text (told_of difference.now)) }
-{
-    let before = size_text(alloc, difference.size_before)?;
-    let after = size_text(alloc, difference.size_after)?;
-    format!(in alloc; "{before}  {after}")
-}
-
-fn detail_text(alloc: Global, difference: &Difference) -> Result<String, AllocError>
-    ensures { IfOk result (λ text. string_bytes text ≡ detail_text (told_of difference.now)) }
-{
-    let ranges = ranges_text(alloc, difference.ranges.as_slice())?;
-    let attributes = attributes_text(alloc, &difference.attributes)?;
-    format!(in alloc; "{ranges}{attributes}")
+    match pair {
+        Some(pair) => attributes_text(alloc, pair.before.as_slice(), pair.after.as_slice()),
+        None => Ok(String::new(alloc)),
+    }
 }
 
 /// The line of what differs of an object: its number, what was done, the sizes before and after,
@@ -103,9 +70,9 @@ pub fn difference_line(
     ensures { IfOk result
         (λ line. string_bytes line ≡ difference_line object (told_of difference.now)) }
 {
-    let object = object_text(alloc, object.number())?;
-    let kind = kind_text(difference.kind);
-    let sizes = sizes_text(alloc, difference)?;
-    let detail = detail_text(alloc, difference)?;
-    format!(in alloc; "{object}  {kind}  {sizes}{detail}\n")
+    let (object, kind) = (object.number(), kind_text(difference.kind));
+    let (before, after) = (difference.size_before, difference.size_after);
+    let ranges = ranges_text(alloc, difference.ranges.as_slice())?;
+    let attributes = pair_text(alloc, &difference.attributes)?;
+    format!(in alloc; "{object:10}  {kind}  {before:6}  {after:6}{ranges}{attributes}\n")
 }

@@ -5,8 +5,8 @@ ghost use Rattle.std.specs.Io.KnownBytes.{Appends};
 use crate::faults::Stop;
 use serving::Sink;
 
-/// Writes the bytes.
-pub(crate) fn write_out<W: Sink>(writer: &mut W, bytes: &[u8]) -> Result<(), Stop>
+/// Writes the bytes. WriteFailed where the writer fails.
+pub fn write_out<W: Sink>(writer: &mut W, bytes: &[u8]) -> Result<(), Stop>
     requires writer { W.failures writer.old + 1 < 2 ^ 64 }
     ensures bytes { OnOk result (Appends (W.passed writer.old) (W.passed writer.new) bytes.now) }
     ensures failures { OnOk result (W.failures writer.new ≡ W.failures writer.old) }

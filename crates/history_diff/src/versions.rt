@@ -14,8 +14,8 @@ pub(crate) fn is_absent(version: &Version) -> bool
     }
 }
 
-/// Its bytes.
-pub(crate) fn content_of(version: &Version) -> &[u8]
+/// The bytes of a version; none where the object isn't there.
+pub fn content_of(version: &Version) -> &[u8]
     ensures { result.now ≡ content_of version.now }
 {
     match version {

@@ -16,7 +16,8 @@ use Rattle.history_report.specs.declared.texts.TheConstants.{TIMELINE_HEAD}
 use Rattle.history_report.specs.Page.{Part, Constant, Escaped}
 use Rattle.history_report.specs.Timeline.{scale_of, place_of, mark_head, mark_shape, done_text, mark_of, marks_by, change_marks, run_mark, run_marks, strip_head, strip_end, strip_by, strip_of}
 use Rattle.history_report.specs.Table.{row_of, state_cell}
-use Rattle.history_report.specs.Differences.{ObjectDifference, difference_end, difference_of, first_lines, has_any, has_more_lines, lines_of}
+use Rattle.history_diff.specs.Diffing.{has_any}
+use Rattle.history_report.specs.Differences.{ShownDifference, difference_end, difference_of, first_lines, has_more_lines, lines_of}
 use Rattle.history_report.specs.Report.{head_of, numbers_of, axis_of, timeline_of, table_of, end_of, since_of}
 use Rattle.history_report.specs.Markup.{Mode, Text, read, AreSafe, PagesAreSafe}
 use Rattle.history_report.proofs.Markup.{in_text, in_value}
@@ -99,8 +100,8 @@ difference_parts : (is_cut : Bool) (a b : List ℕ) → AreSafe Text (Constant (
 difference_parts true a b = (tt, in_text a, (tt, in_text b, refl))
 difference_parts false a b = (tt, in_text a, (tt, in_text b, refl))
 
-difference_safe : (d : ObjectDifference) → AreSafe Text (difference_of d)
-difference_safe d = difference_parts (has_more_lines (lines_of d)) (decimal d.object) (first_lines (lines_of d))
+difference_safe : (d : ShownDifference) → AreSafe Text (difference_of d)
+difference_safe d = difference_parts (has_more_lines (lines_of d)) (decimal d.differing.object) (first_lines (lines_of d))
 
 end_safe : (differs : Bool) → AreSafe Text (end_of differs)
 end_safe true = refl

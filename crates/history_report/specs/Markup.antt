@@ -7,7 +7,7 @@ use Rattle.s4_model.specs.State.{State}
 use Rattle.version_store.specs.Store.{StoreFields}
 use Rattle.history_view.specs.declared.listing.Listed.{Listed}
 use Rattle.history_report.specs.Page.{Part, Constant, Escaped, part_text}
-use Rattle.history_report.specs.Differences.{ObjectDifference}
+use Rattle.history_report.specs.Differences.{ShownDifference}
 use Rattle.history_report.specs.Report.{page_of}
 
 -- Where a reader is: in text, in the name of a tag, in the rest of a tag, in a value between quotation marks, in the text of a script or a style, or in a tag there. A
@@ -70,4 +70,4 @@ DataIsHarmless = (bytes : List ℕ) → list_all is_harmless (part_text (Escaped
 
 -- The data of each page is in text or in a value between quotation marks, never in a script or a style, and never ends what it is in.
 abbrev pub PagesAreSafe : Type 0
-PagesAreSafe = (s : State) (store : StoreFields) (runs : List Span) (from : ℕ) (objects : List ℕ) (rows : List Listed) (differences : List ObjectDifference) → AreSafe Text (page_of s store runs from objects rows differences)
+PagesAreSafe = (s : State) (store : StoreFields) (runs : List Span) (from : ℕ) (objects : List ℕ) (rows : List Listed) (differences : List ShownDifference) → AreSafe Text (page_of s store runs from objects rows differences)

@@ -19,7 +19,8 @@ use Rattle.history_report.specs.declared.texts.TheConstants.{PAGE_HEAD, TIMELINE
 use Rattle.history_report.specs.Page.{Part, Constant, Escaped, page_text}
 use Rattle.history_report.specs.Timeline.{scale_of, strip_of}
 use Rattle.history_report.specs.Table.{row_of}
-use Rattle.history_report.specs.Differences.{ObjectDifference, AreDifferencesFrom, difference_of, has_any}
+use Rattle.history_diff.specs.Diffing.{has_any}
+use Rattle.history_report.specs.Differences.{ShownDifference, AreShownFrom, difference_of}
 
 -- the numbers of a drive: the clock, the floor, and the moment since which differences are shown
 abbrev pub numbers_by : MomentStyle → State → ℕ → List Part
@@ -57,12 +58,12 @@ abbrev pub end_of : Bool → List Part
 end_of differs = Constant (none_text differs) ∷ Constant PAGE_END.now ∷ []
 
 -- what differs, and the end of a page
-abbrev pub since_of : List ObjectDifference → List Part
+abbrev pub since_of : List ShownDifference → List Part
 since_of differences = Constant DIFFERENCES_HEAD.now ∷ (flat_map difference_of differences ++ end_of (has_any differences))
 
 -- The parts of a page: the timeline, the table, and the differences. All but the data of the drive are fixed texts; the one script is within the last of
 -- them.
-abbrev pub page_of : State → StoreFields → List Span → ℕ → List ℕ → List Listed → List ObjectDifference → List Part
+abbrev pub page_of : State → StoreFields → List Span → ℕ → List ℕ → List Listed → List ShownDifference → List Part
 page_of s store runs from objects rows differences = timeline_of s store runs from objects ++ (table_of (style_of s.clock false) rows ++ since_of differences)
 
 -- the moment since which differences are shown: the one that is asked for, or the earliest that can be read where none is
@@ -72,9 +73,7 @@ IsSince s (Some since) from = (from ≡ since) × IsVisible s 0 since
 
 -- The output has the page about a drive after it: the strips of all objects that have a row, with the moments that the drive hides; the table of all that are listed
 -- at the clock, live or deleted; and all differences between a moment and the clock.
-pub record Reports (s : State) (store : StoreFields) (since : Option ℕ) (output output' : Option (List ℕ)) : Type 0 where
-  pub from : ℕ
-  pub asked : IsSince s since from
+pub record WritesPage (s : State) (store : StoreFields) (from : ℕ) (output output' : Option (List ℕ)) : Type 0 where
   pub runs : List Span
   pub hidden : CoverAlike s.floor runs (spans_of s)
   pub ordered : Ascend runs
@@ -82,9 +81,15 @@ pub record Reports (s : State) (store : StoreFields) (since : Option ℕ) (outpu
   pub have_rows : HaveRowsFrom store 0 objects
   pub rows : List Listed
   pub listed : AreListedFrom s store true s.clock 0 rows
-  pub differences : List ObjectDifference
-  pub are : AreDifferencesFrom s from s.clock 0 differences
+  pub differences : List ShownDifference
+  pub are : AreShownFrom s from s.clock 0 differences
   pub wrote : Appends output output' (page_text (page_of s store runs from objects rows differences))
+
+-- The same, with the differences since the moment that is asked for.
+pub record Reports (s : State) (store : StoreFields) (since : Option ℕ) (output output' : Option (List ℕ)) : Type 0 where
+  pub from : ℕ
+  pub asked : IsSince s since from
+  pub page : WritesPage s store from output output'
 
 -- A moment can't be read where it is the one that is asked for, and can't; then nothing is written.
 abbrev pub IsFaultOf : State → Option ℕ → (output output' : Option (List ℕ)) → ReportFault → Type 0

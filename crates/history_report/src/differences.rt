@@ -1,22 +1,20 @@
 //! What differs since a moment, object by object.
-ghost use Rattle.std.specs.Prelude.{◌≡◌, ◌++◌, ◌+◌, ◌^◌, ◌<◌, ◌≤◌, ◌||◌, length, IfOk, MatchBool};
-ghost use Rattle.std.specs.Prelude.{OnOk, string_bytes};
-ghost use Rattle.std.specs.Io.KnownBytes.{Appends};
+ghost use Rattle.std.specs.Prelude.{◌≡◌, ◌+◌, ◌^◌, ◌<◌, ◌≤◌, length, IfOk, OnOk, string_bytes};
 ghost use Rattle.drive.specs.Fields.{state_in, store_of};
-ghost use Rattle.history_diff.specs.Differences.{content_of};
+ghost use Rattle.history_diff.specs.Diffing.{row_of};
 ghost use Rattle.history_report.specs.Differences.{difference_by, difference_end, first_lines};
 ghost use Rattle.history_report.specs.Differences.{has_more_lines, lines_end};
 ghost use Rattle.history_report.specs.Page.{page_text};
 ghost use Rattle.history_report.specs.private.Sections.{WritesDifferences};
-ghost use Rattle.history_report.specs.private.Writing.{AreLines, AreVisible, WritesBetween};
-ghost use Rattle.history_report.specs.private.Writing.{WritesDetail, WritesObject, WritesShown};
+ghost use Rattle.history_report.specs.private.Writing.{AreLines, WritesDetail, WritesShown};
 
 use crate::escaping::{data_text, number_text};
-use crate::output::write_out;
-use drive::{Drive, Session};
-use history_diff::{Difference, Stop, difference_line, difference_of, hunks_between, write_patch};
-use history_view::{is_visible, version_at};
-use s4_types::{Moment, ObjectId, Role, Version};
+use drive::Drive;
+use history_diff::{
+    DifferingObject, Stop, content_of, hunks_between, next_differing, write_line, write_out,
+    write_patch,
+};
+use s4_types::{Moment, ObjectId, Role};
 use segment_word::Naming;
 use serving::{MemorySink, Sink};
 use std::alloc::{AllocError, Global};
@@ -64,15 +62,6 @@ fn difference_end(is_cut: bool) -> &'static str
     }
 }
 
-fn content_of(version: &Version) -> &[u8]
-    ensures { result.now ≡ content_of version.now }
-{
-    match version {
-        Version::Absent => &[],
-        Version::Live { bytes, .. } => bytes.as_slice(),
-    }
-}
-
 // The part of a page about an object of these lines.
 fn difference_text(alloc: Global, object: ObjectId, lines: &[u8]) -> Result<String, AllocError>
     ensures { IfOk result (λ text. string_bytes text ≡ page_text (difference_by object lines.now)) }
@@ -84,174 +73,46 @@ fn difference_text(alloc: Global, object: ObjectId, lines: &[u8]) -> Result<Stri
 }
 
 // Writes the lines that differ where both versions are text, and else the bytes that differ in hex.
-fn write_detail<W: Sink>(
-    alloc: Global,
-    before: &Version,
-    after: &Version,
-    difference: &Difference,
-    writer: &mut W,
-) -> Result<(), Stop>
+fn write_detail<W: Sink>(alloc: Global, found: &DifferingObject, writer: &mut W) -> Result<(), Stop>
     requires writer { W.failures writer.old + 1 < 2 ^ 64 }
     ensures detail { OnOk result
-        (WritesDetail before.now after.now difference.now (W.passed writer.old)
-        (W.passed writer.new)) }
+        (WritesDetail (row_of found.now) (W.passed writer.old) (W.passed writer.new)) }
 {
-    let (old, new) = (content_of(before), content_of(after));
-    match hunks_between(alloc, old, new) {
-        Ok(Some(hunks)) => write_out(writer, hunks.as_bytes()),
-        Ok(None) => write_patch(alloc, old, new, difference.ranges.as_slice(), writer),
-        Err(_) => Err(Stop::NoMemory),
+    let (old, new) = (content_of(&found.before), content_of(&found.after));
+    match hunks_between(alloc, old, new)? {
+        Some(hunks) => write_out(writer, hunks.as_bytes()),
+        None => write_patch(alloc, old, new, found.difference.ranges.as_slice(), writer),
     }
 }
 
 // The lines of what differs of an object.
-fn difference_lines(
-    alloc: Global,
-    object: ObjectId,
-    before: &Version,
-    after: &Version,
-    difference: &Difference,
-) -> Result<MemorySink, Stop>
-    ensures { IfOk result
-        (λ sink. AreLines object before.now after.now difference.now sink.bytes.items) }
+fn difference_lines(alloc: Global, found: &DifferingObject) -> Result<MemorySink, Stop>
+    ensures { IfOk result (λ sink. AreLines (row_of found.now) sink.bytes.items) }
 {
     let mut sink = MemorySink::new(alloc);
-    let line = match difference_line(alloc, object, difference) {
-        Ok(line) => line,
-        Err(_) => return Err(Stop::NoMemory),
-    };
-    write_out(&mut sink, line.as_bytes())?;
-    match write_detail(alloc, before, after, difference, &mut sink) {
-        Ok(()) => Ok(sink),
-        Err(stop) => Err(stop),
-    }
+    write_line(alloc, found, &mut sink)?;
+    write_detail(alloc, found, &mut sink)?;
+    Ok(sink)
 }
 
 // Writes what differs of an object.
 fn write_difference<W: Sink>(
     alloc: Global,
-    object: ObjectId,
-    before: &Version,
-    after: &Version,
-    difference: &Difference,
+    found: &DifferingObject,
     writer: &mut W,
 ) -> Result<(), Stop>
     requires writer { W.failures writer.old + 1 < 2 ^ 64 }
     ensures lines { OnOk result
-        (WritesShown object before.now after.now difference.now (W.passed writer.old)
-        (W.passed writer.new)) }
+        (WritesShown (row_of found.now) (W.passed writer.old) (W.passed writer.new)) }
     ensures failures { OnOk result (W.failures writer.new ≡ W.failures writer.old) }
 {
-    let lines = match difference_lines(alloc, object, before, after, difference) {
+    let lines = match difference_lines(alloc, found) {
         Ok(lines) => lines,
         // The lines are in memory, so what fails there is a growth.
         Err(_) => return Err(Stop::NoMemory),
     };
-    let text = match difference_text(alloc, object, lines.as_slice()) {
-        Ok(text) => text,
-        Err(_) => return Err(Stop::NoMemory),
-    };
+    let text = difference_text(alloc, found.object, lines.as_slice())?;
     write_out(writer, text.as_bytes())
-}
-
-// Writes what differs between two versions of an object, if they aren't alike. Says whether they
-// differ.
-fn write_between<W: Sink>(
-    alloc: Global,
-    object: ObjectId,
-    before: &Version,
-    after: &Version,
-    writer: &mut W,
-) -> Result<bool, Stop>
-    requires writer { W.failures writer.old + 1 < 2 ^ 64 }
-    ensures object { IfOk result
-        (λ differs. WritesBetween object before.now after.now differs (W.passed writer.old)
-        (W.passed writer.new)) }
-    ensures failures { OnOk result (W.failures writer.new ≡ W.failures writer.old) }
-{
-    let difference = match difference_of(alloc, before, after) {
-        Ok(Some(difference)) => difference,
-        Ok(None) => return Ok(false),
-        Err(_) => return Err(Stop::NoMemory),
-    };
-    match write_difference(alloc, object, before, after, &difference, writer) {
-        Ok(()) => Ok(true),
-        Err(stop) => Err(stop),
-    }
-}
-
-fn are_visible<J: Naming>(drive: &Drive<J>, object: ObjectId, from: Moment, until: Moment) -> bool
-    ensures { MatchBool result (AreVisible (state_in drive.now) object from until)
-        (AreVisible (state_in drive.now) object from until → ⊥) }
-{
-    is_visible(drive, object, from) && is_visible(drive, object, until)
-}
-
-// Writes what differs of an object between two moments, if anything does. Says whether anything
-// does.
-fn write_object<J: Naming, W: Sink>(
-    alloc: Global,
-    drive: &mut Drive<J>,
-    session: &mut Session<J>,
-    object: ObjectId,
-    from: Moment,
-    until: Moment,
-    writer: &mut W,
-) -> Result<bool, Stop>
-    requires writer { W.failures writer.old + 1 < 2 ^ 64 }
-    ensures object { IfOk result
-        (λ differs. WritesObject (state_in drive.old) from until object differs
-        (W.passed writer.old) (W.passed writer.new)) }
-    ensures failures { OnOk result (W.failures writer.new ≡ W.failures writer.old) }
-    ensures state { state_in drive.new ≡ state_in drive.old }
-    ensures store { store_of drive.new ≡ store_of drive.old }
-{
-    if !are_visible(drive, object, from, until) {
-        return Ok(false);
-    }
-    let before = match version_at(alloc, drive, session, object, from) {
-        Ok(before) => before,
-        Err(refusal) => return Err(Stop::Refused(refusal)),
-    };
-    let after = match version_at(alloc, drive, session, object, until) {
-        Ok(after) => after,
-        Err(refusal) => return Err(Stop::Refused(refusal)),
-    };
-    write_between(alloc, object, &before, &after, writer)
-}
-
-fn either(one: bool, other: bool) -> bool
-    ensures { result ≡ (one || other) }
-{
-    one || other
-}
-
-// Writes what differs of all objects between two moments. Says whether anything does.
-fn write_all<J: Naming, W: Sink>(
-    alloc: Global,
-    drive: &mut Drive<J>,
-    session: &mut Session<J>,
-    from: Moment,
-    until: Moment,
-    writer: &mut W,
-) -> Result<bool, Stop>
-    requires writer { W.failures writer.old + 1 < 2 ^ 64 }
-    ensures rows { IfOk result
-        (λ differs. WritesDifferences (state_in drive.old) from until differs (W.passed writer.old)
-        (W.passed writer.new)) }
-    ensures failures { OnOk result (W.failures writer.new ≡ W.failures writer.old) }
-    ensures state { state_in drive.new ≡ state_in drive.old }
-    ensures store { store_of drive.new ≡ store_of drive.old }
-{
-    drive.rules();
-    let mut differs = false;
-    let mut last = ObjectId::new(0);
-    while let Some(object) = drive.next_row(last) {
-        let one = write_object(alloc, drive, session, object, from, until, writer)?;
-        differs = either(differs, one);
-        last = object;
-    }
-    Ok(differs)
 }
 
 /// Writes what differs of all objects between two moments, by a session of its own. Says whether
@@ -271,9 +132,13 @@ pub(crate) fn write_differences<J: Naming, W: Sink>(
     ensures state { state_in drive.new ≡ state_in drive.old }
     ensures store { store_of drive.new ≡ store_of drive.old }
 {
-    let mut session = match drive.session(Role::Client) {
-        Ok(session) => session,
-        Err(refusal) => return Err(Stop::Refused(refusal)),
-    };
-    write_all(alloc, drive, &mut session, from, until, writer)
+    let mut session = drive.session(Role::Client)?;
+    let mut differs = false;
+    let mut last = ObjectId::new(0);
+    while let Some(found) = next_differing(alloc, drive, &mut session, last, from, until)? {
+        write_difference(alloc, &found, writer)?;
+        differs = true;
+        last = found.object;
+    }
+    Ok(differs)
 }

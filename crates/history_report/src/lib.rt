@@ -15,7 +15,6 @@ mod escaping;
 mod faults;
 pub mod laws;
 mod marks;
-mod output;
 mod page;
 mod scale;
 mod strips;

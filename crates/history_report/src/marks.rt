@@ -11,24 +11,22 @@ use history_view::{Kind, ObjectChange};
 use s4_types::{ObjectId, Span};
 use std::alloc::{AllocError, Global};
 
-fn mark_head(kind: Kind) -> &'static str
-    ensures { result.now ≡ mark_head kind }
+// The beginning of a mark, and its lines from the place of its middle on: a circle, a cross, or an
+// upright bar.
+fn mark_texts(kind: Kind) -> (&'static str, &'static str)
+    ensures head { result.0.now ≡ mark_head kind }
+    ensures shape { result.1.now ≡ mark_shape kind }
 {
     match kind {
-        Kind::Made => "<path class=\"made\" d=\"M",
-        Kind::Deleted => "<path class=\"deleted\" d=\"M",
-        _ => "<path class=\"changed\" d=\"M",
-    }
-}
-
-// The lines of a mark, from the place of its middle on: a circle, a cross, or an upright bar.
-fn mark_shape(kind: Kind) -> &'static str
-    ensures { result.now ≡ mark_shape kind }
-{
-    match kind {
-        Kind::Made => " 8m-5 0a5 5 0 1 0 10 0a5 5 0 1 0 -10 0\"><title>object ",
-        Kind::Deleted => " 8m-5 -5l10 10m0 -10l-10 10\"><title>object ",
-        _ => " 2v12\"><title>object ",
+        Kind::Made => (
+            "<path class=\"made\" d=\"M",
+            " 8m-5 0a5 5 0 1 0 10 0a5 5 0 1 0 -10 0\"><title>object ",
+        ),
+        Kind::Deleted => (
+            "<path class=\"deleted\" d=\"M",
+            " 8m-5 -5l10 10m0 -10l-10 10\"><title>object ",
+        ),
+        _ => ("<path class=\"changed\" d=\"M", " 2v12\"><title>object "),
     }
 }
 
@@ -57,7 +55,7 @@ fn mark_text(
     ensures { IfOk result
         (λ text. string_bytes text ≡ page_text (mark_of scale.now object change.now)) }
 {
-    let (head, shape) = (mark_head(change.kind), mark_shape(change.kind));
+    let (head, shape) = mark_texts(change.kind);
     let done = done_text(change.kind);
     let place = number_text(alloc, place_of(scale, change.moment))?;
     let number = number_text(alloc, object.number())?;
@@ -67,22 +65,6 @@ fn mark_text(
     format!(in alloc;
         "{head}{place}{shape}{number}{done}{moment}: {before} to {after} bytes</title></path>\n"
     )
-}
-
-// Adds the mark of a change of an object.
-fn push_own(
-    alloc: Global,
-    scale: &Scale,
-    object: ObjectId,
-    change: &ObjectChange,
-    text: &mut String,
-) -> Result<(), AllocError>
-    ensures { OnOk result
-        (string_bytes text.new
-        ≡ string_bytes text.old ++ page_text (mark_of scale.now object change.now)) }
-{
-    let mark = mark_text(alloc, scale, object, change)?;
-    text.push_str(mark.as_str())
 }
 
 // Adds the mark of a change of an object. One that goes on with the change before it has none of
@@ -101,7 +83,8 @@ fn push_mark(
     if let Kind::Continued = change.kind {
         return Ok(());
     }
-    push_own(alloc, scale, object, change, text)
+    let mark = mark_text(alloc, scale, object, change)?;
+    text.push_str(mark.as_str())
 }
 
 /// Adds the marks of these changes of an object.
@@ -145,22 +128,6 @@ fn run_text(
     )
 }
 
-// Adds the mark of a run of hidden moments of an object.
-fn push_run(
-    alloc: Global,
-    scale: &Scale,
-    object: ObjectId,
-    run: &Span,
-    text: &mut String,
-) -> Result<(), AllocError>
-    ensures { OnOk result
-        (string_bytes text.new
-        ≡ string_bytes text.old ++ page_text (run_mark scale.now object run.now)) }
-{
-    let mark = run_text(alloc, scale, object, run)?;
-    text.push_str(mark.as_str())
-}
-
 /// Adds the marks of these runs of hidden moments of an object.
 pub(crate) fn push_runs(
     alloc: Global,
@@ -174,7 +141,8 @@ pub(crate) fn push_runs(
         ≡ string_bytes text.old ++ page_text (flat_map (run_mark scale.now object) runs.now)) }
 {
     for run in runs {
-        push_run(alloc, scale, object, run, text)?;
+        let mark = run_text(alloc, scale, object, run)?;
+        text.push_str(mark.as_str())?;
     }
     Ok(())
 }

@@ -7,14 +7,12 @@ ghost use Rattle.window.specs.Runs.{Ascend};
 ghost use Rattle.drive.specs.Fields.{state_in, store_of};
 ghost use Rattle.history_report.specs.Page.{Constant, page_text};
 ghost use Rattle.history_report.specs.Report.{IsFaultOf, IsSince, Reports, axis_of, end_of};
-ghost use Rattle.history_report.specs.Report.{head_of, none_text, numbers_of};
-ghost use Rattle.history_report.specs.private.Sections.{WritesPage, WritesSince, WritesTable};
-ghost use Rattle.history_report.specs.private.Sections.{WritesTimeline};
+ghost use Rattle.history_report.specs.Report.{WritesPage, head_of, none_text, numbers_of};
+ghost use Rattle.history_report.specs.private.Sections.{WritesSince, WritesTable, WritesTimeline};
 
 use crate::differences::write_differences;
 use crate::escaping::moment_cell;
 use crate::faults::ReportFault;
-use crate::output::write_out;
 use crate::scale::scale_of;
 use crate::strips::write_strips;
 use crate::table::write_rows;
@@ -22,7 +20,7 @@ use crate::texts::{
     DIFFERENCES_HEAD, NO_DIFFERENCE, PAGE_END, PAGE_HEAD, TABLE_HEAD, TIMELINE_HEAD,
 };
 use drive::Drive;
-use history_diff::Stop;
+use history_diff::{Stop, write_out};
 use history_view::{earliest, is_visible};
 use moment_words::style_of;
 use s4_types::{Moment, ObjectId, Span};
@@ -93,10 +91,7 @@ fn write_page<J: Naming, W: Sink>(
     ensures state { state_in drive.new ≡ state_in drive.old }
     ensures store { store_of drive.new ≡ store_of drive.old }
 {
-    let runs = match drive.spans() {
-        Ok(runs) => runs,
-        Err(refusal) => return Err(Stop::Refused(refusal)),
-    };
+    let runs = drive.spans()?;
     write_timeline(alloc, drive, from, runs.as_slice(), writer)?;
     write_table(alloc, drive, writer)?;
     write_since(alloc, drive, from, writer)
@@ -143,10 +138,7 @@ fn write_axis<J: Naming, W: Sink>(
         (page_text (Constant TIMELINE_HEAD.now ∷ axis_of (state_in drive.now)))) }
     ensures failures { OnOk result (W.failures writer.new ≡ W.failures writer.old) }
 {
-    let axis = match axis_text(alloc, drive) {
-        Ok(axis) => axis,
-        Err(_) => return Err(Stop::NoMemory),
-    };
+    let axis = axis_text(alloc, drive)?;
     write_out(writer, TIMELINE_HEAD.as_bytes())?;
     write_out(writer, axis.as_bytes())
 }
@@ -164,10 +156,7 @@ fn write_head<J: Naming, W: Sink>(
         (page_text (head_of (state_in drive.now) from))) }
     ensures failures { OnOk result (W.failures writer.new ≡ W.failures writer.old) }
 {
-    let numbers = match numbers_text(alloc, drive, from) {
-        Ok(numbers) => numbers,
-        Err(_) => return Err(Stop::NoMemory),
-    };
+    let numbers = numbers_text(alloc, drive, from)?;
     write_out(writer, PAGE_HEAD.as_bytes())?;
     write_out(writer, numbers.as_bytes())?;
     write_axis(alloc, drive, writer)

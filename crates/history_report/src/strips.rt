@@ -10,12 +10,11 @@ ghost use Rattle.history_report.specs.private.Sections.{WritesStrips};
 
 use crate::escaping::number_text;
 use crate::marks::{push_marks, push_runs};
-use crate::output::write_out;
 use crate::scale::Scale;
 use drive::Drive;
-use history_diff::Stop;
+use history_diff::{Stop, write_out};
 use history_view::{ObjectChange, changes_between};
-use s4_types::{ObjectId, Refusal, Span};
+use s4_types::{ObjectId, Span};
 use segment_word::Naming;
 use serving::Sink;
 use std::alloc::{AllocError, Global};
@@ -88,7 +87,7 @@ fn strip_text<J: Naming>(
     object: ObjectId,
     scale: &Scale,
     runs: &[Span],
-) -> Result<String, Refusal>
+) -> Result<String, Stop>
     requires { Ascend runs.now }
     ensures strip { IfOk result
         (λ text. string_bytes text
@@ -99,10 +98,8 @@ fn strip_text<J: Naming>(
 {
     let (floor, clock) = (drive.floor(), drive.clock());
     let changes = changes_between(alloc, drive, object, floor, clock)?;
-    match strip_by(alloc, object, scale, runs, changes.as_slice()) {
-        Ok(text) => Ok(text),
-        Err(_) => Err(Refusal::NoMemory),
-    }
+    let text = strip_by(alloc, object, scale, runs, changes.as_slice())?;
+    Ok(text)
 }
 
 // Writes the strip of an object.
@@ -124,10 +121,7 @@ fn write_strip<J: Naming, W: Sink>(
     ensures ledger { drive.new.ledger ≡ drive.old.ledger }
     ensures store { store_of drive.new ≡ store_of drive.old }
 {
-    let text = match strip_text(alloc, drive, object, scale, runs) {
-        Ok(text) => text,
-        Err(refusal) => return Err(Stop::Refused(refusal)),
-    };
+    let text = strip_text(alloc, drive, object, scale, runs)?;
     write_out(writer, text.as_bytes())
 }
 

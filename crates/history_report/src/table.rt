@@ -7,9 +7,8 @@ ghost use Rattle.history_report.specs.Table.{row_of, state_cell};
 ghost use Rattle.history_report.specs.private.Sections.{WritesRows};
 
 use crate::escaping::{data_text, moment_cell, number_text};
-use crate::output::write_out;
 use drive::Drive;
-use history_diff::Stop;
+use history_diff::{Stop, write_out};
 use history_view::{Listed, next_listed};
 use moment_words::MomentStyle;
 use s4_types::{Moment, ObjectId};
@@ -55,10 +54,7 @@ fn write_row<W: Sink>(
         (Appends (W.passed writer.old) (W.passed writer.new) (page_text (row_of style row.now))) }
     ensures failures { OnOk result (W.failures writer.new ≡ W.failures writer.old) }
 {
-    let text = match row_text(alloc, row, style) {
-        Ok(text) => text,
-        Err(_) => return Err(Stop::NoMemory),
-    };
+    let text = row_text(alloc, row, style)?;
     write_out(writer, text.as_bytes())
 }
 

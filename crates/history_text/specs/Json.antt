@@ -4,7 +4,6 @@ use Rattle.std.specs.Str.{is_utf8}
 use Rattle.hex.specs.Hex.{encode_lower}
 use Rattle.serde_json.specs.Data.{Data, null, number, unsigned, string, object, member, no_members}
 use Rattle.serde_json.specs.Written.{compact_text}
-use Rattle.codec.specs.declared.entries.Pair.{Pair}
 use Rattle.history_view.specs.declared.changes.Kind.{Kind}
 use Rattle.history_view.specs.declared.changes.Kind.TheVariants.{Made, Deleted, Continued, Attribute, Cut, Written, Lengthened, Touched}
 use Rattle.history_view.specs.declared.changes.Blocks.{Blocks}
@@ -63,7 +62,7 @@ kind_word Lengthened = codes "lengthened"
 kind_word Touched = codes "touched"
 
 -- an attribute of a pair in hex; null where there is none
-abbrev pub side_data : (Pair → List ℕ) → Option Pair → Data
+abbrev pub side_data : {P : Type 0} → (P → List ℕ) → Option P → Data
 side_data side None = null
 side_data side (Some pair) = string (encode_lower (side pair))
 

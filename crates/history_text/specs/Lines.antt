@@ -83,29 +83,30 @@ abbrev pub blocks_text : Option Blocks → List ℕ
 blocks_text None = []
 blocks_text (Some blocks) = codes "  blocks " ++ (decimal (512 * blocks.first) ++ (codes "-" ++ decimal (512 * blocks.last + 511)))
 
--- the attributes before and after; nothing where they are one
+-- attributes before and after
+abbrev pub attributes_text : List ℕ → List ℕ → List ℕ
+attributes_text before after = codes "  " ++ (printed_attribute before ++ (codes " -> " ++ printed_attribute after))
+
+-- those of a change; nothing where it has none
 abbrev pub pair_text : Option Pair → List ℕ
 pair_text None = []
-pair_text (Some pair) = codes "  " ++ (printed_attribute pair.before ++ (codes " -> " ++ printed_attribute pair.after))
+pair_text (Some pair) = attributes_text pair.before pair.after
 
 -- the line above the changes
 abbrev pub log_head : MomentStyle → List ℕ
 log_head Number = codes "    MOMENT      OBJECT  CHANGE      BEFORE   AFTER\n"
 log_head Date = codes "MOMENT                           OBJECT  CHANGE      BEFORE   AFTER\n"
 
--- the sizes before and after a change, in bytes
-abbrev pub sizes_text : ObjectChange → List ℕ
-sizes_text change = column 6 change.size_before ++ (codes "  " ++ column 6 change.size_after)
-
 -- what else is known of a change
 abbrev pub detail_text : ObjectChange → List ℕ
 detail_text change = added_text change ++ (blocks_text change.blocks ++ pair_text change.pair)
 
--- the line of a change of an object: its moment, the object, what was done, the sizes before and after, bytes, blocks and attributes
+-- the line of a change of an object: its moment, the object, what was done, the sizes in bytes before and after, bytes, blocks and attributes
 abbrev pub change_line : MomentStyle → ℕ → ObjectChange → List ℕ
 change_line style object change =
     moment_column style change.moment
-    ++ (codes "  " ++ (column 10 object ++ (codes "  " ++ (kind_text change.kind ++ (codes "  " ++ (sizes_text change ++ (detail_text change ++ codes "\n")))))))
+    ++ (codes "  " ++ (column 10 object ++ (codes "  " ++ (kind_text change.kind ++ (codes "  " ++ (column 6 change.size_before
+    ++ (codes "  " ++ (column 6 change.size_after ++ (detail_text change ++ codes "\n")))))))))
 
 -- whose moments a run hides, where they aren't those of all objects
 abbrev pub hidden_of : ℕ → List ℕ

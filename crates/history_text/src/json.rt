@@ -1,8 +1,6 @@
 //! The lines that programs read.
 ghost use Rattle.std.specs.Prelude.{◌≡◌, IfOk, false, string_bytes};
 ghost use Rattle.serde_json.specs.View.{view};
-ghost use Rattle.hex.specs.Hex.{encode_lower};
-ghost use Rattle.serde_json.specs.Data.{string};
 ghost use Rattle.serde_json.specs.Written.{has_float};
 ghost use Rattle.moment_words.specs.declared.printing.MomentStyle.TheVariants.{Date};
 ghost use Rattle.history_text.specs.Json.{json_line, state_word, kind_word, text_data, time_data};
@@ -11,7 +9,7 @@ ghost use Rattle.history_text.specs.Json.{hidden_data, row_data, kinds_data, sta
 ghost use Rattle.history_text.specs.Json.{counts_data, numbers_data};
 
 use crate::numbers::DriveNumbers;
-use codec::{Attribute, Pair};
+use codec::Pair;
 use history_view::{Blocks, Kind, KindCounts, Listed, LogRow, ObjectChange, ObjectStat};
 use moment_words::{MomentStyle, moment_text};
 use s4_types::{Moment, ObjectId, Span};
@@ -104,45 +102,27 @@ pub(crate) fn kind_word(kind: Kind) -> &'static str
     }
 }
 
-fn attribute_value(alloc: Global, attribute: &Attribute) -> Result<Value, AllocError>
-    ensures { IfOk result (λ value. view value ≡ string (encode_lower attribute.now)) }
+// The attributes before and after a change in hex; null where it has none.
+fn attribute_values(alloc: Global, pair: &Option<Pair>) -> Result<(Value, Value), AllocError>
+    ensures before { IfOk result (λ values. view values.0 ≡ side_data (λ p. p.before) pair.now) }
+    ensures after { IfOk result (λ values. view values.1 ≡ side_data (λ p. p.after) pair.now) }
 {
-    Ok(Value::from(hex::encode(alloc, attribute.as_slice())?))
+    let Some(pair) = pair else {
+        return Ok((Value::Null, Value::Null));
+    };
+    let before = hex::encode(alloc, pair.before.as_slice())?;
+    let after = hex::encode(alloc, pair.after.as_slice())?;
+    Ok((Value::from(before), Value::from(after)))
 }
 
-fn attribute_after(alloc: Global, pair: &Option<Pair>) -> Result<Value, AllocError>
-    ensures { IfOk result (λ value. view value ≡ side_data (λ p. p.after) pair.now) }
-{
-    match pair {
-        Some(pair) => attribute_value(alloc, &pair.after),
-        None => Ok(Value::Null),
-    }
-}
-
-fn attribute_before(alloc: Global, pair: &Option<Pair>) -> Result<Value, AllocError>
-    ensures { IfOk result (λ value. view value ≡ side_data (λ p. p.before) pair.now) }
-{
-    match pair {
-        Some(pair) => attribute_value(alloc, &pair.before),
-        None => Ok(Value::Null),
-    }
-}
-
-fn first_block(blocks: Option<Blocks>) -> Value
-    ensures { view result ≡ index_data (λ b. b.first) blocks }
+// The first and the last block of a change; null where it has none.
+fn block_values(blocks: Option<Blocks>) -> (Value, Value)
+    ensures first { view result.0 ≡ index_data (λ b. b.first) blocks }
+    ensures last { view result.1 ≡ index_data (λ b. b.last) blocks }
 {
     match blocks {
-        Some(blocks) => Value::from(blocks.first),
-        None => Value::Null,
-    }
-}
-
-fn last_block(blocks: Option<Blocks>) -> Value
-    ensures { view result ≡ index_data (λ b. b.last) blocks }
-{
-    match blocks {
-        Some(blocks) => Value::from(blocks.last),
-        None => Value::Null,
+        Some(blocks) => (Value::from(blocks.first), Value::from(blocks.last)),
+        None => (Value::Null, Value::Null),
     }
 }
 
@@ -160,9 +140,8 @@ fn change_value(
         kind_word(change.kind),
     );
     let (before, after) = (change.size_before, change.size_after);
-    let (first, last) = (first_block(change.blocks), last_block(change.blocks));
-    let attribute_before = attribute_before(alloc, &change.pair)?;
-    let attribute_after = attribute_after(alloc, &change.pair)?;
+    let (first, last) = block_values(change.blocks);
+    let (attribute_before, attribute_after) = attribute_values(alloc, &change.pair)?;
     let time = time_value(alloc, change.moment, style)?;
     json!(in alloc; {
         "moment": moment,

@@ -11,5 +11,8 @@ mod numbers;
 
 pub use attributes::printed_attribute;
 pub use json::{json_line, listed_json, log_json, numbers_json, stat_json, text_value};
-pub use lines::{list_head, listed_line, log_head, log_line, numbers_lines, stat_head, stat_line};
+pub use lines::{
+    attributes_text, list_head, listed_line, log_head, log_line, numbers_lines, stat_head,
+    stat_line,
+};
 pub use numbers::DriveNumbers;

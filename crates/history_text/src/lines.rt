@@ -3,7 +3,7 @@ ghost use Rattle.std.specs.Prelude.{◌≡◌, IfOk, string_bytes};
 ghost use Rattle.moment_words.specs.Texts as texts;
 ghost use Rattle.history_text.specs.Lines.{column, moment_column, list_head, listed_line};
 ghost use Rattle.history_text.specs.Lines.{state_text, kind_text, added_text, blocks_text};
-ghost use Rattle.history_text.specs.Lines.{pair_text, sizes_text, detail_text, log_head};
+ghost use Rattle.history_text.specs.Lines.{attributes_text, pair_text, detail_text, log_head};
 ghost use Rattle.history_text.specs.Lines.{change_line, hidden_of, hidden_line, log_line};
 ghost use Rattle.history_text.specs.Lines.{stat_head, kind_count, between_text, kinds_text};
 ghost use Rattle.history_text.specs.Lines.{stat_line, counts_text, moments_text, hidden_text};
@@ -27,7 +27,6 @@ fn state_text(is_live: bool) -> &'static str
     if is_live { "live   " } else { "deleted" }
 }
 
-// The number of an object, a count or a moment, in its column.
 fn column(alloc: Global, number: u64) -> Result<String, AllocError>
     ensures { IfOk result (λ text. string_bytes text ≡ column 10 number) }
 {
@@ -41,13 +40,6 @@ fn moment_column(alloc: Global, moment: Moment, style: MomentStyle) -> Result<St
         MomentStyle::Number => column(alloc, moment.number()),
         MomentStyle::Date => moment_text(alloc, moment.number(), MomentStyle::Date),
     }
-}
-
-// A size, in its column.
-fn size_text(alloc: Global, size: u32) -> Result<String, AllocError>
-    ensures { IfOk result (λ text. string_bytes text ≡ column 6 size) }
-{
-    format!(in alloc; "{size:6}")
 }
 
 /// The line above the objects.
@@ -68,13 +60,11 @@ pub fn list_head(style: MomentStyle) -> &'static str
 pub fn listed_line(alloc: Global, row: &Listed, style: MomentStyle) -> Result<String, AllocError>
     ensures { IfOk result (λ line. string_bytes line ≡ listed_line style row.now) }
 {
-    let object = column(alloc, row.object.number())?;
-    let state = state_text(row.is_live);
-    let size = size_text(alloc, row.size)?;
+    let (object, size, state) = (row.object.number(), row.size, state_text(row.is_live));
     let created = moment_column(alloc, row.created, style)?;
     let changed = moment_column(alloc, row.changed, style)?;
     let attribute = printed_attribute(alloc, row.attribute.as_slice())?;
-    format!(in alloc; "{object}  {state}  {size}  {created}  {changed}  {attribute}\n")
+    format!(in alloc; "{object:10}  {state}  {size:6}  {created}  {changed}  {attribute}\n")
 }
 
 fn kind_text(kind: Kind) -> &'static str
@@ -114,23 +104,22 @@ fn blocks_text(alloc: Global, blocks: Option<Blocks>) -> Result<String, AllocErr
     format!(in alloc; "  blocks {first}-{last}")
 }
 
-fn pair_text(alloc: Global, pair: &Option<Pair>) -> Result<String, AllocError>
-    ensures { IfOk result (λ text. string_bytes text ≡ pair_text pair.now) }
+/// The end of a line that has attributes, those before and those after a change.
+pub fn attributes_text(alloc: Global, before: &[u8], after: &[u8]) -> Result<String, AllocError>
+    ensures { IfOk result (λ text. string_bytes text ≡ attributes_text before.now after.now) }
 {
-    let Some(pair) = pair else {
-        return Ok(String::new(alloc));
-    };
-    let before = printed_attribute(alloc, pair.before.as_slice())?;
-    let after = printed_attribute(alloc, pair.after.as_slice())?;
+    let before = printed_attribute(alloc, before)?;
+    let after = printed_attribute(alloc, after)?;
     format!(in alloc; "  {before} -> {after}")
 }
 
-fn sizes_text(alloc: Global, change: &ObjectChange) -> Result<String, AllocError>
-    ensures { IfOk result (λ text. string_bytes text ≡ sizes_text change.now) }
+fn pair_text(alloc: Global, pair: &Option<Pair>) -> Result<String, AllocError>
+    ensures { IfOk result (λ text. string_bytes text ≡ pair_text pair.now) }
 {
-    let before = size_text(alloc, change.size_before)?;
-    let after = size_text(alloc, change.size_after)?;
-    format!(in alloc; "{before}  {after}")
+    match pair {
+        Some(pair) => attributes_text(alloc, pair.before.as_slice(), pair.after.as_slice()),
+        None => Ok(String::new(alloc)),
+    }
 }
 
 fn detail_text(alloc: Global, change: &ObjectChange) -> Result<String, AllocError>
@@ -163,11 +152,10 @@ fn change_line(
     ensures { IfOk result (λ line. string_bytes line ≡ change_line style object change.now) }
 {
     let moment = moment_column(alloc, change.moment, style)?;
-    let object = column(alloc, object.number())?;
-    let kind = kind_text(change.kind);
-    let sizes = sizes_text(alloc, change)?;
+    let (object, kind) = (object.number(), kind_text(change.kind));
+    let (before, after) = (change.size_before, change.size_after);
     let detail = detail_text(alloc, change)?;
-    format!(in alloc; "{moment}  {object}  {kind}  {sizes}{detail}\n")
+    format!(in alloc; "{moment}  {object:10}  {kind}  {before:6}  {after:6}{detail}\n")
 }
 
 fn hidden_of(alloc: Global, object: ObjectId) -> Result<String, AllocError>
@@ -248,12 +236,11 @@ fn kinds_text(alloc: Global, kinds: &KindCounts) -> Result<String, AllocError>
 pub fn stat_line(alloc: Global, stat: &ObjectStat, style: MomentStyle) -> Result<String, AllocError>
     ensures { IfOk result (λ line. string_bytes line ≡ stat_line style stat.now) }
 {
-    let object = column(alloc, stat.object.number())?;
-    let changes = column(alloc, stat.changes)?;
+    let (object, changes) = (stat.object.number(), stat.changes);
     let first = moment_column(alloc, stat.first, style)?;
     let last = moment_column(alloc, stat.last, style)?;
     let kinds = kinds_text(alloc, &stat.kinds)?;
-    format!(in alloc; "{object}  {changes}  {first}  {last}{kinds}\n")
+    format!(in alloc; "{object:10}  {changes:10}  {first}  {last}{kinds}\n")
 }
 
 fn counts_text(alloc: Global, numbers: &DriveNumbers) -> Result<String, AllocError>

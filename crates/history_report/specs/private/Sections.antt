@@ -4,12 +4,10 @@ use Rattle.std.specs.List.{flat_map}
 use Rattle.std.specs.Io.KnownBytes.{Appends}
 use Rattle.s4_types.specs.declared.spans.Span.{Span}
 use Rattle.s4_model.specs.State.{State}
-use Rattle.s4_model.specs.Visible.{spans_of}
 use Rattle.version_store.specs.Store.{StoreFields}
 use Rattle.moment_words.specs.declared.printing.MomentStyle.{MomentStyle}
 use Rattle.moment_words.specs.Texts.{style_of}
-use Rattle.window.specs.Runs.{Ascend}
-use Rattle.window.specs.Timeline.{CoverAlike}
+use Rattle.history_diff.specs.Diffing.{has_any}
 use Rattle.history_view.specs.declared.listing.Listed.{Listed}
 use Rattle.history_view.specs.Listing.{AreListedFrom}
 use Rattle.history_export.specs.Checks.{HaveRowsFrom}
@@ -17,8 +15,8 @@ use Rattle.history_report.specs.declared.scale.Scale.{Scale}
 use Rattle.history_report.specs.Page.{page_text}
 use Rattle.history_report.specs.Timeline.{strip_of}
 use Rattle.history_report.specs.Table.{row_of}
-use Rattle.history_report.specs.Differences.{ObjectDifference, AreDifferencesFrom, difference_of, has_any}
-use Rattle.history_report.specs.Report.{timeline_of, table_of, since_of, page_of}
+use Rattle.history_report.specs.Differences.{ShownDifference, AreShownFrom, difference_of}
+use Rattle.history_report.specs.Report.{timeline_of, table_of, since_of}
 
 -- The output has the strip of each object that has a row after it, by ascending number.
 pub record WritesStrips (scale : Scale) (s : State) (store : StoreFields) (runs : List Span) (output output' : Option (List ℕ)) : Type 0 where
@@ -34,8 +32,8 @@ pub record WritesRows (s : State) (store : StoreFields) (t : ℕ) (style : Momen
 
 -- The output has the differences between two moments after it, by ascending object, and this says whether there are any.
 pub record WritesDifferences (s : State) (from until : ℕ) (differs : Bool) (output output' : Option (List ℕ)) : Type 0 where
-  pub differences : List ObjectDifference
-  pub are : AreDifferencesFrom s from until 0 differences
+  pub differences : List ShownDifference
+  pub are : AreShownFrom s from until 0 differences
   pub wrote : Appends output output' (page_text (flat_map difference_of differences))
   pub answer : differs ≡ has_any differences
 
@@ -53,19 +51,6 @@ pub record WritesTable (s : State) (store : StoreFields) (output output' : Optio
 
 -- The output has what differs between a moment and the clock after it, and the end of a page.
 pub record WritesSince (s : State) (from : ℕ) (output output' : Option (List ℕ)) : Type 0 where
-  pub differences : List ObjectDifference
-  pub are : AreDifferencesFrom s from s.clock 0 differences
+  pub differences : List ShownDifference
+  pub are : AreShownFrom s from s.clock 0 differences
   pub wrote : Appends output output' (page_text (since_of differences))
-
--- The output has a page after it.
-pub record WritesPage (s : State) (store : StoreFields) (from : ℕ) (output output' : Option (List ℕ)) : Type 0 where
-  pub runs : List Span
-  pub hidden : CoverAlike s.floor runs (spans_of s)
-  pub ordered : Ascend runs
-  pub objects : List ℕ
-  pub have_rows : HaveRowsFrom store 0 objects
-  pub rows : List Listed
-  pub listed : AreListedFrom s store true s.clock 0 rows
-  pub differences : List ObjectDifference
-  pub are : AreDifferencesFrom s from s.clock 0 differences
-  pub wrote : Appends output output' (page_text (page_of s store runs from objects rows differences))

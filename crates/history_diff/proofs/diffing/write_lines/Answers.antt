@@ -1,17 +1,34 @@
-use Rattle.std.proofs.Common.{rules}
+use Rattle.std.proofs.Common.{rules, true, false}
+use Rattle.std.proofs.KnownBytes.{Appends-trans}
 use Rattle.std.proofs.lemmas.Result.{on_ok_weaker}
+use Rattle.history_diff.specs.Differences.{content_of, told_of}
+use Rattle.history_diff.specs.Diffing.{detail_lines, row_of}
+use Rattle.history_diff.specs.Lines.{difference_line}
 use Rattle.history_diff.specs.Texts.{IsAskedText, detail_of, text_shown}
-use Rattle.history_diff.specs.Differences.{content_of}
-use Rattle.history_diff.specs.private.Writing.{row_of}
-use Rattle.history_diff.proofs.Written.{json_written}
+use Rattle.history_diff.proofs.Written.{lines_written}
 use Rattle.history_diff.proofs.diffing.write_lines.Goals as goal
 
 pub returns-then-comparison-clause-lines : goal.returns-then-comparison-clause-lines
 returns-then-comparison-clause-lines g c =
     let passed = g.W.Sink.passed in
-    let shown = c.in-Ok.shown in
-    let row = row_of c.args.object c.args.before.now c.args.after.now c.args.difference.now in
-    let unified : IsAskedText c.args.comparison.now.detail c.args.object c.args.comparison.now (content_of c.args.before.now) (content_of c.args.after.now) (text_shown shown) = search rules in
+    let shown = c.in_ok-shown.shown in
+    let found = c.args.found.now in
+    let unified : IsAskedText c.args.comparison.now.detail found.object c.args.comparison.now (content_of found.before) (content_of found.after) (text_shown shown) = search rules in
     on_ok_weaker c.write_json.result
-    (λ wrote. json_written c.args.comparison.now row (detail_of shown) (text_shown shown) (passed c.args.writer.now) (passed c.write_json.new.writer) c.if-comparison.true c.in-Ok.ensures.detail unified wrote)
+    (λ wrote. lines_written c.args.comparison.now (row_of found) true (detail_of shown) (text_shown shown) (passed c.args.writer.now) (passed c.write_json.new.writer) c.if-comparison.true c.in_ok-shown.ensures.detail unified wrote)
     c.write_json.ensures.line
+
+pub returns-clause-lines : goal.returns-clause-lines
+returns-clause-lines g c =
+    let passed = g.W.Sink.passed in
+    let shown = c.in_ok-shown.shown in
+    let found = c.args.found.now in
+    let detail = detail_lines (detail_of shown) (row_of found) (text_shown shown) in
+    let x = passed c.args.writer.now in
+    let y = passed c.write_line.new.writer in
+    let z = passed c.write_detail.new.writer in
+    let unified : IsAskedText c.args.comparison.now.detail found.object c.args.comparison.now (content_of found.before) (content_of found.after) (text_shown shown) = search rules in
+    on_ok_weaker c.write_detail.result
+    (λ wrote. lines_written c.args.comparison.now (row_of found) false (detail_of shown) (text_shown shown) x z c.if-comparison.false c.in_ok-shown.ensures.detail unified
+    (Appends-trans x y z (difference_line found.object (told_of found.difference)) detail c.in_ok-write_line.ensures.line wrote))
+    c.write_detail.ensures.lines

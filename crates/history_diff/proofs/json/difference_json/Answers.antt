@@ -8,8 +8,8 @@ use Rattle.history_diff.specs.Texts.{detail_of, text_shown}
 use Rattle.history_diff.proofs.Floats.{no_float}
 use Rattle.history_diff.proofs.json.difference_json.Goals as goal
 
-pub line_of-requires : goal.line_of-requires
-line_of-requires c =
+pub json_line-requires : goal.json_line-requires
+json_line-requires c =
     let told = told_of c.args.difference.now in
     let detail = detail_of c.args.shown.now in
     let text = text_shown c.args.shown.now in

@@ -6,14 +6,14 @@ use Rattle.history_report.proofs.marks.mark_text.Goals as goal
 pub returns : goal.returns
 returns c =
     gives_parts c.format.result
-    (c.mark_head-head.result.now ∷ string_bytes c.in_ok-place.place ∷ c.mark_shape-shape.result.now ∷ string_bytes c.in_ok-number.number ∷ c.done_text-done.result.now ∷ string_bytes c.in_ok-moment.moment ∷ codes ": " ∷ string_bytes c.in_ok-before.before
+    (c.mark_texts.result.0.now ∷ string_bytes c.in_ok-place.place ∷ c.mark_texts.result.1.now ∷ string_bytes c.in_ok-number.number ∷ c.done_text-done.result.now ∷ string_bytes c.in_ok-moment.moment ∷ codes ": " ∷ string_bytes c.in_ok-before.before
     ∷ codes " to " ∷ string_bytes c.in_ok-after.after ∷ codes " bytes</title></path>\n" ∷ [])
     (mark_of c.args.scale.now c.args.object c.args.change.now) (
-      c.mark_head-head.ensures,
+      c.mark_texts.ensures.head,
       (
         c.in_ok-place.ensures ∙ ap text_of_number c.place_of.ensures.place,
         (
-          c.mark_shape-shape.ensures,
+          c.mark_texts.ensures.shape,
           (
             c.in_ok-number.ensures ∙ ap text_of_number c.number.ensures,
             (

@@ -16,4 +16,4 @@ returns-clause-axis g c =
     let y = passed c.write_out.new.writer in
     let z = passed c.write_out-2.new.writer in
     let first : Appends x y TIMELINE_HEAD.now = search rules in
-    on_ok c.write_out-2.result (λ wrote. Appends-trans x y z TIMELINE_HEAD.now axis first (subst (Appends y z) (c.as_bytes-2.ensures.value ∙ c.in-Ok.ensures) wrote)) c.write_out-2.ensures.bytes
+    on_ok c.write_out-2.result (λ wrote. Appends-trans x y z TIMELINE_HEAD.now axis first (subst (Appends y z) (c.as_bytes-2.ensures.value ∙ c.in_ok-axis.ensures) wrote)) c.write_out-2.ensures.bytes

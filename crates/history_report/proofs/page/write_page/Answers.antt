@@ -34,8 +34,8 @@ returns-clause-page g c =
     (λ done. let since : WritesSince s from y z = subst (λ (t : State). WritesSince t from y z) state done in
     record {
       runs = runs;
-      hidden = subst (λ (r : List Span). CoverAlike s.floor r (spans_of s)) (sym c.as_slice.ensures.value) c.in-Ok.ensures.alike;
-      ordered = subst Ascend (sym c.as_slice.ensures.value) c.in-Ok.ensures.ordered;
+      hidden = subst (λ (r : List Span). CoverAlike s.floor r (spans_of s)) (sym c.as_slice.ensures.value) c.in_ok-runs.ensures.alike;
+      ordered = subst Ascend (sym c.as_slice.ensures.value) c.in_ok-runs.ensures.ordered;
       objects = timeline.objects;
       have_rows = timeline.have_rows;
       rows = table.rows;

@@ -4,7 +4,8 @@ use Rattle.std.proofs.KnownBytes.{Appends-trans}
 use Rattle.drive.specs.Fields.{state_in}
 use Rattle.history_report.specs.declared.texts.TheConstants.{DIFFERENCES_HEAD}
 use Rattle.history_report.specs.Page.{page_text}
-use Rattle.history_report.specs.Differences.{AreDifferencesFrom, difference_of, has_any}
+use Rattle.history_diff.specs.Diffing.{has_any}
+use Rattle.history_report.specs.Differences.{AreShownFrom, difference_of}
 use Rattle.history_report.specs.Report.{end_of}
 use Rattle.history_report.proofs.Pages.{appends_two, on_ok}
 use Rattle.history_report.proofs.page.write_since.Goals as goal
@@ -23,7 +24,7 @@ returns-clause-since g c =
     (λ wrote. let end : Appends y z (page_text (end_of (has_any rows.differences))) = subst (λ (b : Bool). Appends y z (page_text (end_of b))) rows.answer wrote in
     record {
       differences = rows.differences;
-      are = subst (λ (t : ℕ). AreDifferencesFrom s c.args.from t 0 rows.differences) c.clock-until.ensures rows.are;
+      are = subst (λ (t : ℕ). AreShownFrom s c.args.from t 0 rows.differences) c.clock-until.ensures rows.are;
       wrote = Appends-trans w x z DIFFERENCES_HEAD.now (page_text (flat_map difference_of rows.differences ++ end_of (has_any rows.differences))) head
           (appends_two x y z (flat_map difference_of rows.differences) (end_of (has_any rows.differences)) rows.wrote end);
     })

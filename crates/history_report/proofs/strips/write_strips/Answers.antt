@@ -5,21 +5,24 @@ use Rattle.object_map.specs.Rows.{row_of}
 use Rattle.s4_model.specs.State.{State}
 use Rattle.version_store.specs.Store.{StoreFields}
 use Rattle.drive.specs.Fields.{state_in, store_of}
+use Rattle.history_export.specs.Checks.{HaveRowsFrom}
+use Rattle.history_view.proofs.Fronts.{front_whole}
 use Rattle.history_report.specs.Page.{page_text}
 use Rattle.history_report.specs.Timeline.{strip_of}
-use Rattle.history_report.proofs.Rows.{StripsTo, no_strips, strips_on, all_strips, state_stays}
+use Rattle.history_report.proofs.Rows.{state_stays}
+use Rattle.history_report.proofs.Written.{WrittenTo, none_written, written_on}
 use Rattle.history_report.proofs.strips.write_strips.Goals as goal
 
 pub loop-object-init : goal.loop-object-init
 loop-object-init g c =
-    let passed = g.W.Sink.passed in
-    let s = state_in c.args.drive.now in
+    let out = g.W.Sink.passed c.args.writer.now in
     let store = store_of c.args.drive.now in
+    let strip = strip_of c.args.scale.now (state_in c.args.drive.now) store c.args.runs.now in
     record {
       failures = refl;
       ledger = refl;
       store = refl;
-      strips = subst (λ (o : ℕ). StripsTo c.args.scale.now s store c.args.runs.now o (passed c.args.writer.now) (passed c.args.writer.now)) (sym c.new-last.ensures) (no_strips c.args.scale.now s store c.args.runs.now (passed c.args.writer.now));
+      strips = subst (λ (o : ℕ). WrittenTo (HaveRowsFrom store) strip o out out) (sym c.new-last.ensures) (none_written (HaveRowsFrom store) strip out);
     }
 
 pub write_strip-requires : goal.write_strip-requires
@@ -36,6 +39,7 @@ loop-object-preserved g c =
     let o = c.in-Some.object in
     let a = passed c.loop-object.writer in
     let b = passed c.write_strip.new.writer in
+    let next : IsNextAbove store.rows c.loop-object.last o = subst (λ (x : StoreFields). IsNextAbove x.rows c.loop-object.last o) before.store c.in-Some.ensures.some in
     let wrote : Appends a b (page_text (strip_of scale s store runs o)) =
     subst (λ (x : StoreFields). Appends a b (page_text (strip_of scale s x runs o))) before.store
     (subst (λ (x : State). Appends a b (page_text (strip_of scale x (store_of c.loop-object.drive) runs o))) (state_stays c.loop-object.drive c.args.drive.now before.ledger) c.in_ok-write_strip.ensures.strip) in
@@ -43,13 +47,15 @@ loop-object-preserved g c =
       failures = c.in_ok-write_strip.ensures.failures ∙ before.failures;
       ledger = c.write_strip.ensures.ledger ∙ before.ledger;
       store = c.write_strip.ensures.store ∙ before.store;
-      strips = strips_on scale s store runs c.loop-object.last o (passed c.args.writer.now) a b before.strips
-          (subst (λ (x : StoreFields). IsNextAbove x.rows c.loop-object.last o) before.store c.in-Some.ensures.some) wrote;
+      strips = written_on (HaveRowsFrom store) (strip_of scale s store runs) c.loop-object.last o o (passed c.args.writer.now) a b before.strips (λ rest more. (next, more)) wrote;
     }
 
 pub returns-clause-strips : goal.returns-clause-strips
 returns-clause-strips g c =
-    let passed = g.W.Sink.passed in
     let before = c.loop-object.invariant in
-    all_strips c.args.scale.now (state_in c.args.drive.now) (store_of c.args.drive.now) c.args.runs.now c.loop-object.last (passed c.args.writer.now) (passed c.loop-object.writer) before.strips
-    (λ o above. subst (λ (x : StoreFields). row_of x.rows o ≡ None) before.store (c.in_default.ensures.none o above))
+    record {
+      objects = before.strips.elements;
+      have_rows = front_whole (HaveRowsFrom (store_of c.args.drive.now)) before.strips.elements c.loop-object.last before.strips.front
+          (λ o above. subst (λ (x : StoreFields). row_of x.rows o ≡ None) before.store (c.in_default.ensures.none o above));
+      wrote = before.strips.wrote;
+    }

@@ -1,18 +1,21 @@
-use Rattle.std.proofs.Common.{◌+◌, ◌^◌, ◌<◌, ◌∙◌, ℕ, refl, sym, subst}
+use Rattle.std.proofs.Common.{◌+◌, ◌^◌, ◌<◌, ◌∙◌, ℕ, true, refl, sym, subst}
 use Rattle.drive.specs.Fields.{state_in, store_of}
-use Rattle.history_report.proofs.Rows.{ListedTo, none_listed, listed_on, all_listed, next_as_before, passed_as_before}
+use Rattle.history_view.specs.Listing.{AreListedFrom}
+use Rattle.history_view.proofs.Fronts.{front_whole}
+use Rattle.history_report.specs.Table.{row_of}
+use Rattle.history_report.proofs.Rows.{next_as_before, passed_as_before}
+use Rattle.history_report.proofs.Written.{WrittenTo, none_written, written_on}
 use Rattle.history_report.proofs.table.write_rows.Goals as goal
 
 pub loop-row-init : goal.loop-row-init
 loop-row-init g c =
-    let passed = g.W.Sink.passed in
-    let s = state_in c.args.drive.now in
-    let store = store_of c.args.drive.now in
+    let out = g.W.Sink.passed c.args.writer.now in
+    let from = AreListedFrom (state_in c.args.drive.now) (store_of c.args.drive.now) true c.args.at in
     record {
       failures = refl;
       ledger = refl;
       store = refl;
-      listed = subst (λ (o : ℕ). ListedTo s store c.args.style c.args.at o (passed c.args.writer.now) (passed c.args.writer.now)) (sym c.new-last.ensures) (none_listed s store c.args.style c.args.at (passed c.args.writer.now));
+      listed = subst (λ (o : ℕ). WrittenTo from (row_of c.args.style) o out out) (sym c.new-last.ensures) (none_written from (row_of c.args.style) out);
     }
 
 pub write_row-requires : goal.write_row-requires
@@ -21,21 +24,23 @@ write_row-requires g c = record { writer = subst (λ n. n + 1 < 2 ^ 64) (sym c.l
 pub loop-row-preserved : goal.loop-row-preserved
 loop-row-preserved g c =
     let passed = g.W.Sink.passed in
-    let s = state_in c.args.drive.now in
-    let store = store_of c.args.drive.now in
     let before = c.loop-row.invariant in
+    let row = c.in-Some.row in
+    let next = next_as_before c.loop-row.drive c.args.drive.now c.args.at c.loop-row.last row before.ledger before.store c.in-Some.ensures.some in
     record {
       failures = c.in_ok-write_row.ensures.failures ∙ before.failures;
       ledger = c.next_listed.ensures.ledger ∙ before.ledger;
       store = c.next_listed.ensures.store ∙ before.store;
-      listed = listed_on s store c.args.style c.args.at c.loop-row.last c.in-Some.row (passed c.args.writer.now) (passed c.loop-row.writer) (passed c.write_row.new.writer) before.listed
-          (next_as_before c.loop-row.drive c.args.drive.now c.args.at c.loop-row.last c.in-Some.row before.ledger before.store c.in-Some.ensures.some)
-          c.in_ok-write_row.ensures.row;
+      listed = written_on (AreListedFrom (state_in c.args.drive.now) (store_of c.args.drive.now) true c.args.at) (row_of c.args.style) c.loop-row.last row.object row (passed c.args.writer.now) (passed c.loop-row.writer)
+          (passed c.write_row.new.writer) before.listed (λ rest more. (next, more)) c.in_ok-write_row.ensures.row;
     }
 
 pub returns-clause-rows : goal.returns-clause-rows
 returns-clause-rows g c =
-    let passed = g.W.Sink.passed in
     let before = c.loop-row.invariant in
-    all_listed (state_in c.args.drive.now) (store_of c.args.drive.now) c.args.style c.args.at c.loop-row.last (passed c.args.writer.now) (passed c.loop-row.writer) before.listed
-    (λ o above. passed_as_before c.loop-row.drive c.args.drive.now c.args.at o before.ledger before.store (c.in_default.ensures.none o above))
+    record {
+      rows = before.listed.elements;
+      listed = front_whole (AreListedFrom (state_in c.args.drive.now) (store_of c.args.drive.now) true c.args.at) before.listed.elements c.loop-row.last before.listed.front
+          (λ o above. passed_as_before c.loop-row.drive c.args.drive.now c.args.at o before.ledger before.store (c.in_default.ensures.none o above));
+      wrote = before.listed.wrote;
+    }
