@@ -14,7 +14,7 @@ use history_restore::{
 };
 use moment_words::MomentWord;
 use s4_images::{Failure, check_object, moment_asked, object_asked};
-use s4_types::{Moment, ObjectId, Refusal};
+use s4_types::{Moment, ObjectId};
 use segment_word::Naming;
 use std::alloc::{AllocError, Global};
 
@@ -48,10 +48,8 @@ pub(crate) fn chosen_by<J: Naming>(
         Ok(plans) => plans,
         Err(failure) => return Err(failure_of(drive, at, failure)),
     };
-    match chosen_plans(alloc, plans.as_slice(), order.keep_newer) {
-        Ok(chosen) => Ok(chosen),
-        Err(_) => Err(Failure::from(Refusal::NoMemory)),
-    }
+    let chosen = chosen_plans(alloc, plans.as_slice(), order.keep_newer)?;
+    Ok(chosen)
 }
 
 /// What an order is to restore, without what it skips.
@@ -81,10 +79,8 @@ pub fn aims_by<J: Naming>(
         Ok(whole) => whole,
         Err(failure) => return Err(failure_of(drive, at, failure)),
     };
-    match aims_without(alloc, whole.as_slice(), order.skipped) {
-        Ok(aims) => Ok(aims),
-        Err(_) => Err(Failure::from(Refusal::NoMemory)),
-    }
+    let aims = aims_without(alloc, whole.as_slice(), order.skipped)?;
+    Ok(aims)
 }
 
 // The aims of the objects that are named, or of all where none is.
@@ -121,10 +117,8 @@ fn objects_by<J: Naming>(
     ensures store { store_of drive.new ≡ store_of drive.old }
 {
     let found = object_asked(drive, None, order.name, at)?;
-    match objects_or(alloc, found, order.objects) {
-        Ok(objects) => Ok(objects),
-        Err(_) => Err(Failure::from(Refusal::NoMemory)),
-    }
+    let objects = objects_or(alloc, found, order.objects)?;
+    Ok(objects)
 }
 
 // The object that was found by its name, or else those of these numbers.

@@ -9,7 +9,8 @@ ghost use Rattle.restore_orders.specs.Lines.{remade_data, restored_text, skipped
 ghost use Rattle.restore_orders.specs.Lines.{window_json, window_line, window_text};
 
 use history_restore::{Plan, Restored};
-use s4_types::Span;
+use s4_images::Prints;
+use s4_types::{ObjectId, Span};
 use serde_json::{Value, json};
 use std::alloc::{AllocError, Global};
 
@@ -95,26 +96,34 @@ fn planned_text(
     planned_line(alloc, object, number, plan)
 }
 
-/// The line of what was restored under a number; none where nothing was to be done.
-pub(crate) fn restored_text(
-    alloc: Global,
-    json: bool,
-    restored: &Restored,
-) -> Result<String, AllocError>
-    ensures { IfOk result (λ line. string_bytes line ≡ restored_text json restored.now) }
-{
-    let (under, number) = (restored.aim.target.number(), restored.number.number());
-    planned_text(alloc, json, under, number, restored.plan)
+/// How what was done is printed.
+#[derive(Clone, Copy)]
+pub(crate) struct Form {
+    /// Whether lines are for programs.
+    pub json: bool,
 }
 
-/// The line of an object that can't be restored.
-pub(crate) fn skipped_text(alloc: Global, json: bool, object: u64) -> Result<String, AllocError>
-    ensures { IfOk result (λ line. string_bytes line ≡ skipped_text json object) }
-{
-    if json {
-        return done_json(alloc, object, "not restored");
+// What was restored under a number; no line where nothing was to be done.
+impl Prints<Restored> for Form {
+    ghost line = { λ form. restored_text form.json };
+
+    fn line(&self, alloc: Global, restored: &Restored) -> Result<String, AllocError> {
+        let (under, number) = (restored.aim.target.number(), restored.number.number());
+        planned_text(alloc, self.json, under, number, restored.plan)
     }
-    format!(in alloc; "{object:10}  not restored\n")
+}
+
+// A number under which nothing can be restored.
+impl Prints<ObjectId> for Form {
+    ghost line = { λ form. skipped_text form.json };
+
+    fn line(&self, alloc: Global, skipped: &ObjectId) -> Result<String, AllocError> {
+        let object = skipped.number();
+        if self.json {
+            return done_json(alloc, object, "not restored");
+        }
+        format!(in alloc; "{object:10}  not restored\n")
+    }
 }
 
 // ---- moments that are hidden

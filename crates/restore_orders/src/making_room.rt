@@ -6,7 +6,7 @@ ghost use Rattle.restore_orders.specs.MakingRoom.{HasFewer, Hides, HidesAll, IsA
 ghost use Rattle.restore_orders.specs.MakingRoom.{RestoresWithRoom};
 
 use crate::lines::hidden_text;
-use crate::restoring::restore;
+use crate::restoring::{Wanted, restore};
 use drive::{Drive, Session};
 use history_cleaner::clean_object;
 use history_restore::{Aim, make_room, newest_versions};
@@ -24,20 +24,18 @@ pub(crate) fn restore_with_room<J: Naming, W: Sink>(
     alloc: Global,
     drive: &mut Drive<J>,
     session: &mut Session<J>,
-    at: u64,
-    json: bool,
-    aims: &[Aim],
+    wanted: &Wanted<'_>,
     full: &[Room],
     writer: &mut W,
 ) -> Result<(), Failure>
     requires writer { W.failures writer.old + 1 < 2 ^ 64 }
     ensures restores { OnOk result
-        (RestoresWithRoom drive.old drive.new at json aims.now full.now (W.passed writer.old)
-        (W.passed writer.new)) }
+        (RestoresWithRoom drive.old drive.new wanted.now.at wanted.now.json wanted.now.aims.now
+        full.now (W.passed writer.old) (W.passed writer.new)) }
     ensures failures { OnOk result (W.failures writer.new ≡ W.failures writer.old) }
 {
-    hide_all(alloc, drive, session, at, json, aims, full, writer)?;
-    restore(alloc, drive, session, at, json, aims, writer)
+    hide_all(alloc, drive, session, wanted, full, writer)?;
+    restore(alloc, drive, session, wanted, writer)
 }
 
 // Hides what has to be of each of these, one after the other, and makes room in their journals.
@@ -45,23 +43,21 @@ fn hide_all<J: Naming, W: Sink>(
     alloc: Global,
     drive: &mut Drive<J>,
     session: &mut Session<J>,
-    at: u64,
-    json: bool,
-    aims: &[Aim],
+    wanted: &Wanted<'_>,
     full: &[Room],
     writer: &mut W,
 ) -> Result<(), Failure>
     requires writer { W.failures writer.old + 1 < 2 ^ 64 }
     ensures hides { OnOk result
-        (HidesAll drive.old at json aims.now full.now drive.new (W.passed writer.old)
-        (W.passed writer.new)) }
+        (HidesAll drive.old wanted.now.at wanted.now.json wanted.now.aims.now full.now drive.new
+        (W.passed writer.old) (W.passed writer.new)) }
     ensures failures { OnOk result (W.failures writer.new ≡ W.failures writer.old) }
 {
     match full {
         [] => Ok(()),
         [room, rest @ ..] => {
-            hide(alloc, drive, session, at, json, aims, room, writer)?;
-            hide_all(alloc, drive, session, at, json, aims, rest, writer)
+            hide(alloc, drive, session, wanted, room, writer)?;
+            hide_all(alloc, drive, session, wanted, rest, writer)
         }
     }
 }
@@ -71,29 +67,24 @@ fn hide<J: Naming, W: Sink>(
     alloc: Global,
     drive: &mut Drive<J>,
     session: &mut Session<J>,
-    at: u64,
-    json: bool,
-    aims: &[Aim],
+    wanted: &Wanted<'_>,
     room: &Room,
     writer: &mut W,
 ) -> Result<(), Failure>
     requires writer { W.failures writer.old + 1 < 2 ^ 64 }
     ensures hides { OnOk result
-        (Hides drive.old at json aims.now room.now drive.new (W.passed writer.old)
-        (W.passed writer.new)) }
+        (Hides drive.old wanted.now.at wanted.now.json wanted.now.aims.now room.now drive.new
+        (W.passed writer.old) (W.passed writer.new)) }
     ensures failures { OnOk result (W.failures writer.new ≡ W.failures writer.old) }
 {
-    if !is_aimed_at(aims, room.object) {
+    if !is_aimed_at(wanted.aims, room.object) {
         return Err(full(room.object));
     }
-    let made = prepare(alloc, drive, session, at, room)?;
+    let made = prepare(alloc, drive, session, wanted.at, room)?;
     let Some(hidden) = made else {
         return Err(full(room.object));
     };
-    let line = match hidden_text(alloc, json, hidden) {
-        Ok(line) => line,
-        Err(_) => return Err(Failure::from(Refusal::NoMemory)),
-    };
+    let line = hidden_text(alloc, wanted.json, hidden)?;
     write_out(writer, line.as_bytes())?;
     Ok(())
 }

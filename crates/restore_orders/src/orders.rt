@@ -7,14 +7,14 @@ ghost use Rattle.s4_images.specs.declared.commands.Verdict.TheVariants.{Fine};
 ghost use Rattle.restore_orders.specs.Orders.{RestoresBy, WouldRestoreBy};
 
 use crate::choosing::{chosen_by, readable};
+use crate::lines::Form;
 use crate::means::{Means, compact_for};
 use crate::reaching::restore_in_reach;
-use crate::restoring::write_skipped;
 use drive::Drive;
 use history_restore::StandIn;
 use moment_words::{MomentWord, style_of};
 use restore_search::Room;
-use s4_images::{DriveChange, DriveCommand, Failure, Verdict};
+use s4_images::{DriveChange, DriveCommand, Failure, Verdict, write_lines};
 use s4_types::{ObjectId, Role};
 use segment_word::Naming;
 use serving::Sink;
@@ -119,5 +119,6 @@ fn restore_by<J: Naming, W: Sink>(
         chosen,
         writer,
     )?;
-    write_skipped(alloc, order.json, order.skipped, writer)
+    let form = Form { json: order.json };
+    write_lines(alloc, &form, order.skipped, writer)
 }

@@ -6,12 +6,13 @@ ghost use Rattle.restore_orders.specs.Reaching.{Reaches, RestoresInReach, change
 use crate::lines::window_text;
 use crate::making_room::restore_with_room;
 use crate::orders::Order;
+use crate::restoring::Wanted;
 use drive::{Drive, Session};
 use history_restore::{ObjectPlan, count_changes, planned_aims, widen_window};
 use image_commands::write_out;
 use restore_search::Room;
 use s4_images::Failure;
-use s4_types::{Moment, Refusal};
+use s4_types::Moment;
 use segment_word::Naming;
 use serving::Sink;
 use std::alloc::Global;
@@ -35,20 +36,13 @@ pub(crate) fn restore_in_reach<J: Naming, W: Sink>(
 {
     let changes = changes_ahead(chosen, order.full);
     reach(alloc, drive, session, at, changes, order.json, writer)?;
-    let aims = match planned_aims(alloc, chosen) {
-        Ok(aims) => aims,
-        Err(_) => return Err(Failure::from(Refusal::NoMemory)),
-    };
-    restore_with_room(
-        alloc,
-        drive,
-        session,
+    let aims = planned_aims(alloc, chosen)?;
+    let wanted = Wanted {
         at,
-        order.json,
-        aims.as_slice(),
-        order.full,
-        writer,
-    )
+        aims: aims.as_slice(),
+        json: order.json,
+    };
+    restore_with_room(alloc, drive, session, &wanted, order.full, writer)
 }
 
 /// How many changes are ahead: those of the plans, and one for each journal of which versions are
@@ -85,10 +79,7 @@ fn reach<J: Naming, W: Sink>(
 {
     let before = drive.window();
     let widened = widen_window(drive, session, Moment::new(at), changes, Moment::new(0))?;
-    let line = match window_text(alloc, json, before, widened) {
-        Ok(line) => line,
-        Err(_) => return Err(Failure::from(Refusal::NoMemory)),
-    };
+    let line = window_text(alloc, json, before, widened)?;
     write_out(writer, line.as_bytes())?;
     Ok(())
 }

@@ -8,6 +8,7 @@ use history_export::{ExportError, ExportedFile};
 use image_commands::{Fault, Obstacle};
 use moment_words::{MomentStyle, ShownMoment};
 use s4_types::{Moment, Refusal};
+use std::alloc::AllocError;
 use thiserror::Error;
 
 /// Why a command over an image failed. Each prints what is wrong and what can be done, on one line.
@@ -136,6 +137,14 @@ impl From<Refusal> for Failure {
 
     fn from(refusal: Refusal) -> Failure {
         Failure::Refused(refusal, advice(refusal))
+    }
+}
+
+impl From<AllocError> for Failure {
+    ghost from_gives = { λ _ failure. HasNoMoments failure };
+
+    fn from(_error: AllocError) -> Failure {
+        Failure::from(Refusal::NoMemory)
     }
 }
 

@@ -8,15 +8,16 @@
 //! a command asks for only where it can be read, and `object_asked` the object of the number or of
 //! the name that a command has. `show_image` does what `over_image` does for a command that names
 //! its image, and prints the moments of its failures as the command prints moments. That is proved
-//! over any `Files` that say what they hold. A `Failure` says on one line what is wrong and what
-//! can be done; the text of each moment in it is proved, and the rest is tested through the
-//! program.
+//! over any `Files` that say what they hold. `write_lines` writes the line of each thing that a
+//! form `Prints`. A `Failure` says on one line what is wrong and what can be done; the text of each
+//! moment in it is proved, and the rest is tested through the program.
 #![tactic(auto)]
 
 mod changing;
 mod commands;
 mod faults;
 mod moments;
+mod printing;
 mod showing;
 
 pub use changing::{DriveChange, change_image};
@@ -26,4 +27,5 @@ pub use moments::{
     check_object, moment_asked, moment_or_clock, moment_said, object_asked, object_in_either,
     unreadable,
 };
+pub use printing::{Prints, write_line, write_lines};
 pub use showing::{ImageCommand, show_image};

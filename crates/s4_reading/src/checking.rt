@@ -1,12 +1,10 @@
 //! `check`: every version that can be read is read.
 ghost use Rattle.std.specs.Prelude.{◌≡◌, ◌+◌, ◌^◌, ◌<◌, false, OnOk, IfOk, string_bytes};
 ghost use Rattle.std.specs.Io.KnownBytes.{Appends};
-ghost use Rattle.drive.specs.Fields.{state_in, store_of};
 ghost use Rattle.serde_json.specs.View.{view};
 ghost use Rattle.serde_json.specs.Written.{has_float};
 ghost use Rattle.history_text.specs.Json.{json_line};
-ghost use Rattle.s4_reading.specs.Checking.{Checks, ChecksVersions, counts_data, counts_text};
-ghost use Rattle.s4_reading.specs.Checking.{printed_report};
+ghost use Rattle.s4_reading.specs.Checking.{Checks, counts_data, counts_text, printed_report};
 
 use crate::watching::Meter;
 use drive::Drive;
@@ -15,7 +13,7 @@ use history_text::json_line;
 use image_commands::write_out;
 use s4_command::CheckAsked;
 use s4_images::{DriveCommand, Failure, ImageCommand, Verdict};
-use s4_types::{Refusal, Role};
+use s4_types::Role;
 use segment_word::Naming;
 use serde_json::{Value, json};
 use serving::Sink;
@@ -53,31 +51,13 @@ impl<M: Meter> DriveCommand for Checking<'_, M> {
         drive: &mut Drive<J>,
         writer: &mut W,
     ) -> Result<Verdict, Failure> {
+        let mut session = drive.session(Role::Client)?;
         let mut meter = *self.meter;
-        check(alloc, drive, self.asked.json, &mut meter, writer)?;
+        let checked = check_all(alloc, drive, &mut session, &mut meter);
+        meter.end();
+        let report = checked?;
+        write_report(alloc, &report, self.asked.json, writer)?;
         Ok(Verdict::Fine)
-    }
-}
-
-// Reads every version of a drive that can be read, and prints how many these are and their digest.
-fn check<J: Naming, M: Meter, W: Sink>(
-    alloc: Global,
-    drive: &mut Drive<J>,
-    json: bool,
-    meter: &mut M,
-    writer: &mut W,
-) -> Result<(), Failure>
-    requires writer { W.failures writer.old + 1 < 2 ^ 64 }
-    ensures checks { OnOk result
-        (ChecksVersions (state_in drive.old) (store_of drive.old) json (W.passed writer.old)
-        (W.passed writer.new)) }
-{
-    let mut session = drive.session(Role::Client)?;
-    let checked = check_all(alloc, drive, &mut session, meter);
-    meter.end();
-    match checked {
-        Ok(report) => write_report(alloc, &report, json, writer),
-        Err(refusal) => Err(Failure::from(refusal)),
     }
 }
 
@@ -92,10 +72,7 @@ fn write_report<W: Sink>(
     ensures text { OnOk result
         (Appends (W.passed writer.old) (W.passed writer.new) (printed_report json report.now)) }
 {
-    let text = match printed_report(alloc, report, json) {
-        Ok(text) => text,
-        Err(_) => return Err(Failure::from(Refusal::NoMemory)),
-    };
+    let text = printed_report(alloc, report, json)?;
     write_out(writer, text.as_bytes())?;
     Ok(())
 }

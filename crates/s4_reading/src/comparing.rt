@@ -45,28 +45,11 @@ impl DriveCommand for Comparing<'_> {
         drive: &mut Drive<J>,
         writer: &mut W,
     ) -> Result<Verdict, Failure> {
-        diff(alloc, drive, self.0, writer)
+        let first = moment_said(drive, self.0.from);
+        let second = moment_or_clock(drive, self.0.to);
+        let object = object_in_either(drive, self.0.object, self.0.name, first, second)?;
+        write_compared(alloc, drive, object, self.0, writer)
     }
-}
-
-// Prints what differs of a drive between two moments.
-fn diff<J: Naming, W: Sink>(
-    alloc: Global,
-    drive: &mut Drive<J>,
-    asked: &DiffAsked<'_>,
-    writer: &mut W,
-) -> Result<Verdict, Failure>
-    requires writer { W.failures writer.old + 1 < 2 ^ 64 }
-    ensures compares { IfOk result
-        (λ verdict. Compares drive.old asked.now verdict (W.passed writer.old)
-        (W.passed writer.new)) }
-{
-    let (first, second) = (
-        moment_said(drive, asked.from),
-        moment_or_clock(drive, asked.to),
-    );
-    let object = object_in_either(drive, asked.object, asked.name, first, second)?;
-    write_compared(alloc, drive, object, asked, writer)
 }
 
 // Prints what differs of an object, or of all, between the two moments.

@@ -14,6 +14,7 @@
 
 mod checking;
 mod comparing;
+mod forms;
 mod listing;
 mod logging;
 mod reading;

@@ -1,5 +1,5 @@
 //! `cat`: the bytes of an object at a moment.
-ghost use Rattle.std.specs.Prelude.{◌≡◌, ◌+◌, ◌^◌, ◌<◌, false, OnOk};
+ghost use Rattle.std.specs.Prelude.{◌+◌, ◌^◌, ◌<◌, false, OnOk};
 ghost use Rattle.s4_model.specs.VersionAt.{version_of};
 ghost use Rattle.drive.specs.Fields.{state_in};
 ghost use Rattle.image_commands.specs.ReadingPast.{GivesVersion};
@@ -47,26 +47,12 @@ impl DriveCommand for Reading<'_> {
         drive: &mut Drive<J>,
         writer: &mut W,
     ) -> Result<Verdict, Failure> {
-        cat(alloc, drive, self.0, writer)?;
+        let at = moment_or_clock(drive, self.0.at);
+        let Some(object) = object_asked(drive, self.0.object, self.0.name, at)? else {
+            return Err(Failure::NoneAsked);
+        };
+        write_object(alloc, drive, object, self.0.at, writer)?;
         Ok(Verdict::Fine)
-    }
-}
-
-// Prints the bytes of the object of a drive that is asked for, at the moment that is asked for.
-fn cat<J: Naming, W: Sink>(
-    alloc: Global,
-    drive: &mut Drive<J>,
-    asked: &CatAsked<'_>,
-    writer: &mut W,
-) -> Result<(), Failure>
-    requires writer { W.failures writer.old + 1 < 2 ^ 64 }
-    ensures gives { OnOk result
-        (Gives drive.old asked.now (W.passed writer.old) (W.passed writer.new)) }
-{
-    let at = moment_or_clock(drive, asked.at);
-    match object_asked(drive, asked.object, asked.name, at)? {
-        Some(object) => write_object(alloc, drive, object, asked.at, writer),
-        None => Err(Failure::NoneAsked),
     }
 }
 
@@ -84,10 +70,7 @@ fn write_object<J: Naming, W: Sink>(
         (version_of (state_in drive.old) object (moment_asked (state_in drive.old) at))
         (W.passed writer.old) (W.passed writer.new)) }
 {
-    let moment = match moment_asked(drive, object, at) {
-        Ok(moment) => moment,
-        Err(failure) => return Err(failure),
-    };
+    let moment = moment_asked(drive, object, at)?;
     let mut session = drive.session(Role::Client)?;
     let version = version_at(alloc, drive, &mut session, object, moment)?;
     if let Version::Absent = version {

@@ -1,21 +1,18 @@
 //! `info`: the numbers of an image.
-ghost use Rattle.std.specs.Prelude.{◌≡◌, ◌+◌, ◌^◌, ◌<◌, if◌then◌else◌, IfOk, OnOk, string_bytes};
-ghost use Rattle.std.specs.Prelude.{length, count_by};
-ghost use Rattle.std.specs.Io.KnownBytes.{Appends};
+ghost use Rattle.std.specs.Prelude.{◌≡◌, if◌then◌else◌, IfOk, length, count_by};
 ghost use Rattle.drive.specs.Fields.{state_in, store_of};
-ghost use Rattle.moment_words.specs.Texts as styles;
 ghost use Rattle.s4_reading.specs.Telling.{CountsHidden, CountsObjects, Informs, IsNumbersOf};
-ghost use Rattle.s4_reading.specs.Telling.{TellsNumbers, is_free_frame, is_of_all, objects_hidden};
+ghost use Rattle.s4_reading.specs.Telling.{is_free_frame, is_of_all, objects_hidden};
 ghost use Rattle.s4_reading.specs.Telling.{text_of_numbers};
 
+use crate::forms::Form;
 use drive::Drive;
 use history_text::{DriveNumbers, numbers_json, numbers_lines};
 use history_view::next_listed;
-use image_commands::write_out;
-use moment_words::{MomentStyle, style_of};
+use moment_words::style_of;
 use s4_command::InfoAsked;
-use s4_images::{DriveCommand, Failure, ImageCommand, Verdict};
-use s4_types::{Moment, ObjectId, Refusal, Span};
+use s4_images::{DriveCommand, Failure, ImageCommand, Prints, Verdict, write_line};
+use s4_types::{Moment, ObjectId, Span};
 use segment_table::OverFrames;
 use segment_word::Naming;
 use serving::Sink;
@@ -48,28 +45,14 @@ impl DriveCommand for Numbering<'_> {
         drive: &mut Drive<J>,
         writer: &mut W,
     ) -> Result<Verdict, Failure> {
-        info(alloc, drive, self.0, writer)?;
+        let form = Form {
+            style: style_of(drive.clock().number(), self.0.moments),
+            json: self.0.json,
+        };
+        let numbers = numbers_of(drive)?;
+        write_line(alloc, &form, &numbers, writer)?;
         Ok(Verdict::Fine)
     }
-}
-
-// Prints the numbers of a drive.
-fn info<J: Naming, W: Sink>(
-    alloc: Global,
-    drive: &mut Drive<J>,
-    asked: &InfoAsked<'_>,
-    writer: &mut W,
-) -> Result<(), Failure>
-    requires writer { W.failures writer.old + 1 < 2 ^ 64 }
-    ensures numbers { OnOk result
-        (TellsNumbers (state_in drive.old) (store_of drive.old) drive.old.store.table.seat.frames
-        asked.now.json (styles.style_of (state_in drive.old).clock asked.now.moments)
-        (W.passed writer.old) (W.passed writer.new)) }
-{
-    let style = style_of(drive.clock().number(), asked.moments);
-    let numbers = numbers_of(drive)?;
-    write_numbers(alloc, &numbers, asked.json, style, writer)?;
-    Ok(())
 }
 
 // The numbers of a drive.
@@ -173,37 +156,13 @@ fn one_if(is_live: bool) -> u64
     if is_live { 1 } else { 0 }
 }
 
-// Writes the numbers.
-fn write_numbers<W: Sink>(
-    alloc: Global,
-    numbers: &DriveNumbers,
-    json: bool,
-    style: MomentStyle,
-    writer: &mut W,
-) -> Result<(), Failure>
-    requires writer { W.failures writer.old + 1 < 2 ^ 64 }
-    ensures { OnOk result
-        (Appends (W.passed writer.old) (W.passed writer.new)
-        (text_of_numbers json style numbers.now)) }
-{
-    let text = match text_of_numbers(alloc, numbers, json, style) {
-        Ok(text) => text,
-        Err(_) => return Err(Failure::from(Refusal::NoMemory)),
-    };
-    write_out(writer, text.as_bytes())?;
-    Ok(())
-}
+impl Prints<DriveNumbers> for Form {
+    ghost line = { λ form. text_of_numbers form.json form.style };
 
-fn text_of_numbers(
-    alloc: Global,
-    numbers: &DriveNumbers,
-    json: bool,
-    style: MomentStyle,
-) -> Result<String, AllocError>
-    ensures { IfOk result (λ text. string_bytes text ≡ text_of_numbers json style numbers.now) }
-{
-    if json {
-        return numbers_json(alloc, numbers, style);
+    fn line(&self, alloc: Global, numbers: &DriveNumbers) -> Result<String, AllocError> {
+        if self.json {
+            return numbers_json(alloc, numbers, self.style);
+        }
+        numbers_lines(alloc, numbers, self.style)
     }
-    numbers_lines(alloc, numbers, style)
 }

@@ -1,5 +1,5 @@
 //! `report`: a page about a drive.
-ghost use Rattle.std.specs.Prelude.{◌≡◌, ◌+◌, ◌^◌, ◌<◌, false, OnOk};
+ghost use Rattle.std.specs.Prelude.{◌≡◌, false};
 ghost use Rattle.drive.specs.Fields.{state_in};
 ghost use Rattle.s4_report.specs.Reporting.{ReportsDrive, since_asked};
 
@@ -41,26 +41,11 @@ impl DriveCommand for Reporting<'_> {
         drive: &mut Drive<J>,
         writer: &mut W,
     ) -> Result<Verdict, Failure> {
-        report(alloc, drive, self.0, writer)?;
-        Ok(Verdict::Fine)
-    }
-}
-
-// Writes the page about a drive.
-fn report<J: Naming, W: Sink>(
-    alloc: Global,
-    drive: &mut Drive<J>,
-    asked: &ReportAsked<'_>,
-    writer: &mut W,
-) -> Result<(), Failure>
-    requires writer { W.failures writer.old + 1 < 2 ^ 64 }
-    ensures page { OnOk result
-        (ReportsDrive drive.old asked.now (W.passed writer.old) (W.passed writer.new)) }
-{
-    let since = since_asked(drive, asked.since);
-    match write_report(alloc, drive, since, writer) {
-        Ok(()) => Ok(()),
-        Err(fault) => Err(failure_of(drive, &fault)),
+        let since = since_asked(drive, self.0.since);
+        match write_report(alloc, drive, since, writer) {
+            Ok(()) => Ok(Verdict::Fine),
+            Err(fault) => Err(failure_of(drive, &fault)),
+        }
     }
 }
 

@@ -4,7 +4,10 @@ use Rattle.std.specs.List.{AllByRecursion}
 use Rattle.history_restore.specs.declared.aims.StandIn.{StandIn}
 use Rattle.s4_command.specs.declared.restoring.RestoreAsked.{RestoreAsked}
 use Rattle.drive.specs.Fields.{state_in}
-use Rattle.s4_images.specs.Commands.{OverImage}
+use Rattle.moment_words.specs.Texts.{style_of}
+use Rattle.s4_images.specs.Commands.{FailsOver, OverImage}
+use Rattle.s4_images.specs.Failures.{IsInStyle}
+use Rattle.s4_images.specs.declared.faults.Failure.{Failure}
 use Rattle.s4_images.specs.Moments.{moment_said}
 use Rattle.restore_trials.specs.Surveys.{IsLackingBy, IsServedAt, LacksMeans}
 use Rattle.restore_search.specs.declared.rooms.Room.{Room}
@@ -19,6 +22,10 @@ use Rattle.restore_search.specs.declared.surveys.Lack.{Lack}
 use Rattle.restore_search.specs.declared.surveys.Lack.TheVariants.{Journal}
 use Rattle.restore_search.specs.declared.surveys.Lacking.{Lacking}
 use Rattle.restore_search.specs.declared.surveys.Survey.{Survey}
+
+-- A failure has no moments, or they are dates where the clock of the drive in the image counts microseconds of Unix time.
+abbrev pub FailsInStyle : Option (List ℕ) → Failure → Type 0
+FailsInStyle known failure = FailsOver known (λ d. IsInStyle (style_of (state_in d).clock false)) failure
 
 -- An order has what is asked for, and these stand-ins.
 pub record IsAskedBy (restore : RestoreAsked) (stand_ins : List StandIn) (order : Order) : Type 0 where

@@ -1,14 +1,11 @@
 //! `restore` over the image in a file.
-ghost use Rattle.std.specs.Prelude.{◌≡◌, ℕ, ◌+◌, ◌^◌, ◌<◌, false, true, List, IfErr, IfOk, OnErr};
+ghost use Rattle.std.specs.Prelude.{◌≡◌, ℕ, ◌+◌, ◌^◌, ◌<◌, true, List, IfErr, IfOk, OnErr};
 ghost use Rattle.std.specs.Prelude.{OnOk};
 ghost use Rattle.std.specs.Io.KnownBytes.{Keeps};
-ghost use Rattle.drive.specs.Fields.{state_in};
 ghost use Rattle.image_commands.specs.declared.files.Placed.TheVariants.{Lasting};
-ghost use Rattle.moment_words.specs.Texts as styles;
-ghost use Rattle.s4_images.specs.Commands.{FailsOver};
-ghost use Rattle.s4_images.specs.Failures.{IsInStyle};
 ghost use Rattle.s4_images.specs.declared.commands.Verdict.TheVariants.{Fine};
 ghost use Rattle.s4_restore.specs.Images.{PerformsRestore, RestoresImage, WouldRestoreImage};
+ghost use Rattle.s4_restore.specs.Searching.{FailsInStyle};
 
 use crate::maps::{MapFault, read_map};
 use crate::preparing::{order_of, prepare_image};
@@ -33,8 +30,7 @@ pub fn dry_run_image<T: Threads, F: Files, W: Sink>(
     requires writer { W.failures writer.old + 1 < 2 ^ 64 }
     ensures verdict { IfOk result (λ verdict. verdict ≡ Fine) }
     ensures style { IfErr result
-        (FailsOver (F.contents files.now asked.now.image.now)
-        (λ d. IsInStyle (styles.style_of (state_in d).clock false))) }
+        (FailsInStyle (F.contents files.now asked.now.image.now)) }
     ensures would_restore { OnOk result
         (WouldRestoreImage (F.contents files.now asked.now.image.now) asked.now stand_ins.now
         (W.passed writer.old) (W.passed writer.new)) }

@@ -1,14 +1,11 @@
 //! What is needed to restore the drive of an image, found by trials of which nothing is kept.
 ghost use Rattle.std.specs.Prelude.{◌≡◌, ◌⊎◌, [], false, IfErr, IfOk, IsTrue, Some};
-ghost use Rattle.drive.specs.Fields.{state_in};
-ghost use Rattle.moment_words.specs.Texts as styles;
-ghost use Rattle.s4_images.specs.Commands.{FailsOver};
-ghost use Rattle.s4_images.specs.Failures.{HasNoMoments, IsInStyle};
+ghost use Rattle.s4_images.specs.Failures.{HasNoMoments};
 ghost use Rattle.s4_restore.specs.Images.{IsOrderOf, IsPrepared};
-ghost use Rattle.s4_restore.specs.Searching.{IsAskedBy, IsFound, IsFoundBy};
+ghost use Rattle.s4_restore.specs.Searching.{FailsInStyle, IsAskedBy, IsFound, IsFoundBy};
 ghost use Rattle.restore_search.specs.Searching.{numbers_of};
 
-use crate::searching::{Findings, found_by, found_plainly};
+use crate::searching::{Findings, Trials, found_by, found_plainly};
 use history_restore::StandIn;
 use image_commands::Files;
 use restore_orders::{Means, Order};
@@ -89,21 +86,25 @@ pub(crate) fn prepare_image<T: Threads, F: Files>(
         (λ made. IsPrepared (F.contents files.now asked.now.image.now) asked.now stand_ins.now
         made.means made.full.items made.skipped.items) }
     ensures style { IfErr result
-        (FailsOver (F.contents files.now asked.now.image.now)
-        (λ d. IsInStyle (styles.style_of (state_in d).clock false))) }
+        (FailsInStyle (F.contents files.now asked.now.image.now)) }
 {
-    let findings = find_needed(rt, alloc, files, asked, stand_ins)?;
+    let trials = Trials {
+        rt,
+        alloc,
+        files,
+        asked,
+        stand_ins,
+    };
+    let findings = find_needed(&trials)?;
     if is_allowed(asked.skip, findings.lacking.as_slice()) {
         return prepared(alloc, findings);
     }
     let lacking = findings.lacking.as_slice();
-    match lacking_text(alloc, lacking) {
-        Ok(objects) => Err(Failure::NoRoomFor {
-            objects,
-            advice: advice(asked.flush, lacking),
-        }),
-        Err(_) => Err(Failure::from(Refusal::NoMemory)),
-    }
+    let objects = lacking_text(alloc, lacking)?;
+    Err(Failure::NoRoomFor {
+        objects,
+        advice: advice(asked.flush, lacking),
+    })
 }
 
 // Whether nothing is lacking, or what is may be left out.
@@ -120,9 +121,7 @@ fn prepared(alloc: Global, findings: Findings) -> Result<Preparation, Failure>
         × (made.skipped.items ≡ numbers_of findings.lacking.items)) }
     ensures style { IfErr result HasNoMoments }
 {
-    let Ok(skipped) = numbers_of(alloc, findings.lacking.as_slice()) else {
-        return Err(Failure::from(Refusal::NoMemory));
-    };
+    let skipped = numbers_of(alloc, findings.lacking.as_slice())?;
     Ok(Preparation {
         means: findings.means,
         full: findings.full,
@@ -132,56 +131,43 @@ fn prepared(alloc: Global, findings: Findings) -> Result<Preparation, Failure>
 
 // Finds what is needed to restore all objects that can be restored. First nothing is hidden or
 // skipped.
-fn find_needed<T: Threads, F: Files>(
-    rt: &T,
-    alloc: Global,
-    files: &F,
-    asked: &RestoreAsked<'_>,
-    stand_ins: &[StandIn],
-) -> Result<Findings, Failure>
+fn find_needed<T: Threads, F: Files>(trials: &Trials<'_, T, F>) -> Result<Findings, Failure>
     ensures found { IfOk result
-        (IsFound (F.contents files.now asked.now.image.now) asked.now stand_ins.now) }
+        (IsFound (F.contents trials.now.files.now trials.now.asked.now.image.now)
+        trials.now.asked.now trials.now.stand_ins.now) }
     ensures style { IfErr result
-        (FailsOver (F.contents files.now asked.now.image.now)
-        (λ d. IsInStyle (styles.style_of (state_in d).clock false))) }
+        (FailsInStyle (F.contents trials.now.files.now trials.now.asked.now.image.now)) }
 {
-    if let Some(found) = found_plainly(rt, alloc, files, asked, stand_ins, Means::Nothing)? {
+    if let Some(found) = found_plainly(trials, Means::Nothing)? {
         return Ok(found);
     }
-    if let Some(found) = found_plainly(rt, alloc, files, asked, stand_ins, Means::Cleaning)? {
+    if let Some(found) = found_plainly(trials, Means::Cleaning)? {
         return Ok(found);
     }
-    if let Some(found) = found_plainly(rt, alloc, files, asked, stand_ins, Means::Moves)? {
+    if let Some(found) = found_plainly(trials, Means::Moves)? {
         return Ok(found);
     }
-    found_leaving(rt, alloc, files, asked, stand_ins)
+    found_leaving(trials)
 }
 
 // What is needed where no means serve alone: those by which the fewest objects can't be restored.
-fn found_leaving<T: Threads, F: Files>(
-    rt: &T,
-    alloc: Global,
-    files: &F,
-    asked: &RestoreAsked<'_>,
-    stand_ins: &[StandIn],
-) -> Result<Findings, Failure>
+fn found_leaving<T: Threads, F: Files>(trials: &Trials<'_, T, F>) -> Result<Findings, Failure>
     ensures found { IfOk result
-        (λ found. IsFoundBy (F.contents files.now asked.now.image.now) asked.now stand_ins.now
-        found.means found) }
+        (λ found. IsFoundBy (F.contents trials.now.files.now trials.now.asked.now.image.now)
+        trials.now.asked.now trials.now.stand_ins.now found.means found) }
     ensures style { IfErr result
-        (FailsOver (F.contents files.now asked.now.image.now)
-        (λ d. IsInStyle (styles.style_of (state_in d).clock false))) }
+        (FailsInStyle (F.contents trials.now.files.now trials.now.asked.now.image.now)) }
 {
-    let cleaned = found_by(rt, alloc, files, asked, stand_ins, Means::Cleaning)?;
+    let cleaned = found_by(trials, Means::Cleaning)?;
     if serves_all(&cleaned) {
         return found_or_none(cleaned);
     }
-    let moved = found_by(rt, alloc, files, asked, stand_ins, Means::Moves)?;
+    let moved = found_by(trials, Means::Moves)?;
     if serves_all(&moved) {
         return found_or_none(moved);
     }
     let best = better(cleaned, moved);
-    let plain = found_by(rt, alloc, files, asked, stand_ins, Means::Nothing)?;
+    let plain = found_by(trials, Means::Nothing)?;
     found_or_none(better(best, plain))
 }
 

@@ -1,14 +1,11 @@
 //! How many versions have to be hidden, and what has to be left out, by trials over an image that
 //! keep nothing.
-ghost use Rattle.std.specs.Prelude.{◌≡◌, false, map, IfErr, IfOk, IfSome, IsPermutation, MatchBool};
+ghost use Rattle.std.specs.Prelude.{◌≡◌, map, IfErr, IfOk, IfSome, IsPermutation, MatchBool};
 ghost use Rattle.std.specs.Prelude.{MatchOption};
-ghost use Rattle.drive.specs.Fields.{state_in};
-ghost use Rattle.moment_words.specs.Texts as styles;
-ghost use Rattle.s4_images.specs.Commands.{FailsOver};
-ghost use Rattle.s4_images.specs.Failures.{HasNoMoments, IsInStyle};
+ghost use Rattle.s4_images.specs.Failures.{HasNoMoments};
 ghost use Rattle.restore_search.specs.Searching.{IsFine, numbers_of, room_found, room_tried};
-ghost use Rattle.s4_restore.specs.Searching.{DoesNotServe, IsFoundBy, IsPlain, IsServed};
-ghost use Rattle.s4_restore.specs.Searching.{LacksNothing, Shows};
+ghost use Rattle.s4_restore.specs.Searching.{DoesNotServe, FailsInStyle, IsFoundBy, IsPlain};
+ghost use Rattle.s4_restore.specs.Searching.{IsServed, LacksNothing, Shows};
 
 use crate::preparing::order_with;
 use history_restore::StandIn;
@@ -27,6 +24,16 @@ use std::thread::Threads;
 /// How many trials are made at most by the same means: some for each object of the largest drive.
 const MOST_SURVEYS: u32 = 61_440;
 
+/// What is asked for, and over which image that is tried.
+#[derive_where(Clone, Copy)]
+pub(crate) struct Trials<'a, T: Threads, F: Files> {
+    pub rt: &'a T,
+    pub alloc: Global,
+    pub files: &'a F,
+    pub asked: &'a RestoreAsked<'a>,
+    pub stand_ins: &'a [StandIn],
+}
+
 /// What is needed, with why objects can't be restored.
 #[derive(Drop)]
 pub struct Findings {
@@ -38,23 +45,22 @@ pub struct Findings {
 /// What is needed where room is made by these means and nothing is hidden or left out; none where
 /// something can't be restored then.
 pub(crate) fn found_plainly<T: Threads, F: Files>(
-    rt: &T,
-    alloc: Global,
-    files: &F,
-    asked: &RestoreAsked<'_>,
-    stand_ins: &[StandIn],
+    trials: &Trials<'_, T, F>,
     means: Means,
 ) -> Result<Option<Findings>, Failure>
     ensures found { IfOk result
         (λ found. MatchOption found
-        (DoesNotServe (F.contents files.now asked.now.image.now) asked.now stand_ins.now means)
-        (IsPlain (F.contents files.now asked.now.image.now) asked.now stand_ins.now means)) }
+        (DoesNotServe (F.contents trials.now.files.now trials.now.asked.now.image.now)
+        trials.now.asked.now trials.now.stand_ins.now means)
+        (IsPlain (F.contents trials.now.files.now trials.now.asked.now.image.now)
+        trials.now.asked.now trials.now.stand_ins.now means)) }
     ensures style { IfErr result
-        (FailsOver (F.contents files.now asked.now.image.now)
-        (λ d. IsInStyle (styles.style_of (state_in d).clock false))) }
+        (FailsInStyle (F.contents trials.now.files.now trials.now.asked.now.image.now)) }
 {
+    let (asked, stand_ins) = (trials.asked, trials.stand_ins);
     let order = order_with(asked, stand_ins, means, &[], &[]);
-    let Some(survey) = survey_image(rt, alloc, files, asked.image, &order)? else {
+    let found = survey_image(trials.rt, trials.alloc, trials.files, asked.image, &order)?;
+    let Some(survey) = found else {
         return Ok(None);
     };
     if !lacks_nothing(&survey) {
@@ -66,8 +72,8 @@ pub(crate) fn found_plainly<T: Threads, F: Files>(
     }
     Ok(Some(Findings {
         means,
-        full: Vec::new(alloc),
-        lacking: Vec::new(alloc),
+        full: Vec::new(trials.alloc),
+        lacking: Vec::new(trials.alloc),
     }))
 }
 
@@ -82,30 +88,26 @@ fn lacks_nothing(survey: &Survey) -> bool
 /// that all else is restored. None where no room can be made by these means, or where the trials
 /// weren't enough.
 pub(crate) fn found_by<T: Threads, F: Files>(
-    rt: &T,
-    alloc: Global,
-    files: &F,
-    asked: &RestoreAsked<'_>,
-    stand_ins: &[StandIn],
+    trials: &Trials<'_, T, F>,
     means: Means,
 ) -> Result<Option<Findings>, Failure>
     ensures found { IfOk result
         (λ found. IfSome found
-        (IsFoundBy (F.contents files.now asked.now.image.now) asked.now stand_ins.now means)) }
+        (IsFoundBy (F.contents trials.now.files.now trials.now.asked.now.image.now)
+        trials.now.asked.now trials.now.stand_ins.now means)) }
     ensures style { IfErr result
-        (FailsOver (F.contents files.now asked.now.image.now)
-        (λ d. IsInStyle (styles.style_of (state_in d).clock false))) }
+        (FailsInStyle (F.contents trials.now.files.now trials.now.asked.now.image.now)) }
 {
-    let mut search = Search::new(alloc);
+    let mut search = Search::new(trials.alloc);
     for _ in 0..MOST_SURVEYS {
-        let found = survey_with(rt, alloc, files, asked, stand_ins, means, &search)?;
+        let found = survey_with(trials, means, &search)?;
         let Some(survey) = found else {
             return Ok(None);
         };
-        match learn(&mut search, alloc, &survey, asked.flush) {
+        match learn(&mut search, trials.alloc, &survey, trials.asked.flush) {
             Ok(true) => {}
             Ok(false) => {
-                let findings = findings_of(alloc, means, search)?;
+                let findings = findings_of(trials.alloc, means, search)?;
                 return Ok(Some(findings));
             }
             Err(_) => return Err(Failure::from(Refusal::NoMemory)),
@@ -124,12 +126,8 @@ fn findings_of(alloc: Global, means: Means, search: Search) -> Result<Findings, 
     ensures style { IfErr result HasNoMoments }
 {
     let Search { hidings, lacking } = search;
-    let Ok(full) = rooms_found(alloc, hidings.as_slice()) else {
-        return Err(Failure::from(Refusal::NoMemory));
-    };
-    let Ok(lacking) = ascending(lacking) else {
-        return Err(Failure::from(Refusal::NoMemory));
-    };
+    let full = rooms_found(alloc, hidings.as_slice())?;
+    let lacking = ascending(lacking)?;
     Ok(Findings {
         means,
         full,
@@ -139,30 +137,24 @@ fn findings_of(alloc: Global, means: Means, search: Search) -> Result<Findings, 
 
 // A trial with what is known to be needed.
 fn survey_with<T: Threads, F: Files>(
-    rt: &T,
-    alloc: Global,
-    files: &F,
-    asked: &RestoreAsked<'_>,
-    stand_ins: &[StandIn],
+    trials: &Trials<'_, T, F>,
     means: Means,
     search: &Search,
 ) -> Result<Option<Survey>, Failure>
     ensures shows { IfOk result
         (λ found. IfSome found
-        (Shows (F.contents files.now asked.now.image.now) asked.now stand_ins.now means
-        search.now.hidings.items)) }
+        (Shows (F.contents trials.now.files.now trials.now.asked.now.image.now)
+        trials.now.asked.now trials.now.stand_ins.now means search.now.hidings.items)) }
     ensures serves { IfOk result (λ found. IfSome found (λ survey. IsFine survey
-        → IsServed (F.contents files.now asked.now.image.now) asked.now stand_ins.now means (map room_tried search.now.hidings.items) (numbers_of search.now.lacking.items))) }
+        → IsServed (F.contents trials.now.files.now trials.now.asked.now.image.now)
+        trials.now.asked.now trials.now.stand_ins.now means (map room_tried search.now.hidings.items)
+        (numbers_of search.now.lacking.items))) }
     ensures style { IfErr result
-        (FailsOver (F.contents files.now asked.now.image.now)
-        (λ d. IsInStyle (styles.style_of (state_in d).clock false))) }
+        (FailsInStyle (F.contents trials.now.files.now trials.now.asked.now.image.now)) }
 {
-    let Ok(full) = rooms_tried(alloc, search.hidings.as_slice()) else {
-        return Err(Failure::from(Refusal::NoMemory));
-    };
-    let Ok(skipped) = numbers_of(alloc, search.lacking.as_slice()) else {
-        return Err(Failure::from(Refusal::NoMemory));
-    };
+    let full = rooms_tried(trials.alloc, search.hidings.as_slice())?;
+    let skipped = numbers_of(trials.alloc, search.lacking.as_slice())?;
+    let (asked, stand_ins) = (trials.asked, trials.stand_ins);
     let order = order_with(asked, stand_ins, means, full.as_slice(), skipped.as_slice());
-    survey_image(rt, alloc, files, asked.image, &order)
+    survey_image(trials.rt, trials.alloc, trials.files, asked.image, &order)
 }

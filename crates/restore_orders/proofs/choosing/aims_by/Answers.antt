@@ -6,8 +6,8 @@ use Rattle.history_restore.specs.Aims.{is_not_skipped}
 use Rattle.restore_orders.specs.Choosing.{AreAimsOf, HaveRows}
 use Rattle.restore_orders.proofs.choosing.aims_by.Goals as goal
 
-pub returns-in-Ok-aims_without-clause-aims : goal.returns-in-Ok-aims_without-clause-aims
-returns-in-Ok-aims_without-clause-aims g c =
+pub returns-clause-aims : goal.returns-clause-aims
+returns-clause-aims g c =
     let order = c.args.order.now in
     let since = c.objects_by.new.drive in
     let objects = c.in_ok-objects.objects.items in
@@ -23,5 +23,5 @@ returns-in-Ok-aims_without-clause-aims g c =
       whole = whole;
       all = subst (λ (s : State). AreAimsOf s (store_of c.args.drive.now) c.args.at order.stand_ins.now objects whole) c.in_ok-objects.ensures.state
           (subst (λ (store : StoreFields). AreAimsOf (state_in since) store c.args.at order.stand_ins.now objects whole) c.in_ok-objects.ensures.store all);
-      aims_are = c.in-Ok-aims_without.ensures ∙ ap (filter (is_not_skipped order.skipped.now)) c.as_slice-3.ensures.value;
+      aims_are = c.in_ok-aims.ensures ∙ ap (filter (is_not_skipped order.skipped.now)) c.as_slice-3.ensures.value;
     }

@@ -9,14 +9,14 @@ use Rattle.s4_reading.proofs.logging.write_stats.Goals as goal
 pub returns : goal.returns
 returns g c =
     let passed = g.W.Sink.passed in
-    let line = line_of_stat c.args.json c.args.style in
-    let first : Appends (passed c.args.writer.now) (passed c.write_out.new.writer) (head_of_stats c.args.json c.args.style) = search rules in
-    let rest : Appends (passed c.write_out.new.writer) (passed c.write_each.new.writer) (flat_map line c.in_ok-stats.stats.items) =
-    subst (λ (l : List ObjectStat). Appends (passed c.write_out.new.writer) (passed c.write_each.new.writer) (flat_map line l)) c.as_slice.ensures.value c.in_ok-write_each.ensures.lines in
+    let line = line_of_stat c.args.form.now.json c.args.form.now.style in
+    let first : Appends (passed c.args.writer.now) (passed c.write_out.new.writer) (head_of_stats c.args.form.now.json c.args.form.now.style) = search rules in
+    let rest : Appends (passed c.write_out.new.writer) (passed c.write_lines.new.writer) (flat_map line c.in_ok-stats.stats.items) =
+    subst (λ (l : List ObjectStat). Appends (passed c.write_out.new.writer) (passed c.write_lines.new.writer) (flat_map line l)) c.as_slice.ensures.value c.in_ok-write_lines.ensures.lines in
     record {
       stats = record {
         stats = c.in_ok-stats.stats.items;
         shows = c.in_ok-stats.ensures.stats;
-        wrote = Appends-trans (passed c.args.writer.now) (passed c.write_out.new.writer) (passed c.write_each.new.writer) (head_of_stats c.args.json c.args.style) (flat_map line c.in_ok-stats.stats.items) first rest;
+        wrote = Appends-trans (passed c.args.writer.now) (passed c.write_out.new.writer) (passed c.write_lines.new.writer) (head_of_stats c.args.form.now.json c.args.form.now.style) (flat_map line c.in_ok-stats.stats.items) first rest;
       };
     }

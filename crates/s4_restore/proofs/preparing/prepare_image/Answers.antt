@@ -13,5 +13,5 @@ returns-then-is_allowed-clause-prepared g c =
     (prepares known c.args.asked.now c.args.stand_ins.now found c.in_ok-findings.ensures.found (λ unasked. sym c.as_slice.ensures.value ∙ c.is_allowed.ensures c.if-is_allowed.true unasked)))
     c.prepared.ensures.made
 
-pub returns-in-Ok-clause-style : goal.returns-in-Ok-clause-style
-returns-in-Ok-clause-style g c = inl (λ style. tt)
+pub returns-clause-style : goal.returns-clause-style
+returns-clause-style g c = inl (λ style. tt)

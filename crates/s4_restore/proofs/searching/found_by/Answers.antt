@@ -7,14 +7,14 @@ use Rattle.s4_restore.proofs.searching.found_by.Goals as goal
 
 pub loop-preserved : goal.loop-preserved
 loop-preserved g c =
-    let known = g.F.Files.contents c.args.files.now c.args.asked.now.image.now in
-    knows_after known c.args.asked.now c.args.stand_ins.now c.args.means c.loop.search c.learn.new.search c.in_ok-found.found c.in-Some.survey c.in-Some.is c.loop.invariant c.in_ok-found.ensures.shows c.in-Ok-true.ensures.learns
+    let known = g.F.Files.contents c.args.trials.now.files.now c.args.trials.now.asked.now.image.now in
+    knows_after known c.args.trials.now.asked.now c.args.trials.now.stand_ins.now c.args.means c.loop.search c.learn.new.search c.in_ok-found.found c.in-Some.survey c.in-Some.is c.loop.invariant c.in_ok-found.ensures.shows c.in-Ok-true.ensures.learns
 
 pub returns-in-Ok-false-clause-found : goal.returns-in-Ok-false-clause-found
 returns-in-Ok-false-clause-found g c =
-    let known = g.F.Files.contents c.args.files.now c.args.asked.now.image.now in
-    let restore = c.args.asked.now in
-    let stand_ins = c.args.stand_ins.now in
+    let known = g.F.Files.contents c.args.trials.now.files.now c.args.trials.now.asked.now.image.now in
+    let restore = c.args.trials.now.asked.now in
+    let stand_ins = c.args.trials.now.stand_ins.now in
     let search = c.loop.search in
     let found = c.in_ok-findings-in-Ok-false in
     let learns = c.in-Ok-false.ensures in
