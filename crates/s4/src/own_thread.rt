@@ -11,7 +11,7 @@ use std::io::Write;
 use std::marker::Send;
 use std::thread::Threads;
 
-/// How many bytes of stack a run has. None was seen to touch more than 68,088, what the system
+/// How many bytes of stack a run has. None was seen to touch more than 126,976, what the system
 /// keeps there included.
 const STACK_BYTES: usize = 1 << 20;
 

@@ -14,7 +14,7 @@ use std::sync::Wait;
 use std::thread::Threads;
 use std::time::Clock;
 
-/// How many bytes of stack a run has. None was seen to touch more than 79,992, what the system
+/// How many bytes of stack a run has. None was seen to touch more than 204,800, what the system
 /// keeps there included.
 const STACK_BYTES: usize = 1 << 20;
 

@@ -23,7 +23,7 @@ use std::thread::Threads;
 pub const MOST_SESSIONS: usize = 16;
 
 /// How many bytes of stack each thread has that serves, cleans or copies. None was seen to use more
-/// than 57,984, what the system keeps there included.
+/// than 139,264, what the system keeps there included.
 pub(crate) const STACK_BYTES: usize = 512 << 10;
 
 /// What became of a session.
