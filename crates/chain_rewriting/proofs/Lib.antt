@@ -13,10 +13,10 @@ pub mod Again
 pub mod Bytes
 pub mod SeenPlaces
 pub mod Unchanged
-pub mod Renamed
+pub mod Mapped
 pub mod Below
 pub mod Rules
-pub mod RenamedOrdered
+pub mod MappedOrdered
 pub mod Told
 pub mod Listed
 pub mod Meaning

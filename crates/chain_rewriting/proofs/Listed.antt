@@ -11,9 +11,10 @@ use Rattle.codec.specs.declared.inodes.Inode.{Inode}
 use Rattle.codec.specs.declared.entries.Triple.{Triple}
 use Rattle.codec.specs.Entry.{EntryFields}
 use Rattle.chain_rewriting.specs.CleaningLaws.{PointsWithin, TellsWithin}
-use Rattle.chain_rewriting.specs.Renaming.{RenamingFields, renamed_slot, renamed_triple, renamed_entries}
+use Rattle.chain_rewriting.specs.Mapping.{mapped_slot, mapped_triple, mapped_entries}
+use Rattle.chain_rewriting.specs.MappingLaws.{AMappedChainTellsInOrder}
 use Rattle.chain_rewriting.specs.Apart.{Passes, ToldWithin, slots_told}
-use Rattle.chain_rewriting.specs.Places.{WhatIsToldIsListed, ARenamedChainTellsInOrder}
+use Rattle.chain_rewriting.specs.Places.{WhatIsToldIsListed}
 use Rattle.chain_rewriting.proofs.Told.{SidesWithin}
 
 -- a hole, or a place of this kind
@@ -28,20 +29,20 @@ all_sides entries = flat_map (λ e. both_sides e.triples) entries
 
 -- ---- in order
 
-sides_in_order : (r : RenamingFields) (triples : List Triple) → both_sides (map (renamed_triple r) triples) ≡ map (renamed_slot r) (both_sides triples)
-sides_in_order r [] = refl
-sides_in_order r (t ∷ triples) = ap (λ (slots : List (Option Place)). renamed_slot r t.before ∷ renamed_slot r t.after ∷ slots) (sides_in_order r triples)
+sides_in_order : (f : Place → Place) (triples : List Triple) → both_sides (map (mapped_triple f) triples) ≡ map (mapped_slot f) (both_sides triples)
+sides_in_order f [] = refl
+sides_in_order f (t ∷ triples) = ap (λ (slots : List (Option Place)). mapped_slot f t.before ∷ mapped_slot f t.after ∷ slots) (sides_in_order f triples)
 
-all_in_order : (r : RenamingFields) (entries : List EntryFields) → all_sides (renamed_entries r entries) ≡ map (renamed_slot r) (all_sides entries)
-all_in_order r [] = refl
-all_in_order r (e ∷ entries) =
-    ap (λ (slots : List (Option Place)). slots ++ all_sides (renamed_entries r entries)) (sides_in_order r e.triples)
-    ∙ ap (λ (slots : List (Option Place)). map (renamed_slot r) (both_sides e.triples) ++ slots) (all_in_order r entries)
-    ∙ sym (map-append (renamed_slot r) (both_sides e.triples) (all_sides entries))
+all_in_order : (f : Place → Place) (entries : List EntryFields) → all_sides (mapped_entries f entries) ≡ map (mapped_slot f) (all_sides entries)
+all_in_order f [] = refl
+all_in_order f (e ∷ entries) =
+    ap (λ (slots : List (Option Place)). slots ++ all_sides (mapped_entries f entries)) (sides_in_order f e.triples)
+    ∙ ap (λ (slots : List (Option Place)). map (mapped_slot f) (both_sides e.triples) ++ slots) (all_in_order f entries)
+    ∙ sym (map-append (mapped_slot f) (both_sides e.triples) (all_sides entries))
 
-pub told_in_order : ARenamedChainTellsInOrder
-told_in_order r i entries =
-    ap (λ (slots : List (Option Place)). map (renamed_slot r) i.pointers ++ slots) (all_in_order r entries) ∙ sym (map-append (renamed_slot r) i.pointers (all_sides entries))
+pub told_in_order : (f : Place → Place) → AMappedChainTellsInOrder f
+told_in_order f i entries =
+    ap (λ (slots : List (Option Place)). map (mapped_slot f) i.pointers ++ slots) (all_in_order f entries) ∙ sym (map-append (mapped_slot f) i.pointers (all_sides entries))
 
 -- ---- listed
 

@@ -1,4 +1,4 @@
--- Renaming is one to one on the places that aren't new, so that renamed entries keep the rules of entries.
+-- Entries keep the rules of entries where a map is one to one on their places, as renaming is on those that aren't new.
 use Rattle.std.proofs.Common.{◌≡◌, ℕ, ◌+◌, ◌==◌, ◌&&◌, leb, ltb, Bool, true, cond, not, inl, inr, ◌⊎◌, List, [], ◌∷◌, map, Option, Some, None, refl, sym, ap, subst, ◌∙◌}
 use Rattle.std.specs.Prelude.{IfSome, unwrap_or, is_none, ◌||◌}
 use Rattle.std.specs.List.{AllByRecursion}
@@ -12,7 +12,9 @@ use Rattle.codec.specs.declared.entries.Triple.{Triple}
 use Rattle.codec.specs.Entry.{EntryFields, same_slot, ascend_from, was_nothing, differs, changes_now, entry_rules, checked_entry}
 use Rattle.codec.specs.Fields.{Reads, kept}
 use Rattle.chain_rewriting.specs.CleaningLaws.{TellsWithin}
-use Rattle.chain_rewriting.specs.Renaming.{RenamingFields, move_of, is_in, new_place, renamed, renamed_slot, renamed_triple, renamed_entry}
+use Rattle.chain_rewriting.specs.Mapping.{mapped_slot, mapped_triple, mapped_entry, IsOneToOne}
+use Rattle.chain_rewriting.specs.MappingLaws.{MappedEntriesKeepTheRules}
+use Rattle.chain_rewriting.specs.Renaming.{RenamingFields, move_of, is_in, new_place, renamed, renamed_triple, renamed_entry}
 use Rattle.chain_rewriting.specs.Apart.{HasDistinctPlaces, IsNotNew}
 use Rattle.chain_rewriting.specs.RenamingLaws.{RenamedEntriesKeepTheRules}
 use Rattle.chain_rewriting.specs.Places.{RenamingIsOneToOne}
@@ -85,42 +87,45 @@ same_slot_places p q h =
 same_slot_own : (p : Place) → same_slot (Some p) (Some p) ≡ true
 same_slot_own p = and_from (p.frame == p.frame) (p.block == p.block && p.generation == p.generation) (eq-eqb p.frame p.frame refl) (and_from (p.block == p.block) (p.generation == p.generation) (eq-eqb p.block p.block refl) (eq-eqb p.generation p.generation refl))
 
--- slots that aren't new are the same exactly where the renamed ones are
-same_renamed : (r : RenamingFields) (a b : Option Place) → HasDistinctPlaces r → IfSome a (IsNotNew r) → IfSome b (IsNotNew r) → same_slot (renamed_slot r a) (renamed_slot r b) ≡ same_slot a b
-same_renamed r None None distinct ha hb = refl
-same_renamed r None (Some q) distinct ha hb = refl
-same_renamed r (Some p) None distinct ha hb = refl
-same_renamed r (Some p) (Some q) distinct ha hb = elim (cases_Bool (same_slot (Some p) (Some q))) [
+-- slots of the kind on which the map is one to one are the same exactly where the mapped ones are
+same_mapped : (Is : Place → Type 0) (f : Place → Place) (a b : Option Place) → IsOneToOne Is f → IfSome a Is → IfSome b Is → same_slot (mapped_slot f a) (mapped_slot f b) ≡ same_slot a b
+same_mapped Is f None None one ha hb = refl
+same_mapped Is f None (Some q) one ha hb = refl
+same_mapped Is f (Some p) None one ha hb = refl
+same_mapped Is f (Some p) (Some q) one ha hb = elim (cases_Bool (same_slot (Some p) (Some q))) [
   | inl same ↦ (let is : p ≡ q = same_slot_places p q same in
-      subst (λ (z : Place). same_slot (Some (renamed r p)) (Some (renamed r z)) ≡ true) is (same_slot_own (renamed r p)) ∙ sym same)
-  | inr other ↦ elim (cases_Bool (same_slot (Some (renamed r p)) (Some (renamed r q)))) [
-    | inl same ↦ (let is : p ≡ q = one_to_one r p q distinct ha hb (same_slot_places (renamed r p) (renamed r q) same) in
+      subst (λ (z : Place). same_slot (Some (f p)) (Some (f z)) ≡ true) is (same_slot_own (f p)) ∙ sym same)
+  | inr other ↦ elim (cases_Bool (same_slot (Some (f p)) (Some (f q)))) [
+    | inl same ↦ (let is : p ≡ q = one p q ha hb (same_slot_places (f p) (f q) same) in
         let own : same_slot (Some p) (Some q) ≡ true = subst (λ (z : Place). same_slot (Some p) (Some z) ≡ true) is (same_slot_own p) in
         absurd (both_ways (same_slot (Some p) (Some q)) other own))
     | inr too ↦ too ∙ sym other
   ]
 ]
 
-ascend_renamed : (r : RenamingFields) (low : ℕ) (triples : List Triple) → HasDistinctPlaces r → AllByRecursion (λ t. IfSome t.before (IsNotNew r) × IfSome t.after (IsNotNew r)) triples → ascend_from low (map (renamed_triple r) triples) ≡ ascend_from low triples
+ascend_mapped : (Is : Place → Type 0) (f : Place → Place) (low : ℕ) (triples : List Triple) → IsOneToOne Is f → AllByRecursion (λ t. IfSome t.before Is × IfSome t.after Is) triples → ascend_from low (map (mapped_triple f) triples) ≡ ascend_from low triples
 unfolding ascend_from
-ascend_renamed r low [] distinct h = refl
-ascend_renamed r low (t ∷ triples) distinct h =
-    ap (λ same. (leb low t.index && (ltb t.index OBJECT_BLOCKS && not same)) && ascend_from (t.index + 1) (map (renamed_triple r) triples)) (same_renamed r t.before t.after distinct h.0.0 h.0.1)
-    ∙ ap (λ rest. (leb low t.index && (ltb t.index OBJECT_BLOCKS && not (same_slot t.before t.after))) && rest) (ascend_renamed r (t.index + 1) triples distinct h.1)
+ascend_mapped Is f low [] one h = refl
+ascend_mapped Is f low (t ∷ triples) one h =
+    ap (λ same. (leb low t.index && (ltb t.index OBJECT_BLOCKS && not same)) && ascend_from (t.index + 1) (map (mapped_triple f) triples)) (same_mapped Is f t.before t.after one h.0.0 h.0.1)
+    ∙ ap (λ rest. (leb low t.index && (ltb t.index OBJECT_BLOCKS && not (same_slot t.before t.after))) && rest) (ascend_mapped Is f (t.index + 1) triples one h.1)
 
-changes_renamed : (r : RenamingFields) (e : EntryFields) → changes_now (renamed_entry r e) ≡ changes_now e
-changes_renamed r e =
-    ap (λ n. cond e.after.alive (e.after.changed == e.moment) (e.before.size == e.after.size && (e.before.changed == e.after.changed && (is_none e.pair && n == 0)))) (length-map e.triples (renamed_triple r))
+changes_mapped : (f : Place → Place) (e : EntryFields) → changes_now (mapped_entry f e) ≡ changes_now e
+changes_mapped f e =
+    ap (λ n. cond e.after.alive (e.after.changed == e.moment) (e.before.size == e.after.size && (e.before.changed == e.after.changed && (is_none e.pair && n == 0)))) (length-map e.triples (mapped_triple f))
 
-pub rules_renamed : (r : RenamingFields) (e : EntryFields) → HasDistinctPlaces r → TellsWithin (IsNotNew r) e → entry_rules (renamed_entry r e) ≡ entry_rules e
+pub rules_mapped : (Is : Place → Type 0) (f : Place → Place) (e : EntryFields) → IsOneToOne Is f → TellsWithin Is e → entry_rules (mapped_entry f e) ≡ entry_rules e
 unfolding entry_rules
-rules_renamed r e distinct h =
-    ap (λ now. leb 1 e.moment && ((e.before.alive || e.after.alive) && (leb e.before.size OBJECT_BYTES && (leb e.after.size OBJECT_BYTES && (was_nothing e.before && (now && (differs e.pair && ascend_from 0 (map (renamed_triple r) e.triples)))))))) (changes_renamed r e)
-    ∙ ap (λ rest. leb 1 e.moment && ((e.before.alive || e.after.alive) && (leb e.before.size OBJECT_BYTES && (leb e.after.size OBJECT_BYTES && (was_nothing e.before && (changes_now e && (differs e.pair && rest))))))) (ascend_renamed r 0 e.triples distinct h)
+rules_mapped Is f e one h =
+    ap (λ now. leb 1 e.moment && ((e.before.alive || e.after.alive) && (leb e.before.size OBJECT_BYTES && (leb e.after.size OBJECT_BYTES && (was_nothing e.before && (now && (differs e.pair && ascend_from 0 (map (mapped_triple f) e.triples)))))))) (changes_mapped f e)
+    ∙ ap (λ rest. leb 1 e.moment && ((e.before.alive || e.after.alive) && (leb e.before.size OBJECT_BYTES && (leb e.after.size OBJECT_BYTES && (was_nothing e.before && (changes_now e && (differs e.pair && rest))))))) (ascend_mapped Is f 0 e.triples one h)
 
-pub all_rules : RenamedEntriesKeepTheRules
-all_rules r [] distinct told h = tt
-all_rules r (e ∷ entries) distinct told h = (rules_renamed r e distinct told.0 ∙ h.0, all_rules r entries distinct told.1 h.1)
+pub all_rules : (Is : Place → Type 0) (f : Place → Place) → MappedEntriesKeepTheRules Is f
+all_rules Is f [] one told h = tt
+all_rules Is f (e ∷ entries) one told h = (rules_mapped Is f e one told.0 ∙ h.0, all_rules Is f entries one told.1 h.1)
+
+pub renamed_rules : RenamedEntriesKeepTheRules
+renamed_rules r entries distinct = all_rules (IsNotNew r) (renamed r) entries (λ p q. one_to_one r p q distinct)
 
 -- ---- for the code
 
@@ -140,4 +145,4 @@ unfolding entry_of
 made_renamed r e m before after pair triples o distinct told rules em eb ea ep et h =
     let is : entry_of m before after pair triples ≡ renamed_entry r e = entry_of-same m e.moment before e.before after e.after pair e.pair triples (map (renamed_triple r) e.triples) em eb ea ep et in
     let read : Reads (λ f. f) o (checked_entry (renamed_entry r e)) = subst (λ (f : EntryFields). Reads (λ g. g) o (checked_entry f)) is h in
-    reads_some (entry_rules (renamed_entry r e)) (renamed_entry r e) o (rules_renamed r e distinct told ∙ rules) read
+    reads_some (entry_rules (renamed_entry r e)) (renamed_entry r e) o (rules_mapped (IsNotNew r) (renamed r) e (λ p q. one_to_one r p q distinct) told ∙ rules) read

@@ -1,4 +1,4 @@
--- The places of which a renamed chain tells.
+-- The places of which a mapped chain tells.
 use Rattle.std.proofs.Common.{◌≡◌, ℕ, zero, suc, Bool, true, false, not, cond, inl, inr, List, [], ◌∷◌, map, get_or, Option, Some, None, refl, sym, ap, subst, ◌∙◌}
 use Rattle.std.proofs.Math.ListN.{set}
 use Rattle.std.specs.Prelude.{IfSome, is_some, ◌||◌}
@@ -12,43 +12,38 @@ use Rattle.codec.specs.Entry.{EntryFields}
 use Rattle.undo_redo.specs.Redone.{with_after, with_before, redone, undone}
 use Rattle.undo_redo.specs.Runs.{redone_all, undone_all, entry_is_by, entries_by, inode_after}
 use Rattle.chain_rewriting.specs.CleaningLaws.{PointsWithin, TellsWithin}
-use Rattle.chain_rewriting.specs.Renaming.{RenamingFields, move_of, is_in, new_place, renamed, renamed_slot, renamed_triple, renamed_entries, renamed_inode}
+use Rattle.chain_rewriting.specs.Mapping.{mapped_slot, mapped_triple, mapped_entries, MapsWithin}
+use Rattle.chain_rewriting.specs.MappingLaws.{AMappedChainTellsOfMappedPlaces, EachPlaceIsPointedToMapped}
+use Rattle.chain_rewriting.specs.Renaming.{RenamingFields, move_of, is_in, new_place, renamed}
 use Rattle.chain_rewriting.specs.Apart.{Passes, ToldWithin, IsNotNew, IsOutside, moves_out, LeadsWithin}
-use Rattle.chain_rewriting.specs.Places.{AChainIsToldFromEitherEnd, ApartFromEitherEnd, AChainPointsToWhatItTells, ARenamedChainTellsOfRenamedPlaces, EachPlaceIsPointedToRenamed, ARenamedChainIsOutOfTheFrame}
-use Rattle.chain_rewriting.proofs.Renamed.{pointer_renamed, inode_after_renamed}
+use Rattle.chain_rewriting.specs.Places.{AChainIsToldFromEitherEnd, ApartFromEitherEnd, AChainPointsToWhatItTells, ARenamedChainIsOutOfTheFrame}
+use Rattle.chain_rewriting.proofs.Mapped.{pointer_mapped, inode_after_mapped}
 use Rattle.chain_rewriting.proofs.Rules.{renamed_stays, renamed_moves}
-
--- each place of one kind is renamed to one of another
-abbrev pub Carries : RenamingFields → (Place → Type 0) → (Place → Type 0) → Type 0
-Carries r Was Is = (p : Place) → Was p → Is (renamed r p)
 
 abbrev pub SidesWithin : (Place → Type 0) → List Triple → Type 0
 SidesWithin Is triples = AllByRecursion (λ t. IfSome t.before Is × IfSome t.after Is) triples
 
-slot_told : (r : RenamingFields) (Was Is : Place → Type 0) (slot : Option Place) → Carries r Was Is → IfSome slot Was → IfSome (renamed_slot r slot) Is
-slot_told r Was Is None so h = tt
-slot_told r Was Is (Some p) so h = so p h
+slot_told : (f : Place → Place) (Was Is : Place → Type 0) (slot : Option Place) → MapsWithin Was Is f → IfSome slot Was → IfSome (mapped_slot f slot) Is
+slot_told f Was Is None so h = tt
+slot_told f Was Is (Some p) so h = so p h
 
-triples_told : (r : RenamingFields) (Was Is : Place → Type 0) (triples : List Triple) → Carries r Was Is → SidesWithin Was triples → SidesWithin Is (map (renamed_triple r) triples)
-triples_told r Was Is [] so h = tt
-triples_told r Was Is (t ∷ triples) so h = ((slot_told r Was Is t.before so h.0.0, slot_told r Was Is t.after so h.0.1), triples_told r Was Is triples so h.1)
+triples_told : (f : Place → Place) (Was Is : Place → Type 0) (triples : List Triple) → MapsWithin Was Is f → SidesWithin Was triples → SidesWithin Is (map (mapped_triple f) triples)
+triples_told f Was Is [] so h = tt
+triples_told f Was Is (t ∷ triples) so h = ((slot_told f Was Is t.before so h.0.0, slot_told f Was Is t.after so h.0.1), triples_told f Was Is triples so h.1)
 
-entries_told : (r : RenamingFields) (Was Is : Place → Type 0) (entries : List EntryFields) → Carries r Was Is → AllByRecursion (TellsWithin Was) entries → AllByRecursion (TellsWithin Is) (renamed_entries r entries)
-entries_told r Was Is [] so h = tt
-entries_told r Was Is (e ∷ entries) so h = (triples_told r Was Is e.triples so h.0, entries_told r Was Is entries so h.1)
+entries_told : (f : Place → Place) (Was Is : Place → Type 0) (entries : List EntryFields) → MapsWithin Was Is f → AllByRecursion (TellsWithin Was) entries → AllByRecursion (TellsWithin Is) (mapped_entries f entries)
+entries_told f Was Is [] so h = tt
+entries_told f Was Is (e ∷ entries) so h = (triples_told f Was Is e.triples so h.0, entries_told f Was Is entries so h.1)
 
-renamed_told : (r : RenamingFields) (Was Is : Place → Type 0) (i : Inode) (entries : List EntryFields) → Carries r Was Is → ToldWithin Was i entries → ToldWithin Is (renamed_inode r i) (renamed_entries r entries)
-renamed_told r Was Is i entries so h = record {
-  pointers = λ k. subst (λ (slot : Option Place). IfSome slot Is) (sym (pointer_renamed r i k)) (slot_told r Was Is (pointer_at i k) so (h.pointers k));
-  sides = entries_told r Was Is entries so h.sides;
+pub told_mapped : (Was Is : Place → Type 0) (f : Place → Place) → AMappedChainTellsOfMappedPlaces Was Is f
+told_mapped Was Is f i entries so h = record {
+  pointers = λ k. subst (λ (slot : Option Place). IfSome slot Is) (sym (pointer_mapped f i k)) (slot_told f Was Is (pointer_at i k) so (h.pointers k));
+  sides = entries_told f Was Is entries so h.sides;
 }
 
-pub tells_renamed : ARenamedChainTellsOfRenamedPlaces
-tells_renamed was is r i entries so h = renamed_told r (Passes was) (Passes is) i entries so h
-
-pub pointed_renamed : EachPlaceIsPointedToRenamed
-pointed_renamed r first entries p (u, k, at) =
-    (u, k, ap (λ (i : Inode). pointer_at i k) (inode_after_renamed r first entries u) ∙ pointer_renamed r (inode_after first entries u) k ∙ ap (renamed_slot r) at)
+pub pointed_mapped : (f : Place → Place) → EachPlaceIsPointedToMapped f
+pointed_mapped f first entries p (u, k, at) =
+    (u, k, ap (λ (i : Inode). pointer_at i k) (inode_after_mapped f first entries u) ∙ pointer_mapped f (inode_after first entries u) k ∙ ap (mapped_slot f) at)
 
 -- ---- out of the frame
 
@@ -56,7 +51,7 @@ is_there : (slot : Option Place) → is_some slot ≡ true → (q : Place) × (s
 is_there None h = absurd (cc)
 is_there (Some q) h = (q, refl)
 
-goes_out : (r : RenamingFields) → LeadsWithin (IsOutside r) r → Carries r (Passes (moves_out r)) (IsOutside r)
+goes_out : (r : RenamingFields) → LeadsWithin (IsOutside r) r → MapsWithin (Passes (moves_out r)) (IsOutside r) (renamed r)
 goes_out r leads p moves = elim (cases_Bool (is_in r p)) [
   | inl inside ↦ (let there : is_some (move_of r p.block) ≡ true = sym (ap (λ b. not b || is_some (move_of r p.block)) inside) ∙ moves in
       let found = is_there (move_of r p.block) there in
@@ -67,7 +62,7 @@ goes_out r leads p moves = elim (cases_Bool (is_in r p)) [
 ]
 
 pub out_of_the_frame : ARenamedChainIsOutOfTheFrame
-out_of_the_frame r i entries told leads = renamed_told r (Passes (moves_out r)) (IsOutside r) i entries (goes_out r leads) told
+out_of_the_frame r i entries told leads = told_mapped (Passes (moves_out r)) (IsOutside r) (renamed r) i entries (goes_out r leads) told
 
 -- ---- the inodes of a chain
 
@@ -98,8 +93,11 @@ by_within : (P : EntryFields → Type 0) (t : ℕ) (entries : List EntryFields) 
 by_within P t [] h = tt
 by_within P t (e ∷ entries) h = all_cond P (entry_is_by t e) e (entries_by t entries) h.0 (by_within P t entries h.1)
 
+pub points_within : (Is : Place → Type 0) (first : Inode) (entries : List EntryFields) (t : ℕ) → ToldWithin Is first entries → PointsWithin Is (inode_after first entries t)
+points_within Is first entries t told = all_within Is (entries_by t entries) first told.pointers (by_within (TellsWithin Is) t entries told.sides)
+
 pub points_to_what_it_tells : AChainPointsToWhatItTells
-points_to_what_it_tells test first entries t told = all_within (Passes test) (entries_by t entries) first told.pointers (by_within (TellsWithin (Passes test)) t entries told.sides)
+points_to_what_it_tells test = points_within (Passes test)
 
 -- ---- either end
 

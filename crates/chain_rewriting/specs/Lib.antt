@@ -2,7 +2,9 @@ pub mod Cleaned
 pub mod Chains
 pub mod CleaningLaws
 pub mod private
+pub mod Mapping
 pub mod Renaming
 pub mod Apart
+pub mod MappingLaws
 pub mod RenamingLaws
 pub mod Places

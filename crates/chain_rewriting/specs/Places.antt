@@ -6,8 +6,9 @@ use Rattle.s4_types.specs.declared.limits.TheConstants.{PAYLOAD_BLOCKS}
 use Rattle.codec.specs.declared.inodes.Inode.{Inode}
 use Rattle.codec.specs.Entry.{EntryFields}
 use Rattle.undo_redo.specs.Runs.{redone_all, undone_all, inode_after}
-use Rattle.chain_rewriting.specs.CleaningLaws.{IsPlaceOf, PointsWithin}
-use Rattle.chain_rewriting.specs.Renaming.{RenamingFields, renaming_of, with_move, move_of, renamed, renamed_slot, renamed_entries, renamed_inode}
+use Rattle.chain_rewriting.specs.CleaningLaws.{PointsWithin}
+use Rattle.chain_rewriting.specs.MappingLaws.{AMappedChainTellsInOrder, AMappedChainTellsOfMappedPlaces, EachPlaceIsPointedToMapped}
+use Rattle.chain_rewriting.specs.Renaming.{RenamingFields, renaming_of, with_move, move_of, renamed, renamed_entries, renamed_inode}
 use Rattle.chain_rewriting.specs.Apart.{Passes, ToldWithin, slots_told, HasDistinctPlaces, IsNotNew, IsApart, IsOutside, moves_out, LeadsWithin}
 
 -- ---- what a chain tells
@@ -47,23 +48,16 @@ RenamingIsOneToOne =
 
 -- A renamed chain tells of what the old one told of, renamed, in the same order.
 abbrev pub ARenamedChainTellsInOrder : Type 0
-ARenamedChainTellsInOrder =
-    (r : RenamingFields) (i : Inode) (entries : List EntryFields)
-    → slots_told (renamed_inode r i) (renamed_entries r entries) ≡ map (renamed_slot r) (slots_told i entries)
+ARenamedChainTellsInOrder = (r : RenamingFields) → AMappedChainTellsInOrder (renamed r)
 
 -- So where each place that passes a first test is renamed to one that passes a second, a chain that told alone of places of
 -- the first tells alone of places of the second.
 abbrev pub ARenamedChainTellsOfRenamedPlaces : Type 0
-ARenamedChainTellsOfRenamedPlaces =
-    (was is : Place → Bool) (r : RenamingFields) (i : Inode) (entries : List EntryFields)
-    → ((p : Place) → was p ≡ true → is (renamed r p) ≡ true) → ToldWithin (Passes was) i entries
-    → ToldWithin (Passes is) (renamed_inode r i) (renamed_entries r entries)
+ARenamedChainTellsOfRenamedPlaces = (was is : Place → Bool) (r : RenamingFields) → AMappedChainTellsOfMappedPlaces (Passes was) (Passes is) (renamed r)
 
 -- Each place to which a chain points at some moment is one to which the renamed chain points then, renamed.
 abbrev pub EachPlaceIsPointedToRenamed : Type 0
-EachPlaceIsPointedToRenamed =
-    (r : RenamingFields) (first : Inode) (entries : List EntryFields) (p : Place)
-    → IsPlaceOf first entries p → IsPlaceOf (renamed_inode r first) (renamed_entries r entries) (renamed r p)
+EachPlaceIsPointedToRenamed = (r : RenamingFields) → EachPlaceIsPointedToMapped (renamed r)
 
 -- Where each place of a chain that lies in the frame moves, and no block moves to a place there, a renamed chain tells of no
 -- place in the frame at that generation.

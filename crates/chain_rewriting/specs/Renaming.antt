@@ -1,10 +1,11 @@
 -- What a move makes of an object's chain: pointers into one frame become the new places of the blocks that move.
-use Rattle.std.specs.Prelude.{ℕ, zero, suc, ◌-◌, Bool, ◌==◌, ◌&&◌, if◌then◌else◌, List, map, replicate, slice_index_or, slice_set, Option, Some, None, unwrap_or, option_map}
+use Rattle.std.specs.Prelude.{ℕ, zero, suc, ◌-◌, Bool, ◌==◌, ◌&&◌, if◌then◌else◌, List, replicate, slice_index_or, slice_set, Option, Some, None, unwrap_or}
 use Rattle.s4_types.specs.Pointer.{Place}
 use Rattle.s4_types.specs.declared.limits.TheConstants.{PAYLOAD_BLOCKS}
 use Rattle.codec.specs.declared.inodes.Inode.{Inode}
 use Rattle.codec.specs.declared.entries.Triple.{Triple}
 use Rattle.codec.specs.Entry.{EntryFields}
+use Rattle.chain_rewriting.specs.Mapping.{mapped_slot, mapped_triple, mapped_entry, mapped_entries, mapped_inode}
 
 -- a frame at a generation, and for each of its blocks from 1 on the new place, where it moves
 pub record RenamingFields : Type 0 where
@@ -42,19 +43,19 @@ renamed r p = unwrap_or (new_place r p) p
 
 -- a hole stays a hole
 abbrev pub renamed_slot : RenamingFields → Option Place → Option Place
-renamed_slot r slot = option_map (renamed r) slot
+renamed_slot r = mapped_slot (renamed r)
 
 -- both sides of a triple
 abbrev pub renamed_triple : RenamingFields → Triple → Triple
-renamed_triple r t = record t { before = renamed_slot r t.before; after = renamed_slot r t.after }
+renamed_triple r = mapped_triple (renamed r)
 
 -- an entry with its triples renamed; all else stays
 abbrev pub renamed_entry : RenamingFields → EntryFields → EntryFields
-renamed_entry r e = record e { triples = map (renamed_triple r) e.triples }
+renamed_entry r = mapped_entry (renamed r)
 
 abbrev pub renamed_entries : RenamingFields → List EntryFields → List EntryFields
-renamed_entries r entries = map (renamed_entry r) entries
+renamed_entries r = mapped_entries (renamed r)
 
 -- an inode with its pointers renamed; all else stays
 abbrev pub renamed_inode : RenamingFields → Inode → Inode
-renamed_inode r i = record i { pointers = map (renamed_slot r) i.pointers }
+renamed_inode r = mapped_inode (renamed r)

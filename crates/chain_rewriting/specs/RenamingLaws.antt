@@ -1,61 +1,57 @@
--- The laws of renamed chains.
-use Rattle.std.specs.Prelude.{◌≡◌, ℕ, Bool, true, List, map}
-use Rattle.std.specs.List.{AllByRecursion, Contains}
+-- The laws of renamed chains: those of mapped ones, where the moves of a frame are the map.
+use Rattle.std.specs.Prelude.{◌≡◌, ℕ, Bool, true, List}
+use Rattle.std.specs.List.{AllByRecursion}
 use Rattle.s4_types.specs.Pointer.{Place}
 use Rattle.codec.specs.declared.inodes.Inode.{Inode}
-use Rattle.codec.specs.Checkpoint.{CheckpointFields, pointer_at, checkpoint_rules}
-use Rattle.codec.specs.Entry.{EntryFields, entry_rules, entry_length, entries_length}
-use Rattle.undo_redo.specs.Linked.{Linked}
-use Rattle.undo_redo.specs.Redone.{redone, undone}
-use Rattle.undo_redo.specs.Runs.{Run, redone_all, undone_all, inode_after, entries_by, blank}
-use Rattle.undo_redo.specs.Groups.{grouped}
-use Rattle.time_read.specs.Orderly.{IsOrderlyChain}
+use Rattle.codec.specs.Entry.{EntryFields, entry_rules}
+use Rattle.undo_redo.specs.Runs.{inode_after}
 use Rattle.inode.specs.Contents.{meaning}
 use Rattle.inode.specs.Tidiness.{Tidy}
 use Rattle.chain_rewriting.specs.Chains.{IsChain}
 use Rattle.chain_rewriting.specs.CleaningLaws.{PointsWithin, TellsWithin}
-use Rattle.chain_rewriting.specs.Renaming.{RenamingFields, renamed_slot, renamed_entry, renamed_entries, renamed_inode}
+use Rattle.chain_rewriting.specs.Renaming.{RenamingFields, renamed, renamed_entries, renamed_inode}
 use Rattle.chain_rewriting.specs.Apart.{Passes, ToldWithin, HasDistinctPlaces, IsNotNew, IsApart, HasCopies}
+use Rattle.chain_rewriting.specs.MappingLaws.{MappingCommutesWithRedo, MappingCommutesWithUndo, MappingCommutesWithRedoOfAll, MappingCommutesWithUndoOfAll}
+use Rattle.chain_rewriting.specs.MappingLaws.{AMappedChainShowsMappedInodes, AMappedLinkIsALink, AMappedRunIsARun, ABlankInodeIsMappedToItself, APointerIsMapped}
+use Rattle.chain_rewriting.specs.MappingLaws.{MappedEntriesStayInGroups, MappedEntriesStayInOrder, AMappedCheckpointKeepsTheRules, MappedEntriesUpToAMoment}
+use Rattle.chain_rewriting.specs.MappingLaws.{MappedEntriesKeepTheirMoments, MappedEntriesHaveOldMoments, TheMomentsOfMappedEntriesAreOld}
+use Rattle.chain_rewriting.specs.MappingLaws.{MappedEntriesTakeAsManyBytes, AMappedChainTakesAsManyBytes}
 
 -- ---- undo and redo
 
 -- A renamed entry makes of a renamed inode what the entry made of the inode, renamed.
 abbrev pub RenamingCommutesWithRedo : Type 0
-RenamingCommutesWithRedo = (r : RenamingFields) (i : Inode) (e : EntryFields) → redone (renamed_entry r e) (renamed_inode r i) ≡ renamed_inode r (redone e i)
+RenamingCommutesWithRedo = (r : RenamingFields) → MappingCommutesWithRedo (renamed r)
 
 abbrev pub RenamingCommutesWithUndo : Type 0
-RenamingCommutesWithUndo = (r : RenamingFields) (j : Inode) (e : EntryFields) → undone (renamed_entry r e) (renamed_inode r j) ≡ renamed_inode r (undone e j)
+RenamingCommutesWithUndo = (r : RenamingFields) → MappingCommutesWithUndo (renamed r)
 
 -- So do all entries of a list, redone or undone.
 abbrev pub RenamingCommutesWithRedoOfAll : Type 0
-RenamingCommutesWithRedoOfAll = (r : RenamingFields) (i : Inode) (entries : List EntryFields) → redone_all (renamed_entries r entries) (renamed_inode r i) ≡ renamed_inode r (redone_all entries i)
+RenamingCommutesWithRedoOfAll = (r : RenamingFields) → MappingCommutesWithRedoOfAll (renamed r)
 
 abbrev pub RenamingCommutesWithUndoOfAll : Type 0
-RenamingCommutesWithUndoOfAll = (r : RenamingFields) (j : Inode) (entries : List EntryFields) → undone_all (renamed_entries r entries) (renamed_inode r j) ≡ renamed_inode r (undone_all entries j)
+RenamingCommutesWithUndoOfAll = (r : RenamingFields) → MappingCommutesWithUndoOfAll (renamed r)
 
 -- At each moment renamed entries show the renamed inode.
 abbrev pub ARenamedChainShowsRenamedInodes : Type 0
-ARenamedChainShowsRenamedInodes =
-    (r : RenamingFields) (first : Inode) (entries : List EntryFields) (t : ℕ)
-    → inode_after (renamed_inode r first) (renamed_entries r entries) t ≡ renamed_inode r (inode_after first entries t)
+ARenamedChainShowsRenamedInodes = (r : RenamingFields) → AMappedChainShowsMappedInodes (renamed r)
 
 -- A renamed entry links the renamed inodes that the entry linked, and renamed entries lead from the renamed first inode of a
 -- run to its renamed last one.
 abbrev pub ARenamedLinkIsALink : Type 0
-ARenamedLinkIsALink = (r : RenamingFields) (i j : Inode) (e : EntryFields) → Linked i e j → Linked (renamed_inode r i) (renamed_entry r e) (renamed_inode r j)
+ARenamedLinkIsALink = (r : RenamingFields) → AMappedLinkIsALink (renamed r)
 
 abbrev pub ARenamedRunIsARun : Type 0
-ARenamedRunIsARun =
-    (r : RenamingFields) (i j : Inode) (entries : List EntryFields)
-    → Run i entries j → Run (renamed_inode r i) (renamed_entries r entries) (renamed_inode r j)
+ARenamedRunIsARun = (r : RenamingFields) → AMappedRunIsARun (renamed r)
 
 -- A blank inode has nothing to rename.
 abbrev pub ABlankInodeStays : Type 0
-ABlankInodeStays = (r : RenamingFields) (created : ℕ) → renamed_inode r (blank created) ≡ blank created
+ABlankInodeStays = (r : RenamingFields) → ABlankInodeIsMappedToItself (renamed r)
 
 -- Each pointer of a renamed inode is the renamed pointer.
 abbrev pub APointerIsRenamed : Type 0
-APointerIsRenamed = (r : RenamingFields) (i : Inode) (n : ℕ) → pointer_at (renamed_inode r i) n ≡ renamed_slot r (pointer_at i n)
+APointerIsRenamed = (r : RenamingFields) → APointerIsMapped (renamed r)
 
 -- ---- chains
 
@@ -74,46 +70,40 @@ ARenamedChainIsAChain =
 
 -- Entries are in groups exactly where they are so renamed.
 abbrev pub RenamedEntriesStayInGroups : Type 0
-RenamedEntriesStayInGroups = (r : RenamingFields) (entries : List EntryFields) → grouped (renamed_entries r entries) ≡ grouped entries
+RenamedEntriesStayInGroups = (r : RenamingFields) → MappedEntriesStayInGroups (renamed r)
 
 -- Entries in order stay in order when they are renamed, wherever the new places are.
 abbrev pub RenamedEntriesStayInOrder : Type 0
-RenamedEntriesStayInOrder =
-    (r : RenamingFields) (created latest : ℕ) (first : Inode) (entries : List EntryFields)
-    → IsOrderlyChain created latest first entries → IsOrderlyChain created latest (renamed_inode r first) (renamed_entries r entries)
+RenamedEntriesStayInOrder = (r : RenamingFields) → MappedEntriesStayInOrder (renamed r)
 
 -- A checkpoint keeps the rules exactly where it keeps them with its pointers renamed.
 abbrev pub ARenamedCheckpointKeepsTheRules : Type 0
-ARenamedCheckpointKeepsTheRules = (r : RenamingFields) (c : CheckpointFields) → checkpoint_rules (record c { inode = renamed_inode r c.inode }) ≡ checkpoint_rules c
+ARenamedCheckpointKeepsTheRules = (r : RenamingFields) → AMappedCheckpointKeepsTheRules (renamed r)
 
 -- ---- moments and bytes
 
 -- The renamed entries up to a moment are the entries up to it, renamed.
 abbrev pub RenamedEntriesUpToAMoment : Type 0
-RenamedEntriesUpToAMoment = (r : RenamingFields) (t : ℕ) (entries : List EntryFields) → entries_by t (renamed_entries r entries) ≡ renamed_entries r (entries_by t entries)
+RenamedEntriesUpToAMoment = (r : RenamingFields) → MappedEntriesUpToAMoment (renamed r)
 
 -- Renamed entries have the moments that the entries had, in order.
 abbrev pub RenamedEntriesKeepTheirMoments : Type 0
-RenamedEntriesKeepTheirMoments = (r : RenamingFields) (entries : List EntryFields) → map (λ e. e.moment) (renamed_entries r entries) ≡ map (λ e. e.moment) entries
+RenamedEntriesKeepTheirMoments = (r : RenamingFields) → MappedEntriesKeepTheirMoments (renamed r)
 
 -- What a test finds of the moment of each entry it finds of each renamed one.
 abbrev pub RenamedEntriesHaveOldMoments : Type 0
-RenamedEntriesHaveOldMoments =
-    (r : RenamingFields) (within : ℕ → Bool) (entries : List EntryFields)
-    → AllByRecursion (λ e. within e.moment ≡ true) entries → AllByRecursion (λ e. within e.moment ≡ true) (renamed_entries r entries)
+RenamedEntriesHaveOldMoments = (r : RenamingFields) → MappedEntriesHaveOldMoments (renamed r)
 
 -- Each renamed entry is of the moment of an old one.
 abbrev pub TheMomentsOfRenamedEntriesAreOld : Type 0
-TheMomentsOfRenamedEntriesAreOld =
-    (r : RenamingFields) (entries : List EntryFields) (e : EntryFields)
-    → Contains (renamed_entries r entries) e → (f : EntryFields) × (Contains entries f × (f.moment ≡ e.moment))
+TheMomentsOfRenamedEntriesAreOld = (r : RenamingFields) → TheMomentsOfMappedEntriesAreOld (renamed r)
 
 -- Renamed entries have as many bytes as the entries, each and all together. So they are packed into as many journal blocks.
 abbrev pub RenamedEntriesTakeAsManyBytes : Type 0
-RenamedEntriesTakeAsManyBytes = (r : RenamingFields) (entries : List EntryFields) → map entry_length (renamed_entries r entries) ≡ map entry_length entries
+RenamedEntriesTakeAsManyBytes = (r : RenamingFields) → MappedEntriesTakeAsManyBytes (renamed r)
 
 abbrev pub ARenamedChainTakesAsManyBytes : Type 0
-ARenamedChainTakesAsManyBytes = (r : RenamingFields) (entries : List EntryFields) → entries_length (renamed_entries r entries) ≡ entries_length entries
+ARenamedChainTakesAsManyBytes = (r : RenamingFields) → AMappedChainTakesAsManyBytes (renamed r)
 
 -- ---- versions
 

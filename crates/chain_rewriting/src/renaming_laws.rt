@@ -32,10 +32,9 @@ ghost use Rattle.chain_rewriting.specs.Places.{OneMoreMoves, PlacesStayDistinct}
 ghost use Rattle.chain_rewriting.specs.Places.{NewPlacesAnswerAlike, ATestTellsApart};
 ghost use Rattle.chain_rewriting.specs.Places.{ApartFromEitherEnd};
 
-use inode::laws::{only_its_blocks_matter, ranges_join_and_part};
+use crate::mapping_laws::a_mapped_chain_shows_the_same;
 
 /// Renaming commutes with undo and redo, of one entry and of a list.
-#[tactic(auto, using(crate::proofs::Renamed::redone_renamed, crate::proofs::Renamed::undone_renamed, crate::proofs::Renamed::redone_all_renamed, crate::proofs::Renamed::undone_all_renamed))]
 pub fn renaming_commutes_with_undo_and_redo()
     ensures redo { RenamingCommutesWithRedo }
     ensures undo { RenamingCommutesWithUndo }
@@ -46,7 +45,6 @@ pub fn renaming_commutes_with_undo_and_redo()
 /// Renamed entries lead from the renamed first inode of a run to its renamed last one, and show at
 /// each moment the renamed inode, whose pointers are the renamed ones. A blank inode stays as it
 /// is.
-#[tactic(auto, using(crate::proofs::Renamed::run_renamed, crate::proofs::Renamed::inode_after_renamed, crate::proofs::Renamed::pointer_renamed, crate::proofs::Renamed::blank_renamed))]
 pub fn a_renamed_run_is_a_run()
     ensures link { ARenamedLinkIsALink }
     ensures run { ARenamedRunIsARun }
@@ -57,7 +55,6 @@ pub fn a_renamed_run_is_a_run()
 
 /// Renaming is one to one on places that aren't new, where the new ones are distinct; so renamed
 /// entries keep the rules of entries.
-#[tactic(auto, using(crate::proofs::Rules::one_to_one, crate::proofs::Rules::all_rules))]
 pub fn renaming_is_one_to_one()
     ensures places { RenamingIsOneToOne }
     ensures rules { RenamedEntriesKeepTheRules }
@@ -69,7 +66,6 @@ pub fn a_renamed_chain_is_a_chain()
 {}
 
 /// Renamed entries have the moments of the old ones.
-#[tactic(auto, using(crate::proofs::RenamedOrdered::moments_renamed, crate::proofs::RenamedOrdered::within_renamed))]
 pub fn renamed_entries_keep_their_moments()
     ensures moments { RenamedEntriesKeepTheirMoments }
     ensures within { RenamedEntriesHaveOldMoments }
@@ -77,7 +73,6 @@ pub fn renamed_entries_keep_their_moments()
 {}
 
 /// Renamed entries have as many bytes as the old ones, each and all together.
-#[tactic(auto, using(crate::proofs::RenamedOrdered::lengths_renamed, crate::proofs::RenamedOrdered::bytes_renamed))]
 pub fn a_renamed_chain_takes_as_many_bytes()
     ensures each { RenamedEntriesTakeAsManyBytes }
     ensures all { ARenamedChainTakesAsManyBytes }
@@ -85,7 +80,6 @@ pub fn a_renamed_chain_takes_as_many_bytes()
 
 /// Renamed entries are in groups and in order where the entries were, and those up to a moment are
 /// those up to it, renamed. None of this asks where the new places are.
-#[tactic(auto, using(crate::proofs::RenamedOrdered::groups_renamed, crate::proofs::RenamedOrdered::order_renamed, crate::proofs::Renamed::entries_by_renamed))]
 pub fn renamed_entries_stay_in_order()
     ensures groups { RenamedEntriesStayInGroups }
     ensures order { RenamedEntriesStayInOrder }
@@ -94,7 +88,6 @@ pub fn renamed_entries_stay_in_order()
 
 /// A checkpoint whose pointers are renamed keeps the rules of checkpoints exactly where it kept
 /// them.
-#[tactic(auto, using(crate::proofs::Kept::rules_renamed))]
 pub fn a_renamed_checkpoint_keeps_the_rules()
     ensures { ARenamedCheckpointKeepsTheRules }
 {}
@@ -103,16 +96,14 @@ pub fn a_renamed_checkpoint_keeps_the_rules()
 pub fn a_renamed_inode_means_the_same()
     ensures { ARenamedInodeMeansTheSame }
 {
-    only_its_blocks_matter();
-    ranges_join_and_part();
+    a_mapped_chain_shows_the_same();
 }
 
 /// At each moment a renamed chain shows over the copied blocks what the old one showed.
 pub fn a_renamed_chain_shows_the_same()
     ensures { ARenamedChainShowsTheSame }
 {
-    a_renamed_inode_means_the_same();
-    what_a_chain_tells();
+    a_mapped_chain_shows_the_same();
 }
 
 /// What a chain tells is told by the list of its pointers, and from either end. At each moment the
@@ -126,7 +117,6 @@ pub fn what_a_chain_tells()
 
 /// What a renamed chain tells of is what the old one told of, renamed: in the same order, and at
 /// each moment.
-#[tactic(auto, using(crate::proofs::Told::pointed_renamed, crate::proofs::Listed::told_in_order))]
 pub fn a_renamed_chain_tells_of_renamed_places()
     ensures order { ARenamedChainTellsInOrder }
     ensures told { ARenamedChainTellsOfRenamedPlaces }
