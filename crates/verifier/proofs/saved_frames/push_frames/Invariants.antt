@@ -4,6 +4,6 @@ use Rattle.verifier.proofs.saved_frames.push_frames.Given as goal
 
 abbrev pub invariant-loop-frame : goal.invariant-loop-frame
 invariant-loop-frame g l = record {
-  same : l.drive ≡ l.initial.drive;
-  added : AreAdded l.initial.drive.store.table l.frame l.initial.out.items l.out.items;
+  same : l.frames ≡ l.initial.frames;
+  added : AreAdded (g.F.OverFrames.table l.initial.frames) l.frame l.initial.out.items l.out.items;
 }
