@@ -2,11 +2,11 @@ pub mod CheckpointLemmas
 pub mod Fresh
 pub mod OrderKept
 pub mod MovedBlocks
+pub mod WrittenRow
 pub mod MovedRow
 pub mod Places
 pub mod Pushing
 pub mod Recently
-pub mod RewrittenBlocks
 pub mod RewrittenRow
 pub mod SetAside
 pub mod Sides

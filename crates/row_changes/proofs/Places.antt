@@ -1,5 +1,5 @@
 -- What a table shows where a checkpoint is put, the object's journal changes, and the older checkpoint is dropped.
-use Rattle.std.proofs.Common.{◌≡◌, inl, inr, ℕ, Bool, true, false, List, [], ◌++◌, take, Option, Some, None, IsSome, MatchOption, is_some, refl, sym, ap, subst, ◌∙◌}
+use Rattle.std.proofs.Common.{◌≡◌, inl, inr, ℕ, ◌+◌, arith, Bool, true, false, List, [], ◌++◌, take, Option, Some, None, IsSome, MatchOption, is_some, refl, sym, ap, subst, ◌∙◌}
 use Rattle.std.specs.List.{Contains}
 use Rattle.std.specs.List.{AllByRecursion}
 use Rattle.std.proofs.lemmas.Bool.{cases_Bool, both_ways, false≢true}
@@ -169,6 +169,17 @@ new_alone log between chained after o p older s d only q there = elim (cases_Boo
   ]
 ]
 
+-- where that was dropped, and none put, none is left
+pub none_left : (log after : Place → Option Stored) (o : ℕ) (older : Option Place) → DropsCheckpoint log o older after → OnlyOlder log o older → (q : Place) → of_checkpoints o after q ≡ None
+none_left log after o older d only q = elim (cases_Bool (is_one_of (places_named (of_checkpoints o log) older) q)) [
+  | inl old ↦ ap (seen_of o) (d.gone q old)
+  | inr beside ↦ ap (seen_of o) (d.kept q beside) ∙ unseen (of_checkpoints o log q) (λ there. both_ways false refl (sym beside ∙ only q there))
+]
+  where
+    unseen : (seen : Option (List ℕ)) → (IsSome seen → ⊥) → seen ≡ None
+    unseen None none = refl
+    unseen (Some bytes) none = absurd (none refl)
+
 -- each of its blocks is at a place that was taken
 pub new_among : (n : ℕ) (log between after : Log) (o : ℕ) (p : Place) (older : Option Place) → Put log.held between.held between.held o p older → DropsCheckpoint between.held o older after.held → OnlyOlder log.held o older → TakesPlaces n log between
     → (q : Place) → IsSome (of_checkpoints o after.held q) → Contains (take n log.ahead) q
@@ -196,3 +207,13 @@ moved log between after o p older s d =
 -- a checkpoint that is put, and then one that is dropped, change checkpoints alone
 pub put_only : (before between after : Place → Option Stored) (o : ℕ) (p : Place) → PutsCheckpoint before o p between → OnlyCheckpointChanged o between after → OnlyCheckpointChanged o before after
 put_only before between after o p put only k other h = only k other h ∙ put.others k other h
+
+-- ---- places that are taken
+
+-- Two changes in turn take as many places as both together.
+abbrev pub AddUp : Type 0
+AddUp = (n m : ℕ) (first second third : Log) → TakesPlaces n first second → TakesPlaces m second third → TakesPlaces (n + m) first third
+
+-- the checkpoint takes its places, and the drop none
+pub taken_first : (log between after : Log) (n : ℕ) → AddUp → TakesPlaces n log between → TakesPlaces 0 between after → TakesPlaces n log after
+taken_first log between after n law put dropped = subst (λ k. TakesPlaces k log after) (let same : n + 0 ≡ n = omega arith in same) (law n 0 log between after put dropped)

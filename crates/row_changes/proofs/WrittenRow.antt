@@ -1,139 +1,130 @@
--- What a row tells once its checkpoint and its journal were written anew, each as of its own moments.
-use Rattle.std.proofs.Common.{◌≡◌, ℕ, ◌+◌, Bool, true, false, ◌==◌, ◌&&◌, ◌||◌, List, [], take, drop, Option, Some, None, IsSome, IfSome, is_some, MatchOption, refl, sym, ap, subst, ◌∙◌}
+-- What a row tells once its checkpoint, if it has one, and its journal were written.
+use Rattle.std.proofs.Common.{◌≡◌, ℕ, ◌+◌, ◌≤◌, Bool, true, false, ◌==◌, ◌&&◌, ◌||◌, List, [], take, drop, Option, Some, None, IsSome, IfSome, is_some, MatchOption, refl, sym, ap, subst, ◌∙◌}
 use Rattle.std.specs.List.{Contains}
 use Rattle.std.proofs.lemmas.Bool.{false≢true}
 use Rattle.std.proofs.lemmas.List.Elements.{Contains-append_left, Contains-append_right}
 use Rattle.std.proofs.Math.Seq.{take-add}
 use Rattle.s4_types.specs.Pointer.{Place}
-use Rattle.block_log.specs.Log.{Log, Stored, of_kind, same_kind}
+use Rattle.block_log.specs.Log.{Log, Stored, same_kind}
 use Rattle.block_log.specs.Taken.{TakesPlaces}
 use Rattle.block_log.specs.declared.kinds.BlockKind.{BlockKind}
 use Rattle.block_log.specs.declared.kinds.BlockKind.TheVariants.{Journal, Checkpoint, Data, Pointers}
 use Rattle.codec.specs.declared.inodes.Inode.{Inode}
 use Rattle.codec.specs.Entry.{EntryFields}
-use Rattle.codec.specs.Checkpoint.{CheckpointFields}
+use Rattle.codec.specs.Checkpoint.{CheckpointFields, checkpoint_rules}
 use Rattle.codec.specs.Fields.{◌>>=◌}
 use Rattle.undo_redo.specs.Runs.{Run, inode_after, redone_all}
 use Rattle.undo_redo.specs.Groups.{grouped}
 use Rattle.checkpoint.specs.Held.{is_checkpoint_kind, checkpoint_held, checkpoint_in, places_named, of_checkpoints, is_one_of, OnlyCheckpointChanged}
 use Rattle.object_map.specs.declared.map.Row.{Row}
 use Rattle.journal_chain.specs.Chain.{BlockView, ChainFields, Holds, OnlyJournalChanged}
-use Rattle.time_read.specs.Rows.{chain_of, entries_of, inode_before, first_of, inode_of, checkpoint_of, IsRow}
+use Rattle.time_read.specs.Rows.{chain_of, entries_of, inode_before, first_of, inode_of, checkpoint_of, IsRow, SidesAscend}
 use Rattle.time_read.specs.Orderly.{IsFromTo, IsOrderlyChain, IsOrderly, BeginsDead}
 use Rattle.row_changes.specs.Rewritten.{OnlyMetadataChanged}
-use Rattle.row_changes.specs.Moving.{CanTell, checkpoint_at, checkpoint_with, first_with}
+use Rattle.row_changes.specs.Moving.{CanWrite, checkpoint_made, checkpoint_kept, first_kept}
 use Rattle.row_changes.proofs.Places.{alone_of_all, no_sides}
 
--- the row with another checkpoint, of the same moment, and another chain
-abbrev pub with_moved : Row → Option Place → Option Place → ℕ → ℕ → Row
-with_moved row p head bytes filled = record { created = row.created; checkpoint = p; checkpoint_moment = row.checkpoint_moment; head = head; journal_bytes = bytes; head_bytes = filled; sides = row.sides; stamp = row.stamp }
+-- the row with another checkpoint, of this moment, and another chain
+abbrev pub with_written : Row → Option Place → ℕ → Option Place → ℕ → ℕ → Row
+with_written row p m head bytes filled = record { created = row.created; checkpoint = p; checkpoint_moment = m; head = head; journal_bytes = bytes; head_bytes = filled; sides = row.sides; stamp = row.stamp }
 
--- A journal that an object's row can tell stands: its inode in a checkpoint at a place, if there is one, and its entries in a
--- chain; and no block of another checkpoint of the object is held. The row names no older checkpoints.
-pub record Stands (held later : Place → Option Stored) (o : ℕ) (row : Row) (kept : Option Inode) (entries : List EntryFields) (p h : Option Place) (b f : ℕ) : Type 0 where
-  pub was : IsRow held o row
+-- What a row can tell is held: its inode in a checkpoint of a moment at a place, if there is one, and its entries in a chain;
+-- and no block of another checkpoint of the object is held. The row names no older checkpoints.
+pub record Stands (later : Place → Option Stored) (o : ℕ) (row : Row) (m : ℕ) (kept : Option Inode) (entries : List EntryFields) (p h : Option Place) (b f : ℕ) : Type 0 where
+  pub object : 1 ≤ o
   pub none : row.sides ≡ []
-  pub tell : CanTell o row kept entries
-  pub some : is_some p ≡ is_some row.checkpoint
-  pub told : checkpoint_of later o (with_moved row p h b f) ≡ checkpoint_with o row kept
+  pub tell : CanWrite o row.created m kept entries
+  pub some : is_some p ≡ is_some kept
+  pub told : checkpoint_of later o (with_written row p m h b f) ≡ checkpoint_kept o m kept
   pub only : (q : Place) → IsSome (of_checkpoints o later q) → is_one_of (places_named (of_checkpoints o later) p) q ≡ true
-  pub holds : Holds later (chain_of o (with_moved row p h b f)) entries
-  pub found : entries_of later o (with_moved row p h b f) ≡ entries
+  pub holds : Holds later (chain_of o (with_written row p m h b f)) entries
+  pub found : entries_of later o (with_written row p m h b f) ≡ entries
 
-pub moved_first : (held later : Place → Option Stored) (o : ℕ) (row : Row) (kept : Option Inode) (entries : List EntryFields) (p h : Option Place) (b f : ℕ) → Stands held later o row kept entries p h b f
-    → first_of later o (with_moved row p h b f) ≡ first_with o row kept entries
-moved_first held later o row kept entries p h b f s =
-    ap (λ (es : List EntryFields). inode_before row.created row.checkpoint_moment es (checkpoint_of later o (with_moved row p h b f))) s.found
-    ∙ ap (λ (c : Option CheckpointFields). inode_before row.created row.checkpoint_moment entries c) s.told
+pub written_first : (later : Place → Option Stored) (o : ℕ) (row : Row) (m : ℕ) (kept : Option Inode) (entries : List EntryFields) (p h : Option Place) (b f : ℕ) → Stands later o row m kept entries p h b f
+    → first_of later o (with_written row p m h b f) ≡ first_kept o row.created m kept entries
+written_first later o row m kept entries p h b f s =
+    ap (λ (es : List EntryFields). inode_before row.created m es (checkpoint_of later o (with_written row p m h b f))) s.found
+    ∙ ap (λ (c : Option CheckpointFields). inode_before row.created m entries c) s.told
 
-pub moved_inode : (held later : Place → Option Stored) (o : ℕ) (row : Row) (kept : Option Inode) (entries : List EntryFields) (p h : Option Place) (b f : ℕ) (t : ℕ) → Stands held later o row kept entries p h b f
-    → inode_of later o (with_moved row p h b f) t ≡ inode_after (first_with o row kept entries) entries t
+pub written_inode : (later : Place → Option Stored) (o : ℕ) (row : Row) (m : ℕ) (kept : Option Inode) (entries : List EntryFields) (p h : Option Place) (b f : ℕ) (t : ℕ) → Stands later o row m kept entries p h b f
+    → inode_of later o (with_written row p m h b f) t ≡ inode_after (first_kept o row.created m kept entries) entries t
 unfolding inode_of
-moved_inode held later o row kept entries p h b f t s =
-    ap (λ (es : List EntryFields). inode_after (first_of later o (with_moved row p h b f)) es t) s.found
-    ∙ ap (λ (i : Inode). inode_after i entries t) (moved_first held later o row kept entries p h b f s)
-
--- a checkpoint of the moment, with the inode that is current then
-told_now : (o m : ℕ) (row : Row) (kept : Option Inode) (i : Inode) → is_some kept ≡ true → m ≡ row.checkpoint_moment → IfSome kept (λ k. k ≡ i) → checkpoint_with o row kept ≡ Some (record { object = o; moment = m; inode = i })
-told_now o m row None i some at is = absurd (false≢true some)
-told_now o m row (Some k) i some at is = ap (λ (j : Inode). Some (checkpoint_at o row j)) is ∙ ap (λ n. Some (record { object = o; moment = n; inode = i })) (sym at)
+written_inode later o row m kept entries p h b f t s =
+    ap (λ (es : List EntryFields). inode_after (first_of later o (with_written row p m h b f)) es t) s.found
+    ∙ ap (λ (i : Inode). inode_after i entries t) (written_first later o row m kept entries p h b f s)
 
 current_is : (kept : Option Inode) (i j : Inode) → i ≡ j → IfSome kept (λ k. k ≡ i) → IfSome kept (λ k. k ≡ j)
 current_is None i j same is = tt
 current_is (Some k) i j same is = is ∙ same
 
-no_moment : (A : Place → Type 0) (was : Option Place) (m : ℕ) → is_some was ≡ false → MatchOption was (m ≡ 0) A → m ≡ 0
-no_moment A None m none is = is
-no_moment A (Some p) m none is = absurd (false≢true (sym none))
-
 -- the row's checkpoint, if there is one, tells the inode of its moment; else that moment is 0
-checkpoint_tells : (later : Place → Option Stored) (o m : ℕ) (row : Row) (kept : Option Inode) (i : Inode) (p : Option Place) (A : Place → Type 0) → is_some p ≡ is_some row.checkpoint → is_some kept ≡ is_some row.checkpoint → m ≡ row.checkpoint_moment
-    → MatchOption row.checkpoint (row.checkpoint_moment ≡ 0) A → IfSome kept (λ k. k ≡ i)
-    → checkpoint_of later o (record row { checkpoint = p }) ≡ checkpoint_with o row kept
+checkpoint_tells : (later : Place → Option Stored) (o m : ℕ) (row : Row) (kept : Option Inode) (i : Inode) (p : Option Place) (R : Inode → Type 0) → is_some p ≡ is_some kept
+    → MatchOption kept (m ≡ 0) R → IfSome kept (λ k. k ≡ i) → checkpoint_of later o (record row { checkpoint = p }) ≡ checkpoint_kept o m kept
     → MatchOption p (m ≡ 0) (λ q. checkpoint_held later o q ≡ Some (record { object = o; moment = m; inode = i }))
-checkpoint_tells later o m row kept i None A some too at was is told = at ∙ no_moment A row.checkpoint row.checkpoint_moment (sym some) was
-checkpoint_tells later o m row kept i (Some q) A some too at was is told = told ∙ told_now o m row kept i (too ∙ sym some) at is
+checkpoint_tells later o m row None i None R some rules is told = rules
+checkpoint_tells later o m row (Some k) i None R some rules is told = absurd (false≢true some)
+checkpoint_tells later o m row None i (Some q) R some rules is told = absurd (false≢true (sym some))
+checkpoint_tells later o m row (Some k) i (Some q) R some rules is told = told ∙ ap (λ (j : Inode). Some (checkpoint_made o m j)) is
 
-pub moved_row : (held later : Place → Option Stored) (o : ℕ) (row : Row) (kept : Option Inode) (entries : List EntryFields) (p h : Option Place) (b f : ℕ) → Stands held later o row kept entries p h b f
-    → IsRow later o (with_moved row p h b f)
-moved_row held later o row kept entries p h b f s =
-    let next : Row = with_moved row p h b f in
-    let start : Inode = first_with o row kept entries in
-    let first : first_of later o next ≡ start = moved_first held later o row kept entries p h b f s in
+pub written_row : (later : Place → Option Stored) (o : ℕ) (row : Row) (m : ℕ) (kept : Option Inode) (entries : List EntryFields) (p h : Option Place) (b f : ℕ) → Stands later o row m kept entries p h b f
+    → IsRow later o (with_written row p m h b f)
+written_row later o row m kept entries p h b f s =
+    let next : Row = with_written row p m h b f in
+    let start : Inode = first_kept o row.created m kept entries in
+    let first : first_of later o next ≡ start = written_first later o row m kept entries p h b f s in
     let run : Run (first_of later o next) entries (redone_all entries start) = subst (λ (k : Inode). Run k entries (redone_all entries start)) (sym first) s.tell.run in
-    let now : inode_of later o next row.checkpoint_moment ≡ inode_after start entries row.checkpoint_moment = moved_inode held later o row kept entries p h b f row.checkpoint_moment s in
+    let now : inode_of later o next m ≡ inode_after start entries m = written_inode later o row m kept entries p h b f m s in
     record {
-      object = s.was.object;
+      object = s.object;
       chain = subst (λ (es : List EntryFields). Holds later (chain_of o next) es) (sym s.found) s.holds;
       last = redone_all entries start;
       run = subst (λ (es : List EntryFields). Run (first_of later o next) es (redone_all entries start)) (sym s.found) run;
       groups = ap grouped s.found ∙ s.tell.groups;
-      checkpoint = checkpoint_tells later o row.checkpoint_moment row kept (inode_of later o next row.checkpoint_moment) p
-          (λ q. checkpoint_held held o q ≡ Some (record { object = o; moment = row.checkpoint_moment; inode = inode_of held o row row.checkpoint_moment }))
-          s.some s.tell.same refl s.was.checkpoint (current_is kept (inode_after start entries row.checkpoint_moment) (inode_of later o next row.checkpoint_moment) (sym now) s.tell.current) s.told;
+      checkpoint = checkpoint_tells later o m row kept (inode_of later o next m) p (λ i. checkpoint_rules (checkpoint_made o m i) ≡ true)
+          s.some s.tell.rules (current_is kept (inode_after start entries m) (inode_of later o next m) (sym now) s.tell.current) s.told;
       sides = no_sides later o next row.sides s.none;
-      ascending = s.was.ascending;
+      ascending = subst SidesAscend (sym s.none) tt;
       only = λ q there. alone_of_all (of_checkpoints o later) (places_named (of_checkpoints o later) p) row.sides q s.none (s.only q there);
       created = ap (λ (k : Inode). k.created) first ∙ s.tell.created;
     }
 
-matched : (A B : Type 0) (old new : Option Place) → is_some new ≡ is_some old → MatchOption old A (λ q. B) → MatchOption new A (λ q. B)
+pub matched : {X Y : Type 0} (A B : Type 0) (old : Option X) (new : Option Y) → is_some new ≡ is_some old → MatchOption old A (λ _. B) → MatchOption new A (λ _. B)
 matched A B None None same h = h
 matched A B (Some p) (Some q) same h = h
 matched A B None (Some q) same h = absurd (false≢true (sym same))
 matched A B (Some p) None same h = absurd (false≢true same)
 
-pub moved_orderly : (held later : Place → Option Stored) (o : ℕ) (row : Row) (kept : Option Inode) (entries : List EntryFields) (p h : Option Place) (b f : ℕ) (latest : ℕ) → Stands held later o row kept entries p h b f
-    → IsOrderlyChain row.created latest (first_with o row kept entries) entries → IsFromTo 1 latest row.created
-    → MatchOption row.checkpoint (BeginsDead entries) (λ q. IsFromTo row.created latest row.checkpoint_moment) → IsOrderly later o (with_moved row p h b f) latest
-moved_orderly held later o row kept entries p h b f latest s orderly made at =
-    let next : Row = with_moved row p h b f in
-    let begun : IsOrderlyChain row.created latest (first_of later o next) entries = subst (λ (k : Inode). IsOrderlyChain row.created latest k entries) (sym (moved_first held later o row kept entries p h b f s)) orderly in
+pub written_orderly : (later : Place → Option Stored) (o : ℕ) (row : Row) (m : ℕ) (kept : Option Inode) (entries : List EntryFields) (p h : Option Place) (b f : ℕ) (latest : ℕ) → Stands later o row m kept entries p h b f
+    → IsOrderlyChain row.created latest (first_kept o row.created m kept entries) entries → IsFromTo 1 latest row.created
+    → MatchOption kept (BeginsDead entries) (λ i. IsFromTo row.created latest m) → IsOrderly later o (with_written row p m h b f) latest
+written_orderly later o row m kept entries p h b f latest s orderly made at =
+    let next : Row = with_written row p m h b f in
+    let begun : IsOrderlyChain row.created latest (first_of later o next) entries = subst (λ (k : Inode). IsOrderlyChain row.created latest k entries) (sym (written_first later o row m kept entries p h b f s)) orderly in
     record {
       made = made;
       chain = subst (λ (es : List EntryFields). IsOrderlyChain row.created latest (first_of later o next) es) (sym s.found) begun;
-      checkpoint = matched (BeginsDead (entries_of later o next)) (IsFromTo row.created latest row.checkpoint_moment) row.checkpoint p s.some
-          (subst (λ (es : List EntryFields). MatchOption row.checkpoint (BeginsDead es) (λ q. IsFromTo row.created latest row.checkpoint_moment)) (sym s.found) at);
+      checkpoint = matched (BeginsDead (entries_of later o next)) (IsFromTo row.created latest m) kept p s.some
+          (subst (λ (es : List EntryFields). MatchOption kept (BeginsDead es) (λ i. IsFromTo row.created latest m)) (sym s.found) at);
     }
 
 -- ---- the checkpoint was put first, and then the chain
 
 -- a chain is the one that a row tells of where the row has its head and its counts
-chain_told : (o : ℕ) (row : Row) (p h : Option Place) (b f : ℕ) (chain : ChainFields) → chain.object ≡ o → h ≡ chain.head → b ≡ chain.bytes → f ≡ chain.filled → chain ≡ chain_of o (with_moved row p h b f)
-chain_told o row p h b f chain object head bytes filled =
+chain_told : (o : ℕ) (row : Row) (p : Option Place) (m : ℕ) (h : Option Place) (b f : ℕ) (chain : ChainFields) → chain.object ≡ o → h ≡ chain.head → b ≡ chain.bytes → f ≡ chain.filled → chain ≡ chain_of o (with_written row p m h b f)
+chain_told o row p m h b f chain object head bytes filled =
     ap (λ n. record { object = n; head = chain.head; bytes = chain.bytes; filled = chain.filled }) object
     ∙ ap (λ q. record { object = o; head = q; bytes = chain.bytes; filled = chain.filled }) (sym head)
     ∙ ap (λ n. record { object = o; head = h; bytes = n; filled = chain.filled }) (sym bytes)
     ∙ ap (λ n. record { object = o; head = h; bytes = b; filled = n }) (sym filled)
 
-pub holds_told : (later : Place → Option Stored) (o : ℕ) (row : Row) (p h : Option Place) (b f : ℕ) (chain : ChainFields) (entries : List EntryFields) → chain.object ≡ o → h ≡ chain.head → b ≡ chain.bytes → f ≡ chain.filled
-    → Holds later chain entries → Holds later (chain_of o (with_moved row p h b f)) entries
-holds_told later o row p h b f chain entries object head bytes filled holds = subst (λ (c : ChainFields). Holds later c entries) (chain_told o row p h b f chain object head bytes filled) holds
+pub holds_told : (later : Place → Option Stored) (o : ℕ) (row : Row) (p : Option Place) (m : ℕ) (h : Option Place) (b f : ℕ) (chain : ChainFields) (entries : List EntryFields) → chain.object ≡ o → h ≡ chain.head → b ≡ chain.bytes → f ≡ chain.filled
+    → Holds later chain entries → Holds later (chain_of o (with_written row p m h b f)) entries
+holds_told later o row p m h b f chain entries object head bytes filled holds = subst (λ (c : ChainFields). Holds later c entries) (chain_told o row p m h b f chain object head bytes filled) holds
 
 -- what is told of checkpoints stays where journals alone change
-pub told_still : (between later : Place → Option Stored) (o : ℕ) (row : Row) (kept : Option Inode) (p h : Option Place) (b f : ℕ) → of_checkpoints o later ≡ of_checkpoints o between
-    → checkpoint_of between o (record row { checkpoint = p }) ≡ checkpoint_with o row kept → checkpoint_of later o (with_moved row p h b f) ≡ checkpoint_with o row kept
-told_still between later o row kept p h b f same told = ap (λ (v : BlockView). p >>= λ q. checkpoint_in v q) same ∙ told
+pub told_still : (between later : Place → Option Stored) (o : ℕ) (row : Row) (m : ℕ) (kept : Option Inode) (p h : Option Place) (b f : ℕ) → of_checkpoints o later ≡ of_checkpoints o between
+    → checkpoint_of between o (record row { checkpoint = p }) ≡ checkpoint_kept o m kept → checkpoint_of later o (with_written row p m h b f) ≡ checkpoint_kept o m kept
+told_still between later o row m kept p h b f same told = ap (λ (v : BlockView). p >>= λ q. checkpoint_in v q) same ∙ told
 
 -- a view that is of neither the journal nor the checkpoints is of no journal, and of no checkpoints
 no_journal : (kind : BlockKind) (same : Bool) → ((same_kind Journal kind || is_checkpoint_kind kind) && same) ≡ false → (same_kind Journal kind && same) ≡ false

@@ -1,9 +1,11 @@
-ghost use Rattle.std.specs.Prelude.{◌≡◌, ℕ, ◌<◌, ◌≤◌, true, [], length, Some, IsSome, IfSome, IfOk};
-ghost use Rattle.std.specs.Prelude.{OnErr, MatchResult};
+ghost use Rattle.std.specs.Prelude.{◌≡◌, ℕ, ◌<◌, ◌≤◌, true, [], length, None, Some, IsSome, IfSome};
+ghost use Rattle.std.specs.Prelude.{IfOk, OnErr, MatchResult};
+ghost use Rattle.s4_types.specs.Pointer.{Place};
 ghost use Rattle.s4_types.specs.declared.refusals.Refusal.TheVariants.{NoSpace};
 ghost use Rattle.block_log.specs.Taken.{TakesPlaces};
 ghost use Rattle.codec.specs.Checkpoint.{checkpoint_rules};
-ghost use Rattle.checkpoint.specs.Held.{checkpoint_held, checkpoint_blocks, HasItsBlocks};
+ghost use Rattle.checkpoint.specs.Held.{checkpoint_held, checkpoint_blocks, of_checkpoints};
+ghost use Rattle.checkpoint.specs.Held.{HasItsBlocks};
 ghost use Rattle.checkpoint.specs.Held.{OnlyCheckpointChanged, PutsCheckpoint, DropsCheckpoint};
 ghost use Rattle.object_map.specs.Sides.{sides_after, place_of};
 ghost use Rattle.time_read.specs.Rows.{IsRow, entries_of, checkpoint_of, inode_of};
@@ -137,6 +139,20 @@ pub fn record_checkpoint<B: Blocks>(
         checkpoint_moment: moment,
         ..next
     })
+}
+
+/// Drops the checkpoint that an object's row names, if it names one: no other of the object is held.
+pub(crate) fn drop_named<B: Blocks>(table: &mut B, object: ObjectId, row: &Row)
+    requires row { IsRow (B.log table.old).held object row.now }
+    requires sides { row.now.sides ≡ [] }
+    ensures gone { (p : Place) → of_checkpoints object (B.log table.new).held p ≡ None }
+    ensures others { OnlyCheckpointChanged object (B.log table.old).held (B.log table.new).held }
+    ensures named { (B.log table.new).named ≡ (B.log table.old).named }
+    ensures takes { TakesPlaces 0 (B.log table.old) (B.log table.new) }
+{
+    a_checkpoint_rests_on_its_blocks();
+    a_checkpoint_has_its_blocks();
+    drop_checkpoint(table, object, row.checkpoint);
 }
 
 /// Drops the older checkpoints of an object's row.

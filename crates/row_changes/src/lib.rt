@@ -12,8 +12,10 @@ mod checkpoints;
 pub mod laws;
 mod moves;
 mod rewrites;
+mod writing;
 
 pub use changes::record_change;
 pub use checkpoints::{drop_sides, record_checkpoint};
 pub use moves::{move_row, moved_blocks};
-pub use rewrites::{journal_blocks, rewrite_row, rewritten_blocks};
+pub use rewrites::{rewrite_row, rewritten_blocks};
+pub use writing::{journal_blocks, write_row};

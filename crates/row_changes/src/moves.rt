@@ -1,47 +1,34 @@
 //! An object's checkpoint and journal at other places, as of the moments that they have.
-ghost use Rattle.std.specs.Prelude.{◌≡◌, ℕ, ◌<◌, ◌≤◌, true, [], length, map, None, Some, IsSome};
-ghost use Rattle.std.specs.Prelude.{IfSome, IfOk, OnErr, MatchResult, MatchOption, is_some};
-ghost use Rattle.std.specs.Prelude.{option_copied, take};
+ghost use Rattle.std.specs.Prelude.{◌≡◌, ℕ, ◌<◌, ◌≤◌, [], length, map, IsSome, IfOk, OnErr};
+ghost use Rattle.std.specs.Prelude.{MatchResult, MatchOption, is_some, option_copied, take};
 ghost use Rattle.std.specs.List.{Contains};
 ghost use Rattle.s4_types.specs.Pointer.{Place};
-ghost use Rattle.s4_types.specs.declared.limits.TheConstants.{CHAIN_ENTRY_BYTES, CHECKPOINT_BLOCKS};
-ghost use Rattle.s4_types.specs.declared.limits.TheConstants.{JOURNAL_ENTRY_BYTES};
+ghost use Rattle.s4_types.specs.declared.limits.TheConstants.{CHECKPOINT_BLOCKS};
 ghost use Rattle.s4_types.specs.declared.refusals.Refusal.TheVariants.{NoRoom};
 ghost use Rattle.block_log.specs.declared.kinds.BlockKind.TheVariants.{Journal};
 ghost use Rattle.block_log.specs.Log.{of_kind};
 ghost use Rattle.block_log.specs.Taken.{TakesPlaces};
 ghost use Rattle.codec.specs.Entry.{entry_length, entries_length};
-ghost use Rattle.codec.specs.Checkpoint.{checkpoint_rules};
 ghost use Rattle.undo_redo.specs.Runs.{inode_after};
-ghost use Rattle.journal_chain.specs.Chain.{Holds, OnlyJournalChanged};
-ghost use Rattle.journal_chain.specs.Push.{whole_blocks};
-ghost use Rattle.checkpoint.specs.Held.{checkpoint_held, checkpoint_places, checkpoint_blocks};
-ghost use Rattle.checkpoint.specs.Held.{of_checkpoints, places_named, is_one_of};
-ghost use Rattle.checkpoint.specs.Held.{OnlyCheckpointChanged};
-ghost use Rattle.time_read.specs.Rows.{IsRow, chain_of, entries_of, first_of, checkpoint_of};
-ghost use Rattle.time_read.specs.Rows.{inode_of};
+ghost use Rattle.checkpoint.specs.Held.{of_checkpoints};
+ghost use Rattle.time_read.specs.Rows.{IsRow, entries_of, first_of, checkpoint_of, inode_of};
 ghost use Rattle.time_read.specs.Orderly.{IsFromTo, IsOrderly, IsOrderlyChain, BeginsDead};
 ghost use Rattle.row_changes.specs.Rewritten.{OnlyMetadataChanged};
-ghost use Rattle.row_changes.specs.Moving.{CanTell, kept_blocks, inode_kept, checkpoint_at};
-ghost use Rattle.row_changes.specs.Moving.{checkpoint_with, first_with, moved_blocks, row_blocks};
+ghost use Rattle.row_changes.specs.Moving.{CanTell, kept_blocks, inode_kept, checkpoint_with};
+ghost use Rattle.row_changes.specs.Moving.{first_with, moved_blocks, row_blocks};
 
-use crate::checkpoints::put_ahead;
-use crate::rewrites::journal_blocks;
+use crate::writing::write_row;
 use arrayvec::ArrayVec;
 use block_log::Blocks;
-use block_log::laws::{no_change_takes_no_place, places_taken_add_up};
-use checkpoint::laws::{
-    a_checkpoint_has_its_blocks, a_checkpoint_rests_on_its_blocks, a_checkpoint_takes_its_blocks,
-};
-use checkpoint::{checkpoint_blocks, drop_checkpoint, placed_blocks};
+use checkpoint::laws::{a_checkpoint_has_its_blocks, a_checkpoint_takes_its_blocks};
+use checkpoint::placed_blocks;
 use codec::{Entry, Inode};
 use journal_chain::Chain;
-use journal_chain::laws::{a_chain_has_its_entries, a_chain_is_its_journal_blocks, changes_add_up};
 use journal_chain::packing::blocks_needed;
 use journal_chain::packing::laws::{chains_are_short, few_blocks_are_needed};
 use object_map::Row;
 use s4_types::limits::CHAIN_ENTRIES;
-use s4_types::{ObjectId, Ptr, Refusal};
+use s4_types::{ObjectId, Refusal};
 use time_read::laws::a_row_tells_a_chain;
 
 /// The bytes of each entry of an object's journal. It is walked from the newest entry back.
@@ -65,17 +52,6 @@ fn sizes_told<B: Blocks>(
     }
     sizes.reverse();
     sizes
-}
-
-/// How many blocks the checkpoint of an inode takes, if there is one.
-fn kept_blocks(kept: Option<&Inode>) -> usize
-    ensures blocks { result ≡ kept_blocks (option_copied kept.entry) }
-    ensures few { result ≤ CHECKPOINT_BLOCKS }
-{
-    match kept {
-        None => 0,
-        Some(inode) => checkpoint_blocks(inode),
-    }
 }
 
 /// How many blocks the checkpoint of an object that has this row is in, if it has one.
@@ -103,120 +79,6 @@ pub fn moved_blocks<B: Blocks>(table: &mut B, object: ObjectId, row: &Row) -> us
     few_blocks_are_needed();
     let sizes = sizes_told(table, object, row);
     standing_blocks(table, object, row) + blocks_needed(0, sizes.as_slice())
-}
-
-/// Puts a checkpoint of this inode in place of the one that an object's row names, if it names one,
-/// where there is room.
-fn put_anew<B: Blocks>(table: &mut B, object: ObjectId, row: &Row, inode: &Inode) -> Ptr
-    requires row { IsRow (B.log table.old).held object row.now }
-    requires sides { row.now.sides ≡ [] }
-    requires rules { checkpoint_rules (checkpoint_at object row.now inode.now) ≡ true }
-    requires room { checkpoint_blocks inode.now ≤ length (B.log table.old).ahead }
-    ensures told { checkpoint_held (B.log table.new).held object result
-        ≡ Some (checkpoint_at object row.now inode.now) }
-    ensures only { (p : Place)
-        → IsSome (of_checkpoints object (B.log table.new).held p)
-        → is_one_of (checkpoint_places (B.log table.new).held object result) p ≡ true }
-    ensures places { (p : Place)
-        → IsSome (of_checkpoints object (B.log table.new).held p)
-        → Contains (take (checkpoint_blocks inode.now) (B.log table.old).ahead) p }
-    ensures others { OnlyCheckpointChanged object (B.log table.old).held (B.log table.new).held }
-    ensures takes { TakesPlaces (checkpoint_blocks inode.now) (B.log table.old) (B.log table.new) }
-    ensures named { (B.log table.new).named ≡ (B.log table.old).named }
-{
-    a_checkpoint_rests_on_its_blocks();
-    a_checkpoint_has_its_blocks();
-    places_taken_add_up();
-    let place = put_ahead(table, object, inode, row.checkpoint_moment);
-    drop_checkpoint(table, object, row.checkpoint);
-    place
-}
-
-/// Puts a checkpoint of this inode, if there is one, in place of the one that an object's row
-/// names, where there is room, and answers where it stands.
-fn move_checkpoint<B: Blocks>(
-    table: &mut B,
-    object: ObjectId,
-    row: &Row,
-    kept: Option<&Inode>,
-) -> Option<Ptr>
-    requires row { IsRow (B.log table.old).held object row.now }
-    requires sides { row.now.sides ≡ [] }
-    requires same { is_some (option_copied kept) ≡ is_some row.now.checkpoint }
-    requires rules { IfSome (option_copied kept)
-        (λ i. checkpoint_rules (checkpoint_at object row.now i) ≡ true) }
-    requires room { kept_blocks (option_copied kept) ≤ length (B.log table.old).ahead }
-    ensures told { checkpoint_of (B.log table.new).held object (record row.now { checkpoint = result }) ≡ checkpoint_with object row.now (option_copied kept.entry) }
-    ensures some { is_some result ≡ is_some row.now.checkpoint }
-    ensures only { (p : Place)
-        → IsSome (of_checkpoints object (B.log table.new).held p)
-        → is_one_of (places_named (of_checkpoints object (B.log table.new).held) result) p ≡ true }
-    ensures places { (p : Place)
-        → IsSome (of_checkpoints object (B.log table.new).held p)
-        → Contains (take (kept_blocks (option_copied kept.entry)) (B.log table.old).ahead) p }
-    ensures others { OnlyCheckpointChanged object (B.log table.old).held (B.log table.new).held }
-    ensures takes { TakesPlaces (kept_blocks (option_copied kept.entry)) (B.log table.old)
-        (B.log table.new) }
-    ensures named { (B.log table.new).named ≡ (B.log table.old).named }
-{
-    no_change_takes_no_place();
-    let inode = kept?;
-    Some(put_anew(table, object, row, inode))
-}
-
-/// Drops all journal blocks of an object, and answers its chain, of no entries.
-fn drop_chain<B: Blocks>(table: &mut B, object: ObjectId, row: &Row) -> Chain
-    requires object { 1 ≤ object }
-    requires bytes { row.now.journal_bytes ≤ CHAIN_ENTRY_BYTES }
-    requires one_block { row.now.head_bytes ≤ JOURNAL_ENTRY_BYTES }
-    requires held { Holds (B.log table.old).held (chain_of object row.now)
-        (entries_of (B.log table.old).held object row.now) }
-    ensures holds { Holds (B.log table.new).held result [] }
-    ensures object { result.object ≡ object }
-    ensures gone { (p : Place) → of_kind Journal object (B.log table.new).held p ≡ None }
-    ensures others { OnlyJournalChanged object (B.log table.old).held (B.log table.new).held }
-    ensures takes { TakesPlaces 0 (B.log table.old) (B.log table.new) }
-    ensures named { (B.log table.new).named ≡ (B.log table.old).named }
-{
-    let mut chain = Chain::of(object, row.head, row.journal_bytes, row.head_bytes);
-    let Ok(()) = chain.rewrite(table, &[]) else {
-        unreachable!()
-    };
-    chain
-}
-
-/// Drops all journal blocks of an object, and then writes its journal afresh where there is room,
-/// and answers its chain. So each journal block of it is at a place that was taken.
-pub(crate) fn move_chain<B: Blocks>(
-    table: &mut B,
-    object: ObjectId,
-    row: &Row,
-    entries: &[Entry],
-) -> Chain
-    requires object { 1 ≤ object }
-    requires bytes { row.now.journal_bytes ≤ CHAIN_ENTRY_BYTES }
-    requires one_block { row.now.head_bytes ≤ JOURNAL_ENTRY_BYTES }
-    requires held { Holds (B.log table.old).held (chain_of object row.now)
-        (entries_of (B.log table.old).held object row.now) }
-    requires limit { entries_length entries.now ≤ CHAIN_ENTRY_BYTES }
-    requires room { whole_blocks entries.now ≤ length (B.log table.old).ahead }
-    ensures holds { Holds (B.log table.new).held result entries.now }
-    ensures object { result.object ≡ object }
-    ensures places { (p : Place)
-        → IsSome (of_kind Journal object (B.log table.new).held p)
-        → Contains (take (whole_blocks entries.now) (B.log table.old).ahead) p }
-    ensures others { OnlyJournalChanged object (B.log table.old).held (B.log table.new).held }
-    ensures takes { TakesPlaces (whole_blocks entries.now) (B.log table.old) (B.log table.new) }
-    ensures named { (B.log table.new).named ≡ (B.log table.old).named }
-{
-    a_chain_has_its_entries();
-    places_taken_add_up();
-    changes_add_up();
-    let mut chain = drop_chain(table, object, row);
-    let Ok(()) = chain.rewrite(table, entries) else {
-        unreachable!()
-    };
-    chain
 }
 
 /// Writes an object's checkpoint, if it has one, with this inode, and then its whole journal afresh
@@ -289,20 +151,5 @@ pub fn move_row<B: Blocks>(
         < moved_blocks (option_copied kept.entry) entries.now)) }
     ensures unchanged { OnErr result (B.log table.new ≡ B.log table.old) }
 {
-    places_taken_add_up();
-    a_chain_has_its_entries();
-    a_chain_is_its_journal_blocks();
-    a_row_tells_a_chain();
-    if table.blocks_left() < kept_blocks(kept) + journal_blocks(entries) {
-        return Err(Refusal::NoRoom);
-    }
-    let checkpoint = move_checkpoint(table, object, row, kept);
-    let chain = move_chain(table, object, row, entries);
-    Ok(Row {
-        checkpoint,
-        head: chain.head(),
-        journal_bytes: chain.bytes() as u16,
-        head_bytes: chain.filled() as u16,
-        ..*row
-    })
+    write_row(table, object, row, kept, row.checkpoint_moment, entries)
 }

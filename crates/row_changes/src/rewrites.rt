@@ -1,62 +1,26 @@
-ghost use Rattle.std.specs.Prelude.{◌≡◌, ℕ, ◌<◌, ◌≤◌, true, [], length, map, Some, IsSome, IfOk};
-ghost use Rattle.std.specs.Prelude.{OnErr, MatchResult};
-ghost use Rattle.s4_types.specs.declared.limits.TheConstants.{CHAIN_ENTRIES, CHAIN_ENTRY_BYTES};
+ghost use Rattle.std.specs.Prelude.{◌≡◌, ℕ, ◌<◌, ◌≤◌, true, [], length, IsSome, IfOk, OnErr};
+ghost use Rattle.std.specs.Prelude.{MatchResult};
+ghost use Rattle.s4_types.specs.declared.limits.TheConstants.{CHAIN_ENTRY_BYTES};
 ghost use Rattle.s4_types.specs.declared.refusals.Refusal.TheVariants.{NoRoom};
 ghost use Rattle.block_log.specs.Taken.{TakesPlaces};
-ghost use Rattle.codec.specs.Entry.{entry_length, entries_length};
+ghost use Rattle.codec.specs.Entry.{entries_length};
 ghost use Rattle.codec.specs.Checkpoint.{checkpoint_rules};
 ghost use Rattle.undo_redo.specs.Runs.{AllBy, Run, inode_after, undone_all};
 ghost use Rattle.undo_redo.specs.Groups.{grouped};
-ghost use Rattle.journal_chain.specs.Push.{whole_blocks};
-ghost use Rattle.checkpoint.specs.Held.{checkpoint_blocks};
 ghost use Rattle.time_read.specs.Rows.{IsRow, entries_of, first_of, inode_of, last_inode};
 ghost use Rattle.time_read.specs.Orderly.{IsFromTo, IsOrderly, IsOrderlyChain};
 ghost use Rattle.row_changes.specs.Recent.{IsBy};
 ghost use Rattle.row_changes.specs.Rewritten.{OnlyMetadataChanged, rewritten_blocks};
 
-use crate::checkpoints::put_ahead;
-use crate::moves::move_chain;
-use arrayvec::ArrayVec;
+use crate::writing::{journal_blocks, write_row};
 use block_log::Blocks;
-use block_log::laws::places_taken_add_up;
-use checkpoint::laws::{a_checkpoint_has_its_blocks, a_checkpoint_rests_on_its_blocks};
-use checkpoint::{checkpoint_blocks, drop_checkpoint};
+use checkpoint::checkpoint_blocks;
 use codec::{Entry, Inode};
-use journal_chain::laws::{a_chain_has_its_entries, a_chain_is_its_journal_blocks};
-use journal_chain::packing::blocks_needed;
-use journal_chain::packing::laws::{chains_are_short, few_blocks_are_needed};
 use object_map::Row;
-use s4_types::limits::CHAIN_ENTRIES;
 use s4_types::{Moment, ObjectId, Refusal};
-use time_read::laws::a_row_tells_a_chain;
 use undo_redo::laws::{
     a_run_has_one_end_and_one_beginning, a_run_keeps_the_making, the_inode_at_a_moment,
 };
-
-/// The bytes of each of the entries of a chain.
-fn sizes_of(entries: &[Entry]) -> ArrayVec<usize, CHAIN_ENTRIES>
-    requires { length entries.now ≤ CHAIN_ENTRIES }
-    ensures { result.items ≡ map entry_length entries.now }
-{
-    let mut sizes = ArrayVec::new();
-    for entry in entries {
-        sizes.push(entry.byte_count());
-    }
-    sizes
-}
-
-/// How many places it takes to write a whole journal of these entries anew, of at most
-/// `CHAIN_ENTRY_BYTES`.
-pub fn journal_blocks(entries: &[Entry]) -> usize
-    requires { entries_length entries.now ≤ CHAIN_ENTRY_BYTES }
-    ensures blocks { result ≡ whole_blocks entries.now }
-    ensures few { result ≤ CHAIN_ENTRIES }
-{
-    chains_are_short();
-    few_blocks_are_needed();
-    let sizes = sizes_of(entries);
-    blocks_needed(0, sizes.as_slice())
-}
 
 /// How many places it takes to write an object's checkpoint of an inode and its whole journal anew
 /// with these entries, of at most `CHAIN_ENTRY_BYTES`: what `rewrite_row` counts before anything is
@@ -128,27 +92,8 @@ pub fn rewrite_row<B: Blocks>(
         × (length (B.log table.old).ahead < rewritten_blocks present.now entries.now)) }
     ensures unchanged { OnErr result (B.log table.new ≡ B.log table.old) }
 {
-    a_checkpoint_rests_on_its_blocks();
-    a_checkpoint_has_its_blocks();
-    places_taken_add_up();
-    a_chain_has_its_entries();
-    a_chain_is_its_journal_blocks();
-    a_row_tells_a_chain();
     a_run_has_one_end_and_one_beginning();
     a_run_keeps_the_making();
     the_inode_at_a_moment();
-    if table.blocks_left() < rewritten_blocks(present, entries) {
-        return Err(Refusal::NoRoom);
-    }
-    let place = put_ahead(table, object, present, moment);
-    let chain = move_chain(table, object, row, entries);
-    drop_checkpoint(table, object, row.checkpoint);
-    Ok(Row {
-        checkpoint: Some(place),
-        checkpoint_moment: moment,
-        head: chain.head(),
-        journal_bytes: chain.bytes() as u16,
-        head_bytes: chain.filled() as u16,
-        ..*row
-    })
+    write_row(table, object, row, Some(present), moment, entries)
 }

@@ -7,8 +7,7 @@ use Rattle.time_read.specs.Rows.{IsRow, inode_of}
 use Rattle.time_read.specs.Orderly.{IsOrderly}
 use Rattle.row_changes.specs.Recent.{IsBy}
 use Rattle.row_changes.specs.Moved.{IsMoved}
-use Rattle.row_changes.proofs.Places.{CheckpointLaws, Put, older_still, no_journal_yet, moved, put_only}
-use Rattle.row_changes.proofs.RewrittenBlocks.{taken_first}
+use Rattle.row_changes.proofs.Places.{CheckpointLaws, Put, older_still, no_journal_yet, moved, put_only, taken_first}
 use Rattle.row_changes.proofs.SetAside.{Parted, parted_aside, goes_there, keeps}
 use Rattle.row_changes.proofs.CheckpointLemmas.{Laws, with_checkpoint, written, written_row, written_by, written_inode}
 use Rattle.row_changes.proofs.OrderKept.{written_orderly}

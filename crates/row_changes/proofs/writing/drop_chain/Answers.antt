@@ -1,7 +1,7 @@
 use Rattle.std.proofs.Common.{ap, ◌∙◌}
 use Rattle.journal_chain.specs.Chain.{ChainFields}
 use Rattle.row_changes.proofs.MovedBlocks.{no_bytes, journal_gone}
-use Rattle.row_changes.proofs.moves.drop_chain.Goals as goal
+use Rattle.row_changes.proofs.writing.drop_chain.Goals as goal
 
 pub rewrite-requires-clause-limit : goal.rewrite-requires-clause-limit
 rewrite-requires-clause-limit g c = no_bytes

@@ -1,8 +1,7 @@
 use Rattle.std.proofs.Common.{◌∙◌}
 use Rattle.checkpoint.specs.Held.{checkpoint_blocks}
-use Rattle.row_changes.proofs.Places.{CheckpointLaws, Put, older_there, older_still, checkpoint_alone, no_journal_yet, told_on, new_alone, new_among, put_only}
-use Rattle.row_changes.proofs.RewrittenBlocks.{taken_first}
-use Rattle.row_changes.proofs.moves.put_anew.Goals as goal
+use Rattle.row_changes.proofs.Places.{CheckpointLaws, Put, older_there, older_still, checkpoint_alone, no_journal_yet, told_on, new_alone, new_among, put_only, taken_first}
+use Rattle.row_changes.proofs.writing.put_anew.Goals as goal
 
 pub drop_checkpoint-requires : goal.drop_checkpoint-requires
 drop_checkpoint-requires g c =
@@ -46,7 +45,7 @@ returns g c =
     let d = c.drop_checkpoint.ensures.dropped in
     let only = checkpoint_alone log.held o row c.requires.row c.requires.sides in
     record {
-      told = told_on log.held between.held between.held after.held o place row.checkpoint (record { object = o; moment = row.checkpoint_moment; inode = inode }) s d c.put_ahead-place.ensures.told;
+      told = told_on log.held between.held between.held after.held o place row.checkpoint (record { object = o; moment = c.args.moment; inode = inode }) s d c.put_ahead-place.ensures.told;
       only = new_alone log.held between.held between.held after.held o place row.checkpoint s d only;
       places = new_among (checkpoint_blocks inode) log between after o place row.checkpoint s d only c.put_ahead-place.ensures.takes;
       others = put_only log.held between.held after.held o place c.put_ahead-place.ensures.growth d.others;

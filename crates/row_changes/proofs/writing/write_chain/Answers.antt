@@ -2,7 +2,7 @@ use Rattle.std.proofs.Common.{subst}
 use Rattle.journal_chain.specs.Chain.{OnlyJournalChanged}
 use Rattle.journal_chain.specs.Push.{whole_blocks}
 use Rattle.row_changes.proofs.MovedBlocks.{journal_among}
-use Rattle.row_changes.proofs.moves.move_chain.Goals as goal
+use Rattle.row_changes.proofs.writing.write_chain.Goals as goal
 
 pub returns-clause-places : goal.returns-clause-places
 returns-clause-places g c =
