@@ -14,7 +14,7 @@ use Rattle.codec.specs.Fields.{Reads, kept}
 use Rattle.chain_rewriting.specs.CleaningLaws.{TellsWithin}
 use Rattle.chain_rewriting.specs.Mapping.{mapped_slot, mapped_triple, mapped_entry, IsOneToOne}
 use Rattle.chain_rewriting.specs.MappingLaws.{MappedEntriesKeepTheRules}
-use Rattle.chain_rewriting.specs.Renaming.{RenamingFields, move_of, is_in, new_place, renamed, renamed_triple, renamed_entry}
+use Rattle.chain_rewriting.specs.Renaming.{RenamingFields, move_of, is_in, new_place, renamed}
 use Rattle.chain_rewriting.specs.Apart.{HasDistinctPlaces, IsNotNew}
 use Rattle.chain_rewriting.specs.RenamingLaws.{RenamedEntriesKeepTheRules}
 use Rattle.chain_rewriting.specs.Places.{RenamingIsOneToOne}
@@ -76,6 +76,9 @@ one_to_one r p q distinct hp hq same = elim (slot_is (new_place r p)) [
   ]
 ]
 
+pub renaming_is : (r : RenamingFields) → HasDistinctPlaces r → IsOneToOne (IsNotNew r) (renamed r)
+renaming_is r distinct p q = one_to_one r p q distinct
+
 -- ---- the rules
 
 same_slot_places : (p q : Place) → same_slot (Some p) (Some q) ≡ true → p ≡ q
@@ -125,7 +128,7 @@ all_rules Is f [] one told h = tt
 all_rules Is f (e ∷ entries) one told h = (rules_mapped Is f e one told.0 ∙ h.0, all_rules Is f entries one told.1 h.1)
 
 pub renamed_rules : RenamedEntriesKeepTheRules
-renamed_rules r entries distinct = all_rules (IsNotNew r) (renamed r) entries (λ p q. one_to_one r p q distinct)
+renamed_rules r entries distinct = all_rules (IsNotNew r) (renamed r) entries (renaming_is r distinct)
 
 -- ---- for the code
 
@@ -139,10 +142,10 @@ entry_of m before after pair triples = record { moment = m; before = before; aft
 entry_of-same : (m n : ℕ) (a b c d : Status) (p q : Option Pair) (ts us : List Triple) → m ≡ n → a ≡ b → c ≡ d → p ≡ q → ts ≡ us → entry_of m a c p ts ≡ entry_of n b d q us
 entry_of-same m n a b c d p q ts us e f g h k = cc
 
--- the entry that is made of an entry's parts and of its renamed triples is the renamed one
-pub made_renamed : (r : RenamingFields) (e : EntryFields) (m : ℕ) (before after : Status) (pair : Option Pair) (triples : List Triple) (o : Option EntryFields) → HasDistinctPlaces r → TellsWithin (IsNotNew r) e → entry_rules e ≡ true → m ≡ e.moment → before ≡ e.before → after ≡ e.after → pair ≡ e.pair → triples ≡ map (renamed_triple r) e.triples → Reads (λ f. f) o (checked_entry (record { moment = m; before = before; after = after; pair = pair; triples = triples })) → o ≡ Some (renamed_entry r e)
+-- the entry that is made of an entry's parts and of its mapped triples is the mapped one
+pub made_mapped : (Is : Place → Type 0) (f : Place → Place) (e : EntryFields) (m : ℕ) (before after : Status) (pair : Option Pair) (triples : List Triple) (o : Option EntryFields) → IsOneToOne Is f → TellsWithin Is e → entry_rules e ≡ true → m ≡ e.moment → before ≡ e.before → after ≡ e.after → pair ≡ e.pair → triples ≡ map (mapped_triple f) e.triples → Reads (λ g. g) o (checked_entry (record { moment = m; before = before; after = after; pair = pair; triples = triples })) → o ≡ Some (mapped_entry f e)
 unfolding entry_of
-made_renamed r e m before after pair triples o distinct told rules em eb ea ep et h =
-    let is : entry_of m before after pair triples ≡ renamed_entry r e = entry_of-same m e.moment before e.before after e.after pair e.pair triples (map (renamed_triple r) e.triples) em eb ea ep et in
-    let read : Reads (λ f. f) o (checked_entry (renamed_entry r e)) = subst (λ (f : EntryFields). Reads (λ g. g) o (checked_entry f)) is h in
-    reads_some (entry_rules (renamed_entry r e)) (renamed_entry r e) o (rules_mapped (IsNotNew r) (renamed r) e (λ p q. one_to_one r p q distinct) told ∙ rules) read
+made_mapped Is f e m before after pair triples o one told rules em eb ea ep et h =
+    let is : entry_of m before after pair triples ≡ mapped_entry f e = entry_of-same m e.moment before e.before after e.after pair e.pair triples (map (mapped_triple f) e.triples) em eb ea ep et in
+    let read : Reads (λ g. g) o (checked_entry (mapped_entry f e)) = subst (λ (x : EntryFields). Reads (λ g. g) o (checked_entry x)) is h in
+    reads_some (entry_rules (mapped_entry f e)) (mapped_entry f e) o (rules_mapped Is f e one told ∙ rules) read

@@ -2,9 +2,10 @@
 //! pointers that lead to new places.
 //!
 //! The layers above may rely on this: `clean` answers exactly the kept chain of
-//! `specs/Cleaned.antt`. What can be seen of an object is asked of a `Sees`. A `Renaming` knows the
-//! new place of each block of a frame that moves, and renames pointers, inodes and entries exactly
-//! as `specs/Renaming.antt` says. No block and no table is reached.
+//! `specs/Cleaned.antt`. What can be seen of an object is asked of a `Sees`. `map_inode` and
+//! `map_entries` map the places of inodes and entries by a `MapsPlaces`, exactly as
+//! `specs/Mapping.antt` says. A `Renaming` is one: it knows the new place of each block of a frame
+//! that moves. No block and no table is reached.
 //!
 //! `cleaning_laws` says what holds of a kept chain. `mapping_laws` says what holds of one whose
 //! places are mapped to others, by any map that is one to one on them: it is a chain again, of as
@@ -15,9 +16,11 @@
 
 mod cleaning;
 pub mod cleaning_laws;
+mod mapping;
 pub mod mapping_laws;
 mod renaming;
 pub mod renaming_laws;
 
 pub use cleaning::{Cleaned, Sees, clean};
+pub use mapping::{MapsPlaces, map_entries, map_entry, map_inode, map_slot};
 pub use renaming::Renaming;

@@ -1,15 +1,15 @@
 //! The new places of the blocks of one frame, and pointers renamed by them.
-ghost use Rattle.std.specs.Prelude.{◌≡◌, ◌≤◌, length, map, MatchResult};
+ghost use Rattle.std.specs.Prelude.{◌≡◌, ◌≤◌, length, MatchResult};
 ghost use Rattle.std.specs.List.{AllByRecursion};
-ghost use Rattle.s4_types.specs.declared.limits.TheConstants.{PAYLOAD_BLOCKS, ENTRY_TRIPLES};
+ghost use Rattle.s4_types.specs.declared.limits.TheConstants.{PAYLOAD_BLOCKS};
 ghost use Rattle.s4_types.specs.declared.refusals.Refusal.TheVariants.{NoMemory};
 ghost use Rattle.chain_rewriting.specs.CleaningLaws.{TellsWithin};
-ghost use Rattle.chain_rewriting.specs.Renaming.{renaming_of, no_moves, with_move, renamed};
-ghost use Rattle.chain_rewriting.specs.Renaming.{renamed_slot, renamed_triple, renamed_entry};
+ghost use Rattle.chain_rewriting.specs.Renaming.{renaming_of, no_moves, with_move, renamed_slot};
 ghost use Rattle.chain_rewriting.specs.Renaming.{renamed_entries, renamed_inode};
 ghost use Rattle.chain_rewriting.specs.Apart.{HasDistinctPlaces, IsNotNew};
 
-use codec::{Entry, Inode, Triple, Triples};
+use crate::mapping::{MapsPlaces, map_entries, map_entry, map_inode, map_slot};
+use codec::{Entry, Inode};
 use s4_types::limits::PAYLOAD_BLOCKS;
 use s4_types::{Ptr, Refusal};
 use std::alloc::Global;
@@ -84,90 +84,31 @@ impl Renaming {
         &self.moves
     }
 
-    /// The new place, where the block at the place moves; else the place as it is.
-    fn rename_place(&self, place: Ptr) -> Ptr
-        ensures { result ≡ renamed self.now place }
-    {
-        if place.frame() != self.frame || place.generation() != self.generation {
-            return place;
-        }
-        self.moves[place.block() as usize - 1].unwrap_or(place)
-    }
-
     /// The pointer to the new place, where the block that the pointer refers to moves; else the
     /// pointer as it is.
     pub fn rename(&self, slot: Option<Ptr>) -> Option<Ptr>
         ensures exact { result ≡ renamed_slot self.now slot }
     {
-        slot.map(|place| self.rename_place(place))
+        map_slot(self, slot)
     }
 
     /// Renames all pointers of an inode; all else of it stays.
     pub fn rename_inode(&self, inode: &mut Inode)
         ensures exact { inode.new ≡ renamed_inode self.now inode.old }
     {
-        self.rename_slots(&mut inode.pointers);
-    }
-
-    #[tactic(auto, using(crate::proofs::Below::none_below, crate::proofs::Below::more_below, crate::proofs::Below::all_below))]
-    fn rename_slots(&self, slots: &mut [Option<Ptr>])
-        ensures { slots.new ≡ map (renamed_slot self.now) slots.old }
-    {
-        for slot in slots.iter_mut() {
-            *slot = self.rename(*slot);
-        }
-    }
-
-    /// Both pointers of a triple renamed.
-    fn rename_triple(&self, triple: Triple) -> Triple
-        ensures { result ≡ renamed_triple self.now triple }
-    {
-        Triple {
-            index: triple.index,
-            before: self.rename(triple.before),
-            after: self.rename(triple.after),
-        }
-    }
-
-    fn rename_triples(&self, triples: &[Triple]) -> Triples
-        requires { length triples.now ≤ ENTRY_TRIPLES }
-        ensures { result.items ≡ map (renamed_triple self.now) triples.now }
-    {
-        let mut renamed = Triples::new();
-        for triple in triples {
-            renamed.push(self.rename_triple(*triple));
-        }
-        renamed
-    }
-
-    fn rename_entry(&self, entry: &Entry) -> Entry
-        requires distinct { HasDistinctPlaces self.now }
-        requires apart { TellsWithin (IsNotNew self.now) entry.now }
-        ensures { result ≡ renamed_entry self.now entry.now }
-    {
-        let triples = self.rename_triples(entry.triples());
-        Entry::new(
-            entry.moment(),
-            entry.before(),
-            entry.after(),
-            entry.pair(),
-            triples,
-        )
-        .unwrap()
+        map_inode(self, inode);
     }
 
     /// Renames both pointers of each triple of each entry, in place. The new places must be
     /// distinct, and none of them one of which the entries tell. It takes no memory. Linear in the
     /// triples.
-    #[tactic(auto, using(crate::proofs::InPlace::none_before, crate::proofs::InPlace::all_before))]
+    #[tactic(auto, using(crate::proofs::Rules::renaming_is))]
     pub fn rename_in_place(&self, entries: &mut [Entry])
         requires distinct { HasDistinctPlaces self.now }
         requires apart { AllByRecursion (TellsWithin (IsNotNew self.now)) entries.old }
         ensures exact { entries.new ≡ renamed_entries self.now entries.old }
     {
-        for entry in entries.iter_mut() {
-            *entry = self.rename_entry(entry);
-        }
+        map_entries(self, entries);
     }
 
     /// The entries with both pointers of each triple renamed. The new places must be distinct, and
@@ -176,6 +117,7 @@ impl Renaming {
     ///
     /// NoMemory alone, where the memory for the entries is refused: it is asked for once. Linear in
     /// the triples.
+    #[tactic(auto, using(crate::proofs::Rules::renaming_is))]
     pub fn rename_entries(&self, alloc: Global, entries: &[Entry]) -> Result<Vec<Entry>, Refusal>
         requires distinct { HasDistinctPlaces self.now }
         requires apart { AllByRecursion (TellsWithin (IsNotNew self.now)) entries.now }
@@ -184,8 +126,25 @@ impl Renaming {
     {
         let mut renamed = Vec::with_capacity(alloc, entries.len())?;
         for entry in entries {
-            renamed.push(self.rename_entry(entry))?;
+            renamed.push(map_entry(self, entry))?;
         }
         Ok(renamed)
+    }
+}
+
+impl MapsPlaces for Renaming {
+    ghost use Rattle.chain_rewriting.specs.Renaming.{renamed};
+    ghost use Rattle.chain_rewriting.specs.Apart.{IsNotNew};
+
+    ghost to = { λ r. renamed r };
+
+    ghost is_known = { λ r. IsNotNew r };
+
+    /// The new place, where the block at the place moves; else the place as it is.
+    fn map_place(&self, place: Ptr) -> Ptr {
+        if place.frame() != self.frame || place.generation() != self.generation {
+            return place;
+        }
+        self.moves[place.block() as usize - 1].unwrap_or(place)
     }
 }
