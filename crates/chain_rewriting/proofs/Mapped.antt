@@ -1,5 +1,5 @@
 -- Mapping commutes with all that undo and redo make of an inode.
-use Rattle.std.proofs.Common.{◌≡◌, ℕ, zero, suc, replicate, ◌==◌, Bool, true, false, cond, List, [], ◌∷◌, map, Option, None, refl, sym, ap, ◌∙◌}
+use Rattle.std.proofs.Common.{◌≡◌, ℕ, zero, suc, replicate, ◌==◌, Bool, true, false, cond, List, [], ◌∷◌, map, Option, Some, None, refl, sym, ap, ◌∙◌}
 use Rattle.std.proofs.Math.ListN.{set, get_or-map}
 use Rattle.std.proofs.lemmas.List.{map-set, length-map}
 use Rattle.s4_types.specs.Pointer.{Place}
@@ -11,8 +11,9 @@ use Rattle.codec.specs.Entry.{EntryFields}
 use Rattle.undo_redo.specs.Linked.{pointer_after, pointer_before}
 use Rattle.undo_redo.specs.Redone.{with_after, with_before, redone, undone}
 use Rattle.undo_redo.specs.Runs.{redone_all, undone_all, entry_is_by, entries_by, blank}
+use Rattle.time_read.specs.Rows.{inode_before}
 use Rattle.chain_rewriting.specs.Mapping.{mapped_slot, mapped_triple, mapped_entry, mapped_entries, mapped_inode}
-use Rattle.chain_rewriting.specs.MappingLaws.{MappingCommutesWithRedo, MappingCommutesWithUndo, MappingCommutesWithRedoOfAll, MappingCommutesWithUndoOfAll, AMappedChainShowsMappedInodes, AMappedLinkIsALink, AMappedRunIsARun, ABlankInodeIsMappedToItself, APointerIsMapped}
+use Rattle.chain_rewriting.specs.MappingLaws.{MappingCommutesWithRedo, MappingCommutesWithUndo, MappingCommutesWithRedoOfAll, MappingCommutesWithUndoOfAll, AMappedChainShowsMappedInodes, AMappedLinkIsALink, AMappedRunIsARun, ABlankInodeIsMappedToItself, APointerIsMapped, AMappedChainBeginsMapped}
 
 -- an inode with these pointers
 abbrev pub pointing : Inode → List (Option Place) → Inode
@@ -103,3 +104,11 @@ holes_mapped f (suc n) = ap (λ ps. None ∷ ps) (holes_mapped f n)
 pub blank_mapped : (f : Place → Place) → ABlankInodeIsMappedToItself f
 unfolding blank holes
 blank_mapped f created = ap (pointing (blank created)) (holes_mapped f OBJECT_BLOCKS)
+
+-- ---- the first inode
+
+pub first_mapped : (f : Place → Place) → AMappedChainBeginsMapped f
+unfolding inode_before
+first_mapped f created moment entries None = sym (blank_mapped f created)
+first_mapped f created moment entries (Some c) =
+    ap (λ (es : List EntryFields). undone_all es (mapped_inode f c.inode)) (entries_by_mapped f moment entries) ∙ undone_all_mapped f c.inode (entries_by moment entries)

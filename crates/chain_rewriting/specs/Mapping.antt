@@ -3,6 +3,7 @@ use Rattle.std.specs.Prelude.{◌≡◌, ℕ, List, map, Option, option_map}
 use Rattle.s4_types.specs.Pointer.{Place}
 use Rattle.codec.specs.declared.inodes.Inode.{Inode}
 use Rattle.codec.specs.declared.entries.Triple.{Triple}
+use Rattle.codec.specs.Checkpoint.{CheckpointFields}
 use Rattle.codec.specs.Entry.{EntryFields}
 
 -- a hole stays a hole
@@ -23,6 +24,10 @@ mapped_entries f entries = map (mapped_entry f) entries
 -- an inode with its pointers mapped; all else stays
 abbrev pub mapped_inode : (Place → Place) → Inode → Inode
 mapped_inode f i = record i { pointers = map (mapped_slot f) i.pointers }
+
+-- a checkpoint of the mapped inode, of the same object and moment
+abbrev pub mapped_checkpoint : (Place → Place) → CheckpointFields → CheckpointFields
+mapped_checkpoint f c = record c { inode = mapped_inode f c.inode }
 
 -- no two places of this kind are mapped to one
 abbrev pub IsOneToOne : (Place → Type 0) → (Place → Place) → Type 0

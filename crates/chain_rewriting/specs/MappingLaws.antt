@@ -1,5 +1,5 @@
 -- The laws of chains whose places are mapped, of one map each.
-use Rattle.std.specs.Prelude.{◌≡◌, ℕ, Bool, true, List, map}
+use Rattle.std.specs.Prelude.{◌≡◌, ℕ, Bool, true, List, map, Option, option_map}
 use Rattle.std.specs.List.{AllByRecursion, Contains}
 use Rattle.s4_types.specs.Pointer.{Place}
 use Rattle.codec.specs.declared.inodes.Inode.{Inode}
@@ -9,12 +9,13 @@ use Rattle.undo_redo.specs.Linked.{Linked}
 use Rattle.undo_redo.specs.Redone.{redone, undone}
 use Rattle.undo_redo.specs.Runs.{Run, redone_all, undone_all, inode_after, entries_by, blank}
 use Rattle.undo_redo.specs.Groups.{grouped}
+use Rattle.time_read.specs.Rows.{inode_before}
 use Rattle.time_read.specs.Orderly.{IsOrderlyChain}
 use Rattle.inode.specs.Contents.{meaning}
 use Rattle.inode.specs.Tidiness.{Tidy}
 use Rattle.chain_rewriting.specs.Chains.{IsChain}
 use Rattle.chain_rewriting.specs.CleaningLaws.{IsPlaceOf, PointsWithin, TellsWithin}
-use Rattle.chain_rewriting.specs.Mapping.{mapped_slot, mapped_entry, mapped_entries, mapped_inode, IsOneToOne, MapsWithin, KeepsContents}
+use Rattle.chain_rewriting.specs.Mapping.{mapped_slot, mapped_entry, mapped_entries, mapped_inode, mapped_checkpoint, IsOneToOne, MapsWithin, KeepsContents}
 use Rattle.chain_rewriting.specs.Apart.{ToldWithin, slots_told}
 
 -- ---- undo and redo
@@ -55,6 +56,12 @@ ABlankInodeIsMappedToItself f = (created : ℕ) → mapped_inode f (blank create
 abbrev pub APointerIsMapped : (Place → Place) → Type 0
 APointerIsMapped f = (i : Inode) (n : ℕ) → pointer_at (mapped_inode f i) n ≡ mapped_slot f (pointer_at i n)
 
+-- The inode before mapped entries, by a checkpoint that is mapped, if there is one, is the mapped one.
+abbrev pub AMappedChainBeginsMapped : (Place → Place) → Type 0
+AMappedChainBeginsMapped f =
+    (created moment : ℕ) (entries : List EntryFields) (c : Option CheckpointFields)
+    → inode_before created moment (mapped_entries f entries) (option_map (mapped_checkpoint f) c) ≡ mapped_inode f (inode_before created moment entries c)
+
 -- ---- chains
 
 -- Entries whose places are of a kind on which the map is one to one keep the rules of entries when they are mapped: the two
@@ -84,7 +91,7 @@ MappedEntriesStayInOrder f =
 
 -- A checkpoint keeps the rules exactly where it keeps them with its pointers mapped.
 abbrev pub AMappedCheckpointKeepsTheRules : (Place → Place) → Type 0
-AMappedCheckpointKeepsTheRules f = (c : CheckpointFields) → checkpoint_rules (record c { inode = mapped_inode f c.inode }) ≡ checkpoint_rules c
+AMappedCheckpointKeepsTheRules f = (c : CheckpointFields) → checkpoint_rules (mapped_checkpoint f c) ≡ checkpoint_rules c
 
 -- ---- moments and bytes
 

@@ -12,6 +12,7 @@ ghost use Rattle.chain_rewriting.specs.MappingLaws.{MappingCommutesWithUndoOfAll
 ghost use Rattle.chain_rewriting.specs.MappingLaws.{AMappedChainShowsMappedInodes};
 ghost use Rattle.chain_rewriting.specs.MappingLaws.{AMappedLinkIsALink, AMappedRunIsARun};
 ghost use Rattle.chain_rewriting.specs.MappingLaws.{ABlankInodeIsMappedToItself, APointerIsMapped};
+ghost use Rattle.chain_rewriting.specs.MappingLaws.{AMappedChainBeginsMapped};
 ghost use Rattle.chain_rewriting.specs.MappingLaws.{MappedEntriesKeepTheRules};
 ghost use Rattle.chain_rewriting.specs.MappingLaws.{AMappedChainIsAChain};
 ghost use Rattle.chain_rewriting.specs.MappingLaws.{MappedEntriesStayInGroups};
@@ -41,12 +42,14 @@ pub fn mapping_commutes_with_undo_and_redo()
 
 /// Mapped entries lead from the mapped first inode of a run to its mapped last one, and show at
 /// each moment the mapped inode, whose pointers are the mapped ones. A blank inode stays as it is.
+/// So the first inode is mapped, whether a mapped checkpoint tells it or it is blank.
 pub fn a_mapped_run_is_a_run()
     ensures link { (f : Place → Place) → AMappedLinkIsALink f }
     ensures run { (f : Place → Place) → AMappedRunIsARun f }
     ensures shown { (f : Place → Place) → AMappedChainShowsMappedInodes f }
     ensures pointers { (f : Place → Place) → APointerIsMapped f }
     ensures blank { (f : Place → Place) → ABlankInodeIsMappedToItself f }
+    ensures first { (f : Place → Place) → AMappedChainBeginsMapped f }
 {}
 
 /// A chain stays a chain where the map is one to one on its places, and its entries keep their

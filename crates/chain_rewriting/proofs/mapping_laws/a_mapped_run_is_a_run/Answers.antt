@@ -1,4 +1,4 @@
-use Rattle.chain_rewriting.proofs.Mapped.{link_mapped, run_mapped, inode_after_mapped, pointer_mapped, blank_mapped}
+use Rattle.chain_rewriting.proofs.Mapped.{link_mapped, run_mapped, inode_after_mapped, pointer_mapped, blank_mapped, first_mapped}
 use Rattle.chain_rewriting.proofs.mapping_laws.a_mapped_run_is_a_run.Goals as goal
 
 pub returns-clause-link : goal.returns-clause-link
@@ -15,3 +15,6 @@ returns-clause-pointers c = pointer_mapped
 
 pub returns-clause-blank : goal.returns-clause-blank
 returns-clause-blank c = blank_mapped
+
+pub returns-clause-first : goal.returns-clause-first
+returns-clause-first c = first_mapped
