@@ -11,3 +11,4 @@ pub mod RewrittenRow
 pub mod SetAside
 pub mod Sides
 pub mod Bared
+pub mod Mapped

@@ -10,9 +10,15 @@ ghost use Rattle.object_map.specs.Rows.{fresh_row};
 ghost use Rattle.time_read.specs.Rows.{IsRow, inode_of};
 ghost use Rattle.time_read.specs.Orderly.{IsOrderly};
 ghost use Rattle.row_changes.specs.Recent.{IsBy};
-ghost use Rattle.row_changes.specs.Laws.{AFreshRowStands};
+ghost use Rattle.row_changes.specs.Laws.{AFreshRowStands, WhatARowTellsCanBeWritten};
+ghost use Rattle.row_changes.specs.Laws.{ARowBeginsWithWhatIsKept, AMappedChainCanBeWritten};
+ghost use Rattle.row_changes.specs.Laws.{ItsFirstInodeIsMapped};
 ghost use Rattle.row_changes.specs.private.Joining.{LaterEntriesJoin};
 
+use chain_rewriting::mapping_laws::{
+    a_mapped_chain_takes_as_many_bytes, a_mapped_run_is_a_run, mapped_entries_stay_in_order,
+    mapping_commutes_with_undo_and_redo,
+};
 use journal_chain::laws::{a_chain_has_its_entries, an_empty_chain_is_held};
 use time_read::laws::a_row_tells_a_chain;
 use undo_redo::laws::{
@@ -30,6 +36,21 @@ pub fn a_fresh_row_stands()
         → inode_of held o (fresh_row created) t ≡ blank created }
 {
     an_empty_chain_is_held();
+}
+
+/// What a row tells can be written, and so it can with its places mapped to others, as those of an
+/// object that goes to other frames. The inode before all entries is then mapped, too.
+pub fn what_a_row_tells_can_be_written()
+    ensures row { WhatARowTellsCanBeWritten }
+    ensures first { ARowBeginsWithWhatIsKept }
+    ensures mapped { AMappedChainCanBeWritten }
+    ensures begins { ItsFirstInodeIsMapped }
+{
+    a_run_has_one_end_and_one_beginning();
+    mapping_commutes_with_undo_and_redo();
+    a_mapped_run_is_a_run();
+    mapped_entries_stay_in_order();
+    a_mapped_chain_takes_as_many_bytes();
 }
 
 /// What is of a moment or an earlier one is so at each later moment too; and it is a matter of the
