@@ -1,5 +1,5 @@
 -- What an object's row tells can be written, and so can what is mapped.
-use Rattle.std.proofs.Common.{◌≡◌, ◌⊎◌, inl, inr, ℕ, ◌≤◌, true, List, Option, Some, None, IfSome, MatchOption, option_map, refl, sym, ap, subst, ◌∙◌}
+use Rattle.std.proofs.Common.{◌≡◌, ◌⊎◌, inl, inr, ℕ, ◌≤◌, Bool, true, List, [], ◌∷◌, Option, Some, None, IfSome, MatchOption, option_map, refl, sym, ap, subst, ◌∙◌}
 use Rattle.s4_types.specs.Pointer.{Place}
 use Rattle.s4_types.specs.declared.limits.TheConstants.{CHAIN_ENTRY_BYTES}
 use Rattle.block_log.specs.Log.{Stored}
@@ -11,9 +11,13 @@ use Rattle.undo_redo.specs.Runs.{Run, inode_after, redone_all}
 use Rattle.checkpoint.specs.Held.{checkpoint_held}
 use Rattle.object_map.specs.declared.map.Row.{Row}
 use Rattle.time_read.specs.Rows.{IsRow, checkpoint_of, entries_of, first_of, inode_before, inode_of}
+use Rattle.time_read.specs.Orderly.{IsFromTo, IsOrderlyChain, BeginsDead}
+use Rattle.inode.specs.Contents.{meaning}
+use Rattle.inode.specs.Tidiness.{Tidy}
+use Rattle.chain_rewriting.specs.Apart.{Passes}
 use Rattle.chain_rewriting.specs.Mapping.{mapped_checkpoint, mapped_entries, mapped_inode}
-use Rattle.chain_rewriting.specs.MappingLaws.{MappingCommutesWithRedoOfAll, AMappedRunIsARun, AMappedChainShowsMappedInodes, AMappedChainBeginsMapped, MappedEntriesStayInGroups, AMappedChainTakesAsManyBytes, AMappedCheckpointKeepsTheRules}
-use Rattle.row_changes.specs.Laws.{WhatARowTellsCanBeWritten, ARowBeginsWithWhatIsKept, AMappedChainCanBeWritten, ItsFirstInodeIsMapped}
+use Rattle.chain_rewriting.specs.MappingLaws.{MappingCommutesWithRedoOfAll, AMappedRunIsARun, AMappedChainShowsMappedInodes, AMappedChainBeginsMapped, MappedEntriesStayInGroups, MappedEntriesStayInOrder, AMappedChainShowsTheSame, AMappedChainTakesAsManyBytes, AMappedCheckpointKeepsTheRules}
+use Rattle.row_changes.specs.Laws.{WhatARowTellsCanBeWritten, ARowBeginsWithWhatIsKept, AMappedChainCanBeWritten, ItsFirstInodeIsMapped, told_mapped, first_mapped, AMappedRowIsInOrder, AMappedRowShowsTheSame}
 use Rattle.row_changes.specs.Moving.{checkpoint_kept, checkpoint_made, first_kept, inode_kept}
 
 abbrev pub RunsEnd : Type 0
@@ -125,3 +129,35 @@ mapped_can laws f o making m kept entries can =
       bytes = subst (λ n. n ≤ CHAIN_ENTRY_BYTES) (sym (laws.bytes f entries)) can.bytes;
       created = ap (λ (k : Inode). k.created) begins ∙ can.created;
     }
+
+-- ---- a row that is mapped
+
+row_begins_mapped : ARowBeginsWithWhatIsKept → ItsFirstInodeIsMapped → (f : Place → Place) (held : Place → Option Stored) (o : ℕ) (row : Row) → IsRow held o row → first_mapped f held o row ≡ mapped_inode f (first_of held o row)
+row_begins_mapped first begins f held o row r =
+    begins f o row.created row.checkpoint_moment (inode_kept held o row) (entries_of held o row) ∙ ap (mapped_inode f) (first held o row r)
+
+begins_dead : (f : Place → Place) (entries : List EntryFields) → BeginsDead entries → BeginsDead (mapped_entries f entries)
+begins_dead f [] dead = dead
+begins_dead f (e ∷ entries) dead = dead
+
+order_kept : (f : Place → Place) (o m : ℕ) (i : Inode) (entries : List EntryFields) (A : Type 0) (place : Option Place) (read : Place → Option CheckpointFields) → MatchOption place (m ≡ 0) (λ p. read p ≡ Some (checkpoint_made o m i))
+    → MatchOption place (BeginsDead entries) (λ p. A) → MatchOption (option_map (mapped_inode f) (option_map (λ c. c.inode) (place >>= read))) (BeginsDead (mapped_entries f entries)) (λ j. A)
+order_kept f o m i entries A None read is at = begins_dead f entries at
+order_kept f o m i entries A (Some p) read is at = subst (λ (c : Option CheckpointFields). MatchOption (option_map (mapped_inode f) (option_map (λ k. k.inode) c)) (BeginsDead (mapped_entries f entries)) (λ j. A)) (sym is) at
+
+pub row_in_order : ARowBeginsWithWhatIsKept → ItsFirstInodeIsMapped → ((f : Place → Place) → MappedEntriesStayInOrder f) → AMappedRowIsInOrder
+row_in_order first begins order f held o row latest r orderly =
+    let m = row.checkpoint_moment in
+    let start = row_begins_mapped first begins f held o row r in (
+      subst (λ (i : Inode). IsOrderlyChain row.created latest i (told_mapped f held o row)) (sym start) (order f row.created latest (first_of held o row) (entries_of held o row) orderly.chain),
+      order_kept f o m (inode_of held o row m) (entries_of held o row) (IsFromTo row.created latest m) row.checkpoint (checkpoint_held held o) r.checkpoint orderly.checkpoint,
+    )
+
+pub row_shows : ARowBeginsWithWhatIsKept → ItsFirstInodeIsMapped → ((test : Place → Bool) (f : Place → Place) → AMappedChainShowsTheSame (Passes test) f) → AMappedRowShowsTheSame
+unfolding inode_of
+row_shows first begins shows test f held o row contents others t r keeps told =
+    let start = row_begins_mapped first begins f held o row r in
+    let same = shows test f contents others (first_of held o row) (entries_of held o row) t keeps told in (
+      ap (λ (i : Inode). meaning others (inode_after i (told_mapped f held o row) t)) start ∙ same.0,
+      λ tidy. subst (λ (i : Inode). Tidy others (inode_after i (told_mapped f held o row) t)) (sym start) (same.1 tidy),
+    )

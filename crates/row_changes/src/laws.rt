@@ -12,12 +12,13 @@ ghost use Rattle.time_read.specs.Orderly.{IsOrderly};
 ghost use Rattle.row_changes.specs.Recent.{IsBy};
 ghost use Rattle.row_changes.specs.Laws.{AFreshRowStands, WhatARowTellsCanBeWritten};
 ghost use Rattle.row_changes.specs.Laws.{ARowBeginsWithWhatIsKept, AMappedChainCanBeWritten};
-ghost use Rattle.row_changes.specs.Laws.{ItsFirstInodeIsMapped};
+ghost use Rattle.row_changes.specs.Laws.{ItsFirstInodeIsMapped, AMappedRowIsInOrder};
+ghost use Rattle.row_changes.specs.Laws.{AMappedRowShowsTheSame};
 ghost use Rattle.row_changes.specs.private.Joining.{LaterEntriesJoin};
 
 use chain_rewriting::mapping_laws::{
-    a_mapped_chain_takes_as_many_bytes, a_mapped_run_is_a_run, mapped_entries_stay_in_order,
-    mapping_commutes_with_undo_and_redo,
+    a_mapped_chain_shows_the_same, a_mapped_chain_takes_as_many_bytes, a_mapped_run_is_a_run,
+    mapped_entries_stay_in_order, mapping_commutes_with_undo_and_redo,
 };
 use journal_chain::laws::{a_chain_has_its_entries, an_empty_chain_is_held};
 use time_read::laws::a_row_tells_a_chain;
@@ -51,6 +52,17 @@ pub fn what_a_row_tells_can_be_written()
     a_mapped_run_is_a_run();
     mapped_entries_stay_in_order();
     a_mapped_chain_takes_as_many_bytes();
+}
+
+/// A row whose places are mapped is in order where it was, and shows at each moment what it showed,
+/// over bytes that are as the old ones, each at its new place.
+pub fn a_mapped_row_tells_the_same()
+    ensures order { AMappedRowIsInOrder }
+    ensures shown { AMappedRowShowsTheSame }
+{
+    what_a_row_tells_can_be_written();
+    mapped_entries_stay_in_order();
+    a_mapped_chain_shows_the_same();
 }
 
 /// What is of a moment or an earlier one is so at each later moment too; and it is a matter of the
