@@ -1,5 +1,5 @@
 -- The blocks of a checkpoint are written one after the other.
-use Rattle.std.proofs.Common.{◌≡◌, inl, inr, ℕ, ◌+◌, ◌≤◌, ◌<◌, ◌==◌, Bool, true, false, List, [], ◌∷◌, ◌++◌, length, drop, Option, Some, None, is_some, IsSome, IfOk, IfErr, OnErr, MatchResult, Result, Ok, Err, refl, sym, ap, subst, ◌∙◌, arith}
+use Rattle.std.proofs.Common.{◌≡◌, inl, inr, ℕ, ◌+◌, ◌≤◌, ◌<◌, ◌==◌, Bool, true, false, List, [], ◌∷◌, ◌++◌, length, drop, Option, Some, None, is_some, IsSome, IfOk, IfErr, OnErr, MatchResult, Result, Ok, Err, refl, sym, ap, subst, ◌∙◌, append_assoc, arith}
 use Rattle.std.specs.Prelude.{slice_index}
 use Rattle.std.specs.Option.{option_to_list}
 use Rattle.std.proofs.lemmas.Bool.{cases_Bool, false≢true}
@@ -85,6 +85,11 @@ pub part_named : (c : CheckpointFields) (part : ℕ) (before after : Log) (place
 part_named c part before after None w = ap (λ (l : Log). l.named) w.1
 part_named c part before after (Some q) w = w.puts.named
 
+-- its place was the next one ahead
+pub part_ahead : (c : CheckpointFields) (part : ℕ) (before after : Log) (place : Option Place) → WritesPart c part before place after → before.ahead ≡ option_to_list place ++ after.ahead
+part_ahead c part before after None w = sym (ap (λ (l : Log). l.ahead) w.1)
+part_ahead c part before after (Some q) w = w.puts.ahead
+
 -- ---- what is read
 
 -- Laws of what encodings are read as.
@@ -127,6 +132,7 @@ first_read read c parts before after bytes p spells put =
 pub record Written (c : CheckpointFields) (before : Log) (p : Place) (after : Log) : Type 0 where
   pub told : checkpoint_held after.held c.object p ≡ Some c
   pub puts : PutsCheckpoint before.held c.object p after.held
+  pub order : before.ahead ≡ checkpoint_places after.held c.object p ++ after.ahead
   pub named : after.named ≡ before.named
 
 module _ (read : ReadLaws) (whole : WholeLaws) (one : OneName) (c : CheckpointFields) (rules : checkpoint_rules c ≡ true) (len : length c.inode.pointers ≡ OBJECT_BLOCKS) (l0 l1 l2 l3 l4 : Log) (x y z : Option Place) (bytes : List ℕ) (p : Place)
@@ -172,8 +178,20 @@ module _ (read : ReadLaws) (whole : WholeLaws) (one : OneName) (c : CheckpointFi
         others = all_grow.others;
       }
 
+  ahead_all : l0.ahead ≡ checkpoint_places l4.held c.object p ++ l4.ahead
+  ahead_all =
+      let xs = option_to_list x in
+      let ys = option_to_list y in
+      let zs = option_to_list z in
+      let at : checkpoint_places l4.held c.object p ≡ all_places x y z p = places_are (of_checkpoints c.object l4.held) p (first_of c (x ∷ y ∷ z ∷ [])) first_is in
+      part_ahead c 1 l0 l1 x first
+      ∙ ap (λ (ps : List Place). xs ++ ps) (part_ahead c 2 l1 l2 y second ∙ ap (λ (ps : List Place). ys ++ ps) (part_ahead c 3 l2 l3 z third ∙ ap (λ (ps : List Place). zs ++ ps) put.ahead ∙ sym (append_assoc zs (p ∷ []) l4.ahead))
+      ∙ sym (append_assoc ys (zs ++ p ∷ []) l4.ahead))
+      ∙ sym (append_assoc xs (ys ++ (zs ++ p ∷ [])) l4.ahead)
+      ∙ ap (λ (ps : List Place). ps ++ l4.ahead) (sym at)
+
   pub written : Written c l0 p l4
-  written = record { told = held_told; puts = puts_all; named = put.named ∙ part_named c 3 l2 l3 z third ∙ part_named c 2 l1 l2 y second ∙ part_named c 1 l0 l1 x first }
+  written = record { told = held_told; puts = puts_all; order = ahead_all; named = put.named ∙ part_named c 3 l2 l3 z third ∙ part_named c 2 l1 l2 y second ∙ part_named c 1 l0 l1 x first }
 
 abbrev pub AppendPuts : Type 0
 AppendPuts = (before after : Log) (block : Stored) (p : Place) → appended before block ≡ Some (p, after) → before.held p ≡ None → Puts before block p after
@@ -205,6 +223,10 @@ ok_told c l0 l4 (Err e) w = tt
 pub ok_puts : (c : CheckpointFields) (l0 l4 : Log) (r : Result Place Refusal) → IfOk r (λ p. Written c l0 p l4) → IfOk r (λ p. PutsCheckpoint l0.held c.object p l4.held)
 ok_puts c l0 l4 (Ok p) w = w.puts
 ok_puts c l0 l4 (Err e) w = tt
+
+pub ok_order : (c : CheckpointFields) (l0 l4 : Log) (r : Result Place Refusal) → IfOk r (λ p. Written c l0 p l4) → IfOk r (λ p. l0.ahead ≡ checkpoint_places l4.held c.object p ++ l4.ahead)
+ok_order c l0 l4 (Ok p) w = w.order
+ok_order c l0 l4 (Err e) w = tt
 
 -- ---- places that are taken
 

@@ -70,7 +70,8 @@ fn write_part<B: Blocks>(table: &mut B, checkpoint: &Checkpoint, part: u8) -> Op
 }
 
 /// Appends a checkpoint, and answers the pointer by which it is held from now on. No held pointer
-/// equals it or refers to one of its blocks.
+/// equals it or refers to one of its blocks. These are at the next places ahead: the parts in order,
+/// and then the first block.
 ///
 /// NoSpace exactly where fewer places are ahead than it takes; then nothing has changed.
 pub fn write_checkpoint<B: Blocks>(table: &mut B, checkpoint: &Checkpoint) -> Result<Ptr, Refusal>
@@ -83,6 +84,10 @@ pub fn write_checkpoint<B: Blocks>(table: &mut B, checkpoint: &Checkpoint) -> Re
     ensures growth { IfOk result
         (λ p. PutsCheckpoint (B.log table.old).held checkpoint.now.object p
         (B.log table.new).held) }
+    ensures order { IfOk result
+        (λ p. (B.log table.old).ahead
+        ≡ checkpoint_places (B.log table.new).held checkpoint.now.object p
+        ++ (B.log table.new).ahead) }
     ensures named { (B.log table.new).named ≡ (B.log table.old).named }
     ensures answer { MatchResult result
         (λ _. checkpoint_blocks checkpoint.now.inode ≤ length (B.log table.old).ahead)

@@ -1,7 +1,7 @@
 use Rattle.std.proofs.Common.{◌≡◌, ◌≤◌, ◌+◌, length, ap, subst, ◌∙◌, arith}
 use Rattle.codec.specs.FirstBlock.{SpellsFirst}
 use Rattle.checkpoint.specs.Held.{checkpoint_blocks, part_blocks}
-use Rattle.checkpoint.proofs.Writing.{ReadLaws, WholeLaws, PartsWritten, ok_written, ok_told, ok_puts, ok_takes, first_stored, room_one, room_left, answers, no_error}
+use Rattle.checkpoint.proofs.Writing.{ReadLaws, WholeLaws, PartsWritten, ok_written, ok_told, ok_puts, ok_order, ok_takes, first_stored, room_one, room_left, answers, no_error}
 use Rattle.checkpoint.proofs.calls.write_checkpoint.Goals as goal
 
 pub write_part-one-requires-clause-room : goal.write_part-one-requires-clause-room
@@ -57,6 +57,21 @@ returns-clause-growth g c =
     let whole : WholeLaws = record { whole = c.a_checkpoint_is_its_blocks.ensures.whole; told = c.a_checkpoint_is_its_blocks.ensures.told; holes = c.a_checkpoint_is_its_blocks.ensures.holes } in
     let all = ok_written read whole c.one_place_has_one_name.ensures c.an_append_puts_one_block.ensures c.args.checkpoint.now (g.B.Blocks.log c.args.table.now) (g.B.Blocks.log c.write_part-one.new.table) (g.B.Blocks.log c.write_part-two.new.table) (g.B.Blocks.log c.write_part-three.new.table) (g.B.Blocks.log c.append.new.self) c.write_part-one.result c.write_part-two.result c.write_part-three.result c.encode_first_block-bytes.result c.object.result c.object.ensures.object parts c.append.result c.append.ensures.appended c.append.ensures.fresh in
     ok_puts c.args.checkpoint.now (g.B.Blocks.log c.args.table.now) (g.B.Blocks.log c.append.new.self) c.append.result all
+
+pub returns-clause-order : goal.returns-clause-order
+returns-clause-order g c =
+    let parts : PartsWritten c.args.checkpoint.now (g.B.Blocks.log c.args.table.now) (g.B.Blocks.log c.write_part-one.new.table) (g.B.Blocks.log c.write_part-two.new.table) (g.B.Blocks.log c.write_part-three.new.table) c.write_part-one.result c.write_part-two.result c.write_part-three.result c.encode_first_block-bytes.result = record {
+      rules = c.inode.ensures.rules;
+      len = c.first_block-first.ensures.count;
+      first = c.write_part-one.ensures.wrote;
+      second = c.write_part-two.ensures.wrote;
+      third = c.write_part-three.ensures.wrote;
+      spells = subst (SpellsFirst c.encode_first_block-bytes.result) c.first_block-first.ensures.first c.encode_first_block-bytes.ensures;
+    } in
+    let read : ReadLaws = record { first = c.a_checkpoint_is_read.ensures.first; part = c.a_checkpoint_is_read.ensures.pointers; first_begins = c.a_block_begins_with_its_kind.ensures.first; part_begins = c.a_block_begins_with_its_kind.ensures.pointers } in
+    let whole : WholeLaws = record { whole = c.a_checkpoint_is_its_blocks.ensures.whole; told = c.a_checkpoint_is_its_blocks.ensures.told; holes = c.a_checkpoint_is_its_blocks.ensures.holes } in
+    let all = ok_written read whole c.one_place_has_one_name.ensures c.an_append_puts_one_block.ensures c.args.checkpoint.now (g.B.Blocks.log c.args.table.now) (g.B.Blocks.log c.write_part-one.new.table) (g.B.Blocks.log c.write_part-two.new.table) (g.B.Blocks.log c.write_part-three.new.table) (g.B.Blocks.log c.append.new.self) c.write_part-one.result c.write_part-two.result c.write_part-three.result c.encode_first_block-bytes.result c.object.result c.object.ensures.object parts c.append.result c.append.ensures.appended c.append.ensures.fresh in
+    ok_order c.args.checkpoint.now (g.B.Blocks.log c.args.table.now) (g.B.Blocks.log c.append.new.self) c.append.result all
 
 pub returns-clause-takes : goal.returns-clause-takes
 returns-clause-takes g c =
