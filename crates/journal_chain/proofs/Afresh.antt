@@ -38,6 +38,11 @@ old_blocks held chain entries c =
       standing = record { stands = tt; once = λ p. let h : times p (places_back held chain.head) ≡ bit (is_some (view p)) = subst (λ l. times p l ≡ bit (is_some (view p))) places (c.once p) in omega arith };
     }
 
+-- where no journal block of the object is held, none stands and none is to be dropped
+pub none_standing : (held : Place → Option Stored) (o : ℕ) → ((p : Place) → of_kind Journal o held p ≡ None) → Standing o (of_kind Journal o held) [] []
+unfolding times
+none_standing held o none = record { stands = tt; once = λ p. sym (ap (λ (b : Option (List ℕ)). bit (is_some b)) (none p)) }
+
 -- ---- dropping
 
 pub drop_some : (log later : Log) (p : Place) (place : Option Place) (o : ℕ) (stale : List Place) (head : Option Place) (entries : List EntryFields)

@@ -17,7 +17,7 @@ use Rattle.journal_chain.specs.Chain.{Link, ChainFields, journal_of, journal_in,
 use Rattle.journal_chain.specs.Writing.{head_of, Finished, Unfinished, Put, spelled_journal, reopened}
 use Rattle.journal_chain.proofs.Spelled.{bind_some, bind_is}
 use Rattle.journal_chain.proofs.Loops.{all_fit-append, AddUp}
-use Rattle.journal_chain.proofs.Tables.{append_holds, append_names, dropped_journal, only-trans}
+use Rattle.journal_chain.proofs.Tables.{append_holds, append_names, append_next, dropped_journal, only-trans}
 use Rattle.journal_chain.proofs.Chains.{entries_length-last, held_of, put_finished, put_changes_only, drop_finished, stale_there, drop_changes_only, entry_begins, finished_of, begins_head, head_there, reopens, head_reopened}
 
 -- ---- appending a block
@@ -41,6 +41,7 @@ put_since {E} log later r p block o bytes takes is took free object spells reads
       free = subst (λ (x : Result Place E). IfOk x (λ q. log.held q ≡ None)) is free;
       held = held ∙ ap (λ n. with_held log.held p (record { kind = Journal; object = n; bytes = bytes })) object ∙ ap (λ b. with_held log.held p (record { kind = Journal; object = block.object; bytes = b })) spells;
       takes = takes log later (record { kind = Journal; object = o; bytes = bytes }) p took_p;
+      next = append_next log later (record { kind = Journal; object = o; bytes = bytes }) p took_p;
       named = append_names log later (record { kind = Journal; object = o; bytes = bytes }) p took_p;
       spells = reads_back block (subst (λ b. all_of journal_at b ≡ Some block) spells reads);
     }

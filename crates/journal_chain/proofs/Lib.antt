@@ -11,3 +11,4 @@ pub mod Calls
 pub mod Staying
 pub mod Backwards
 pub mod Afresh
+pub mod Order

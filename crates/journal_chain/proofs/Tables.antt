@@ -10,7 +10,7 @@ use Rattle.journal_chain.specs.Chain.{OnlyJournalChanged}
 use Rattle.journal_chain.proofs.Places.{one_place, same_as_itself}
 use Rattle.journal_chain.proofs.Steps.{ChangedAt}
 
-append_at : (log later : Log) (block : Stored) (ahead : List Place) (p : Place) → appended_at log block ahead ≡ Some (p, later) → (later.held ≡ with_held log.held p block) × (later.named ≡ named_with block.kind log.named p)
+append_at : (log later : Log) (block : Stored) (ahead : List Place) (p : Place) → appended_at log block ahead ≡ Some (p, later) → (later.held ≡ with_held log.held p block) × ((later.named ≡ named_with block.kind log.named p) × (ahead ≡ p ∷ later.ahead))
 append_at log later block [] p h = absurd (none-some (p, later) h)
 append_at log later block (q ∷ ahead) p h =
     let f = λ (x : Place × Log). x.0 in
@@ -20,7 +20,7 @@ append_at log later block (q ∷ ahead) p h =
     let place : q ≡ p = ap f both in
     let log_is : made ≡ later = ap g both in (
       sym (ap (λ (l : Log). l.held) log_is) ∙ ap (λ r. with_held log.held r block) place,
-      sym (ap (λ (l : Log). l.named) log_is) ∙ ap (named_with block.kind log.named) place,
+      (sym (ap (λ (l : Log). l.named) log_is) ∙ ap (named_with block.kind log.named) place, ap (λ (r : Place). r ∷ ahead) place ∙ ap (λ (l : Log). p ∷ l.ahead) log_is),
     )
 
 -- a block is held at the place that its append takes
@@ -29,7 +29,11 @@ append_holds log later block p h = (append_at log later block log.ahead p h).0
 
 -- and names of data are as its kind has them
 pub append_names : (log later : Log) (block : Stored) (p : Place) → appended log block ≡ Some (p, later) → later.named ≡ named_with block.kind log.named p
-append_names log later block p h = (append_at log later block log.ahead p h).1
+append_names log later block p h = (append_at log later block log.ahead p h).1.0
+
+-- and the place is the next one ahead
+pub append_next : (log later : Log) (block : Stored) (p : Place) → appended log block ≡ Some (p, later) → log.ahead ≡ p ∷ later.ahead
+append_next log later block p h = (append_at log later block log.ahead p h).1.1
 
 -- this object's journal, and no other view
 abbrev pub is_journal_of : ℕ → BlockKind → ℕ → Bool

@@ -1,6 +1,6 @@
 -- A chain while it is being written: the blocks that stand already, those that are to be dropped, and the newest, which is
 -- still in memory.
-use Rattle.std.specs.Prelude.{◌≡◌, ℕ, ◌+◌, if◌then◌else◌, List, [], ◌∷◌, Option, Some, None, is_some}
+use Rattle.std.specs.Prelude.{◌≡◌, ℕ, ◌+◌, if◌then◌else◌, List, [], ◌∷◌, ◌++◌, reverse, Option, Some, None, is_some}
 use Rattle.s4_types.specs.Pointer.{Place}
 use Rattle.block_log.specs.declared.kinds.BlockKind.TheVariants.{Journal}
 use Rattle.block_log.specs.Log.{Log, Stored, of_kind, with_held}
@@ -51,13 +51,26 @@ pub record Unfinished (held : Place → Option Stored) (o : ℕ) (stale : List P
 abbrev pub stored_journal : JournalFields → Stored
 stored_journal block = record { kind = Journal; object = block.object; bytes = journal_spelling block }
 
--- a journal block was appended, at a place that was free, and one place was taken; names of data stay
+-- a journal block was appended at the next place ahead, which was free, and one place was taken; names of data stay
 pub record Put (log later : Log) (p : Place) (block : JournalFields) : Type 0 where
   pub free : log.held p ≡ None
   pub held : later.held ≡ with_held log.held p (stored_journal block)
   pub takes : TakesPlaces 1 log later
+  pub next : log.ahead ≡ p ∷ later.ahead
   pub named : later.named ≡ log.named
   pub spells : journal_of block.object (journal_spelling block) ≡ Some block
+
+-- From a head on these are the places of journal blocks of an object, the newest first: each block names the place of the one
+-- before, and the oldest a hole.
+abbrev pub Follows : ℕ → BlockView → Option Place → List Place → Type 0
+Follows o view head [] = head ≡ None
+Follows o view head (p ∷ places) = (head ≡ Some p) × ((block : JournalFields) × ((journal_in o view p ≡ Some block) × Follows o view block.previous places))
+
+-- These are the places of an object's journal blocks from a head on, the oldest first, and after them those ahead.
+pub record InOrder (o : ℕ) (log : Log) (head : Option Place) (all : List Place) : Type 0 where
+  pub places : List Place
+  pub follows : Follows o (of_kind Journal o log.held) head places
+  pub order : all ≡ reverse places ++ log.ahead
 
 -- the head, where an entry of this size goes into it; it is then to be dropped
 abbrev pub reopened : ChainFields → ℕ → Option Place

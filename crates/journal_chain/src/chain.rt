@@ -1,5 +1,5 @@
 ghost use Rattle.std.specs.Prelude.{◌≡◌, ℕ, ◌+◌, ◌≤◌, ◌<◌, ◌++◌, List, [], ◌∷◌, length, map, None};
-ghost use Rattle.std.specs.Prelude.{Some, OnOk, OnErr, IfErr, MatchResult, IsSome, Option};
+ghost use Rattle.std.specs.Prelude.{Some, OnOk, OnErr, IfErr, MatchResult, IsSome, Option, reverse};
 ghost use Rattle.std.specs.Option.{option_to_list};
 ghost use Rattle.s4_types.specs.declared.limits.TheConstants.{CHAIN_ENTRY_BYTES};
 ghost use Rattle.s4_types.specs.declared.limits.TheConstants.{JOURNAL_ENTRY_BYTES};
@@ -15,9 +15,10 @@ ghost use Rattle.journal_chain.specs.Chain.{ChainFields, Holds, OnlyJournalChang
 ghost use Rattle.journal_chain.specs.Chain.{chain_places, entries_held};
 ghost use Rattle.journal_chain.specs.Back.{entries_left};
 ghost use Rattle.journal_chain.specs.Push.{HasRoom, pushed_blocks, rewrite_refusal, whole_blocks};
-ghost use Rattle.journal_chain.specs.Writing.{Standing, Finished, Unfinished, reopened};
+ghost use Rattle.journal_chain.specs.Writing.{Standing, Finished, InOrder, Unfinished, reopened};
 
 use crate::back::EntriesBack;
+use crate::laws::an_empty_chain_is_held;
 use crate::packing::laws::{blocks_have_the_entries, bytes_add_up, chains_are_short};
 use crate::packing::{blocks_needed, fits};
 use crate::rewriting::{drop_all, places};
@@ -25,7 +26,7 @@ use crate::table::{reopen, write};
 use crate::writing::{bytes_of, finish, first_block, sizes_of, take_all, take_others};
 use arrayvec::ArrayVec;
 use block_log::Blocks;
-use block_log::laws::places_taken_add_up;
+use block_log::laws::{no_change_takes_no_place, places_taken_add_up};
 use codec::{Entry, JournalBytes};
 use s4_types::limits::{CHAIN_ENTRIES, SHORTEST_ENTRY_BYTES};
 use s4_types::{ObjectId, Ptr, Refusal};
@@ -285,6 +286,7 @@ impl Chain {
             → Finished (B.log table.new).held object stale result.head (first.now ∷ later.now) }
         ensures filled { (stale : List Place) → Standing object (of_kind Journal object (B.log table.old).held) [] stale
             → result.filled ≡ filled_bytes (packed (first.now ∷ later.now)) }
+        ensures order { InOrder object (B.log table.new) result.head (B.log table.old).ahead }
         ensures others { OnlyJournalChanged object (B.log table.old).held (B.log table.new).held }
         ensures takes { TakesPlaces (whole_blocks (first.now ∷ later.now)) (B.log table.old)
             (B.log table.new) }
@@ -299,6 +301,79 @@ impl Chain {
         let head = write(table, &block);
         chain.set_head(head, bytes, block.entry_bytes());
         chain
+    }
+
+    /// The chain of an object of which no journal block is held.
+    fn of_none<B: Blocks>(object: ObjectId, table: &B) -> Self
+        requires object { 1 ≤ object }
+        requires none { (p : Place) → of_kind Journal object (B.log table.now).held p ≡ None }
+        ensures holds { Holds (B.log table.now).held result [] }
+        ensures order { (B.log table.now).ahead
+            ≡ reverse
+            (chain_places (of_kind Journal object (B.log table.now).held) object result.head)
+            ++ (B.log table.now).ahead }
+        ensures object { result.object ≡ object }
+    {
+        an_empty_chain_is_held();
+        Chain::empty(object)
+    }
+
+    /// Writes a whole chain of entries where there is room, of an object of which no journal block
+    /// is held.
+    fn of_some<B: Blocks>(
+        object: ObjectId,
+        table: &mut B,
+        first: &Entry,
+        later: &[Entry],
+        bytes: usize,
+    ) -> Self
+        requires object { 1 ≤ object }
+        requires none { (p : Place) → of_kind Journal object (B.log table.old).held p ≡ None }
+        requires fit { AllFit (first.now ∷ later.now) }
+        requires bytes { bytes ≡ entries_length (first.now ∷ later.now) }
+        requires limit { bytes ≤ CHAIN_ENTRY_BYTES }
+        requires room { whole_blocks (first.now ∷ later.now) ≤ length (B.log table.old).ahead }
+        ensures holds { Holds (B.log table.new).held result (first.now ∷ later.now) }
+        ensures order { (B.log table.old).ahead
+            ≡ reverse
+            (chain_places (of_kind Journal object (B.log table.new).held) object result.head)
+            ++ (B.log table.new).ahead }
+        ensures others { OnlyJournalChanged object (B.log table.old).held (B.log table.new).held }
+        ensures takes { TakesPlaces (whole_blocks (first.now ∷ later.now)) (B.log table.old)
+            (B.log table.new) }
+        ensures named { (B.log table.new).named ≡ (B.log table.old).named }
+        ensures object { result.object ≡ object }
+    {
+        blocks_have_the_entries();
+        chains_are_short();
+        Chain::afresh(object, table, first, later, bytes)
+    }
+
+    /// Writes the whole chain of an object of which no journal block is held, with these entries,
+    /// the oldest first, where there is room, and answers the chain. Its blocks are at the next
+    /// places ahead, the oldest first.
+    pub fn write_whole<B: Blocks>(object: ObjectId, table: &mut B, entries: &[Entry]) -> Self
+        requires object { 1 ≤ object }
+        requires none { (p : Place) → of_kind Journal object (B.log table.old).held p ≡ None }
+        requires limit { entries_length entries.now ≤ CHAIN_ENTRY_BYTES }
+        requires room { whole_blocks entries.now ≤ length (B.log table.old).ahead }
+        ensures holds { Holds (B.log table.new).held result entries.now }
+        ensures order { (B.log table.old).ahead
+            ≡ reverse
+            (chain_places (of_kind Journal object (B.log table.new).held) object result.head)
+            ++ (B.log table.new).ahead }
+        ensures others { OnlyJournalChanged object (B.log table.old).held (B.log table.new).held }
+        ensures takes { TakesPlaces (whole_blocks entries.now) (B.log table.old) (B.log table.new) }
+        ensures named { (B.log table.new).named ≡ (B.log table.old).named }
+        ensures object { result.object ≡ object }
+    {
+        chains_are_short();
+        no_change_takes_no_place();
+        let bytes = bytes_of(entries);
+        let [first, later @ ..] = entries else {
+            return Chain::of_none(object, table);
+        };
+        Chain::of_some(object, table, first, later, bytes)
     }
 
     /// Writes the chain afresh where there is room, and drops its old blocks.

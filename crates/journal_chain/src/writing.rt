@@ -9,7 +9,7 @@ ghost use Rattle.codec.specs.Entry.{EntryFields, entry_length, entries_length};
 ghost use Rattle.journal_chain.specs.Sizes.{filled_with, filled_after, breaks};
 ghost use Rattle.journal_chain.specs.Packing.{AllFit};
 ghost use Rattle.journal_chain.specs.Chain.{OnlyJournalChanged};
-ghost use Rattle.journal_chain.specs.Writing.{Finished, Unfinished};
+ghost use Rattle.journal_chain.specs.Writing.{Finished, InOrder, Unfinished};
 
 use crate::table::write;
 use arrayvec::ArrayVec;
@@ -63,6 +63,9 @@ pub(crate) fn take<B: Blocks>(table: &mut B, block: &mut JournalBytes, entry: &E
         → Unfinished (B.log table.old).held block.old.object stale block.old entries
         → Unfinished (B.log table.new).held block.old.object stale block.new
         (entries ++ entry.now ∷ []) }
+    ensures order { (all : List Place)
+        → InOrder block.old.object (B.log table.old) block.old.previous all
+        → InOrder block.old.object (B.log table.new) block.new.previous all }
     ensures others { OnlyJournalChanged block.old.object (B.log table.old).held
         (B.log table.new).held }
     ensures takes { TakesPlaces
@@ -91,6 +94,9 @@ pub(crate) fn take_all<B: Blocks>(table: &mut B, block: &mut JournalBytes, entri
         → Unfinished (B.log table.old).held block.old.object stale block.old before
         → Unfinished (B.log table.new).held block.old.object stale block.new
         (before ++ entries.now) }
+    ensures order { (all : List Place)
+        → InOrder block.old.object (B.log table.old) block.old.previous all
+        → InOrder block.old.object (B.log table.new) block.new.previous all }
     ensures others { OnlyJournalChanged block.old.object (B.log table.old).held
         (B.log table.new).held }
     ensures takes { TakesPlaces

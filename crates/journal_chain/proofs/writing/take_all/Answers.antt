@@ -1,6 +1,6 @@
 use Rattle.std.proofs.Common.{◌≡◌, ◌++◌, ◌∷◌, [], ◌+◌, ◌∙◌, ℕ, List, ap, sym, subst, take, append_assoc, rules}
 use Rattle.codec.specs.Entry.{EntryFields, entries_length}
-use Rattle.journal_chain.specs.Writing.{Unfinished}
+use Rattle.journal_chain.specs.Writing.{InOrder, Unfinished}
 use Rattle.journal_chain.proofs.Loops.{next_taken, room_more, takes_more, takes_end}
 use Rattle.journal_chain.proofs.writing.take_all.Goals as goal
 
@@ -22,6 +22,8 @@ loop-entry-preserved g c =
           subst (λ (o : ℕ). Unfinished now.held o stale block (before ++ take i entries)) (sym c.loop-entry.invariant.object) (c.loop-entry.invariant.unfinished stale before u) in
           subst (λ (o : ℕ). Unfinished then.held o stale c.take.new.block (before ++ take (i + 1) entries)) c.loop-entry.invariant.object
           (subst (λ (l : List EntryFields). Unfinished then.held block.object stale c.take.new.block l) more (c.take.ensures.unfinished stale (before ++ take i entries) taken));
+      order = λ all i. subst (λ (n : ℕ). InOrder n then c.take.new.block.previous all) c.loop-entry.invariant.object
+          (c.take.ensures.order all (subst (λ (n : ℕ). InOrder n now block.previous all) (sym c.loop-entry.invariant.object) (c.loop-entry.invariant.order all i)));
       others = search rules;
       named = c.take.ensures.named ∙ c.loop-entry.invariant.named;
       takes = λ after rest. c.loop-entry.invariant.takes after
