@@ -1,11 +1,11 @@
 -- What a row tells once its checkpoint, if it has one, and its journal were written.
-use Rattle.std.proofs.Common.{◌≡◌, ℕ, ◌+◌, ◌≤◌, Bool, true, false, ◌==◌, ◌&&◌, ◌||◌, List, [], take, drop, Option, Some, None, IsSome, IfSome, is_some, MatchOption, refl, sym, ap, subst, ◌∙◌}
+use Rattle.std.proofs.Common.{◌≡◌, ℕ, ◌+◌, ◌≤◌, Bool, true, false, ◌==◌, ◌&&◌, ◌||◌, List, [], ◌++◌, reverse, take, drop, Option, Some, None, IsSome, IfSome, is_some, MatchOption, refl, sym, ap, subst, ◌∙◌}
 use Rattle.std.specs.List.{Contains}
 use Rattle.std.proofs.lemmas.Bool.{false≢true}
 use Rattle.std.proofs.lemmas.List.Elements.{Contains-append_left, Contains-append_right}
 use Rattle.std.proofs.Math.Seq.{take-add}
 use Rattle.s4_types.specs.Pointer.{Place}
-use Rattle.block_log.specs.Log.{Log, Stored, same_kind}
+use Rattle.block_log.specs.Log.{Log, Stored, of_kind, same_kind}
 use Rattle.block_log.specs.Taken.{TakesPlaces}
 use Rattle.block_log.specs.declared.kinds.BlockKind.{BlockKind}
 use Rattle.block_log.specs.declared.kinds.BlockKind.TheVariants.{Journal, Checkpoint, Data, Pointers}
@@ -17,7 +17,7 @@ use Rattle.undo_redo.specs.Runs.{Run, inode_after, redone_all}
 use Rattle.undo_redo.specs.Groups.{grouped}
 use Rattle.checkpoint.specs.Held.{is_checkpoint_kind, checkpoint_held, checkpoint_in, places_named, of_checkpoints, is_one_of, OnlyCheckpointChanged}
 use Rattle.object_map.specs.declared.map.Row.{Row}
-use Rattle.journal_chain.specs.Chain.{BlockView, ChainFields, Holds, OnlyJournalChanged}
+use Rattle.journal_chain.specs.Chain.{BlockView, ChainFields, Holds, OnlyJournalChanged, chain_places}
 use Rattle.time_read.specs.Rows.{chain_of, entries_of, inode_before, first_of, inode_of, checkpoint_of, IsRow, SidesAscend}
 use Rattle.time_read.specs.Orderly.{IsFromTo, IsOrderlyChain, IsOrderly, BeginsDead}
 use Rattle.row_changes.specs.Rewritten.{OnlyMetadataChanged}
@@ -151,3 +151,12 @@ pub among_later : (n m : ℕ) (first between : Log) (p : Place) → TakesPlaces 
 among_later n m first between p takes at =
     subst (λ (places : List Place). Contains places p) (sym (take-add n m first.ahead))
     (Contains-append_right (take n first.ahead) (take m (drop n first.ahead)) p (subst (λ (places : List Place). Contains (take m places) p) takes.ahead at))
+
+-- the checkpoint's places come first, and then those of the chain, the oldest first
+pub row_in_order : (o : ℕ) (ahead : List Place) (between after : Log) (p h head : Option Place) → ahead ≡ places_named (of_checkpoints o between.held) p ++ between.ahead
+    → of_checkpoints o after.held ≡ of_checkpoints o between.held → head ≡ h
+    → between.ahead ≡ reverse (chain_places (of_kind Journal o after.held) o h) ++ after.ahead
+    → ahead ≡ places_named (of_checkpoints o after.held) p ++ (reverse (chain_places (of_kind Journal o after.held) o head) ++ after.ahead)
+row_in_order o ahead between after p h head first same is then =
+    first ∙ ap (λ (v : BlockView). places_named v p ++ between.ahead) (sym same)
+    ∙ ap (λ (ps : List Place). places_named (of_checkpoints o after.held) p ++ ps) (then ∙ ap (λ (q : Option Place). reverse (chain_places (of_kind Journal o after.held) o q) ++ after.ahead) (sym is))

@@ -1,11 +1,11 @@
-ghost use Rattle.std.specs.Prelude.{◌≡◌, ℕ, ◌<◌, ◌≤◌, true, [], length, None, Some, IsSome, IfSome};
+ghost use Rattle.std.specs.Prelude.{◌≡◌, ℕ, ◌<◌, ◌≤◌, ◌++◌, true, [], length, None, Some, IsSome, IfSome};
 ghost use Rattle.std.specs.Prelude.{IfOk, OnErr, MatchResult};
 ghost use Rattle.s4_types.specs.Pointer.{Place};
 ghost use Rattle.s4_types.specs.declared.refusals.Refusal.TheVariants.{NoSpace};
 ghost use Rattle.block_log.specs.Taken.{TakesPlaces};
 ghost use Rattle.codec.specs.Checkpoint.{checkpoint_rules};
 ghost use Rattle.checkpoint.specs.Held.{checkpoint_held, checkpoint_blocks, of_checkpoints};
-ghost use Rattle.checkpoint.specs.Held.{HasItsBlocks};
+ghost use Rattle.checkpoint.specs.Held.{checkpoint_places, HasItsBlocks};
 ghost use Rattle.checkpoint.specs.Held.{OnlyCheckpointChanged, PutsCheckpoint, DropsCheckpoint};
 ghost use Rattle.object_map.specs.Sides.{sides_after, place_of};
 ghost use Rattle.time_read.specs.Rows.{IsRow, entries_of, checkpoint_of, inode_of};
@@ -40,6 +40,9 @@ pub(crate) fn put<B: Blocks>(
     ensures named { (B.log table.new).named ≡ (B.log table.old).named }
     ensures growth { IfOk result
         (λ p. PutsCheckpoint (B.log table.old).held object p (B.log table.new).held) }
+    ensures order { IfOk result
+        (λ p. (B.log table.old).ahead
+        ≡ checkpoint_places (B.log table.new).held object p ++ (B.log table.new).ahead) }
     ensures answer { MatchResult result
         (λ _. checkpoint_blocks inode.now ≤ length (B.log table.old).ahead)
         (λ e. (e ≡ NoSpace) × (length (B.log table.old).ahead < checkpoint_blocks inode.now)) }
@@ -62,6 +65,8 @@ pub(crate) fn put_ahead<B: Blocks>(
     ensures takes { TakesPlaces (checkpoint_blocks inode.now) (B.log table.old) (B.log table.new) }
     ensures named { (B.log table.new).named ≡ (B.log table.old).named }
     ensures growth { PutsCheckpoint (B.log table.old).held object result (B.log table.new).held }
+    ensures order { (B.log table.old).ahead
+        ≡ checkpoint_places (B.log table.new).held object result ++ (B.log table.new).ahead }
 {
     put(table, object, inode, moment).unwrap()
 }

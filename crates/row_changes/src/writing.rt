@@ -1,7 +1,7 @@
 //! An object's checkpoint and its whole journal, written in place of what stood.
 ghost use Rattle.std.specs.Prelude.{◌≡◌, ℕ, ◌<◌, ◌≤◌, true, [], length, map, IsSome, IfSome, IfOk};
-ghost use Rattle.std.specs.Prelude.{Some, None, OnErr, MatchResult, MatchOption, is_some};
-ghost use Rattle.std.specs.Prelude.{option_copied, take};
+ghost use Rattle.std.specs.Prelude.{◌++◌, Some, None, OnErr, MatchResult, MatchOption, is_some};
+ghost use Rattle.std.specs.Prelude.{option_copied, reverse, take};
 ghost use Rattle.std.specs.List.{Contains};
 ghost use Rattle.s4_types.specs.Pointer.{Place};
 ghost use Rattle.s4_types.specs.declared.limits.TheConstants.{CHAIN_ENTRIES, CHAIN_ENTRY_BYTES};
@@ -14,13 +14,13 @@ ghost use Rattle.block_log.specs.Taken.{TakesPlaces};
 ghost use Rattle.codec.specs.Entry.{entry_length, entries_length};
 ghost use Rattle.codec.specs.Checkpoint.{checkpoint_rules};
 ghost use Rattle.undo_redo.specs.Runs.{inode_after};
-ghost use Rattle.journal_chain.specs.Chain.{Holds, OnlyJournalChanged};
+ghost use Rattle.journal_chain.specs.Chain.{Holds, OnlyJournalChanged, chain_places};
 ghost use Rattle.journal_chain.specs.Push.{whole_blocks};
 ghost use Rattle.checkpoint.specs.Held.{checkpoint_held, checkpoint_places, checkpoint_blocks};
 ghost use Rattle.checkpoint.specs.Held.{of_checkpoints, places_named, is_one_of};
 ghost use Rattle.checkpoint.specs.Held.{OnlyCheckpointChanged};
 ghost use Rattle.time_read.specs.Rows.{IsRow, chain_of, entries_of, first_of, checkpoint_of};
-ghost use Rattle.time_read.specs.Rows.{inode_of};
+ghost use Rattle.time_read.specs.Rows.{inode_of, checkpoint_places_of};
 ghost use Rattle.time_read.specs.Orderly.{IsFromTo, IsOrderly, IsOrderlyChain, BeginsDead};
 ghost use Rattle.row_changes.specs.Rewritten.{OnlyMetadataChanged};
 ghost use Rattle.row_changes.specs.Moving.{CanWrite, checkpoint_made, checkpoint_kept, first_kept};
@@ -99,6 +99,8 @@ fn put_anew<B: Blocks>(
     ensures places { (p : Place)
         → IsSome (of_checkpoints object (B.log table.new).held p)
         → Contains (take (checkpoint_blocks inode.now) (B.log table.old).ahead) p }
+    ensures order { (B.log table.old).ahead
+        ≡ checkpoint_places (B.log table.new).held object result ++ (B.log table.new).ahead }
     ensures others { OnlyCheckpointChanged object (B.log table.old).held (B.log table.new).held }
     ensures takes { TakesPlaces (checkpoint_blocks inode.now) (B.log table.old) (B.log table.new) }
     ensures named { (B.log table.new).named ≡ (B.log table.old).named }
@@ -133,6 +135,9 @@ fn put_kept<B: Blocks>(
     ensures places { (p : Place)
         → IsSome (of_checkpoints object (B.log table.new).held p)
         → Contains (take (kept_blocks (option_copied kept.entry)) (B.log table.old).ahead) p }
+    ensures order { (B.log table.old).ahead
+        ≡ places_named (of_checkpoints object (B.log table.new).held) result
+        ++ (B.log table.new).ahead }
     ensures others { OnlyCheckpointChanged object (B.log table.old).held (B.log table.new).held }
     ensures takes { TakesPlaces (kept_blocks (option_copied kept.entry)) (B.log table.old)
         (B.log table.new) }
@@ -145,15 +150,13 @@ fn put_kept<B: Blocks>(
     Some(put_anew(table, object, row, inode, moment))
 }
 
-/// Drops all journal blocks of an object, and answers its chain, of no entries.
-fn drop_chain<B: Blocks>(table: &mut B, object: ObjectId, row: &Row) -> Chain
+/// Drops all journal blocks of an object.
+fn drop_chain<B: Blocks>(table: &mut B, object: ObjectId, row: &Row)
     requires object { 1 ≤ object }
     requires bytes { row.now.journal_bytes ≤ CHAIN_ENTRY_BYTES }
     requires one_block { row.now.head_bytes ≤ JOURNAL_ENTRY_BYTES }
     requires held { Holds (B.log table.old).held (chain_of object row.now)
         (entries_of (B.log table.old).held object row.now) }
-    ensures holds { Holds (B.log table.new).held result [] }
-    ensures object { result.object ≡ object }
     ensures gone { (p : Place) → of_kind Journal object (B.log table.new).held p ≡ None }
     ensures others { OnlyJournalChanged object (B.log table.old).held (B.log table.new).held }
     ensures takes { TakesPlaces 0 (B.log table.old) (B.log table.new) }
@@ -163,7 +166,6 @@ fn drop_chain<B: Blocks>(table: &mut B, object: ObjectId, row: &Row) -> Chain
     let Ok(()) = chain.rewrite(table, &[]) else {
         unreachable!()
     };
-    chain
 }
 
 /// Drops all journal blocks of an object, and then writes its journal afresh where there is room,
@@ -181,18 +183,17 @@ fn write_chain<B: Blocks>(table: &mut B, object: ObjectId, row: &Row, entries: &
     ensures places { (p : Place)
         → IsSome (of_kind Journal object (B.log table.new).held p)
         → Contains (take (whole_blocks entries.now) (B.log table.old).ahead) p }
+    ensures order { (B.log table.old).ahead
+        ≡ reverse (chain_places (of_kind Journal object (B.log table.new).held) object result.head)
+        ++ (B.log table.new).ahead }
     ensures others { OnlyJournalChanged object (B.log table.old).held (B.log table.new).held }
     ensures takes { TakesPlaces (whole_blocks entries.now) (B.log table.old) (B.log table.new) }
     ensures named { (B.log table.new).named ≡ (B.log table.old).named }
 {
-    a_chain_has_its_entries();
     places_taken_add_up();
     changes_add_up();
-    let mut chain = drop_chain(table, object, row);
-    let Ok(()) = chain.rewrite(table, entries) else {
-        unreachable!()
-    };
-    chain
+    drop_chain(table, object, row);
+    Chain::write_whole(object, table, entries)
 }
 
 /// Writes a checkpoint of this inode as of a moment, if there is an inode, and then a whole journal
@@ -263,6 +264,12 @@ pub fn write_row<B: Blocks>(
         → Contains
         (take (moved_blocks (option_copied kept.entry) entries.now) (B.log table.old).ahead)
         p) }
+    ensures order { IfOk result
+        (λ later. (B.log table.old).ahead
+        ≡ checkpoint_places_of (B.log table.new).held object later
+        ++ (reverse
+        (chain_places (of_kind Journal object (B.log table.new).held) object later.head)
+        ++ (B.log table.new).ahead)) }
     ensures answer { MatchResult result
         (λ _. moved_blocks (option_copied kept.entry) entries.now ≤ length (B.log table.old).ahead)
         (λ e. (e ≡ NoRoom)

@@ -1,6 +1,7 @@
-use Rattle.std.proofs.Common.{◌∙◌}
-use Rattle.checkpoint.specs.Held.{checkpoint_blocks}
-use Rattle.row_changes.proofs.Places.{CheckpointLaws, Put, older_there, older_still, checkpoint_alone, no_journal_yet, told_on, new_alone, new_among, put_only, taken_first}
+use Rattle.std.proofs.Common.{◌++◌, List, sym, ap, ◌∙◌}
+use Rattle.s4_types.specs.Pointer.{Place}
+use Rattle.checkpoint.specs.Held.{checkpoint_blocks, checkpoint_places}
+use Rattle.row_changes.proofs.Places.{CheckpointLaws, Put, older_there, older_still, checkpoint_alone, no_journal_yet, told_on, new_alone, new_among, new_places, put_only, taken_first}
 use Rattle.row_changes.proofs.writing.put_anew.Goals as goal
 
 pub drop_checkpoint-requires : goal.drop_checkpoint-requires
@@ -48,6 +49,9 @@ returns g c =
       told = told_on log.held between.held between.held after.held o place row.checkpoint (record { object = o; moment = c.args.moment; inode = inode }) s d c.put_ahead-place.ensures.told;
       only = new_alone log.held between.held between.held after.held o place row.checkpoint s d only;
       places = new_among (checkpoint_blocks inode) log between after o place row.checkpoint s d only c.put_ahead-place.ensures.takes;
+      order = c.put_ahead-place.ensures.order
+          ∙ ap (λ (ps : List Place). ps ++ between.ahead) (sym (new_places log.held between.held between.held after.held o place row.checkpoint s d))
+          ∙ ap (λ (ps : List Place). checkpoint_places after.held o place ++ ps) (sym c.drop_checkpoint.ensures.takes.ahead);
       others = put_only log.held between.held after.held o place c.put_ahead-place.ensures.growth d.others;
       takes = taken_first log between after (checkpoint_blocks inode) c.places_taken_add_up.ensures c.put_ahead-place.ensures.takes c.drop_checkpoint.ensures.takes;
       named = c.drop_checkpoint.ensures.named ∙ c.put_ahead-place.ensures.named;

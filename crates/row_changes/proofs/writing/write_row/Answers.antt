@@ -8,7 +8,7 @@ use Rattle.journal_chain.specs.Push.{whole_blocks}
 use Rattle.row_changes.specs.Moving.{kept_blocks}
 use Rattle.row_changes.proofs.Places.{journal_views}
 use Rattle.row_changes.proofs.Recently.{same_entries}
-use Rattle.row_changes.proofs.WrittenRow.{Stands, with_written, holds_told, told_still, written_row, written_first, written_inode, written_orderly, metadata_alone, among_first, among_later}
+use Rattle.row_changes.proofs.WrittenRow.{Stands, with_written, holds_told, told_still, written_row, written_first, written_inode, written_orderly, metadata_alone, among_first, among_later, row_in_order}
 use Rattle.row_changes.proofs.writing.write_row.Goals as goal
 
 pub write_chain-chain-requires-clause-held : goal.write_chain-chain-requires-clause-held
@@ -32,6 +32,7 @@ returns g c =
     let kept = option_copied c.args.kept in
     let entries = c.args.entries.now in
     let place = c.put_kept-checkpoint.result in
+    let chain = c.write_chain-chain.result in
     let head = c.head.result in
     let bytes = c.bytes.result in
     let filled = c.filled.result in
@@ -63,6 +64,7 @@ returns g c =
       named = c.write_chain-chain.ensures.named ∙ c.put_kept-checkpoint.ensures.named;
       journal = λ p there. among_later first then log between p c.put_kept-checkpoint.ensures.takes (c.write_chain-chain.ensures.places p there);
       checkpoints = λ p there. among_first first then log.ahead p (c.put_kept-checkpoint.ensures.places p (subst (λ (v : _). IsSome (v p)) same there));
+      order = row_in_order o log.ahead between after place chain.head head c.put_kept-checkpoint.ensures.order same c.head.ensures c.write_chain-chain.ensures.order;
       answer = search rules;
       unchanged = search rules;
     }
