@@ -1,18 +1,23 @@
 -- An entry is read exactly where it is encoded.
-use Rattle.std.proofs.Common.{◌≡◌, ℕ, zero, suc, ◌/◌, ◌%◌, ◌^◌, ◌<◌, ◌≤◌, Bool, true, false, eqb, ltb, leb, List, [], ◌∷◌, ◌++◌, length, Option, Some, None, refl, sym, ap, subst, ◌∙◌, append_assoc, arith}
+use Rattle.std.proofs.Common.{◌≡◌, ℕ, zero, suc, ◌/◌, ◌%◌, ◌^◌, ◌<◌, ◌≤◌, Bool, true, false, eqb, ltb, leb, ◌&&◌, List, [], ◌∷◌, ◌++◌, length, Option, Some, None, refl, sym, ap, subst, ◌∙◌, append_assoc, arith}
 use Rattle.std.specs.Prelude.{is_some}
 use Rattle.std.specs.Int.{w16, w32, w64}
-use Rattle.std.specs.List.{flat_map}
-use Rattle.std.proofs.lemmas.Bool.{ltb-false, le-ltb, leb-true, le-leb}
+use Rattle.std.specs.List.{flat_map, list_all, AllByRecursion}
+use Rattle.std.proofs.lemmas.Bool.{ltb-false, le-ltb, ltb-true, leb-true, le-leb}
 use Rattle.s4_types.specs.declared.limits.TheConstants.{ENTRY_TRIPLES}
 use Rattle.codec.specs.Fields.{◌>>=◌, kept, number, slot, bit, byte_at, bytes_at, number_at, slot_at, many_at}
-use Rattle.codec.specs.Entry.{EntryFields, EntryNumbers, IsEntry, IsPair, IsTriple, entry_rules, text, pair_spelling, triple_spelling, flags_byte, flags_of, entry_spelling, flags_at, text_at, pair_at, triple_at, triples_at, checked_entry, entry_at}
+use Rattle.codec.specs.Entry.{EntryFields, EntryNumbers, IsEntry, IsPair, IsTriple, IsEntryBy, entry_rules, is_small, has_small_index, entry_rules_by, text, pair_spelling, index_spelling_by, triple_spelling_by, flags_byte, flags_of, entry_spelling, entry_spelling_by, flags_at, text_at, pair_at, index_at_by, triple_at_by, triples_at_by, checked_entry_by, entry_at, entry_at_by}
+use Rattle.codec.specs.Checkpoint.{IsSlot}
+use Rattle.codec.specs.Versions.{index_limit_by}
+use Rattle.codec.specs.declared.versions.ImageVersion.{ImageVersion}
+use Rattle.codec.specs.declared.versions.ImageVersion.TheVariants.{First, Second}
+use Rattle.codec.specs.declared.versions.TheConstants.{FIRST_OBJECT_BLOCKS, FIRST_OBJECT_BYTES}
 use Rattle.codec.specs.declared.entries.Triple.{Triple}
 use Rattle.codec.specs.declared.entries.Pair.{Pair}
 use Rattle.codec.specs.declared.entries.Flags.{Flags}
 use Rattle.codec.proofs.Exact.{IsBytes, IsField, Exact, Then, Made, then_exact, made_exact, byte_field, bytes_field, short_field, word_field, long_field, passed, some_is, step_some, bytes_behind}
 use Rattle.codec.proofs.Many.{AreMany, many_field}
-use Rattle.codec.proofs.Slots.{slot_field, kept_is}
+use Rattle.codec.proofs.Slots.{slot_field, kept_is, both}
 
 -- ---- flags
 
@@ -105,57 +110,96 @@ pair_field there = record { whole = λ bytes x h e. (pair_takes there bytes x h 
 
 -- ---- triples
 
-triple_takes : (bytes : List ℕ) (x : Triple × List ℕ) → IsBytes bytes → triple_at bytes ≡ Some x → (bytes ≡ triple_spelling x.0 ++ x.1) × IsTriple x.0
-unfolding triple_at triple_spelling
-triple_takes bytes x h e =
-    let a = step_some (number_at w16 bytes) (λ index. slot_at index.1 >>= λ before. slot_at before.1 >>= λ after. Some (record { index = index.0; before = before.0; after = after.0 }, after.1)) x e in
+index_field : (v : ImageVersion) → IsField (index_at_by v) (index_spelling_by v) (λ n. n < index_limit_by v)
+index_field First = byte_field
+index_field Second = short_field
+
+-- the numbers of a triple are those that it has in an image of a version
+record FitsBy (v : ImageVersion) (t : Triple) : Type 0 where
+  index : t.index < index_limit_by v
+  before : IsSlot t.before
+  after : IsSlot t.after
+
+triple_takes : (v : ImageVersion) (bytes : List ℕ) (x : Triple × List ℕ) → IsBytes bytes → triple_at_by v bytes ≡ Some x → (bytes ≡ triple_spelling_by v x.0 ++ x.1) × FitsBy v x.0
+unfolding triple_at_by triple_spelling_by
+triple_takes v bytes x h e =
+    let a = step_some (index_at_by v bytes) (λ index. slot_at index.1 >>= λ before. slot_at before.1 >>= λ after. Some (record { index = index.0; before = before.0; after = after.0 }, after.1)) x e in
     let b = step_some (slot_at a.0.1) (λ before. slot_at before.1 >>= λ after. Some (record { index = a.0.0; before = before.0; after = after.0 }, after.1)) x a.2 in
     let c = step_some (slot_at b.0.1) (λ after. Some (record { index = a.0.0; before = b.0.0; after = after.0 }, after.1)) x b.2 in
-    let one = short_field.whole bytes a.0 h a.1 in
-    let behind = bytes_behind (number w16 a.0.0) a.0.1 bytes one h in
+    let one = (index_field v).whole bytes a.0 h a.1 in
+    let behind = bytes_behind (index_spelling_by v a.0.0) a.0.1 bytes one h in
     let two = slot_field.whole a.0.1 b.0 behind b.1 in
     let behind_two = bytes_behind (slot b.0.0) b.0.1 a.0.1 two behind in
     let three = slot_field.whole b.0.1 c.0 behind_two c.1 in
-    let whole : bytes ≡ (number w16 a.0.0 ++ (slot b.0.0 ++ slot c.0.0)) ++ c.0.1 =
-    one ∙ ap (λ (r : List ℕ). number w16 a.0.0 ++ r) (two ∙ ap (λ (r : List ℕ). slot b.0.0 ++ r) three ∙ sym (append_assoc (slot b.0.0) (slot c.0.0) c.0.1)) ∙ sym (append_assoc (number w16 a.0.0) (slot b.0.0 ++ slot c.0.0) c.0.1) in
-    let numbers : IsTriple (record { index = a.0.0; before = b.0.0; after = c.0.0 }) = record { index = short_field.fits bytes a.0 h a.1; before = slot_field.fits a.0.1 b.0 behind b.1; after = slot_field.fits b.0.1 c.0 behind_two c.1 } in
-    subst (λ (y : Triple × List ℕ). (bytes ≡ (number w16 y.0.index ++ (slot y.0.before ++ slot y.0.after)) ++ y.1) × IsTriple y.0) (some_is _ _ c.2) (whole, numbers)
+    let whole : bytes ≡ (index_spelling_by v a.0.0 ++ (slot b.0.0 ++ slot c.0.0)) ++ c.0.1 =
+    one ∙ ap (λ (r : List ℕ). index_spelling_by v a.0.0 ++ r) (two ∙ ap (λ (r : List ℕ). slot b.0.0 ++ r) three ∙ sym (append_assoc (slot b.0.0) (slot c.0.0) c.0.1)) ∙ sym (append_assoc (index_spelling_by v a.0.0) (slot b.0.0 ++ slot c.0.0) c.0.1) in
+    let numbers : FitsBy v (record { index = a.0.0; before = b.0.0; after = c.0.0 }) = record { index = (index_field v).fits bytes a.0 h a.1; before = slot_field.fits a.0.1 b.0 behind b.1; after = slot_field.fits b.0.1 c.0 behind_two c.1 } in
+    subst (λ (y : Triple × List ℕ). (bytes ≡ (index_spelling_by v y.0.index ++ (slot y.0.before ++ slot y.0.after)) ++ y.1) × FitsBy v y.0) (some_is _ _ c.2) (whole, numbers)
 
-triple_again : (t : Triple) (rest : List ℕ) → IsTriple t → triple_at (triple_spelling t ++ rest) ≡ Some (t, rest)
-unfolding triple_at triple_spelling
-triple_again t rest h =
+triple_again : (v : ImageVersion) (t : Triple) (rest : List ℕ) → FitsBy v t → triple_at_by v (triple_spelling_by v t ++ rest) ≡ Some (t, rest)
+unfolding triple_at_by triple_spelling_by
+triple_again v t rest h =
     rw (
-      append_assoc (number w16 t.index) (slot t.before ++ slot t.after) rest,
+      append_assoc (index_spelling_by v t.index) (slot t.before ++ slot t.after) rest,
       append_assoc (slot t.before) (slot t.after) rest,
-      short_field.again t.index (slot t.before ++ (slot t.after ++ rest)) h.index,
+      (index_field v).again t.index (slot t.before ++ (slot t.after ++ rest)) h.index,
       slot_field.again t.before (slot t.after ++ rest) h.before,
       slot_field.again t.after rest h.after,
     ) refl
 
-triple_field : IsField triple_at triple_spelling IsTriple
-triple_field = record { whole = λ bytes x h e. (triple_takes bytes x h e).0; fits = λ bytes x h e. (triple_takes bytes x h e).1; again = triple_again }
+triple_field : (v : ImageVersion) → IsField (triple_at_by v) (triple_spelling_by v) (FitsBy v)
+triple_field v = record { whole = λ bytes x h e. (triple_takes v bytes x h e).0; fits = λ bytes x h e. (triple_takes v bytes x h e).1; again = triple_again v }
 
-abbrev AreTriples : ℕ → List Triple → Type 0
-AreTriples count triples = (count ≤ ENTRY_TRIPLES) × AreMany IsTriple count triples
+abbrev AreTriples : ImageVersion → ℕ → List Triple → Type 0
+AreTriples v count triples = (count ≤ ENTRY_TRIPLES) × AreMany (FitsBy v) count triples
 
-triples_takes : (count : ℕ) (bytes : List ℕ) (x : List Triple × List ℕ) → triples_at count bytes ≡ Some x → (count ≤ ENTRY_TRIPLES) × (many_at triple_at count bytes ≡ Some x)
-unfolding triples_at
-triples_takes count bytes x e = let p = passed (ltb ENTRY_TRIPLES count) (many_at triple_at count bytes) x e in (ltb-false _ _ p.0, p.1)
+triples_takes : (v : ImageVersion) (count : ℕ) (bytes : List ℕ) (x : List Triple × List ℕ) → triples_at_by v count bytes ≡ Some x → (count ≤ ENTRY_TRIPLES) × (many_at (triple_at_by v) count bytes ≡ Some x)
+unfolding triples_at_by
+triples_takes v count bytes x e = let p = passed (ltb ENTRY_TRIPLES count) (many_at (triple_at_by v) count bytes) x e in (ltb-false _ _ p.0, p.1)
 
-pub triples_few : (count : ℕ) (bytes : List ℕ) → count ≤ ENTRY_TRIPLES → triples_at count bytes ≡ many_at triple_at count bytes
-unfolding triples_at
-triples_few count bytes le = let few : ltb ENTRY_TRIPLES count ≡ false = le-ltb _ _ le in rw few refl
+pub triples_few : (v : ImageVersion) (count : ℕ) (bytes : List ℕ) → count ≤ ENTRY_TRIPLES → triples_at_by v count bytes ≡ many_at (triple_at_by v) count bytes
+unfolding triples_at_by
+triples_few v count bytes le = let few : ltb ENTRY_TRIPLES count ≡ false = le-ltb _ _ le in rw few refl
 
-triples_again : (count : ℕ) (triples : List Triple) (rest : List ℕ) → AreTriples count triples → triples_at count (flat_map triple_spelling triples ++ rest) ≡ Some (triples, rest)
-unfolding triples_at
-triples_again count triples rest h = let few : ltb ENTRY_TRIPLES count ≡ false = le-ltb _ _ h.0 in rw few ((many_field triple_field count).again triples rest h.1)
+triples_again : (v : ImageVersion) (count : ℕ) (triples : List Triple) (rest : List ℕ) → AreTriples v count triples → triples_at_by v count (flat_map (triple_spelling_by v) triples ++ rest) ≡ Some (triples, rest)
+triples_again v count triples rest h = triples_few v count (flat_map (triple_spelling_by v) triples ++ rest) h.0 ∙ (many_field (triple_field v) count).again triples rest h.1
 
-triples_field : (count : ℕ) → IsField (triples_at count) (flat_map triple_spelling) (AreTriples count)
-triples_field count = record {
-  whole = λ bytes x h e. (many_field triple_field count).whole bytes x h (triples_takes count bytes x e).1;
-  fits = λ bytes x h e. let t = triples_takes count bytes x e in (t.0, (many_field triple_field count).fits bytes x h t.1);
-  again = triples_again count;
+triples_field : (v : ImageVersion) (count : ℕ) → IsField (triples_at_by v count) (flat_map (triple_spelling_by v)) (AreTriples v count)
+triples_field v count = record {
+  whole = λ bytes x h e. (many_field (triple_field v) count).whole bytes x h (triples_takes v count bytes x e).1;
+  fits = λ bytes x h e. let t = triples_takes v count bytes x e in (t.0, (many_field (triple_field v) count).fits bytes x h t.1);
+  again = triples_again v count;
 }
+
+-- an index of one byte is one of two
+widened : (v : ImageVersion) (t : Triple) → FitsBy v t → IsTriple t
+widened First t h = record { index = omega (arith, h.index); before = h.before; after = h.after }
+widened Second t h = record { index = h.index; before = h.before; after = h.after }
+
+all_widened : (v : ImageVersion) (triples : List Triple) → AllByRecursion (FitsBy v) triples → AllByRecursion IsTriple triples
+all_widened v [] h = tt
+all_widened v (t ∷ triples) h = (widened v t h.0, all_widened v triples h.1)
+
+-- indices that are below those of a small object's blocks are of one byte
+all_small : (triples : List Triple) → list_all has_small_index triples ≡ true → AllByRecursion IsTriple triples → AllByRecursion (FitsBy First) triples
+all_small [] small h = tt
+all_small (t ∷ triples) small h =
+    let s = both (ltb t.index FIRST_OBJECT_BLOCKS) (list_all has_small_index triples) small in
+    (record { index = omega (arith, ltb-true _ _ s.0); before = h.0.before; after = h.0.after }, all_small triples s.1 h.1)
+
+small_triples : (e : EntryFields) → is_small e ≡ true → list_all has_small_index e.triples ≡ true
+unfolding is_small
+small_triples e h =
+    let a = both (leb e.before.size FIRST_OBJECT_BYTES) (leb e.after.size FIRST_OBJECT_BYTES && list_all has_small_index e.triples) h in
+    (both (leb e.after.size FIRST_OBJECT_BYTES) (list_all has_small_index e.triples) a.1).1
+
+second_ones : (triples : List Triple) → AllByRecursion IsTriple triples → AllByRecursion (FitsBy Second) triples
+second_ones [] h = tt
+second_ones (t ∷ triples) h = (record { index = h.0.index; before = h.0.before; after = h.0.after }, second_ones triples h.1)
+
+narrowed : (v : ImageVersion) (e : EntryFields) → entry_rules_by v e ≡ true → AllByRecursion IsTriple e.triples → AllByRecursion (FitsBy v) e.triples
+narrowed First e rules h = all_small e.triples (small_triples e (both (entry_rules e) (is_small e) rules).1) h
+narrowed Second e rules h = second_ones e.triples h
 
 -- ---- the entry
 
@@ -169,33 +213,33 @@ IsLong n = n < 2 ^ 64
 abbrev IsWord : ℕ → Type 0
 IsWord n = n < 2 ^ 32
 
-abbrev says : List ℕ → (EntryFields × List ℕ) → Type 0
-says =
+abbrev says : ImageVersion → List ℕ → (EntryFields × List ℕ) → Type 0
+says v =
     Then (number w64) IsLong (λ moment. Then (λ f. flags_byte f ∷ []) (λ _. Unit {0}) (λ flags. Then (λ b. b ∷ []) (λ b. b < 256) (λ count.
     Then (number w32) IsWord (λ size_before. Then (number w32) IsWord (λ size_after. Then (number w64) IsLong (λ changed_before. Then (number w64) IsLong (λ changed_after.
-    Then pair_spelling (IsToldPair flags.pair) (λ pair. Then (flat_map triple_spelling) (AreTriples count) (λ triples.
-    Made (checked_entry (made_of moment flags size_before size_after changed_before changed_after pair triples)))))))))))
+    Then pair_spelling (IsToldPair flags.pair) (λ pair. Then (flat_map (triple_spelling_by v)) (AreTriples v count) (λ triples.
+    Made (checked_entry_by v (made_of moment flags size_before size_after changed_before changed_after pair triples)))))))))))
 
-exact : Exact entry_at says
-unfolding entry_at
-exact =
+exact : (v : ImageVersion) → Exact (entry_at_by v) (says v)
+unfolding entry_at_by
+exact v =
     then_exact long_field (λ moment. then_exact flags_field (λ flags. then_exact byte_field (λ count.
     then_exact word_field (λ size_before. then_exact word_field (λ size_after. then_exact long_field (λ changed_before. then_exact long_field (λ changed_after.
-    then_exact (pair_field flags.pair) (λ pair. then_exact (triples_field count) (λ triples.
-    made_exact (checked_entry (made_of moment flags size_before size_after changed_before changed_after pair triples)))))))))))
+    then_exact (pair_field flags.pair) (λ pair. then_exact (triples_field v count) (λ triples.
+    made_exact (checked_entry_by v (made_of moment flags size_before size_after changed_before changed_after pair triples)))))))))))
 
 -- the fields, with what comes after them
-abbrev before : ℕ → Flags → ℕ → ℕ → ℕ → ℕ → ℕ → Option Pair → List Triple → List ℕ → List ℕ
-before moment flags count size_before size_after changed_before changed_after pair triples rest =
-    number w64 moment ++ (flags_byte flags ∷ count ∷ (number w32 size_before ++ (number w32 size_after ++ (number w64 changed_before ++ (number w64 changed_after ++ (pair_spelling pair ++ (flat_map triple_spelling triples ++ rest)))))))
+abbrev before : ImageVersion → ℕ → Flags → ℕ → ℕ → ℕ → ℕ → ℕ → Option Pair → List Triple → List ℕ → List ℕ
+before v moment flags count size_before size_after changed_before changed_after pair triples rest =
+    number w64 moment ++ (flags_byte flags ∷ count ∷ (number w32 size_before ++ (number w32 size_after ++ (number w64 changed_before ++ (number w64 changed_after ++ (pair_spelling pair ++ (flat_map (triple_spelling_by v) triples ++ rest)))))))
 
-spelled_before : (e : EntryFields) (rest : List ℕ) → entry_spelling e ++ rest ≡ before e.moment (flags_of e) (length e.triples) e.before.size e.after.size e.before.changed e.after.changed e.pair e.triples rest
-unfolding entry_spelling
-spelled_before e rest = simp append_assoc
+spelled_before : (v : ImageVersion) (e : EntryFields) (rest : List ℕ) → entry_spelling_by v e ++ rest ≡ before v e.moment (flags_of e) (length e.triples) e.before.size e.after.size e.before.changed e.after.changed e.pair e.triples rest
+unfolding entry_spelling_by
+spelled_before v e rest = simp append_assoc
 
-takes : (bytes : List ℕ) (x : EntryFields × List ℕ) → IsBytes bytes → entry_at bytes ≡ Some x → (bytes ≡ entry_spelling x.0 ++ x.1) × IsEntry x.0
-takes bytes x h e =
-    let moment = exact.found bytes x h e in
+takes : (v : ImageVersion) (bytes : List ℕ) (x : EntryFields × List ℕ) → IsBytes bytes → entry_at_by v bytes ≡ Some x → (bytes ≡ entry_spelling_by v x.0 ++ x.1) × IsEntryBy v x.0
+takes v bytes x h e =
+    let moment = (exact v).found bytes x h e in
     let flags = moment.after in
     let count = flags.after in
     let size_before = count.after in
@@ -205,36 +249,36 @@ takes bytes x h e =
     let pair = changed_after.after in
     let triples = pair.after in
     let made = made_of moment.value flags.value size_before.value size_after.value changed_before.value changed_after.value pair.value triples.value in
-    let k = kept_is (entry_rules made) made x.0 triples.after.is in
-    let numbers : EntryNumbers made = record { moment = moment.fits; size_before = size_before.fits; size_after = size_after.fits; changed_before = changed_before.fits; changed_after = changed_after.fits; pair = pair.fits.1; count = omega (arith, triples.fits.0, triples.fits.1.0); triples = triples.fits.1.1 } in
-    let tail : count.rest ≡ number w32 size_before.value ++ (number w32 size_after.value ++ (number w64 changed_before.value ++ (number w64 changed_after.value ++ (pair_spelling pair.value ++ (flat_map triple_spelling triples.value ++ x.1))))) =
+    let k = kept_is (entry_rules_by v made) made x.0 triples.after.is in
+    let numbers : EntryNumbers made = record { moment = moment.fits; size_before = size_before.fits; size_after = size_after.fits; changed_before = changed_before.fits; changed_after = changed_after.fits; pair = pair.fits.1; count = omega (arith, triples.fits.0, triples.fits.1.0); triples = all_widened v triples.value triples.fits.1.1 } in
+    let tail : count.rest ≡ number w32 size_before.value ++ (number w32 size_after.value ++ (number w64 changed_before.value ++ (number w64 changed_after.value ++ (pair_spelling pair.value ++ (flat_map (triple_spelling_by v) triples.value ++ x.1))))) =
     rw (size_before.whole, size_after.whole, changed_before.whole, changed_after.whole, pair.whole, triples.whole, triples.after.rest) refl in
-    let head : bytes ≡ before moment.value flags.value count.value size_before.value size_after.value changed_before.value changed_after.value pair.value triples.value x.1 =
+    let head : bytes ≡ before v moment.value flags.value count.value size_before.value size_after.value changed_before.value changed_after.value pair.value triples.value x.1 =
     moment.whole ∙ ap (λ (r : List ℕ). number w64 moment.value ++ r) (flags.whole ∙ ap (λ (r : List ℕ). flags_byte flags.value ∷ r) (count.whole ∙ ap (λ (r : List ℕ). count.value ∷ r) tail)) in
     let told : flags_of made ≡ flags.value = ap (λ (b : Bool). record { before = flags.value.before; after = flags.value.after; pair = b }) pair.fits.0 in
-    let counted : bytes ≡ before moment.value flags.value (length triples.value) size_before.value size_after.value changed_before.value changed_after.value pair.value triples.value x.1 =
-    head ∙ ap (λ (n : ℕ). before moment.value flags.value n size_before.value size_after.value changed_before.value changed_after.value pair.value triples.value x.1) (sym triples.fits.1.0) in
-    let whole : bytes ≡ entry_spelling made ++ x.1 =
-    counted ∙ ap (λ (f : Flags). before moment.value f (length triples.value) size_before.value size_after.value changed_before.value changed_after.value pair.value triples.value x.1) (sym told) ∙ sym (spelled_before made x.1) in
-    subst (λ (d : EntryFields). (bytes ≡ entry_spelling d ++ x.1) × IsEntry d) k.1 (whole, (k.0, numbers))
+    let counted : bytes ≡ before v moment.value flags.value (length triples.value) size_before.value size_after.value changed_before.value changed_after.value pair.value triples.value x.1 =
+    head ∙ ap (λ (n : ℕ). before v moment.value flags.value n size_before.value size_after.value changed_before.value changed_after.value pair.value triples.value x.1) (sym triples.fits.1.0) in
+    let whole : bytes ≡ entry_spelling_by v made ++ x.1 =
+    counted ∙ ap (λ (f : Flags). before v moment.value f (length triples.value) size_before.value size_after.value changed_before.value changed_after.value pair.value triples.value x.1) (sym told) ∙ sym (spelled_before v made x.1) in
+    subst (λ (d : EntryFields). (bytes ≡ entry_spelling_by v d ++ x.1) × IsEntryBy v d) k.1 (whole, (k.0, numbers))
 
-made_is : (e : EntryFields) → entry_rules e ≡ true → checked_entry e ≡ Some e
-made_is e h = rw h refl
+made_is : (v : ImageVersion) (e : EntryFields) → entry_rules_by v e ≡ true → checked_entry_by v e ≡ Some e
+made_is v e h = rw h refl
 
-again : (e : EntryFields) (rest : List ℕ) → IsEntry e → entry_at (entry_spelling e ++ rest) ≡ Some (e, rest)
-again e rest h =
+again : (v : ImageVersion) (e : EntryFields) (rest : List ℕ) → IsEntryBy v e → entry_at_by v (entry_spelling_by v e ++ rest) ≡ Some (e, rest)
+again v e rest h =
     let n = h.1 in
-    let r7 = flat_map triple_spelling e.triples ++ rest in
+    let r7 = flat_map (triple_spelling_by v) e.triples ++ rest in
     let r6 = pair_spelling e.pair ++ r7 in
     let r5 = number w64 e.after.changed ++ r6 in
     let r4 = number w64 e.before.changed ++ r5 in
     let r3 = number w32 e.after.size ++ r4 in
     let r2 = number w32 e.before.size ++ r3 in
-    exact.again (entry_spelling e ++ rest) (e, rest) (record {
+    (exact v).again (entry_spelling_by v e ++ rest) (e, rest) (record {
       value = e.moment;
       rest = flags_byte (flags_of e) ∷ length e.triples ∷ r2;
       fits = n.moment;
-      whole = spelled_before e rest;
+      whole = spelled_before v e rest;
       after = record {
         value = flags_of e;
         rest = length e.triples ∷ r2;
@@ -273,9 +317,9 @@ again e rest h =
                     after = record {
                       value = e.triples;
                       rest = rest;
-                      fits = (n.count, (refl, n.triples));
+                      fits = (n.count, (refl, narrowed v e h.0 n.triples));
                       whole = refl;
-                      after = record { is = made_is e h.0; rest = refl };
+                      after = record { is = made_is v e h.0; rest = refl };
                     };
                   };
                 };
@@ -286,5 +330,9 @@ again e rest h =
       };
     })
 
+pub entry_field_by : (v : ImageVersion) → IsField (entry_at_by v) (entry_spelling_by v) (IsEntryBy v)
+entry_field_by v = record { whole = λ bytes x h e. (takes v bytes x h e).0; fits = λ bytes x h e. (takes v bytes x h e).1; again = again v }
+
 pub entry_field : IsField entry_at entry_spelling IsEntry
-entry_field = record { whole = λ bytes x h e. (takes bytes x h e).0; fits = λ bytes x h e. (takes bytes x h e).1; again = again }
+unfolding entry_at entry_spelling
+entry_field = entry_field_by Second

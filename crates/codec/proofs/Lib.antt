@@ -8,6 +8,7 @@ pub mod Holes
 pub mod FirstLaws
 pub mod PointerLaws
 pub mod PartLaws
+pub mod SmallLaws
 pub mod Ascending
 pub mod EntryLaws
 pub mod Lengths

@@ -187,7 +187,7 @@ told_of c parts part b block e spells =
     ap (λ (o : Option PointerBlock). o >>= λ x. kept (is_part f part x) x.pointers) ((all_exact pointers_field).again block b spells)
     ∙ ap (λ test. kept test b.pointers) t.0 ∙ ap (λ (ps : List (Option Place)). Some ps) t.1
 
-all_holes : (ps : List (Option Place)) (n : ℕ) → length ps ≡ n → are_holes ps ≡ true → ps ≡ replicate n None
+pub all_holes : (ps : List (Option Place)) (n : ℕ) → length ps ≡ n → are_holes ps ≡ true → ps ≡ replicate n None
 all_holes [] zero len e = refl
 all_holes [] (suc n) len e = absurd (omega (arith, len))
 all_holes (p ∷ ps) zero len e = absurd (omega (arith, len))

@@ -12,8 +12,8 @@ use Rattle.std.proofs.lemmas.Slice.{between_to_end}
 use Rattle.std.specs.List.{between}
 use Rattle.s4_types.specs.declared.limits.TheConstants.{JOURNAL_ENTRY_BYTES, JOURNAL_HEAD_BYTES, JOURNAL_ENTRIES}
 use Rattle.codec.specs.Fields.{Reads, number, zeros, slot, mark_at, slot_at, number_at, all_of}
-use Rattle.codec.specs.Entry.{EntryFields, IsEntry, entry_spelling, entry_length, entries_length}
-use Rattle.codec.specs.Journal.{JournalFields, JournalNumbers, SpellsJournal, journal_spelling, journal_at}
+use Rattle.codec.specs.Entry.{EntryFields, IsEntry, entry_spelling, entry_spelling_by, entry_length, entries_length}
+use Rattle.codec.specs.Journal.{JournalFields, JournalNumbers, SpellsJournal, journal_spelling, journal_spelling_by, journal_at}
 use Rattle.codec.specs.Patching.{decoded, with_entry}
 use Rattle.codec.proofs.Exact.{IsBytes, long_field, some_is}
 use Rattle.codec.proofs.Whole.{all_exact}
@@ -31,11 +31,6 @@ decoded_read block j e = ap (λ (o : Option JournalFields). unwrap_or o (record 
 -- what a block encodes is what it is seen as
 pub decoded_is : (block : List ℕ) (j : JournalFields) → SpellsJournal block j → decoded block ≡ j
 decoded_is block j h = decoded_read block j ((all_exact journal_field).again block j h)
-
--- a block whose first byte is no journal block's
-pub decoded_other : (rest : List ℕ) → decoded (0 ∷ rest) ≡ record { object = 0; previous = None; entries = [] }
-unfolding decoded journal_at mark_at
-decoded_other rest = refl
 
 some_decoded : (block : List ℕ) (o : Option JournalFields) → all_of journal_at block ≡ o → IsSome o → all_of journal_at block ≡ Some (decoded block)
 unfolding decoded
@@ -56,13 +51,13 @@ unfolding number
 told_at n t rest lt = big_number-reads_back 2 t rest lt
 
 pub told_is : (block : List ℕ) (j : JournalFields) → SpellsJournal block j → big_number 2 (drop 2 block) ≡ entries_length j.entries
-unfolding journal_spelling
+unfolding journal_spelling journal_spelling_by entry_spelling
 told_is block j h =
     let fit : entries_length j.entries ≤ JOURNAL_ENTRY_BYTES = rules_fit j h.0.0 in
     ap (λ (b : List ℕ). big_number 2 (drop 2 b)) h.1 ∙ told_at (length j.entries) (entries_length j.entries) _ (omega arith)
 
 pub count_is : (block : List ℕ) (j : JournalFields) → SpellsJournal block j → get_or block 1 0 ≡ length j.entries
-unfolding journal_spelling
+unfolding journal_spelling journal_spelling_by entry_spelling
 count_is block j h = ap (λ (b : List ℕ). get_or b 1 0) h.1
 
 -- ---- one entry more
@@ -76,7 +71,7 @@ unfolding zeros number
 front_length count told j entries = omega (arith, length-append (slot j.previous) (flat_map entry_spelling entries), slot_length j.previous, entries_spelled entries)
 
 front_spells : (j : JournalFields) → journal_spelling j ≡ front (length j.entries) (entries_length j.entries) j j.entries ++ zeros (JOURNAL_ENTRY_BYTES - entries_length j.entries)
-unfolding journal_spelling
+unfolding journal_spelling journal_spelling_by entry_spelling
 front_spells j = simp append_assoc
 
 -- the same head, with other counts
@@ -143,24 +138,17 @@ object_behind : (n told object : ℕ) (rest : List ℕ) → drop 8 (1 ∷ n ∷ 
 unfolding number zeros
 object_behind n told object rest = refl
 
-previous_behind : (n told object : ℕ) (rest : List ℕ) → drop 16 (1 ∷ n ∷ (number w16 told ++ (zeros 4 ++ (number w64 object ++ rest)))) ≡ rest
+pub previous_behind : (n told object : ℕ) (rest : List ℕ) → drop 16 (1 ∷ n ∷ (number w16 told ++ (zeros 4 ++ (number w64 object ++ rest)))) ≡ rest
 unfolding number zeros
 previous_behind n told object rest = refl
 
 pub object_is : (block : List ℕ) (j : JournalFields) → SpellsJournal block j → number_at w64 (drop 8 block) ≡ Some (j.object, drop 16 block)
-unfolding journal_spelling
+unfolding journal_spelling journal_spelling_by entry_spelling
 object_is block j h =
     let rest = slot j.previous ++ (flat_map entry_spelling j.entries ++ zeros (JOURNAL_ENTRY_BYTES - entries_length j.entries)) in
     let e : drop 8 block ≡ number w64 j.object ++ rest = ap (λ (b : List ℕ). drop 8 b) h.1 ∙ object_behind (length j.entries) (entries_length j.entries) j.object rest in
     let d : drop 16 block ≡ rest = ap (λ (b : List ℕ). drop 16 b) h.1 ∙ previous_behind (length j.entries) (entries_length j.entries) j.object rest in
     ap (number_at w64) e ∙ long_field.again j.object rest h.0.1.object ∙ ap (λ (r : List ℕ). Some (j.object, r)) (sym d)
-
-pub previous_is : (block : List ℕ) (j : JournalFields) → SpellsJournal block j → slot_at (drop 16 block) ≡ Some (j.previous, flat_map entry_spelling j.entries ++ zeros (JOURNAL_ENTRY_BYTES - entries_length j.entries))
-unfolding journal_spelling
-previous_is block j h =
-    let rest = flat_map entry_spelling j.entries ++ zeros (JOURNAL_ENTRY_BYTES - entries_length j.entries) in
-    let d : drop 16 block ≡ slot j.previous ++ rest = ap (λ (b : List ℕ). drop 16 b) h.1 ∙ previous_behind (length j.entries) (entries_length j.entries) j.object (slot j.previous ++ rest) in
-    ap slot_at d ∙ slot_field.again j.previous rest h.0.1.previous
 
 -- a single entry fits
 pub alone_fits : (entries : List EntryFields) (e : EntryFields) → entries ≡ e ∷ [] → entry_length e ≤ JOURNAL_ENTRY_BYTES → entries_length entries ≤ JOURNAL_ENTRY_BYTES

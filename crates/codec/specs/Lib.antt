@@ -1,8 +1,10 @@
 pub mod Fields
+pub mod Versions
 pub mod Checkpoint
 pub mod FirstBlock
 pub mod PointerBlock
 pub mod Parts
+pub mod SmallCheckpoint
 pub mod Entry
 pub mod Summary
 pub mod Journal

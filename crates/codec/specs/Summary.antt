@@ -72,6 +72,14 @@ frame_digest head payload = sha256 (head ++ concat payload)
 unfoldable pub summary_spelling : SummaryFields → List (List ℕ) → List ℕ
 summary_spelling s payload = summary_head s ++ frame_digest (summary_head s) payload
 
+-- a used block isn't a part of a checkpoint
+abbrev pub is_whole : BlockRole → Bool
+is_whole p = nat_lt (kind_number p.kind) 4
+
+-- no used block is a part of a checkpoint: so in each image of the first version
+abbrev pub has_no_parts : SummaryFields → Bool
+has_no_parts s = list_all is_whole s.roles
+
 -- a block of zeros
 abbrev pub IsBlank : List ℕ → Type 0
 IsBlank block = block ≡ zeros 512

@@ -9,8 +9,10 @@ ghost use Rattle.s4_types.specs.declared.limits.TheConstants.{LONGEST_ENTRY_BYTE
 ghost use Rattle.codec.specs.Fields.{Reads, slot, bit};
 ghost use Rattle.codec.specs.Entry.{EntryFields, same_slot, ascend_from, was_nothing, changes_now};
 ghost use Rattle.codec.specs.Entry.{differs, entry_rules, checked_entry, pair_length, entry_length};
+ghost use Rattle.codec.specs.Entry.{entry_length_by};
 
 use crate::attributes::Attribute;
+use crate::versions::ImageVersion;
 use arrayvec::ArrayVec;
 use s4_types::limits::{
     ENTRY_TRIPLES, OBJECT_BLOCKS, OBJECT_BYTES, SHORTEST_ENTRY_BYTES, TRIPLE_BYTES,
@@ -281,5 +283,16 @@ impl Entry {
         ensures most { result ≤ LONGEST_ENTRY_BYTES }
     {
         SHORTEST_ENTRY_BYTES + pair_bytes(self.pair) + TRIPLE_BYTES * self.triples.len()
+    }
+
+    /// How many bytes the entry's encoding has in an image of a version.
+    #[tactic(auto, unfolding(crate::specs::Entry::entry_length_by))]
+    pub fn byte_count_by(&self, version: ImageVersion) -> usize
+        ensures exact { result ≡ entry_length_by version self.now }
+        ensures least { SHORTEST_ENTRY_BYTES ≤ result }
+        ensures most { result ≤ LONGEST_ENTRY_BYTES }
+    {
+        let triples = version.bytes_of_triples(self.triples.len() as u8);
+        SHORTEST_ENTRY_BYTES + pair_bytes(self.pair) + triples
     }
 }

@@ -1,11 +1,15 @@
 ghost use Rattle.std.specs.Prelude.{◌≡◌, ℕ, List, length, Option};
+ghost use Rattle.std.specs.List.{list_all};
 ghost use Rattle.codec.specs.Fields.{Reads};
-ghost use Rattle.codec.specs.Entry.{EntryFields, flags_at, text_at, pair_at, triple_at, triples_at};
-ghost use Rattle.codec.specs.Entry.{behind_statuses, behind_count, entry_at};
+ghost use Rattle.codec.specs.Entry.{EntryFields, flags_at, text_at, pair_at, index_at_by};
+ghost use Rattle.codec.specs.Entry.{triple_at_by, triples_at_by, is_small, has_small_index};
+ghost use Rattle.codec.specs.Entry.{checked_entry_by};
+ghost use Rattle.codec.specs.Entry.{behind_statuses, behind_count, entry_at_by};
 
 use crate::attributes::Attribute;
-use crate::entries::{Entry, Flags, Pair, Status, Triple, Triples};
+use crate::entries::{Entry, Flags, Pair, PointerIndex, Status, Triple, Triples};
 use crate::fields::{read_byte, read_bytes, read_long, read_short, read_slot, read_word};
+use crate::versions::{FIRST_OBJECT_BLOCKS, FIRST_OBJECT_BYTES, ImageVersion};
 use arrayvec::ArrayVec;
 use s4_types::Moment;
 use s4_types::limits::ENTRY_TRIPLES;
@@ -55,11 +59,23 @@ fn read_pair(there: bool, bytes: &[u8]) -> Option<(Option<Pair>, &[u8])>
     Some((Some(Pair { before, after }), rest))
 }
 
-#[tactic(auto, unfolding(crate::specs::Entry::triple_at))]
-fn read_triple(bytes: &[u8]) -> Option<(Triple, &[u8])>
-    ensures { Reads (λ x. (x.0, x.1.now)) result (triple_at bytes.now) }
+fn read_index(version: ImageVersion, bytes: &[u8]) -> Option<(PointerIndex, &[u8])>
+    ensures { Reads (λ x. (x.0, x.1.now)) result (index_at_by version bytes.now) }
 {
-    let (index, rest) = read_short(bytes)?;
+    match version {
+        ImageVersion::First => {
+            let (index, rest) = read_byte(bytes)?;
+            Some((PointerIndex::from(index), rest))
+        }
+        ImageVersion::Second => read_short(bytes),
+    }
+}
+
+#[tactic(auto, unfolding(crate::specs::Entry::triple_at_by))]
+fn read_triple(version: ImageVersion, bytes: &[u8]) -> Option<(Triple, &[u8])>
+    ensures { Reads (λ x. (x.0, x.1.now)) result (triple_at_by version bytes.now) }
+{
+    let (index, rest) = read_index(version, bytes)?;
     let Some((before, rest)) = read_slot(rest) else {
         return None;
     };
@@ -74,9 +90,9 @@ fn read_triple(bytes: &[u8]) -> Option<(Triple, &[u8])>
     Some((triple, rest))
 }
 
-#[tactic(auto, unfolding(crate::specs::Entry::triples_at))]
-fn read_triples(count: u8, bytes: &[u8]) -> Option<(Triples, &[u8])>
-    ensures { Reads (λ x. (x.0.items, x.1.now)) result (triples_at count bytes.now) }
+#[tactic(auto, unfolding(crate::specs::Entry::triples_at_by))]
+fn read_triples(version: ImageVersion, count: u8, bytes: &[u8]) -> Option<(Triples, &[u8])>
+    ensures { Reads (λ x. (x.0.items, x.1.now)) result (triples_at_by version count bytes.now) }
 {
     if count as usize > ENTRY_TRIPLES {
         return None;
@@ -84,7 +100,7 @@ fn read_triples(count: u8, bytes: &[u8]) -> Option<(Triples, &[u8])>
     let mut triples: Triples = ArrayVec::new();
     let mut rest = bytes;
     for _ in 0..count {
-        let Some((triple, after)) = read_triple(rest) else {
+        let Some((triple, after)) = read_triple(version, rest) else {
             return None;
         };
         triples.push(triple);
@@ -93,8 +109,50 @@ fn read_triples(count: u8, bytes: &[u8]) -> Option<(Triples, &[u8])>
     Some((triples, rest))
 }
 
+fn have_small_indices(triples: &[Triple]) -> bool
+    ensures { result ≡ list_all has_small_index triples.now }
+{
+    triples
+        .iter()
+        .all(|triple| (triple.index as usize) < FIRST_OBJECT_BLOCKS)
+}
+
+/// Whether an entry is of an object as small as those of the first version.
+#[tactic(auto, unfolding(crate::specs::Entry::is_small))]
+fn is_small(entry: &Entry) -> bool
+    ensures { result ≡ is_small entry.now }
+{
+    entry.before().size <= FIRST_OBJECT_BYTES as u32
+        && entry.after().size <= FIRST_OBJECT_BYTES as u32
+        && have_small_indices(entry.triples())
+}
+
+/// The entry of a change in an image of a version. None where it breaks a rule of single entries.
+fn entry_of(
+    version: ImageVersion,
+    moment: Moment,
+    before: Status,
+    after: Status,
+    pair: Option<Pair>,
+    triples: Triples,
+) -> Option<Entry>
+    ensures { Reads (λ e. e) result (checked_entry_by version (record { moment = moment; before = before; after = after; pair = pair; triples = triples.items })) }
+{
+    let entry = Entry::new(moment, before, after, pair, triples)?;
+    match version {
+        ImageVersion::First => {
+            if !is_small(&entry) {
+                return None;
+            }
+            Some(entry)
+        }
+        ImageVersion::Second => Some(entry),
+    }
+}
+
 // What comes after the two statuses of an entry.
 fn read_behind_statuses(
+    version: ImageVersion,
     moment: Moment,
     before: Status,
     after: Status,
@@ -103,26 +161,28 @@ fn read_behind_statuses(
     bytes: &[u8],
 ) -> Option<(Entry, &[u8])>
     ensures { Reads (λ x. (x.0, x.1.now)) result
-        (behind_statuses moment before after has_pair count bytes.now) }
+        (behind_statuses version moment before after has_pair count bytes.now) }
 {
     let Some((pair, rest)) = read_pair(has_pair, bytes) else {
         return None;
     };
-    let Some((triples, rest)) = read_triples(count, rest) else {
+    let Some((triples, rest)) = read_triples(version, count, rest) else {
         return None;
     };
-    let entry = Entry::new(moment, before, after, pair, triples)?;
+    let entry = entry_of(version, moment, before, after, pair, triples)?;
     Some((entry, rest))
 }
 
 // What comes after an entry's count of triples.
 fn read_behind_count(
+    version: ImageVersion,
     moment: Moment,
     flags: Flags,
     count: u8,
     bytes: &[u8],
 ) -> Option<(Entry, &[u8])>
-    ensures { Reads (λ x. (x.0, x.1.now)) result (behind_count moment flags count bytes.now) }
+    ensures { Reads (λ x. (x.0, x.1.now)) result
+        (behind_count version moment flags count bytes.now) }
 {
     let (size_before, rest) = read_word(bytes)?;
     let (size_after, rest) = read_word(rest)?;
@@ -138,15 +198,16 @@ fn read_behind_count(
         size: size_after,
         changed: Moment::new(changed_after),
     };
-    read_behind_statuses(moment, before, after, flags.pair, count, rest)
+    read_behind_statuses(version, moment, before, after, flags.pair, count, rest)
 }
 
-#[tactic(auto, unfolding(crate::specs::Entry::entry_at))]
-pub(crate) fn read_entry(bytes: &[u8]) -> Option<(Entry, &[u8])>
-    ensures { Reads (λ x. (x.0, x.1.now)) result (entry_at bytes.now) }
+/// The entry of an image of a version that the bytes begin with, and the bytes after it.
+#[tactic(auto, unfolding(crate::specs::Entry::entry_at_by))]
+pub(crate) fn read_entry(version: ImageVersion, bytes: &[u8]) -> Option<(Entry, &[u8])>
+    ensures { Reads (λ x. (x.0, x.1.now)) result (entry_at_by version bytes.now) }
 {
     let (moment, rest) = read_long(bytes)?;
     let (flags, rest) = read_flags(rest)?;
     let (count, rest) = read_byte(rest)?;
-    read_behind_count(Moment::new(moment), flags, count, rest)
+    read_behind_count(version, Moment::new(moment), flags, count, rest)
 }

@@ -3,14 +3,17 @@ ghost use Rattle.std.specs.Prelude.{IfSome};
 ghost use Rattle.std.specs.List.{flat_map, AllByRecursion};
 ghost use Rattle.s4_types.specs.declared.limits.TheConstants.{TRIPLE_BYTES};
 ghost use Rattle.codec.specs.Fields.{Reads};
-ghost use Rattle.codec.specs.Entry.{EntryFields, IsEntry, IsTriple, IsPair, entry_at, flags_byte};
-ghost use Rattle.codec.specs.Entry.{text, pair_spelling, triple_spelling, entry_spelling};
-ghost use Rattle.codec.specs.Entry.{entry_length, pair_length, BeginsWithEntry};
+ghost use Rattle.codec.specs.Entry.{EntryFields, IsEntry, IsTriple, IsPair, entry_at, entry_at_by};
+ghost use Rattle.codec.specs.Entry.{flags_byte, text, pair_spelling, triple_spelling_by};
+ghost use Rattle.codec.specs.Entry.{entry_spelling, entry_length, pair_length, BeginsWithEntry};
+ghost use Rattle.codec.specs.Entry.{BeginsWithEntryBy};
+ghost use Rattle.codec.specs.declared.versions.ImageVersion.TheVariants.{Second};
 
 use crate::attributes::Attribute;
 use crate::entries::{Entry, Pair, Triple};
 use crate::entry_reading::read_entry;
 use crate::pointers::put_slot;
+use crate::versions::ImageVersion;
 use crate::writing::{Writing, bit_of, put, put_byte, put_long, put_short, put_word};
 
 #[tactic(auto, unfolding(crate::specs::Entry::flags_byte))]
@@ -45,10 +48,10 @@ fn put_pair(out: &mut Writing, pair: Option<Pair>)
     }
 }
 
-#[tactic(auto, unfolding(crate::specs::Entry::triple_spelling))]
+#[tactic(auto, unfolding(crate::specs::Entry::triple_spelling_by))]
 fn put_triple(out: &mut Writing, triple: Triple)
     requires { length out.old.items + TRIPLE_BYTES ≤ 512 }
-    ensures items { out.new.items ≡ out.old.items ++ triple_spelling triple }
+    ensures items { out.new.items ≡ out.old.items ++ triple_spelling_by Second triple }
     ensures len { length out.new.items ≡ length out.old.items + TRIPLE_BYTES }
     ensures range { IsTriple triple }
 {
@@ -59,7 +62,7 @@ fn put_triple(out: &mut Writing, triple: Triple)
 
 fn put_triples(out: &mut Writing, triples: &[Triple])
     requires { length out.old.items + TRIPLE_BYTES * length triples.now ≤ 512 }
-    ensures items { out.new.items ≡ out.old.items ++ flat_map triple_spelling triples.now }
+    ensures items { out.new.items ≡ out.old.items ++ flat_map (triple_spelling_by Second) triples.now }
     ensures len { length out.new.items ≡ length out.old.items + TRIPLE_BYTES * length triples.now }
     ensures range { AllByRecursion IsTriple triples.now }
 {
@@ -69,7 +72,7 @@ fn put_triples(out: &mut Writing, triples: &[Triple])
 }
 
 /// Appends the one encoding of an entry to a block that has room for it.
-#[tactic(auto, unfolding(crate::specs::Entry::entry_spelling, crate::specs::Entry::entry_length))]
+#[tactic(auto, unfolding(crate::specs::Entry::entry_spelling, crate::specs::Entry::entry_spelling_by, crate::specs::Entry::entry_length))]
 pub fn encode_entry(entry: &Entry, out: &mut Writing)
     requires { length out.old.items + entry_length entry.now ≤ 512 }
     ensures items { out.new.items ≡ out.old.items ++ entry_spelling entry.now }
@@ -99,5 +102,17 @@ pub fn decode_entry(bytes: &[u8]) -> Option<(Entry, &[u8])>
         → BeginsWithEntry bytes.now entry rest
         → Reads {Y = EntryFields × List ℕ} (λ x. (x.0, x.1.now)) result (Some (entry, rest)) }
 {
-    read_entry(bytes)
+    read_entry(ImageVersion::Second, bytes)
+}
+
+/// The entry whose encoding in an image of a version the bytes begin with, and the bytes after it.
+/// None where they begin with the encoding of no entry there.
+pub fn decode_entry_by(version: ImageVersion, bytes: &[u8]) -> Option<(Entry, &[u8])>
+    ensures exact { Reads (λ x. (x.0, x.1.now)) result (entry_at_by version bytes.now) }
+    ensures found { IfSome result (λ x. BeginsWithEntryBy version bytes.now x.0 x.1.now) }
+    ensures only { (entry : EntryFields) (rest : List ℕ)
+        → BeginsWithEntryBy version bytes.now entry rest
+        → Reads {Y = EntryFields × List ℕ} (λ x. (x.0, x.1.now)) result (Some (entry, rest)) }
+{
+    read_entry(version, bytes)
 }

@@ -1,10 +1,11 @@
 ghost use Rattle.std.specs.Prelude.{◌≡◌, ℕ, ◌≤◌, ◌*◌, true, length, Option};
 ghost use Rattle.s4_types.specs.declared.limits.TheConstants.{JOURNAL_ENTRIES, LONGEST_ENTRY_BYTES};
 ghost use Rattle.codec.specs.Fields.{Reads, kept};
-ghost use Rattle.codec.specs.Entry.{EntryFields, entries_length};
+ghost use Rattle.codec.specs.Entry.{EntryFields, entries_length, entries_length_by};
 ghost use Rattle.codec.specs.Journal.{JournalFields, journal_rules};
 
 use crate::entries::Entry;
+use crate::versions::ImageVersion;
 use arrayvec::ArrayVec;
 use s4_types::limits::{JOURNAL_ENTRIES, JOURNAL_ENTRY_BYTES};
 use s4_types::{ObjectId, Ptr};
@@ -46,6 +47,20 @@ pub(crate) fn byte_sum(entries: &[Entry]) -> usize
     let mut bytes = 0;
     for entry in entries {
         bytes += entry.byte_count();
+    }
+    bytes
+}
+
+/// How many bytes these entries have together in an image of a version.
+#[tactic(auto, using(crate::proofs::JournalEntries::by_next, crate::proofs::JournalEntries::by_none))]
+pub(crate) fn byte_sum_by(version: ImageVersion, entries: &[Entry]) -> usize
+    requires { length entries.now ≤ JOURNAL_ENTRIES }
+    ensures exact { result ≡ entries_length_by version entries.now }
+    ensures most { result ≤ JOURNAL_ENTRIES * LONGEST_ENTRY_BYTES }
+{
+    let mut bytes = 0;
+    for entry in entries {
+        bytes += entry.byte_count_by(version);
     }
     bytes
 }

@@ -1,10 +1,11 @@
 use Rattle.std.proofs.Common.{arith, append_assoc}
-use Rattle.codec.specs.Journal.{journal_spelling, JournalFields, JournalNumbers}
+use Rattle.codec.specs.Entry.{entry_spelling}
+use Rattle.codec.specs.Journal.{journal_spelling, journal_spelling_by, journal_rules, journal_rules_by, JournalFields, JournalNumbers}
 use Rattle.codec.proofs.JournalEntries.{rules_hold}
 use Rattle.codec.proofs.journal_writing.encode_entries.Goals as goal
 
 pub returns : goal.returns
-unfolding journal_spelling
+unfolding journal_spelling journal_spelling_by entry_spelling journal_rules journal_rules_by
 returns c =
     let j : JournalFields = record { object = c.args.object; previous = c.args.previous; entries = c.args.entries.now } in
     let numbers : JournalNumbers j = record { object = omega (arith, c.put_long.ensures.range, c.number.ensures); previous = c.put_slot.ensures.range; entries = c.put_entries.ensures.spelled } in (

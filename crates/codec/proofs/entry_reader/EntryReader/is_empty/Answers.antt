@@ -6,5 +6,5 @@ use Rattle.codec.proofs.entry_reader.EntryReader.is_empty.Goals as goal
 pub returns : goal.returns
 returns c =
     let starts = c.self.inside.starts.items in
-    let many : length starts ≡ length c.args.self.now.entries = sym (as_many c.self.inside.block starts c.self.invariant) ∙ ap (λ (j : JournalFields). length j.entries) c.self.view_is in
+    let many : length starts ≡ length c.args.self.now.entries = sym (as_many c.self.inside.version c.self.inside.block starts c.self.invariant) ∙ ap (λ (j : JournalFields). length j.entries) c.self.view_is in
     c.is_empty.ensures ∙ ap (λ n. eqb n 0) many

@@ -1,0 +1,10 @@
+use Rattle.std.proofs.Common.{arith}
+use Rattle.codec.proofs.EntryLaws.{entry_field_by}
+use Rattle.codec.proofs.Whole.{found_front, only_front}
+use Rattle.codec.proofs.entry_writing.decode_entry_by.Goals as goal
+
+pub returns-clause-found : goal.returns-clause-found
+returns-clause-found c = found_front (λ x. (x.0, x.1.now)) (entry_field_by c.args.version) c.args.bytes.now c.read_entry.result (λ i. omega (arith, c.type_inv.bytes i)) c.read_entry.ensures
+
+pub returns-clause-only : goal.returns-clause-only
+returns-clause-only c = only_front (λ x. (x.0, x.1.now)) (entry_field_by c.args.version) c.args.bytes.now c.read_entry.result c.read_entry.ensures

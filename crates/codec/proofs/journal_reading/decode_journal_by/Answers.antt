@@ -1,0 +1,9 @@
+use Rattle.codec.proofs.JournalLaws.{journal_field_by}
+use Rattle.codec.proofs.Whole.{all_exact, found_all, only_all}
+use Rattle.codec.proofs.journal_reading.decode_journal_by.Goals as goal
+
+pub returns-clause-found : goal.returns-clause-found
+returns-clause-found c = found_all (all_exact (journal_field_by c.args.version)) c.args.block.now c.reader_in.result c.fits-block c.reader_in.ensures
+
+pub returns-clause-only : goal.returns-clause-only
+returns-clause-only c = only_all (all_exact (journal_field_by c.args.version)) c.args.block.now c.reader_in.result c.reader_in.ensures
