@@ -2,16 +2,17 @@
 use Rattle.std.proofs.Common.{◌≡◌, List, ℕ, Option, None, refl, sym, ◌∙◌, inl, inr}
 use Rattle.s4_types.specs.declared.refusals.Cause.{Cause}
 use Rattle.s4_types.specs.declared.refusals.Cause.TheVariants.{Header as HeaderCause, Length, Digest, Frame, Span as SpanCause, Row}
-use Rattle.image_parts.specs.Header.{header_in, HasHeader}
-use Rattle.image_parts.specs.Frames.{KeepFrameRules}
+use Rattle.image_parts.specs.Header.{header_in, HasHeaderBy}
+use Rattle.image_parts.specs.Frames.{KeepFrameRulesBy}
 use Rattle.image_parts.specs.Rows.{KeepRowRules}
 use Rattle.image_parts.specs.Spans.{KeepSpanRules}
 use Rattle.image_parts.specs.Image.{image_in}
-use Rattle.image_parts.specs.Causes.{IsLong, IsFilled, HasDigest, Tested, FirstCause}
+use Rattle.image_parts.specs.Causes.{IsLong, IsFilled, HasDigest, Tested, FirstCauseBy}
+use Rattle.codec.specs.declared.versions.ImageVersion.{ImageVersion}
 
 -- all tests hold
-pub all_hold : (bytes : List ℕ) → IsLong bytes → HasHeader bytes → IsFilled bytes → HasDigest bytes → KeepFrameRules (image_in bytes).frames → KeepSpanRules (header_in bytes) (image_in bytes).spans → KeepRowRules (header_in bytes) (image_in bytes).rows → FirstCause bytes None
-all_hold bytes long header filled digest frames spans rows = inr (long, inr (header, inr (filled, inr (digest, inr (frames, inr (spans, inr (rows, refl)))))))
+pub all_hold : (v : ImageVersion) (bytes : List ℕ) → IsLong bytes → HasHeaderBy v bytes → IsFilled bytes → HasDigest bytes → KeepFrameRulesBy v (image_in bytes).frames → KeepSpanRules (header_in bytes) (image_in bytes).spans → KeepRowRules (header_in bytes) (image_in bytes).rows → FirstCauseBy v bytes None
+all_hold v bytes long header filled digest frames spans rows = inr (long, inr (header, inr (filled, inr (digest, inr (frames, inr (spans, inr (rows, refl)))))))
 
 -- ---- one cause
 
@@ -28,25 +29,25 @@ from_row bytes = Tested (KeepRowRules (header_in bytes) (image_in bytes).rows) R
 abbrev from_span : List ℕ → Option Cause → Type 0
 from_span bytes = Tested (KeepSpanRules (header_in bytes) (image_in bytes).spans) SpanCause (from_row bytes)
 
-abbrev from_frame : List ℕ → Option Cause → Type 0
-from_frame bytes = Tested (KeepFrameRules (image_in bytes).frames) Frame (from_span bytes)
+abbrev from_frame : ImageVersion → List ℕ → Option Cause → Type 0
+from_frame v bytes = Tested (KeepFrameRulesBy v (image_in bytes).frames) Frame (from_span bytes)
 
-abbrev from_digest : List ℕ → Option Cause → Type 0
-from_digest bytes = Tested (HasDigest bytes) Digest (from_frame bytes)
+abbrev from_digest : ImageVersion → List ℕ → Option Cause → Type 0
+from_digest v bytes = Tested (HasDigest bytes) Digest (from_frame v bytes)
 
-abbrev from_filled : List ℕ → Option Cause → Type 0
-from_filled bytes = Tested (IsFilled bytes) Length (from_digest bytes)
+abbrev from_filled : ImageVersion → List ℕ → Option Cause → Type 0
+from_filled v bytes = Tested (IsFilled bytes) Length (from_digest v bytes)
 
-abbrev from_header : List ℕ → Option Cause → Type 0
-from_header bytes = Tested (HasHeader bytes) HeaderCause (from_filled bytes)
+abbrev from_header : ImageVersion → List ℕ → Option Cause → Type 0
+from_header v bytes = Tested (HasHeaderBy v bytes) HeaderCause (from_filled v bytes)
 
-pub one_cause : (bytes : List ℕ) (a b : Option Cause) → FirstCause bytes a → FirstCause bytes b → a ≡ b
-one_cause bytes =
+pub one_cause : (v : ImageVersion) (bytes : List ℕ) (a b : Option Cause) → FirstCauseBy v bytes a → FirstCauseBy v bytes b → a ≡ b
+one_cause v bytes =
     let none : (a b : Option Cause) → (a ≡ None) → (b ≡ None) → a ≡ b = λ a b x y. x ∙ sym y in
     let row = same_tested (KeepRowRules (header_in bytes) (image_in bytes).rows) Row (λ f. f ≡ None) none in
     let span = same_tested (KeepSpanRules (header_in bytes) (image_in bytes).spans) SpanCause (from_row bytes) row in
-    let frame = same_tested (KeepFrameRules (image_in bytes).frames) Frame (from_span bytes) span in
-    let digest = same_tested (HasDigest bytes) Digest (from_frame bytes) frame in
-    let filled = same_tested (IsFilled bytes) Length (from_digest bytes) digest in
-    let header = same_tested (HasHeader bytes) HeaderCause (from_filled bytes) filled in
-    same_tested (IsLong bytes) Length (from_header bytes) header
+    let frame = same_tested (KeepFrameRulesBy v (image_in bytes).frames) Frame (from_span bytes) span in
+    let digest = same_tested (HasDigest bytes) Digest (from_frame v bytes) frame in
+    let filled = same_tested (IsFilled bytes) Length (from_digest v bytes) digest in
+    let header = same_tested (HasHeaderBy v bytes) HeaderCause (from_filled v bytes) filled in
+    same_tested (IsLong bytes) Length (from_header v bytes) header

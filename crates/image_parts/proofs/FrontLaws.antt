@@ -2,25 +2,26 @@
 use Rattle.std.proofs.Common.{◌≡◌, ℕ, ◌<◌, ◌≤◌, List, ◌++◌, Some, length, take, refl, sym, ap, subst, ◌∙◌, arith, inl, inr, length-append}
 use Rattle.std.proofs.lemmas.List.{take-append-le}
 use Rattle.s4_types.specs.declared.refusals.Cause.TheVariants.{Header as HeaderCause, Length}
-use Rattle.image_parts.specs.Header.{header_bytes, header_in, KeepsHeaderRules, HasHeader}
+use Rattle.image_parts.specs.Header.{header_bytes_by, header_in, KeepsHeaderRulesBy, HasHeaderBy}
+use Rattle.codec.specs.declared.versions.ImageVersion.{ImageVersion}
 use Rattle.image_parts.specs.Image.{behind_header, longest_of}
-use Rattle.image_parts.specs.Causes.{IsLong, IsFilled, FirstSplitCause}
+use Rattle.image_parts.specs.Causes.{IsLong, IsFilled, FirstSplitCauseBy}
 use Rattle.image_parts.proofs.FrameLists.{frames_most}
 use Rattle.image_parts.proofs.HeaderLaws.{header_of_front}
 
 -- they have the header of the front, where that has one
-begins : (front rest : List ℕ) → 544 ≤ length front → HasHeader front → HasHeader (front ++ rest)
-begins front rest long k =
+begins : (v : ImageVersion) (front rest : List ℕ) → 544 ≤ length front → HasHeaderBy v front → HasHeaderBy v (front ++ rest)
+begins v front rest long k =
     let header = header_of_front front rest (omega (arith, long)) in
     let first : take 512 (front ++ rest) ≡ take 512 front = take-append-le 512 front rest (omega (arith, long)) in
-    record { spelled = first ∙ k.spelled ∙ ap header_bytes (sym header); rules = subst KeepsHeaderRules (sym header) k.rules }
+    record { spelled = first ∙ k.spelled ∙ ap (header_bytes_by v) (sym header); rules = subst (KeepsHeaderRulesBy v) (sym header) k.rules }
 
 -- they have none, where it has none
-begins_only : (front rest : List ℕ) → 544 ≤ length front → HasHeader (front ++ rest) → HasHeader front
-begins_only front rest long k =
+begins_only : (v : ImageVersion) (front rest : List ℕ) → 544 ≤ length front → HasHeaderBy v (front ++ rest) → HasHeaderBy v front
+begins_only v front rest long k =
     let header = header_of_front front rest (omega (arith, long)) in
     let first : take 512 (front ++ rest) ≡ take 512 front = take-append-le 512 front rest (omega (arith, long)) in
-    record { spelled = sym first ∙ k.spelled ∙ ap header_bytes header; rules = subst KeepsHeaderRules header k.rules }
+    record { spelled = sym first ∙ k.spelled ∙ ap (header_bytes_by v) header; rules = subst (KeepsHeaderRulesBy v) header k.rules }
 
 long_too : (front rest : List ℕ) → 544 ≤ length front → IsLong (front ++ rest)
 long_too front rest long = omega (arith, long, length-append front rest)
@@ -30,12 +31,12 @@ not_filled : (bytes : List ℕ) → longest_of (header_in bytes) < length bytes 
 not_filled bytes more filled =
     omega (arith, more, filled, frames_most (header_in bytes).frames (behind_header bytes))
 
-pub longer : (front rest : List ℕ) (longest : ℕ) → 544 ≤ length front → HasHeader front → longest ≡ longest_of (header_in front) → longest < length (front ++ rest) → FirstSplitCause (front ++ rest) (Some Length)
-longer front rest longest long k is more =
+pub longer : (v : ImageVersion) (front rest : List ℕ) (longest : ℕ) → 544 ≤ length front → HasHeaderBy v front → longest ≡ longest_of (header_in front) → longest < length (front ++ rest) → FirstSplitCauseBy v (front ++ rest) (Some Length)
+longer v front rest longest long k is more =
     let header = header_of_front front rest (omega (arith, long)) in
     let too_many : longest_of (header_in (front ++ rest)) < length (front ++ rest) = rw (header, sym is) more in
-    inr (long_too front rest long, inr (begins front rest long k, inl (not_filled (front ++ rest) too_many, refl)))
+    inr (long_too front rest long, inr (begins v front rest long k, inl (not_filled (front ++ rest) too_many, refl)))
 
-pub no_header : (front rest : List ℕ) → 544 ≤ length front → (HasHeader front → ⊥) → FirstSplitCause (front ++ rest) (Some HeaderCause)
-no_header front rest long none =
-    inr (long_too front rest long, inl ((λ k. none (begins_only front rest long k)), refl))
+pub no_header : (v : ImageVersion) (front rest : List ℕ) → 544 ≤ length front → (HasHeaderBy v front → ⊥) → FirstSplitCauseBy v (front ++ rest) (Some HeaderCause)
+no_header v front rest long none =
+    inr (long_too front rest long, inl ((λ k. none (begins_only v front rest long k)), refl))

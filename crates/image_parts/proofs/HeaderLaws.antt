@@ -1,11 +1,13 @@
 -- A header that is encoded is read, and one that bytes begin with is read of all that begins so.
-use Rattle.std.proofs.Common.{◌≡◌, ℕ, ◌+◌, ◌^◌, ◌<◌, ◌≤◌, List, ◌++◌, ap, ◌∙◌, length, take, drop, arith, length-append, length-drop}
+use Rattle.std.proofs.Common.{◌≡◌, ℕ, ◌+◌, ◌^◌, ◌<◌, ◌≤◌, List, ◌++◌, refl, sym, ap, ◌∙◌, length, get_or, take, drop, arith, length-append, length-drop}
 use Rattle.std.specs.Int.{Width, w16, w32, w64, byte_len, from_be_bytes}
 use Rattle.std.proofs.lemmas.List.{take-append-le, drop-append-le}
 use Rattle.std.proofs.lemmas.Nat.{from_be_bytes-to_be_bytes_2, from_be_bytes-to_be_bytes_4, from_be_bytes-to_be_bytes_8}
 use Rattle.codec.specs.Fields.{number, zeros}
 use Rattle.image_parts.proofs.Zeros.{zeros_length}
-use Rattle.image_parts.specs.Header.{number_in, header_bytes, header_in}
+use Rattle.image_parts.specs.Header.{number_in, header_bytes_by, header_in, digit_of, HasHeaderBy}
+use Rattle.codec.specs.declared.versions.ImageVersion.{ImageVersion}
+use Rattle.codec.specs.declared.versions.ImageVersion.TheVariants.{First, Second}
 use Rattle.image_parts.specs.declared.headers.Header.{Header}
 
 -- the numbers of a header are in their ranges
@@ -24,9 +26,9 @@ made frames clock window floor next rows spans = record { frames = frames; clock
 same : (a b c d e f g a' b' c' d' e' f' g' : ℕ) → a ≡ a' → b ≡ b' → c ≡ c' → d ≡ d' → e ≡ e' → f ≡ f' → g ≡ g' → made a b c d e f g ≡ made a' b' c' d' e' f' g'
 same a b c d e f g a' b' c' d' e' f' g' p q r s t u v = cc
 
-pub header_again : (h : Header) (rest : List ℕ) → IsHeader h → header_in (header_bytes h ++ rest) ≡ h
-unfolding header_in header_bytes number_in number zeros made
-header_again h rest k =
+pub header_again : (v : ImageVersion) (h : Header) (rest : List ℕ) → IsHeader h → header_in (header_bytes_by v h ++ rest) ≡ h
+unfolding header_in header_bytes_by number_in number zeros made
+header_again v h rest k =
     same _ _ _ _ _ _ _ h.frames h.clock h.window h.floor h.next h.rows h.spans
     (from_be_bytes-to_be_bytes_2 h.frames k.frames)
     (from_be_bytes-to_be_bytes_8 h.clock k.clock)
@@ -36,12 +38,26 @@ header_again h rest k =
     (from_be_bytes-to_be_bytes_4 h.rows k.rows)
     (from_be_bytes-to_be_bytes_4 h.spans k.spans)
 
-pub header_length : (h : Header) → length (header_bytes h) ≡ 512
-unfolding header_bytes number
-header_length h =
+pub header_length : (v : ImageVersion) (h : Header) → length (header_bytes_by v h) ≡ 512
+unfolding header_bytes_by number
+header_length v h =
     let last = zeros 456 in
     let numbers = number w64 h.clock ++ (number w64 h.window ++ (number w64 h.floor ++ (number w64 h.next ++ (number w32 h.rows ++ (number w32 h.spans ++ last))))) in
     omega (arith, length-append (zeros 6) numbers, zeros_length 6, zeros_length 456)
+
+-- the digit is in its place
+digit_is : (v : ImageVersion) (bytes : List ℕ) → HasHeaderBy v bytes → get_or (take 512 bytes) 7 0 ≡ digit_of v
+unfolding header_bytes_by
+digit_is v bytes k = ap (λ (b : List ℕ). get_or b 7 0) k.spelled
+
+one_digit : (a b : ImageVersion) → digit_of a ≡ digit_of b → a ≡ b
+one_digit First First e = refl
+one_digit Second Second e = refl
+one_digit First Second e = absurd (omega (arith, e))
+one_digit Second First e = absurd (omega (arith, e))
+
+pub one_version : (bytes : List ℕ) (a b : ImageVersion) → HasHeaderBy a bytes → HasHeaderBy b bytes → a ≡ b
+one_version bytes a b h k = one_digit a b (sym (digit_is a bytes h) ∙ digit_is b bytes k)
 
 -- ---- the header of a front
 

@@ -8,12 +8,13 @@ use Rattle.std.proofs.lemmas.List.{take-append-drop, take_at, drop_at}
 use Rattle.sha2.specs.Sha256.{sha256, digest_bytes, final_hash, initial_hash_256}
 use Rattle.s4_types.specs.declared.spans.Span.{Span}
 use Rattle.image_parts.proofs.Bytes.{IsBytes, bytes_after}
-use Rattle.image_parts.specs.Header.{header_bytes, header_in, KeepsHeaderRules, HasHeader}
-use Rattle.image_parts.specs.Frames.{FrameFields, frame_bytes, frames_in, frames_length, KeepFrameRules}
+use Rattle.image_parts.specs.Header.{header_bytes_by, header_in, KeepsHeaderRulesBy, HasHeaderBy}
+use Rattle.codec.specs.declared.versions.ImageVersion.{ImageVersion}
+use Rattle.image_parts.specs.Frames.{FrameFields, frame_bytes, frames_in, frames_length, KeepFrameRulesBy}
 use Rattle.image_parts.specs.Rows.{row_bytes, rows_in, KeepRowRules}
 use Rattle.image_parts.specs.Spans.{span_bytes, spans_in, KeepSpanRules}
-use Rattle.image_parts.specs.Image.{Image, IsImage, KeepsRules, SpellsImage, header_of, front_bytes, image_bytes, image_in, behind_header, behind_frames, behind_rows}
-use Rattle.image_parts.specs.Causes.{IsLong, IsFilled, HasDigest, FirstCause}
+use Rattle.image_parts.specs.Image.{Image, IsImage, KeepsRulesBy, SpellsImageBy, header_of, front_bytes_by, image_bytes_by, image_in, behind_header, behind_frames, behind_rows}
+use Rattle.image_parts.specs.Causes.{IsLong, IsFilled, HasDigest, FirstCauseBy}
 use Rattle.image_parts.specs.declared.headers.Header.{Header}
 use Rattle.image_parts.specs.declared.rows.RowPart.{RowPart}
 use Rattle.image_parts.proofs.CauseLaws.{all_hold}
@@ -36,24 +37,24 @@ digest_length m = words_length (final_hash initial_hash_256 m) 8
 -- ---- bytes that no test refuses
 
 -- what all tests say
-pub record AllHold (bytes : List ℕ) : Type 0 where
+pub record AllHold (v : ImageVersion) (bytes : List ℕ) : Type 0 where
   pub long : IsLong bytes
-  pub header : HasHeader bytes
+  pub header : HasHeaderBy v bytes
   pub filled : IsFilled bytes
   pub digest : HasDigest bytes
-  pub frames : KeepFrameRules (image_in bytes).frames
+  pub frames : KeepFrameRulesBy v (image_in bytes).frames
   pub spans : KeepSpanRules (header_in bytes) (image_in bytes).spans
   pub rows : KeepRowRules (header_in bytes) (image_in bytes).rows
 
-pub they_hold : (bytes : List ℕ) → FirstCause bytes None → AllHold bytes
-they_hold bytes (inl (bad, e)) = absurd cc
-they_hold bytes (inr (long, inl (bad, e))) = absurd cc
-they_hold bytes (inr (long, inr (header, inl (bad, e)))) = absurd cc
-they_hold bytes (inr (long, inr (header, inr (filled, inl (bad, e))))) = absurd cc
-they_hold bytes (inr (long, inr (header, inr (filled, inr (digest, inl (bad, e)))))) = absurd cc
-they_hold bytes (inr (long, inr (header, inr (filled, inr (digest, inr (frames, inl (bad, e))))))) = absurd cc
-they_hold bytes (inr (long, inr (header, inr (filled, inr (digest, inr (frames, inr (spans, inl (bad, e)))))))) = absurd cc
-they_hold bytes (inr (long, inr (header, inr (filled, inr (digest, inr (frames, inr (spans, inr (rows, e)))))))) =
+pub they_hold : (v : ImageVersion) (bytes : List ℕ) → FirstCauseBy v bytes None → AllHold v bytes
+they_hold v bytes (inl (bad, e)) = absurd cc
+they_hold v bytes (inr (long, inl (bad, e))) = absurd cc
+they_hold v bytes (inr (long, inr (header, inl (bad, e)))) = absurd cc
+they_hold v bytes (inr (long, inr (header, inr (filled, inl (bad, e))))) = absurd cc
+they_hold v bytes (inr (long, inr (header, inr (filled, inr (digest, inl (bad, e)))))) = absurd cc
+they_hold v bytes (inr (long, inr (header, inr (filled, inr (digest, inr (frames, inl (bad, e))))))) = absurd cc
+they_hold v bytes (inr (long, inr (header, inr (filled, inr (digest, inr (frames, inr (spans, inl (bad, e)))))))) = absurd cc
+they_hold v bytes (inr (long, inr (header, inr (filled, inr (digest, inr (frames, inr (spans, inr (rows, e)))))))) =
     record { long = long; header = header; filled = filled; digest = digest; frames = frames; spans = spans; rows = rows }
 
 -- four parts one after the other
@@ -97,9 +98,9 @@ counted bytes =
       spans_count (header_in bytes).spans (behind_rows bytes),
     ) refl
 
-module _ (bytes : List ℕ) (h : IsBytes bytes) (header : HasHeader bytes) (fit : PartsFit bytes) where
-  front_is : front_bytes (image_in bytes) ≡ take (length bytes - 32) bytes
-  unfolding front_bytes image_in
+module _ (v : ImageVersion) (bytes : List ℕ) (h : IsBytes bytes) (header : HasHeaderBy v bytes) (fit : PartsFit bytes) where
+  front_is : front_bytes_by v (image_in bytes) ≡ take (length bytes - 32) bytes
+  unfolding front_bytes_by image_in
   front_is =
       let size = frames_length (header_in bytes).frames (behind_header bytes) in
       let rows = 40 * (header_in bytes).rows in
@@ -107,7 +108,7 @@ module _ (bytes : List ℕ) (h : IsBytes bytes) (header : HasHeader bytes) (fit 
       let b1 = bytes_after 512 bytes h in
       let b2 = bytes_after size (behind_header bytes) b1 in
       let b3 = bytes_after rows (behind_frames bytes) b2 in
-      let head : header_bytes (header_of (image_in bytes)) ≡ take 512 bytes = ap header_bytes (counted bytes) ∙ sym header.spelled in
+      let head : header_bytes_by v (header_of (image_in bytes)) ≡ take 512 bytes = ap (header_bytes_by v) (counted bytes) ∙ sym header.spelled in
       let first = frames_back (header_in bytes).frames (behind_header bytes) b1 fit.frames in
       let second = rows_back (header_in bytes).rows (behind_frames bytes) b2 fit.rows in
       let third = spans_back (header_in bytes).spans (behind_rows bytes) b3 fit.spans in
@@ -136,46 +137,46 @@ spelled_by bytes front digest is =
     let n = length bytes - 32 in
     sym (take-append-drop n bytes) ∙ ap (λ (d : List ℕ). take n bytes ++ d) digest ∙ ap (λ (f : List ℕ). f ++ sha256 f) (sym is)
 
-pub found : (bytes : List ℕ) → IsBytes bytes → FirstCause bytes None → SpellsImage bytes (image_in bytes)
-unfolding image_bytes
-found bytes h none =
-    let all = they_hold bytes none in
+pub found : (v : ImageVersion) (bytes : List ℕ) → IsBytes bytes → FirstCauseBy v bytes None → SpellsImageBy v bytes (image_in bytes)
+unfolding image_bytes_by
+found v bytes h none =
+    let all = they_hold v bytes none in
     let fit = parts_fit bytes all.filled in
     let same = sym (counted bytes) in
     record {
-      is = image_is bytes h all.header fit;
+      is = image_is v bytes h all.header fit;
       rules = record {
-        header = subst KeepsHeaderRules same all.header.rules;
+        header = subst (KeepsHeaderRulesBy v) same all.header.rules;
         frames = all.frames;
         spans = subst (λ (k : Header). KeepSpanRules k (image_in bytes).spans) same all.spans;
         rows = subst (λ (k : Header). KeepRowRules k (image_in bytes).rows) same all.rows;
       };
-      spelled = spelled_by bytes (front_bytes (image_in bytes)) all.digest (front_is bytes h all.header fit);
+      spelled = spelled_by bytes (front_bytes_by v (image_in bytes)) all.digest (front_is v bytes h all.header fit);
     }
 
 -- ---- bytes that encode an image
 
-abbrev behind_spans : Image → List ℕ
-behind_spans image = sha256 (front_bytes image)
+abbrev behind_spans : ImageVersion → Image → List ℕ
+behind_spans v image = sha256 (front_bytes_by v image)
 
-abbrev from_spans : Image → List ℕ
-from_spans image = flat_map span_bytes image.spans ++ behind_spans image
+abbrev from_spans : ImageVersion → Image → List ℕ
+from_spans v image = flat_map span_bytes image.spans ++ behind_spans v image
 
-abbrev from_rows : Image → List ℕ
-from_rows image = flat_map row_bytes image.rows ++ from_spans image
+abbrev from_rows : ImageVersion → Image → List ℕ
+from_rows v image = flat_map row_bytes image.rows ++ from_spans v image
 
-abbrev from_frames : Image → List ℕ
-from_frames image = flat_map frame_bytes image.frames ++ from_rows image
+abbrev from_frames : ImageVersion → Image → List ℕ
+from_frames v image = flat_map frame_bytes image.frames ++ from_rows v image
 
-regrouped : (image : Image) → image_bytes image ≡ header_bytes (header_of image) ++ from_frames image
-unfolding image_bytes front_bytes
-regrouped image =
+regrouped : (v : ImageVersion) (image : Image) → image_bytes_by v image ≡ header_bytes_by v (header_of image) ++ from_frames v image
+unfolding image_bytes_by front_bytes_by
+regrouped v image =
     let a = flat_map frame_bytes image.frames in
     let b = flat_map row_bytes image.rows in
     let c = flat_map span_bytes image.spans in
-    let d = sha256 (front_bytes image) in
-    append_assoc (header_bytes (header_of image)) (a ++ (b ++ c)) d
-    ∙ ap (λ (t : List ℕ). header_bytes (header_of image) ++ t) (append_assoc a (b ++ c) d ∙ ap (λ (t : List ℕ). a ++ t) (append_assoc b c d))
+    let d = sha256 (front_bytes_by v image) in
+    append_assoc (header_bytes_by v (header_of image)) (a ++ (b ++ c)) d
+    ∙ ap (λ (t : List ℕ). header_bytes_by v (header_of image) ++ t) (append_assoc a (b ++ c) d ∙ ap (λ (t : List ℕ). a ++ t) (append_assoc b c d))
 
 made : ℕ → ℕ → ℕ → ℕ → List FrameFields → List RowPart → List Span → Image
 made clock window floor next frames rows spans = record { clock = clock; window = window; floor = floor; next = next; frames = frames; rows = rows; spans = spans }
@@ -183,8 +184,8 @@ made clock window floor next frames rows spans = record { clock = clock; window 
 same : (a b c d a' b' c' d' : ℕ) (f f' : List FrameFields) (r r' : List RowPart) (s s' : List Span) → a ≡ a' → b ≡ b' → c ≡ c' → d ≡ d' → f ≡ f' → r ≡ r' → s ≡ s' → made a b c d f r s ≡ made a' b' c' d' f' r' s'
 same a b c d a' b' c' d' f f' r r' s s' p q t u v w x = cc
 
-header_numbers : (image : Image) → IsImage image → KeepsRules image → IsHeader (header_of image)
-header_numbers image is rules = record {
+header_numbers : (v : ImageVersion) (image : Image) → IsImage image → KeepsRulesBy v image → IsHeader (header_of image)
+header_numbers v image is rules = record {
   frames = omega (arith, rules.header.frames.1);
   clock = is.clock;
   window = is.window;
@@ -194,33 +195,33 @@ header_numbers image is rules = record {
   spans = omega (arith, rules.spans.few);
 }
 
-module _ (bytes : List ℕ) (image : Image) (is : IsImage image) (rules : KeepsRules image) (e : bytes ≡ header_bytes (header_of image) ++ from_frames image) where
+module _ (v : ImageVersion) (bytes : List ℕ) (image : Image) (is : IsImage image) (rules : KeepsRulesBy v image) (e : bytes ≡ header_bytes_by v (header_of image) ++ from_frames v image) where
   header_is : header_in bytes ≡ header_of image
-  header_is = ap header_in e ∙ header_again (header_of image) (from_frames image) (header_numbers image is rules)
+  header_is = ap header_in e ∙ header_again v (header_of image) (from_frames v image) (header_numbers v image is rules)
 
-  first_is : behind_header bytes ≡ from_frames image
-  first_is = ap (λ (b : List ℕ). drop 512 b) e ∙ drop_at (header_bytes (header_of image)) (from_frames image) 512 (header_length (header_of image))
+  first_is : behind_header bytes ≡ from_frames v image
+  first_is = ap (λ (b : List ℕ). drop 512 b) e ∙ drop_at (header_bytes_by v (header_of image)) (from_frames v image) 512 (header_length v (header_of image))
 
-  read : AllRead image.frames (from_frames image)
-  read = frames_again image.frames (from_rows image) is.frames
+  read : AllRead image.frames (from_frames v image)
+  read = frames_again image.frames (from_rows v image) is.frames
 
   size_is : frames_length (header_in bytes).frames (behind_header bytes) ≡ length (flat_map frame_bytes image.frames)
   size_is = rw (header_is, first_is) read.size
 
-  second_is : behind_frames bytes ≡ from_rows image
-  second_is = rw (size_is, first_is) (drop_at (flat_map frame_bytes image.frames) (from_rows image) (length (flat_map frame_bytes image.frames)) refl)
+  second_is : behind_frames bytes ≡ from_rows v image
+  second_is = rw (size_is, first_is) (drop_at (flat_map frame_bytes image.frames) (from_rows v image) (length (flat_map frame_bytes image.frames)) refl)
 
-  third_is : behind_rows bytes ≡ from_spans image
-  third_is = rw (second_is, header_is) (drop_at (flat_map row_bytes image.rows) (from_spans image) (40 * length image.rows) (rows_length image.rows))
+  third_is : behind_rows bytes ≡ from_spans v image
+  third_is = rw (second_is, header_is) (drop_at (flat_map row_bytes image.rows) (from_spans v image) (40 * length image.rows) (rows_length image.rows))
 
   frames_same : frames_in (header_in bytes).frames (behind_header bytes) ≡ image.frames
   frames_same = rw (header_is, first_is) read.are
 
   rows_same : rows_in (header_in bytes).rows (behind_frames bytes) ≡ image.rows
-  rows_same = rw (second_is, header_is) (rows_again image.rows (from_spans image) is.rows)
+  rows_same = rw (second_is, header_is) (rows_again image.rows (from_spans v image) is.rows)
 
   spans_same : spans_in (header_in bytes).spans (behind_rows bytes) ≡ image.spans
-  spans_same = rw (third_is, header_is) (spans_again image.spans (behind_spans image) is.spans)
+  spans_same = rw (third_is, header_is) (spans_again image.spans (behind_spans v image) is.spans)
 
   image_same : image_in bytes ≡ image
   unfolding image_in made
@@ -231,19 +232,19 @@ module _ (bytes : List ℕ) (image : Image) (is : IsImage image) (rules : KeepsR
 
   length_is : length bytes ≡ 512 + length (flat_map frame_bytes image.frames) + 40 * length image.rows + 24 * length image.spans + 32
   length_is =
-      let head = header_bytes (header_of image) in
-      let all : length bytes ≡ length (head ++ from_frames image) = ap length e in
+      let head = header_bytes_by v (header_of image) in
+      let all : length bytes ≡ length (head ++ from_frames v image) = ap length e in
       omega (
         arith,
         all,
-        length-append head (from_frames image),
-        header_length (header_of image),
-        length-append (flat_map frame_bytes image.frames) (from_rows image),
-        length-append (flat_map row_bytes image.rows) (from_spans image),
-        length-append (flat_map span_bytes image.spans) (behind_spans image),
+        length-append head (from_frames v image),
+        header_length v (header_of image),
+        length-append (flat_map frame_bytes image.frames) (from_rows v image),
+        length-append (flat_map row_bytes image.rows) (from_spans v image),
+        length-append (flat_map span_bytes image.spans) (behind_spans v image),
         rows_length image.rows,
         spans_length image.spans,
-        digest_length (front_bytes image),
+        digest_length (front_bytes_by v image),
       )
 
   filled : IsFilled bytes
@@ -252,10 +253,10 @@ module _ (bytes : List ℕ) (image : Image) (is : IsImage image) (rules : KeepsR
       let spans : (header_in bytes).spans ≡ length image.spans = ap (λ (h : Header). h.spans) header_is in
       omega (arith, length_is, size_is, rows, spans)
 
-  has_header : HasHeader bytes
+  has_header : HasHeaderBy v bytes
   has_header = record {
-    spelled = ap (λ (b : List ℕ). take 512 b) e ∙ take_at (header_bytes (header_of image)) (from_frames image) 512 (header_length (header_of image)) ∙ ap header_bytes (sym header_is);
-    rules = subst KeepsHeaderRules (sym header_is) rules.header;
+    spelled = ap (λ (b : List ℕ). take 512 b) e ∙ take_at (header_bytes_by v (header_of image)) (from_frames v image) 512 (header_length v (header_of image)) ∙ ap (header_bytes_by v) (sym header_is);
+    rules = subst (KeepsHeaderRulesBy v) (sym header_is) rules.header;
   }
 
 digest_of : (bytes front : List ℕ) → bytes ≡ front ++ sha256 front → HasDigest bytes
@@ -265,17 +266,17 @@ digest_of bytes front e =
     let tail : drop (length bytes - 32) bytes ≡ sha256 front = rw len (ap (λ (b : List ℕ). drop (length front) b) e ∙ drop_at front (sha256 front) (length front) refl) in
     tail ∙ ap sha256 (sym head)
 
-pub again : (bytes : List ℕ) (image : Image) → SpellsImage bytes image → FirstCause bytes None × (image_in bytes ≡ image)
-unfolding image_bytes
-again bytes image s =
-    let e = s.spelled ∙ regrouped image in
-    let here = image_same bytes image s.is s.rules e in
-    let header = header_is bytes image s.is s.rules e in
-    let frames = subst KeepFrameRules (sym (ap (λ (i : Image). i.frames) here)) s.rules.frames in
+pub again : (v : ImageVersion) (bytes : List ℕ) (image : Image) → SpellsImageBy v bytes image → FirstCauseBy v bytes None × (image_in bytes ≡ image)
+unfolding image_bytes_by
+again v bytes image s =
+    let e = s.spelled ∙ regrouped v image in
+    let here = image_same v bytes image s.is s.rules e in
+    let header = header_is v bytes image s.is s.rules e in
+    let frames = subst (KeepFrameRulesBy v) (sym (ap (λ (i : Image). i.frames) here)) s.rules.frames in
     let spans = subst (λ (h : Header). KeepSpanRules h (image_in bytes).spans) (sym header) (subst (KeepSpanRules (header_of image)) (sym (ap (λ (i : Image). i.spans) here)) s.rules.spans) in
     let rows = subst (λ (h : Header). KeepRowRules h (image_in bytes).rows) (sym header) (subst (KeepRowRules (header_of image)) (sym (ap (λ (i : Image). i.rows) here)) s.rules.rows) in
-    let len = length_is bytes image s.is s.rules e in
-    (all_hold bytes (omega (arith, len)) (has_header bytes image s.is s.rules e) (filled bytes image s.is s.rules e) (digest_of bytes (front_bytes image) s.spelled) frames spans rows, here)
+    let len = length_is v bytes image s.is s.rules e in
+    (all_hold v bytes (omega (arith, len)) (has_header v bytes image s.is s.rules e) (filled v bytes image s.is s.rules e) (digest_of bytes (front_bytes_by v image) s.spelled) frames spans rows, here)
 
-pub one_image : (bytes : List ℕ) (a b : Image) → SpellsImage bytes a → SpellsImage bytes b → a ≡ b
-one_image bytes a b p q = sym (again bytes a p).1 ∙ (again bytes b q).1
+pub one_image : (v : ImageVersion) (bytes : List ℕ) (a b : Image) → SpellsImageBy v bytes a → SpellsImageBy v bytes b → a ≡ b
+one_image v bytes a b p q = sym (again v bytes a p).1 ∙ (again v bytes b q).1

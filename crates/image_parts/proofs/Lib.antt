@@ -10,5 +10,6 @@ pub mod HeaderLaws
 pub mod RowLaws
 pub mod FrameLaws
 pub mod ImageLaws
+pub mod OldFrames
 pub mod FrontLaws
 pub mod SpanCounts

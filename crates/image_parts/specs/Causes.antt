@@ -3,8 +3,10 @@ use Rattle.std.specs.Prelude.{◌≡◌, ◌⊎◌, ℕ, ◌-◌, ◌≤◌, Lis
 use Rattle.sha2.specs.Sha256.{sha256}
 use Rattle.s4_types.specs.declared.refusals.Cause.{Cause}
 use Rattle.s4_types.specs.declared.refusals.Cause.TheVariants.{Header as HeaderCause, Length, Digest, Frame, Span as SpanCause, Row}
-use Rattle.image_parts.specs.Header.{header_in, HasHeader}
-use Rattle.image_parts.specs.Frames.{KeepFrameRules}
+use Rattle.image_parts.specs.Header.{header_in, HasHeaderBy}
+use Rattle.image_parts.specs.Frames.{KeepFrameRulesBy}
+use Rattle.codec.specs.declared.versions.ImageVersion.{ImageVersion}
+use Rattle.codec.specs.declared.versions.ImageVersion.TheVariants.{Second}
 use Rattle.image_parts.specs.Rows.{KeepRowRules}
 use Rattle.image_parts.specs.Spans.{KeepSpanRules}
 use Rattle.image_parts.specs.Image.{image_in, parts_length}
@@ -25,26 +27,39 @@ HasDigest bytes = drop (length bytes - 32) bytes ≡ sha256 (take (length bytes 
 abbrev pub Tested : Type 0 → Cause → (Option Cause → Type 0) → Option Cause → Type 0
 Tested holds cause later found = ((holds → ⊥) × (found ≡ Some cause)) ⊎ (holds × later found)
 
--- the tests of whether the bytes can be split into parts, in their order, and what comes after them
-abbrev pub TestedSplit : List ℕ → (Option Cause → Type 0) → Option Cause → Type 0
-TestedSplit bytes later =
+-- the tests of whether the bytes can be split into the parts of an image of a version, in their order, and what comes after them
+abbrev pub TestedSplitBy : ImageVersion → List ℕ → (Option Cause → Type 0) → Option Cause → Type 0
+TestedSplitBy version bytes later =
     Tested (IsLong bytes) Length (
-    Tested (HasHeader bytes) HeaderCause (
+    Tested (HasHeaderBy version bytes) HeaderCause (
     Tested (IsFilled bytes) Length later))
 
--- the cause of the first of these tests that fails, or none where they hold
-abbrev pub FirstSplitCause : List ℕ → Option Cause → Type 0
-FirstSplitCause bytes found = TestedSplit bytes (λ f. f ≡ None) found
+-- the same for what is written now
+abbrev pub TestedSplit : List ℕ → (Option Cause → Type 0) → Option Cause → Type 0
+TestedSplit = TestedSplitBy Second
 
--- the tests of all parts, in their order, and what comes after them
-abbrev pub TestedParts : List ℕ → (Option Cause → Type 0) → Option Cause → Type 0
-TestedParts bytes later =
-    TestedSplit bytes (
+-- the cause of the first of these tests that fails, or none where they hold
+abbrev pub FirstSplitCauseBy : ImageVersion → List ℕ → Option Cause → Type 0
+FirstSplitCauseBy version bytes found = TestedSplitBy version bytes (λ f. f ≡ None) found
+
+abbrev pub FirstSplitCause : List ℕ → Option Cause → Type 0
+FirstSplitCause = FirstSplitCauseBy Second
+
+-- the tests of all parts of an image of a version, in their order, and what comes after them
+abbrev pub TestedPartsBy : ImageVersion → List ℕ → (Option Cause → Type 0) → Option Cause → Type 0
+TestedPartsBy version bytes later =
+    TestedSplitBy version bytes (
     Tested (HasDigest bytes) Digest (
-    Tested (KeepFrameRules (image_in bytes).frames) Frame (
+    Tested (KeepFrameRulesBy version (image_in bytes).frames) Frame (
     Tested (KeepSpanRules (header_in bytes) (image_in bytes).spans) SpanCause (
     Tested (KeepRowRules (header_in bytes) (image_in bytes).rows) Row later))))
 
+abbrev pub TestedParts : List ℕ → (Option Cause → Type 0) → Option Cause → Type 0
+TestedParts = TestedPartsBy Second
+
 -- the cause of the first test that fails, or none where all hold
+abbrev pub FirstCauseBy : ImageVersion → List ℕ → Option Cause → Type 0
+FirstCauseBy version bytes found = TestedPartsBy version bytes (λ f. f ≡ None) found
+
 abbrev pub FirstCause : List ℕ → Option Cause → Type 0
-FirstCause bytes found = TestedParts bytes (λ f. f ≡ None) found
+FirstCause = FirstCauseBy Second

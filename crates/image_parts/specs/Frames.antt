@@ -1,9 +1,12 @@
 -- The frames of an image: how each is encoded and read, and their rules.
-use Rattle.std.specs.Prelude.{◌≡◌, ◌≢◌, ℕ, zero, suc, ◌+◌, ◌/◌, ◌%◌, ◌^◌, ◌<◌, ◌≤◌, ◌==◌, Bool, List, [], ◌∷◌, ◌++◌, length, take, drop, slice_index_or, count_by, if◌then◌else◌}
+use Rattle.std.specs.Prelude.{◌≡◌, ◌≢◌, ℕ, zero, suc, ◌+◌, ◌/◌, ◌%◌, ◌^◌, ◌<◌, ◌≤◌, ◌==◌, Bool, List, [], ◌∷◌, ◌++◌, length, take, drop, slice_index_or, count_by, true, if◌then◌else◌}
 use Rattle.std.specs.Int.{w64}
+use Rattle.std.specs.List.{AllByRecursion}
 use Rattle.std.specs.Simd.{first_chunks}
 use Rattle.codec.specs.Fields.{number}
-use Rattle.codec.specs.Summary.{SummaryFields, SpellsSummary}
+use Rattle.codec.specs.Summary.{SummaryFields, SpellsSummary, has_no_parts}
+use Rattle.codec.specs.declared.versions.ImageVersion.{ImageVersion}
+use Rattle.codec.specs.declared.versions.ImageVersion.TheVariants.{First, Second}
 use Rattle.image_parts.specs.Header.{AreBytes, number_in}
 use Rattle.image_parts.specs.declared.frame_rules.FrameRead.{FrameRead}
 use Rattle.image_parts.specs.declared.frame_rules.FrameRead.TheVariants.{Free, Used}
@@ -99,3 +102,18 @@ is_open f = state_of f.word == 1
 pub record KeepFrameRules (frames : List FrameFields) : Type 0 where
   pub each : EachKeepsFrameRules 0 frames
   pub open_one : count_by is_open frames ≤ 1
+
+-- no block of the frame is listed as a part of a checkpoint
+abbrev pub HasNoParts : FrameFields → Type 0
+HasNoParts f =
+    state_of f.word ≢ 0 → (s : SummaryFields) → SpellsSummary (drop 1 (blocks_of f.contents)) (slice_index_or (blocks_of f.contents) 0 []) s → has_no_parts s ≡ true
+
+-- the rules of the frame of this number in an image of a version: a checkpoint of the first version is one block
+abbrev pub KeepsFrameRulesBy : ImageVersion → ℕ → FrameFields → Type 0
+KeepsFrameRulesBy First number f = KeepsFrameRules number f × HasNoParts f
+KeepsFrameRulesBy Second number f = KeepsFrameRules number f
+
+-- the rules of all frames in an image of a version
+abbrev pub KeepFrameRulesBy : ImageVersion → List FrameFields → Type 0
+KeepFrameRulesBy First frames = KeepFrameRules frames × AllByRecursion HasNoParts frames
+KeepFrameRulesBy Second frames = KeepFrameRules frames

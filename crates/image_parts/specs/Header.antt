@@ -1,7 +1,10 @@
 -- The header of an image: how it is encoded in 512 bytes, how it is read from them, and its rules.
 use Rattle.std.specs.Prelude.{◌≡◌, ℕ, ◌-◌, ◌<◌, ◌≤◌, List, ◌∷◌, ◌++◌, take, drop, slice_index}
 use Rattle.std.specs.Int.{Width, w16, w32, w64, byte_len, from_be_bytes}
-use Rattle.s4_types.specs.Sizes.{IsFrameCount}
+use Rattle.s4_types.specs.declared.limits.TheConstants.{MOST_FRAMES}
+use Rattle.codec.specs.declared.versions.ImageVersion.{ImageVersion}
+use Rattle.codec.specs.declared.versions.ImageVersion.TheVariants.{First, Second}
+use Rattle.codec.specs.Versions.{fewest_frames_by}
 use Rattle.codec.specs.Fields.{number, zeros}
 use Rattle.image_parts.specs.declared.headers.Header.{Header}
 
@@ -13,12 +16,21 @@ AreBytes bytes = (i : ℕ) → slice_index bytes i < 256
 unfoldable pub number_in : Width → List ℕ → ℕ
 number_in w bytes = from_be_bytes w (take (byte_len w) bytes)
 
--- the 512 bytes of a header: "S4IMAGE2", the numbers, and zeros
-unfoldable pub header_bytes : Header → List ℕ
-header_bytes h =
-    0x53 ∷ 0x34 ∷ 0x49 ∷ 0x4d ∷ 0x41 ∷ 0x47 ∷ 0x45 ∷ 0x32 ∷
+-- the last byte of the mark that a header begins with: the digit of the version
+abbrev pub digit_of : ImageVersion → ℕ
+digit_of First = 0x31
+digit_of Second = 0x32
+
+-- the 512 bytes of a header in an image of a version: "S4IMAGE" and the digit, the numbers, and zeros
+unfoldable pub header_bytes_by : ImageVersion → Header → List ℕ
+header_bytes_by version h =
+    0x53 ∷ 0x34 ∷ 0x49 ∷ 0x4d ∷ 0x41 ∷ 0x47 ∷ 0x45 ∷ digit_of version ∷
     (number w16 h.frames ++ (zeros 6 ++ (number w64 h.clock ++ (number w64 h.window ++ (number w64 h.floor ++
     (number w64 h.next ++ (number w32 h.rows ++ (number w32 h.spans ++ zeros 456))))))))
+
+-- the 512 bytes of a header: those of the second version, which begin with "S4IMAGE2"
+unfoldable pub header_bytes : Header → List ℕ
+header_bytes h = header_bytes_by Second h
 
 -- the numbers that are in the places of a header's, whatever the bytes are
 unfoldable pub header_in : List ℕ → Header
@@ -32,15 +44,27 @@ header_in bytes = record {
   spans = number_in w32 (drop 52 bytes);
 }
 
--- the rules of a header
-pub record KeepsHeaderRules (h : Header) : Type 0 where
-  pub frames : IsFrameCount h.frames
+-- a drive of a version can have this many frames
+abbrev pub IsFrameCountBy : ImageVersion → ℕ → Type 0
+IsFrameCountBy version frames = (fewest_frames_by version ≤ frames) × (frames ≤ MOST_FRAMES)
+
+-- the rules of a header in an image of a version
+pub record KeepsHeaderRulesBy (version : ImageVersion) (h : Header) : Type 0 where
+  pub frames : IsFrameCountBy version h.frames
   pub window : h.clock - h.window ≤ h.floor
   pub floor : h.floor ≤ h.clock
   pub next : 1 ≤ h.next
   pub given : h.next - 1 ≤ h.clock
 
+-- the rules of a header
+abbrev pub KeepsHeaderRules : Header → Type 0
+KeepsHeaderRules = KeepsHeaderRulesBy Second
+
+-- the bytes begin with the header that is read from them, encoded as in an image of a version, and it keeps the rules
+pub record HasHeaderBy (version : ImageVersion) (bytes : List ℕ) : Type 0 where
+  pub spelled : take 512 bytes ≡ header_bytes_by version (header_in bytes)
+  pub rules : KeepsHeaderRulesBy version (header_in bytes)
+
 -- the bytes begin with the header that is read from them, encoded, and it keeps the rules
-pub record HasHeader (bytes : List ℕ) : Type 0 where
-  pub spelled : take 512 bytes ≡ header_bytes (header_in bytes)
-  pub rules : KeepsHeaderRules (header_in bytes)
+abbrev pub HasHeader : List ℕ → Type 0
+HasHeader = HasHeaderBy Second

@@ -3,8 +3,10 @@ use Rattle.std.specs.Prelude.{◌≡◌, ℕ, ◌+◌, ◌*◌, ◌^◌, ◌<◌
 use Rattle.std.specs.List.{flat_map, AllByRecursion}
 use Rattle.sha2.specs.Sha256.{sha256}
 use Rattle.s4_types.specs.declared.spans.Span.{Span}
-use Rattle.image_parts.specs.Header.{header_bytes, header_in, KeepsHeaderRules}
-use Rattle.image_parts.specs.Frames.{FrameFields, IsFrame, frame_bytes, frames_in, frames_length, KeepFrameRules}
+use Rattle.image_parts.specs.Header.{header_bytes_by, header_in, KeepsHeaderRulesBy}
+use Rattle.image_parts.specs.Frames.{FrameFields, IsFrame, frame_bytes, frames_in, frames_length, KeepFrameRulesBy}
+use Rattle.codec.specs.declared.versions.ImageVersion.{ImageVersion}
+use Rattle.codec.specs.declared.versions.ImageVersion.TheVariants.{Second}
 use Rattle.image_parts.specs.Rows.{IsRow, row_bytes, rows_in, KeepRowRules}
 use Rattle.image_parts.specs.Spans.{IsSpan, span_bytes, spans_in, KeepSpanRules}
 use Rattle.image_parts.specs.declared.headers.Header.{Header}
@@ -34,15 +36,23 @@ header_of image = record {
 
 -- ---- encoding
 
--- all bytes in front of the digest
-unfoldable pub front_bytes : Image → List ℕ
-front_bytes image =
-    header_bytes (header_of image) ++ (flat_map frame_bytes image.frames ++
+-- all bytes in front of the digest, in an image of a version
+unfoldable pub front_bytes_by : ImageVersion → Image → List ℕ
+front_bytes_by version image =
+    header_bytes_by version (header_of image) ++ (flat_map frame_bytes image.frames ++
     (flat_map row_bytes image.rows ++ flat_map span_bytes image.spans))
 
--- the bytes of an image: its parts, and SHA-256 of all of them
+-- all bytes in front of the digest
+unfoldable pub front_bytes : Image → List ℕ
+front_bytes image = front_bytes_by Second image
+
+-- the bytes of an image of a version: its parts, and SHA-256 of all of them
+unfoldable pub image_bytes_by : ImageVersion → Image → List ℕ
+image_bytes_by version image = front_bytes_by version image ++ sha256 (front_bytes_by version image)
+
+-- the bytes of an image
 unfoldable pub image_bytes : Image → List ℕ
-image_bytes image = front_bytes image ++ sha256 (front_bytes image)
+image_bytes image = image_bytes_by Second image
 
 -- an image has an encoding: its numbers are in their ranges
 pub record IsImage (image : Image) : Type 0 where
@@ -54,18 +64,26 @@ pub record IsImage (image : Image) : Type 0 where
   pub spans : AllByRecursion IsSpan image.spans
   pub row_count : length image.rows < 2 ^ 32
 
--- the rules of an image's parts, but for those of chains
-pub record KeepsRules (image : Image) : Type 0 where
-  pub header : KeepsHeaderRules (header_of image)
-  pub frames : KeepFrameRules image.frames
+-- the rules of the parts of an image of a version, but for those of chains
+pub record KeepsRulesBy (version : ImageVersion) (image : Image) : Type 0 where
+  pub header : KeepsHeaderRulesBy version (header_of image)
+  pub frames : KeepFrameRulesBy version image.frames
   pub spans : KeepSpanRules (header_of image) image.spans
   pub rows : KeepRowRules (header_of image) image.rows
 
--- the bytes encode this image, which keeps the rules
-pub record SpellsImage (bytes : List ℕ) (image : Image) : Type 0 where
+-- the rules of an image's parts, but for those of chains
+abbrev pub KeepsRules : Image → Type 0
+KeepsRules = KeepsRulesBy Second
+
+-- the bytes encode this image of a version, which keeps the rules
+pub record SpellsImageBy (version : ImageVersion) (bytes : List ℕ) (image : Image) : Type 0 where
   pub is : IsImage image
-  pub rules : KeepsRules image
-  pub spelled : bytes ≡ image_bytes image
+  pub rules : KeepsRulesBy version image
+  pub spelled : bytes ≡ image_bytes_by version image
+
+-- the bytes encode this image, which keeps the rules
+abbrev pub SpellsImage : List ℕ → Image → Type 0
+SpellsImage = SpellsImageBy Second
 
 -- ---- reading
 

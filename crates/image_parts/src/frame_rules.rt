@@ -1,12 +1,14 @@
-ghost use Rattle.std.specs.Prelude.{◌≡◌, ◌≢◌, [], MatchOption, IfSome, Some, length, drop};
+ghost use Rattle.std.specs.Prelude.{◌≡◌, ◌≢◌, [], MatchBool, MatchOption, IfSome, Some, length, drop};
 ghost use Rattle.std.specs.Prelude.{slice_index_or};
 ghost use Rattle.codec.specs.Summary.{SummaryFields, SpellsSummary};
 ghost use Rattle.image_parts.specs.Frames.{state_of, readers_of, generation_of, blocks_of};
-ghost use Rattle.image_parts.specs.Frames.{HasSummary, KeepsFrameRules, IsReadOf};
+ghost use Rattle.image_parts.specs.Frames.{HasSummary, KeepsFrameRules, KeepsFrameRulesBy};
+ghost use Rattle.image_parts.specs.Frames.{HasNoParts, IsReadOf};
 
 use crate::frames::FramePart;
 use block_log::Block;
-use codec::{Summary, decode_summary};
+use codec::laws::one_summary_a_spelling;
+use codec::{ImageVersion, Summary, decode_summary, has_no_parts};
 use s4_types::limits::PAYLOAD_BLOCKS;
 
 /// States of a frame, in the two low bits of its word: 0 is free, 1 open, 2 sealed, 3 being
@@ -106,4 +108,35 @@ pub fn read_frame(number: u16, frame: &FramePart<'_>) -> Option<FrameRead>
     }
     let summary = summary_of(number, frame)?;
     Some(FrameRead::Used(summary))
+}
+
+/// Whether no block of a frame is listed as a part of a checkpoint.
+fn is_without_parts(frame: &FramePart<'_>, read: &FrameRead) -> bool
+    requires { IsReadOf frame.now read.now }
+    ensures { MatchBool result (HasNoParts frame.now) (HasNoParts frame.now → ⊥) }
+{
+    one_summary_a_spelling();
+    match read {
+        FrameRead::Free => true,
+        FrameRead::Used(summary) => has_no_parts(summary),
+    }
+}
+
+/// What the frame of this number is in an image of a version. None exactly where it breaks a rule of
+/// a frame by itself.
+pub fn read_frame_by(version: ImageVersion, number: u16, frame: &FramePart<'_>) -> Option<FrameRead>
+    ensures rules { MatchOption result (KeepsFrameRulesBy version number frame.now → ⊥)
+        (λ read. KeepsFrameRulesBy version number frame.now) }
+    ensures read { IfSome result (λ read. IsReadOf frame.now read) }
+{
+    let read = read_frame(number, frame)?;
+    match version {
+        ImageVersion::First => {
+            if !is_without_parts(frame, &read) {
+                return None;
+            }
+            Some(read)
+        }
+        ImageVersion::Second => Some(read),
+    }
 }

@@ -1,9 +1,11 @@
-ghost use Rattle.std.specs.Prelude.{◌≡◌, ◌≢◌, ◌≤◌, MatchBool, MatchOption, length, take};
-ghost use Rattle.image_parts.specs.Header.{header_bytes, header_in, KeepsHeaderRules, HasHeader};
+ghost use Rattle.std.specs.Prelude.{◌≡◌, ◌≢◌, ◌≤◌, [], ◌∷◌, MatchBool, MatchOption, length, take};
+ghost use Rattle.image_parts.specs.Header.{header_bytes_by, header_in, KeepsHeaderRulesBy};
+ghost use Rattle.image_parts.specs.Header.{HasHeaderBy, digit_of};
 
 use crate::numbers::{long_at, short_at, word_at};
 use crate::writing::{Writing, put, put_long, put_short, put_word, put_zeros};
-use s4_types::limits::{FEWEST_FRAMES, MOST_FRAMES};
+use codec::ImageVersion;
+use s4_types::limits::MOST_FRAMES;
 use s4_types::{Moment, ObjectId};
 
 /// Bytes of a header.
@@ -39,13 +41,23 @@ fn numbers_in(bytes: &[u8]) -> Header
     }
 }
 
-/// The one encoding of a header.
-#[tactic(auto, unfolding(crate::specs::Header::header_bytes))]
-pub(crate) fn spelling_of(header: &Header) -> Writing
-    ensures { result.items ≡ header_bytes header.now }
+/// The mark that a header begins with.
+fn mark_of(version: ImageVersion) -> &'static [u8; 8]
+    ensures { result.now ≡ 0x53 ∷ 0x34 ∷ 0x49 ∷ 0x4d ∷ 0x41 ∷ 0x47 ∷ 0x45 ∷ digit_of version ∷ [] }
+{
+    match version {
+        ImageVersion::First => b"S4IMAGE1",
+        ImageVersion::Second => b"S4IMAGE2",
+    }
+}
+
+/// The one encoding of a header in an image of a version.
+#[tactic(auto, unfolding(crate::specs::Header::header_bytes_by))]
+pub(crate) fn spelling_of(version: ImageVersion, header: &Header) -> Writing
+    ensures { result.items ≡ header_bytes_by version header.now }
 {
     let mut out = Writing::new();
-    put(&mut out, b"S4IMAGE2");
+    put(&mut out, mark_of(version));
     put_short(&mut out, header.frames);
     put_zeros(&mut out, 6);
     put_long(&mut out, header.clock.number());
@@ -58,14 +70,15 @@ pub(crate) fn spelling_of(header: &Header) -> Writing
     out
 }
 
-fn keeps_rules(header: &Header) -> bool
-    ensures { MatchBool result (KeepsHeaderRules header.now) (KeepsHeaderRules header.now → ⊥) }
+fn keeps_rules(version: ImageVersion, header: &Header) -> bool
+    ensures { MatchBool result (KeepsHeaderRulesBy version header.now)
+        (KeepsHeaderRulesBy version header.now → ⊥) }
 {
     let frames = header.frames as usize;
     let clock = header.clock.number();
     let floor = header.floor.number();
     let next = header.next.number();
-    FEWEST_FRAMES <= frames
+    version.fewest_frames() <= frames
         && frames <= MOST_FRAMES
         && clock.saturating_sub(header.window) <= floor
         && floor <= clock
@@ -73,25 +86,25 @@ fn keeps_rules(header: &Header) -> bool
         && next - 1 <= clock
 }
 
-/// Whether the bytes begin with this header's encoding.
-fn begins_with(bytes: &[u8], header: &Header) -> bool
+/// Whether the bytes begin with this header's encoding in an image of a version.
+fn begins_with(version: ImageVersion, bytes: &[u8], header: &Header) -> bool
     requires { 512 ≤ length bytes.now }
-    ensures { MatchBool result (take 512 bytes.now ≡ header_bytes header.now)
-        (take 512 bytes.now ≢ header_bytes header.now) }
+    ensures { MatchBool result (take 512 bytes.now ≡ header_bytes_by version header.now)
+        (take 512 bytes.now ≢ header_bytes_by version header.now) }
 {
     let (front, _) = bytes.split_at(HEADER_BYTES);
-    front == spelling_of(header).as_slice()
+    front == spelling_of(version, header).as_slice()
 }
 
-/// The header that the bytes begin with. None where they begin with no header's encoding, or a rule
-/// of headers is broken.
-pub(crate) fn read_header(bytes: &[u8]) -> Option<Header>
+/// The header of an image of a version that the bytes begin with. None where they begin with no
+/// header's encoding, or a rule of headers is broken.
+pub(crate) fn read_header(version: ImageVersion, bytes: &[u8]) -> Option<Header>
     requires { 512 ≤ length bytes.now }
-    ensures { MatchOption result (HasHeader bytes.now → ⊥)
-        (λ header. (header ≡ header_in bytes.now) × HasHeader bytes.now) }
+    ensures { MatchOption result (HasHeaderBy version bytes.now → ⊥)
+        (λ header. (header ≡ header_in bytes.now) × HasHeaderBy version bytes.now) }
 {
     let header = numbers_in(bytes);
-    if !begins_with(bytes, &header) || !keeps_rules(&header) {
+    if !begins_with(version, bytes, &header) || !keeps_rules(version, &header) {
         return None;
     }
     Some(header)

@@ -14,6 +14,7 @@ use crate::headers::{HEADER_BYTES, Header, spelling_of};
 use crate::rows::{ROW_BYTES, RowPart};
 use crate::spans::SPAN_BYTES;
 use block_log::Block;
+use codec::ImageVersion;
 use s4_types::{Refusal, Span};
 use sha2::{Digest, Sha256};
 
@@ -38,11 +39,12 @@ pub fn image_length(frames: u16, with_blocks: u16, rows: u32, spans: u32) -> usi
 }
 
 /// Adds a header. The only error is NoMemory.
+#[tactic(auto, unfolding(crate::specs::Header::header_bytes))]
 pub fn push_header(out: &mut Vec<u8>, header: &Header) -> Result<(), Refusal>
     ensures items { OnOk result (out.new.items ≡ out.old.items ++ header_bytes header.now) }
     ensures memory { IfErr result (λ refusal. refusal ≡ NoMemory) }
 {
-    out.extend_from_slice(spelling_of(header).as_slice())?;
+    out.extend_from_slice(spelling_of(ImageVersion::Second, header).as_slice())?;
     Ok(())
 }
 

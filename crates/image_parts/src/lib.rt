@@ -8,6 +8,10 @@
 //! of each frame, `spans_keep_rules`, `rows_keep_rules`. Where all hold, the bytes encode the image
 //! of the parts; the order in which a failing test is told is that of `FirstCause`.
 //!
+//! An image of the first version has the same parts. What differs is asked for by the version:
+//! `split_parts_by`, `longest_with_by`, `read_frame_by`; `images_of_a_version` says the same laws of
+//! each.
+//!
 //! What rows' chains and checkpoints have to keep isn't told here. A row's two pointers are kept as
 //! their bytes are, since bytes that encode no pointer are no damage of a row's.
 #![tactic(auto)]
@@ -28,12 +32,12 @@ mod spans;
 mod writing;
 
 pub use digests::has_digest;
-pub use frame_rules::{FrameRead, read_frame};
+pub use frame_rules::{FrameRead, read_frame, read_frame_by};
 pub use frames::{FramePart, Frames};
 pub use headers::Header;
 pub use image_writing::{image_length, push_digest, push_frame, push_header, push_row, push_span};
 pub use parts::ImageParts;
-pub use reading::{longest_with, split_parts};
+pub use reading::{longest_with, longest_with_by, split_parts, split_parts_by};
 pub use row_rules::rows_keep_rules;
 pub use rows::{RowPart, Rows};
 pub use span_rules::spans_keep_rules;
