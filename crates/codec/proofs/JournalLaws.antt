@@ -1,17 +1,18 @@
 -- A journal block is read exactly where it is encoded.
-use Rattle.std.proofs.Common.{◌≡◌, ℕ, ◌-◌, ◌^◌, ◌<◌, ◌≤◌, Bool, true, false, eqb, ltb, ◌&&◌, List, [], ◌∷◌, ◌++◌, length, Option, Some, refl, sym, ap, subst, ◌∙◌, append_assoc, arith}
+use Rattle.std.proofs.Common.{◌≡◌, ℕ, ◌-◌, ◌^◌, ◌<◌, ◌≤◌, Bool, true, false, eqb, ltb, ◌&&◌, List, [], ◌∷◌, ◌++◌, length, Option, Some, None, refl, sym, ap, subst, ◌∙◌, append_assoc, arith}
+use Rattle.std.specs.Prelude.{IfSome}
 use Rattle.std.specs.Int.{w16, w64}
 use Rattle.std.specs.List.{flat_map}
 use Rattle.std.proofs.lemmas.Bool.{ltb-false, le-ltb, eqb-true, eq-eqb}
 use Rattle.s4_types.specs.Pointer.{Place}
 use Rattle.s4_types.specs.declared.limits.TheConstants.{JOURNAL_ENTRIES, JOURNAL_ENTRY_BYTES}
-use Rattle.codec.specs.Fields.{number, zeros, slot, many_at, kept, all_of}
+use Rattle.codec.specs.Fields.{number, zeros, slot, many_at, kept, all_of, ◌>>=◌, Reads}
 use Rattle.codec.specs.Checkpoint.{IsSlot}
 use Rattle.codec.specs.Entry.{EntryFields, IsEntryBy, entry_spelling, entry_spelling_by, entry_at_by, entries_length_by}
 use Rattle.codec.specs.Journal.{JournalFields, JournalNumbersBy, IsJournal, IsJournalBy, journal_rules, journal_rules_by, journal_spelling, journal_spelling_by, entries_at_by, told_journal_by, journal_at, journal_at_by}
 use Rattle.codec.specs.declared.versions.ImageVersion.{ImageVersion}
 use Rattle.codec.specs.declared.versions.ImageVersion.TheVariants.{Second}
-use Rattle.codec.proofs.Exact.{IsBytes, IsField, Exact, Then, Made, then_exact, made_exact, byte_field, short_field, long_field, zeros_field, passed}
+use Rattle.codec.proofs.Exact.{IsBytes, IsField, Exact, Then, Made, then_exact, made_exact, byte_field, short_field, long_field, zeros_field, passed, some_is, step_some}
 use Rattle.codec.proofs.Many.{AreMany, many_field}
 use Rattle.codec.proofs.Slots.{mark_field, slot_field, kept_is, both}
 use Rattle.codec.proofs.EntryLaws.{entry_field_by}
@@ -184,3 +185,23 @@ unfolding journal_at journal_rules journal_rules_by
 journal_kept bytes j h e =
     let rules = ((all_exact (journal_field_by Second)).found bytes j h e).0.0 in
     ap (λ (b : Bool). kept b j) rules ∙ sym e
+
+-- ---- a block of one object
+
+abbrev OfObject : ℕ → JournalFields → Option JournalFields
+OfObject n j = kept (eqb j.object n) j
+
+pub of_object : (o : Option JournalFields) (a b : JournalFields) (n : ℕ) → o ≡ Some a → o ≡ Some b → eqb a.object n ≡ true → (o >>= OfObject n) ≡ Some b
+of_object o a b n first second is =
+    let same : a ≡ b = some_is a b (sym first ∙ second) in
+    ap (λ (p : Option JournalFields). p >>= OfObject n) second ∙ ap (λ (t : Bool). kept t b) (subst (λ (j : JournalFields). eqb j.object n ≡ true) same is)
+
+pub another_object : (o : Option JournalFields) (a : JournalFields) (n : ℕ) → o ≡ Some a → eqb a.object n ≡ false → (o >>= OfObject n) ≡ None
+another_object o a n first other = ap (λ (p : Option JournalFields). p >>= OfObject n) first ∙ ap (λ (t : Bool). kept t a) other
+
+pub rules_of_one : (v : ImageVersion) (block : List ℕ) (n : ℕ) (result : Option JournalFields) → IsBytes block → Reads (λ j. j) result (all_of (journal_at_by v) block >>= OfObject n) → IfSome result (λ j. journal_rules_by v j ≡ true)
+rules_of_one v block n None h e = tt
+rules_of_one v block n (Some j) h e =
+    let s = step_some (all_of (journal_at_by v) block) (OfObject n) j e in
+    let k = kept_is (eqb s.0.object n) s.0 j s.2 in
+    subst (λ (x : JournalFields). journal_rules_by v x ≡ true) k.1 ((all_exact (journal_field_by v)).found block s.0 h s.1).0.0

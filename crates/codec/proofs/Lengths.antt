@@ -135,3 +135,8 @@ entries_least_by v (e ∷ entries) = omega (arith, entry_least_by v e, entries_l
 
 pub fourteen_by : (v : ImageVersion) (entries : List EntryFields) → entries_length_by v entries ≤ JOURNAL_ENTRY_BYTES → length entries ≤ JOURNAL_ENTRIES
 fourteen_by v entries h = omega (arith, h, entries_least_by v entries)
+
+pub grown : (entries : List EntryFields) → 17 * entries_length entries ≤ 18 * entries_length_by First entries
+unfolding entries_length entry_length entry_length_by
+grown [] = omega arith
+grown (e ∷ entries) = omega (arith, grown entries)

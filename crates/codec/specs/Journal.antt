@@ -4,7 +4,7 @@ use Rattle.std.specs.Int.{w16, w64}
 use Rattle.std.specs.List.{flat_map, AllByRecursion}
 use Rattle.s4_types.specs.declared.limits.TheConstants.{JOURNAL_ENTRY_BYTES, JOURNAL_ENTRIES}
 use Rattle.s4_types.specs.Pointer.{Place}
-use Rattle.codec.specs.Fields.{◌>>=◌, number, zeros, slot, kept, byte_at, number_at, zeros_at, mark_at, slot_at, many_at}
+use Rattle.codec.specs.Fields.{◌>>=◌, number, zeros, slot, kept, byte_at, number_at, zeros_at, mark_at, slot_at, many_at, all_of}
 use Rattle.codec.specs.Checkpoint.{IsSlot}
 use Rattle.codec.specs.Entry.{EntryFields, IsEntryBy, entry_spelling_by, entry_at_by, entries_length, entries_length_by}
 use Rattle.codec.specs.declared.versions.ImageVersion.{ImageVersion}
@@ -91,3 +91,7 @@ journal_at_by version bytes = do
 -- reading a journal block
 unfoldable pub journal_at : List ℕ → Option (JournalFields × List ℕ)
 journal_at bytes = journal_at_by Second bytes
+
+-- reading an object's journal block, of an image of a version
+abbrev pub object_journal_by : ImageVersion → ℕ → List ℕ → Option JournalFields
+object_journal_by version object block = all_of (journal_at_by version) block >>= λ j. kept (j.object == object) j

@@ -1,7 +1,9 @@
-ghost use Rattle.std.specs.Prelude.{◌≡◌, ℕ, List, length, Option, Some, IfSome};
+ghost use Rattle.std.specs.Prelude.{◌≡◌, ℕ, ◌==◌, true, List, length, Option, Some, IfSome};
 ghost use Rattle.codec.specs.Fields.{Reads, all_of};
 ghost use Rattle.codec.specs.Journal.{JournalFields, entries_at_by, told_journal_by, behind_object};
-ghost use Rattle.codec.specs.Journal.{journal_at, journal_at_by, SpellsJournal, SpellsJournalBy};
+ghost use Rattle.codec.specs.Journal.{journal_at, journal_at_by, journal_rules_by};
+ghost use Rattle.codec.specs.Journal.{object_journal_by};
+ghost use Rattle.codec.specs.Journal.{SpellsJournal, SpellsJournalBy};
 
 use crate::entry_reader::EntryReader;
 use crate::entry_reading::read_entry;
@@ -158,4 +160,40 @@ pub fn decode_journal_by(version: ImageVersion, block: &[u8; BLOCK_BYTES]) -> Op
     ensures exact { Reads (λ j. j) result (all_of (journal_at_by version) block.now) }
 {
     reader_in(version, block)
+}
+
+fn is_of(read: &BlockRead, object: ObjectId) -> bool
+    ensures { result ≡ (read.now.object == object) }
+{
+    read.object.number() == object.number()
+}
+
+fn reader_of(
+    version: ImageVersion,
+    object: ObjectId,
+    block: &[u8; BLOCK_BYTES],
+) -> Option<EntryReader>
+    ensures { Reads (λ j. j) result
+        (object_journal_by version object block.now) }
+{
+    let Some(read) = journal_in(version, block) else {
+        return None;
+    };
+    if !is_of(&read, object) {
+        return None;
+    }
+    Some(EntryReader::by(version, *block))
+}
+
+/// The same of an object's journal block. None where the block is the encoding of another's too.
+pub fn decode_journal_of(
+    version: ImageVersion,
+    object: ObjectId,
+    block: &[u8; BLOCK_BYTES],
+) -> Option<EntryReader>
+    ensures exact { Reads (λ j. j) result
+        (object_journal_by version object block.now) }
+    ensures rules { IfSome result (λ j. journal_rules_by version j ≡ true) }
+{
+    reader_of(version, object, block)
 }

@@ -1,7 +1,7 @@
 //! Laws of the spellings, for the layers above: each function does nothing, and its contract is the
 //! law.
 
-ghost use Rattle.std.specs.Prelude.{◌≡◌, ◌↔◌, ℕ, ◌≤◌, ◌++◌, true, List, length, Option, Some};
+ghost use Rattle.std.specs.Prelude.{◌≡◌, ◌↔◌, ℕ, ◌*◌, ◌≤◌, ◌++◌, true, List, length, Option, Some};
 ghost use Rattle.s4_types.specs.declared.limits.TheConstants.{JOURNAL_ENTRY_BYTES, JOURNAL_ENTRIES};
 ghost use Rattle.s4_types.specs.declared.limits.TheConstants.{SHORTEST_ENTRY_BYTES};
 ghost use Rattle.s4_types.specs.declared.limits.TheConstants.{LONGEST_ENTRY_BYTES};
@@ -12,7 +12,10 @@ ghost use Rattle.codec.specs.PointerBlock.{SpellsPointers, pointers_at};
 ghost use Rattle.codec.specs.declared.first_blocks.FirstBlock.{FirstBlock};
 ghost use Rattle.codec.specs.declared.pointer_blocks.PointerBlock.{PointerBlock};
 ghost use Rattle.codec.specs.Entry.{EntryFields, IsEntry, BeginsWithEntry, entry_spelling};
-ghost use Rattle.codec.specs.Entry.{entry_length, entries_length};
+ghost use Rattle.codec.specs.Entry.{entry_length, entries_length, entry_length_by};
+ghost use Rattle.codec.specs.Entry.{entries_length_by, entry_spelling_by};
+ghost use Rattle.codec.specs.declared.versions.ImageVersion.{ImageVersion};
+ghost use Rattle.codec.specs.declared.versions.ImageVersion.TheVariants.{First};
 ghost use Rattle.codec.specs.Summary.{SummaryFields, KeepsSummaryRules, SpellsSummary};
 ghost use Rattle.codec.specs.Summary.{summary_rules, summary_spelling};
 
@@ -80,4 +83,17 @@ pub fn one_summary_a_spelling()
 pub fn summary_is_a_block()
     ensures { (s : SummaryFields) (payload : List (List ℕ)) → length s.roles ≤ 15
         → length (summary_spelling s payload) ≡ 512 }
+{}
+
+/// Entries that fit the encoding of the first version have little more bytes in the present one: at
+/// most an eighteenth part of all, since a pointer change has 18 bytes in place of 17.
+pub fn entries_grow_little()
+    ensures { (entries : List EntryFields)
+        → 17 * entries_length entries ≤ 18 * entries_length_by First entries }
+{}
+
+/// The length of an entry in an image of a version is that of its encoding there.
+pub fn entry_is_so_long_by()
+    ensures { (version : ImageVersion) (e : EntryFields)
+        → length (entry_spelling_by version e) ≡ entry_length_by version e }
 {}

@@ -45,7 +45,7 @@ pub use entry_writing::{decode_entry, decode_entry_by, encode_entry};
 pub use first_blocks::{FirstBlock, decode_first_block, encode_first_block};
 pub use inodes::Inode;
 pub use journal_bytes::JournalBytes;
-pub use journal_reading::{decode_journal, decode_journal_by};
+pub use journal_reading::{decode_journal, decode_journal_by, decode_journal_of};
 pub use journal_writing::{encode_entries, encode_journal};
 pub use journals::{Entries, JournalBlock};
 pub use parts::{PartPointers, are_holes, part_of};
