@@ -19,7 +19,8 @@ use Rattle.version_store.specs.Versions.{entries_of_object, entries_of_row, inod
 use Rattle.drive.specs.Keeping.{DecodesWhereVisible}
 use Rattle.history_export.specs.Versions.{seen_from, begins, begun_behind}
 use Rattle.history_export.specs.Covering.{EachVersionIsRead}
-use Rattle.history_export.proofs.Seen.{seen_found, clock_visible, by_row}
+use Rattle.history_view.proofs.Shown.{clock_is_visible}
+use Rattle.history_export.proofs.Seen.{seen_found, by_row}
 
 -- ---- moments of entries
 
@@ -117,7 +118,7 @@ module _ (s : State) (o t : ℕ) (sound : IsSound s) (v : IsVisible s o t) where
   cover low last [] ascend reached up seen = record { moment = last; among = (0, omega arith, refl); from = omega arith; up = up; visible = seen; none = tt }
   cover low last (e ∷ entries) ascend reached up seen =
       let m = seen_from s o e.moment in
-      let found = seen_found s o e.moment s.clock reached.0 (clock_visible s o sound) in
+      let found = seen_found s o e.moment s.clock reached.0 (clock_is_visible s o sound) in
       elim (cases_lt last m) [
         | inl less ↦ elim (cases_lt t m) [
           | inl past ↦ stops last e entries ascend.1 up seen past

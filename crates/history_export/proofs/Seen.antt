@@ -1,13 +1,12 @@
 -- Which moments can be read, as a test and as a fact.
-use Rattle.std.proofs.Common.{◌≡◌, ◌⊎◌, ◌∙◌, ◌+◌, ◌-◌, ◌&&◌, ◌||◌, ◌==◌, ◌<◌, ◌≤◌, ℕ, zero, suc, Bool, true, false, not, cond, List, [], ◌∷◌, length, get_or, Option, Some, None, nat_le, nat_lt, Result, Ok, Err, IfErr, inl, inr, refl, ap, sym, subst, arith}
-use Rattle.std.proofs.lemmas.Bool.{leb-true, le-leb, le-ltb, and_parts, and_from, not-true, not_from_false, or_from, and_right, lt-leb, cond-true, cond-false, true≢false, false_from_ne_true, cases_Bool, cases_lt, cases_eq}
+use Rattle.std.proofs.Common.{◌≡◌, ◌⊎◌, ◌∙◌, ◌+◌, ◌-◌, ◌<◌, ◌≤◌, ℕ, zero, suc, Bool, true, false, cond, List, [], ◌∷◌, length, get_or, Option, Some, None, nat_lt, Result, Ok, Err, IfErr, inl, inr, refl, ap, sym, subst, arith}
+use Rattle.std.proofs.lemmas.Bool.{le-ltb, cond-true, cond-false, true≢false, false_from_ne_true, cases_Bool, cases_lt, cases_eq}
 use Rattle.s4_types.specs.declared.refusals.Refusal.{Refusal}
 use Rattle.s4_types.specs.declared.refusals.Refusal.TheVariants.{NoMemory, Busy, Future, Expired, Flushed}
 use Rattle.s4_model.specs.State.{State}
 use Rattle.s4_model.specs.Refusals.{moment_refusal}
-use Rattle.s4_model.specs.Visible.{IsVisible, IsSeenBetween, is_hidden, hides, is_within, spans_of}
-use Rattle.s4_model.specs.Sound.{EndsBefore, IsSound}
-use Rattle.s4_types.specs.declared.spans.Span.{Span}
+use Rattle.s4_model.specs.Visible.{IsVisible, IsSeenBetween, is_hidden}
+use Rattle.s4_model.specs.Sound.{IsSound}
 use Rattle.codec.specs.Entry.{EntryFields}
 use Rattle.object_map.specs.declared.map.Row.{Row}
 use Rattle.object_map.specs.Rows.{row_of}
@@ -15,21 +14,10 @@ use Rattle.time_read.specs.Rows.{entries_of}
 use Rattle.time_read.specs.Orderly.{IsFromTo}
 use Rattle.version_store.specs.Store.{StoreFields, IsStore}
 use Rattle.version_store.specs.Versions.{entries_of_object, entries_of_row}
-use Rattle.std.specs.List.{AllByRecursion, list_any}
+use Rattle.std.specs.List.{AllByRecursion}
 use Rattle.history_view.specs.Listing.{is_visible}
+use Rattle.history_view.proofs.Shown.{visible_then, then_visible, clock_is_visible}
 use Rattle.history_export.specs.Versions.{first_from, seen_from}
-
--- a moment that the test says can be read can be
-pub visible_then : (s : State) (o t : ℕ) → is_visible s o t ≡ true → IsVisible s o t
-visible_then s o t is =
-    let both = and_parts (nat_le s.floor t && nat_le t s.clock) (not (is_hidden s o t)) is in
-    let ends = and_parts (nat_le s.floor t) (nat_le t s.clock) both.0 in
-    record { kept = leb-true s.floor t ends.0; reached = leb-true t s.clock ends.1; shown = not-true (is_hidden s o t) both.1 }
-
--- of one that can be read the test says so
-pub then_visible : (s : State) (o t : ℕ) → IsVisible s o t → is_visible s o t ≡ true
-then_visible s o t v = and_from (nat_le s.floor t && nat_le t s.clock) (not (is_hidden s o t))
-    (and_from (nat_le s.floor t) (nat_le t s.clock) (le-leb s.floor t v.kept) (le-leb t s.clock v.reached)) (not_from_false (is_hidden s o t) v.shown)
 
 -- ---- a moment that can be read is refused for want alone
 
@@ -120,25 +108,9 @@ first_seen_is s o t r from v none =
 
 -- ---- a search for it
 
--- no span hides a moment that all of them end before
-none_hide : (o t : ℕ) (spans : List Span) → AllByRecursion (EndsBefore t) spans → list_any (hides o t) spans ≡ false
-none_hide o t [] all = refl
-none_hide o t (span ∷ spans) all =
-    or_from (hides o t span) (list_any (hides o t) spans)
-    (and_right (span.object == 0 || span.object == o) (is_within span t) (and_right (nat_le span.first t) (nat_le t span.last) (lt-leb t span.last all.0)))
-    (none_hide o t spans all.1)
-
--- the clock's moment can be read
-pub clock_visible : (s : State) (o : ℕ) → IsSound s → IsVisible s o s.clock
-clock_visible s o sound = record { kept = sound.floor_reached; reached = omega arith; shown = none_hide o s.clock (spans_of s) sound.past }
-
--- so some moment up to it can
+-- some moment up to the clock's can be read
 pub clock_between : (s : State) (o t : ℕ) → IsSound s → t ≤ s.clock → IsSeenBetween s o t s.clock
-clock_between s o t sound reached = record { moment = s.clock; begun = reached; ended = omega arith; visible = clock_visible s o sound }
-
--- where the two ends meet, that moment can be read
-pub met : (s : State) (o low high : ℕ) → IsSeenBetween s o low high → high ≤ low → IsVisible s o low
-met s o low high between over = let same : between.moment ≡ low = omega (arith, between.begun, between.ended) in subst (IsVisible s o) same between.visible
+clock_between s o t sound reached = record { moment = s.clock; begun = reached; ended = omega arith; visible = clock_is_visible s o sound }
 
 -- ---- the entries of an object
 

@@ -9,7 +9,7 @@
 //! bytes. `beginnings` gives these first moments of an object.
 //!
 //! Whoever gives out objects of another source writes the same files by `begin_folder`,
-//! `add_object` and `add_line`.
+//! `add_object` and `add_line`, and their lines by `object_members` and `file_members`.
 //!
 //! What a folder of the system has of the bytes that it was given no clause says.
 #![tactic(auto)]
@@ -28,4 +28,4 @@ pub use checking::{CheckReport, Checked, Progress, Silent, check_all};
 pub use exporting::{add_line, add_named, add_object, begin_folder, export};
 pub use faults::{ExportError, ExportedFile};
 pub use folders::{Folder, SystemFolder};
-pub use manifest::{MANIFEST, file_name};
+pub use manifest::{MANIFEST, file_members, file_name, object_members};
