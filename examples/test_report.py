@@ -120,7 +120,7 @@ class Reports(unittest.TestCase):
     @unittest.skipUnless(BROWSER, "Chromium isn't installed")
     def test_nothing_runs_in_a_browser(self):
         words = [BROWSER, "--headless", "--no-sandbox", "--disable-gpu", "--virtual-time-budget=2000", "--dump-dom", self.page.as_uri()]
-        shown = subprocess.run(words, stdout=subprocess.PIPE, stderr=subprocess.DEVNULL, timeout=50, check=True).stdout
+        shown = subprocess.run(words, stdout=subprocess.PIPE, stderr=subprocess.DEVNULL, timeout=600, check=True).stdout
         self.check(Page(shown.decode("utf-8")))
 
 

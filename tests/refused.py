@@ -27,7 +27,7 @@ TOP = os.path.dirname(os.path.dirname(os.path.abspath(__file__)))
 sys.path.append(os.path.join(TOP, "examples"))
 from limits import fault_of  # noqa: E402
 
-SECONDS = 60  # of a run
+SECONDS = 600  # of a run: it only ends what hangs
 AT_ONCE = 64  # runs that are begun before it is looked whether one of them had nothing to refuse
 REFUSED = "an allocation was refused\n"
 OWN = "no memory for its own work"
