@@ -11,7 +11,7 @@ use s4_types::Refusal;
 /// is added once.
 ///
 /// NoMemory alone, after which some of them may have been added. Linear in the entries.
-pub(crate) fn push_moments(entries: &[Entry], moments: &mut Vec<u64>) -> Result<(), Refusal>
+pub fn push_moments(entries: &[Entry], moments: &mut Vec<u64>) -> Result<(), Refusal>
     ensures moments { IfOk result
         (λ _. moments.new.items ≡ moments.old.items ++ moments_of_chain entries.now) }
     ensures refusal { IfErr result (λ e. e ≡ NoMemory) }
@@ -33,7 +33,7 @@ pub(crate) fn push_moments(entries: &[Entry], moments: &mut Vec<u64>) -> Result<
 }
 
 /// Whether no number is among these twice. No memory is taken.
-pub(crate) fn are_apart(mut moments: Vec<u64>) -> bool
+pub fn are_apart(mut moments: Vec<u64>) -> bool
     ensures { MatchBool result (StandOnce moments.items) (StandOnce moments.items → ⊥) }
 {
     neighbours_tell_what_stands_twice();

@@ -8,7 +8,7 @@ use image_parts::RowPart;
 
 /// A row of an image, with the pointers that its bytes encode. None where they encode neither a
 /// pointer nor a hole.
-pub(crate) fn row_of(part: &RowPart) -> Option<ImageRow>
+pub fn row_of(part: &RowPart) -> Option<ImageRow>
     ensures found { IfSome result (λ row. SpellsRow part.now row) }
     ensures only { (row : RowFields) → SpellsRow part.now row → result ≡ Some row }
 {

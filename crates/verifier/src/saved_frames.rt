@@ -54,7 +54,7 @@ pub(crate) fn frames_with_blocks<F: OverFrames>(frames: &mut F) -> u16
 
 /// Adds the frames, as an image has them. NoMemory alone, after which some of them may have been
 /// added.
-pub(crate) fn push_frames<F: OverFrames>(frames: &mut F, out: &mut Vec<u8>) -> Result<(), Refusal>
+pub fn push_frames<F: OverFrames>(frames: &mut F, out: &mut Vec<u8>) -> Result<(), Refusal>
     ensures frames { IfOk result
         (λ _. AddsFrames (F.table frames.old) out.old.items out.new.items) }
     ensures refusal { IfErr result (λ e. e ≡ NoMemory) }

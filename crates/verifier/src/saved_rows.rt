@@ -69,7 +69,7 @@ pub(crate) fn rows_saved<J: Naming>(
 }
 
 /// Adds rows. The only error is NoMemory, after which some of them may have been added.
-pub(crate) fn push_rows(out: &mut Vec<u8>, rows: &[RowPart]) -> Result<(), Refusal>
+pub fn push_rows(out: &mut Vec<u8>, rows: &[RowPart]) -> Result<(), Refusal>
     ensures items { OnOk result (out.new.items ≡ out.old.items ++ flat_map row_bytes rows.now) }
     ensures refusal { IfErr result (λ e. e ≡ NoMemory) }
 {
@@ -80,7 +80,7 @@ pub(crate) fn push_rows(out: &mut Vec<u8>, rows: &[RowPart]) -> Result<(), Refus
 }
 
 /// Adds spans. The only error is NoMemory, after which some of them may have been added.
-pub(crate) fn push_spans(out: &mut Vec<u8>, spans: &[Span]) -> Result<(), Refusal>
+pub fn push_spans(out: &mut Vec<u8>, spans: &[Span]) -> Result<(), Refusal>
     ensures items { OnOk result (out.new.items ≡ out.old.items ++ flat_map span_bytes spans.now) }
     ensures refusal { IfErr result (λ e. e ≡ NoMemory) }
 {
