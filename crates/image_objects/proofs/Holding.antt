@@ -10,11 +10,11 @@ use Rattle.codec.specs.Fields.{◌>>=◌, bit}
 use Rattle.codec.specs.Entry.{EntryFields, entries_length}
 use Rattle.codec.specs.Journal.{JournalFields}
 use Rattle.journal_chain.specs.Packing.{joined, packed, AllFit, KeepsTheRule}
-use Rattle.journal_chain.specs.Chain.{BlockView, Link, linked, links_from, chain_links, chain_places, journal_in, journal_of, places_of, blocks_of, times, Holds}
+use Rattle.journal_chain.specs.Chain.{BlockView, Link, linked, links_from, chain_links, chain_places, chain_entries, journal_in, journal_of, places_of, blocks_of, times, Holds}
 use Rattle.image_objects.specs.declared.rows.ImageRow.{ImageRow}
-use Rattle.image_objects.specs.Chains.{ChainStands, entries_used, chain_fields, chain_view}
+use Rattle.image_objects.specs.Chains.{ChainStands, blocks_used, entries_used, chain_fields, chain_view}
 use Rattle.image_objects.proofs.Walking.{bind_some, bind_is}
-use Rattle.image_objects.proofs.Judging.{Told, told, some_links}
+use Rattle.image_objects.proofs.Judging.{some_links}
 
 -- places that the test finds to be one are equal
 abbrev pub OneName : Type 0
@@ -199,6 +199,18 @@ each_once names o view head links p found h is = elim (cases_Bool (ltb 0 (times 
       let zero_bit : bit (is_some found) ≡ 0 = ap (λ (x : Option (List ℕ)). bit (is_some x)) nothing in
       omega (arith, few, zero_bit))
 ]
+
+-- what a row's chain tells where its links are these
+record Told (used : Place → Option Stored) (row : ImageRow) (links : List Link) : Type 0 where
+  blocks : blocks_used used row ≡ blocks_of links
+  entries : entries_used used row ≡ joined (blocks_of links)
+
+told : (used : Place → Option Stored) (row : ImageRow) (links : List Link) → chain_links (of_kind Journal row.object used) row.object row.head ≡ Some links → Told used row links
+unfolding chain_entries
+told used row links walk = record {
+  blocks = ap (λ (found : Option (List Link)). unwrap_or (found >>= λ l. Some (blocks_of l)) []) walk;
+  entries = ap (λ (found : Option (List Link)). unwrap_or (found >>= λ l. Some (joined (blocks_of l))) []) walk;
+}
 
 pub holds : OneName → ((blocks : List (List EntryFields)) → KeepsTheRule blocks → packed (joined blocks) ≡ blocks)
     → (used held : Place → Option Stored) (row : ImageRow) (clock : ℕ) → ChainStands used row clock → ((p : Place) → of_kind Journal row.object held p ≡ chain_view used row p)

@@ -24,6 +24,7 @@ pub mod Bytes
 pub mod Firsts
 pub mod Walking
 pub mod Judging
+pub mod Seconds
 pub mod Holding
 pub mod Earlier
 pub mod Running

@@ -8,3 +8,4 @@ pub mod Saved
 pub mod Chains
 pub mod Inodes
 pub mod VersionChain
+pub mod Versions

@@ -4,19 +4,20 @@ ghost use Rattle.s4_types.specs.declared.refusals.Refusal.TheVariants.{NoMemory}
 ghost use Rattle.s4_types.specs.declared.limits.TheConstants.{CHAIN_ENTRY_BYTES};
 ghost use Rattle.s4_types.specs.declared.limits.TheConstants.{JOURNAL_ENTRY_BYTES};
 ghost use Rattle.codec.specs.Fields.{kept};
-ghost use Rattle.codec.specs.Entry.{entry_length, entries_length};
+ghost use Rattle.codec.specs.Entry.{entry_length, entries_length, entries_length_by};
+ghost use Rattle.codec.specs.Versions.{chain_entry_bytes_by};
 ghost use Rattle.journal_chain.specs.Packing.{packed, filled_bytes};
 ghost use Rattle.journal_chain.specs.Sizes.{filled_after};
 ghost use Rattle.image_objects.specs.Chains.{ChainStands, entries_used};
+ghost use Rattle.image_objects.specs.Versions.{ChainStandsBy, entries_used_by};
 
 use crate::groups::{are_grouped, lie_from_to};
 use crate::rows::ImageRow;
 use crate::used_blocks::UsedBlocks;
 use crate::walk::entries_from;
-use codec::Entry;
+use codec::{Entry, ImageVersion};
 use journal_chain::packing::fits;
 use journal_chain::packing::laws::{filled_bytes_after, one_packing_keeps_the_rule};
-use s4_types::limits::CHAIN_ENTRY_BYTES;
 use s4_types::{Moment, Refusal};
 use std::alloc::Global;
 
@@ -31,17 +32,19 @@ pub struct ImageChain {
     pub head_bytes: u16,
 }
 
-/// How many bytes entries have. None where they are more than a chain's may be.
-#[tactic(auto, using(crate::proofs::Bytes::bytes_none, crate::proofs::Bytes::bytes_next))]
-fn bytes_of(entries: &[Entry]) -> Option<usize>
+/// How many bytes entries have. None where they are more than those of a chain of the version may
+/// have.
+#[tactic(auto, using(crate::proofs::Bytes::by_none, crate::proofs::Bytes::by_next))]
+fn bytes_of(version: ImageVersion, entries: &[Entry]) -> Option<usize>
     ensures { result
-        ≡ kept (nat_le (entries_length entries.now) CHAIN_ENTRY_BYTES)
-        (entries_length entries.now) }
+        ≡ kept (nat_le (entries_length_by version entries.now) (chain_entry_bytes_by version))
+        (entries_length_by version entries.now) }
 {
+    let most = version.chain_entry_bytes();
     let mut bytes = 0;
     for entry in entries {
-        bytes += entry.byte_count();
-        if bytes > CHAIN_ENTRY_BYTES {
+        bytes += entry.byte_count_by(version);
+        if bytes > most {
             return None;
         }
     }
@@ -63,6 +66,56 @@ fn head_bytes_of(entries: &[Entry]) -> usize
         };
     }
     newest
+}
+
+/// The entries of a row's chain, the oldest first, and their bytes.
+#[derive(Drop)]
+pub struct ChainRead {
+    pub entries: Vec<Entry>,
+    pub bytes: usize,
+}
+
+/// The entries of a row's journal chain in an image of a version whose clock is at a moment. None
+/// exactly where the chain isn't there.
+///
+/// NoMemory alone, where the memory for the entries is refused. Linear in the chain's blocks.
+pub fn read_chain_by<U: UsedBlocks>(
+    alloc: Global,
+    version: ImageVersion,
+    used: &U,
+    row: &ImageRow,
+    clock: Moment,
+) -> Result<Option<ChainRead>, Refusal>
+    ensures stands { IfOk result
+        (λ found. IfSome found
+        (λ chain. ChainStandsBy version (U.used used.now) row.now clock)) }
+    ensures only { IfOk result
+        (λ found. IfNone found (ChainStandsBy version (U.used used.now) row.now clock → ⊥)) }
+    ensures entries { IfOk result
+        (λ found. IfSome found
+        (λ chain. chain.entries.items ≡ entries_used_by version (U.used used.now) row.now)) }
+    ensures bytes { IfOk result
+        (λ found. IfSome found
+        (λ chain. chain.bytes
+        ≡ entries_length_by version (entries_used_by version (U.used used.now) row.now))) }
+    ensures most { IfOk result
+        (λ found. IfSome found (λ chain. chain.bytes ≤ CHAIN_ENTRY_BYTES)) }
+    ensures refusal { IfErr result (λ e. e ≡ NoMemory) }
+{
+    let Some(entries) = entries_from(alloc, version, used, row.object, row.head)? else {
+        return Ok(None);
+    };
+    let listed = entries.as_slice();
+    let Some(bytes) = bytes_of(version, listed) else {
+        return Ok(None);
+    };
+    if !lie_from_to(listed, row.created, clock) {
+        return Ok(None);
+    }
+    if !are_grouped(version, listed) {
+        return Ok(None);
+    }
+    Ok(Some(ChainRead { entries, bytes }))
 }
 
 /// A row's journal chain in an image whose clock is at a moment. None exactly where it isn't there.
@@ -92,23 +145,13 @@ pub fn read_chain<U: UsedBlocks>(
     ensures refusal { IfErr result (λ e. e ≡ NoMemory) }
 {
     filled_bytes_after();
-    let Some(entries) = entries_from(alloc, used, row.object, row.head)? else {
+    let Some(chain) = read_chain_by(alloc, ImageVersion::Second, used, row, clock)? else {
         return Ok(None);
     };
-    let listed = entries.as_slice();
-    let Some(bytes) = bytes_of(listed) else {
-        return Ok(None);
-    };
-    if !lie_from_to(listed, row.created, clock) {
-        return Ok(None);
-    }
-    if !are_grouped(listed) {
-        return Ok(None);
-    }
-    let head_bytes = head_bytes_of(listed) as u16;
+    let head_bytes = head_bytes_of(chain.entries.as_slice()) as u16;
     Ok(Some(ImageChain {
-        entries,
-        journal_bytes: bytes as u16,
+        entries: chain.entries,
+        journal_bytes: chain.bytes as u16,
         head_bytes,
     }))
 }

@@ -3,11 +3,11 @@ ghost use Rattle.std.specs.Prelude.{◌≡◌, ◌&&◌, false, nat_lt, nat_le, 
 ghost use Rattle.std.specs.Option.{option_map_or};
 ghost use Rattle.codec.specs.Entry.{EntryFields};
 ghost use Rattle.std.specs.List.{list_all};
-ghost use Rattle.undo_redo.specs.Groups.{above, continues, grouped, grouped_behind};
+ghost use Rattle.undo_redo.specs.Groups.{above, continues};
+ghost use Rattle.image_objects.specs.Versions.{grouped_by, grouped_behind_by};
 
-use codec::{Entry, PointerIndex, Triple};
+use codec::{Entry, ImageVersion, PointerIndex, Triple};
 use s4_types::Moment;
-use s4_types::limits::CHANGE_ENTRIES;
 
 /// Whether each entry is of a moment from a first one to a last one.
 pub(crate) fn lie_from_to(entries: &[Entry], first: Moment, last: Moment) -> bool
@@ -47,24 +47,24 @@ fn does_continue(before: &Entry, entry: &Entry) -> bool
 
 /// How many entries of its moment an entry ends, after one that ends this many. None where it can't
 /// be there.
-fn count_behind(count: usize, before: &Entry, entry: &Entry) -> Option<usize>
+fn count_behind(version: ImageVersion, count: usize, before: &Entry, entry: &Entry) -> Option<usize>
     ensures { (later : List EntryFields)
-        → grouped_behind count before.now (entry.now ∷ later)
-        ≡ option_map_or (λ n. grouped_behind n entry.now later) result false }
+        → grouped_behind_by version count before.now (entry.now ∷ later)
+        ≡ option_map_or (λ n. grouped_behind_by version n entry.now later) result false }
 {
     if before.moment() < entry.moment() {
         return Some(1);
     }
     let is_next = before.moment() == entry.moment()
-        && count < CHANGE_ENTRIES
+        && count < version.change_entries()
         && does_continue(before, entry);
     if is_next { Some(count + 1) } else { None }
 }
 
-/// Whether moments don't descend, and entries of one moment are one change's: at most
-/// `CHANGE_ENTRIES`, of which each later one continues the one before it.
-pub(crate) fn are_grouped(entries: &[Entry]) -> bool
-    ensures { result ≡ grouped entries.now }
+/// Whether moments don't descend, and entries of one moment are one change's: at most as many as
+/// the version's may have, of which each later one continues the one before it.
+pub(crate) fn are_grouped(version: ImageVersion, entries: &[Entry]) -> bool
+    ensures { result ≡ grouped_by version entries.now }
 {
     let Some((first, later)) = entries.split_first() else {
         return true;
@@ -72,7 +72,7 @@ pub(crate) fn are_grouped(entries: &[Entry]) -> bool
     let mut before = first;
     let mut count = 1;
     for entry in later {
-        let Some(next) = count_behind(count, before, entry) else {
+        let Some(next) = count_behind(version, count, before, entry) else {
             return false;
         };
         before = entry;

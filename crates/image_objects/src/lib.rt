@@ -34,11 +34,11 @@ pub mod version_chain_laws;
 mod version_chains;
 mod walk;
 
-pub use chains::{ImageChain, read_chain};
+pub use chains::{ChainRead, ImageChain, read_chain, read_chain_by};
 pub use checkpoint_blocks::read_checkpoint;
 pub use naming::{push_named, what_a_row_names_is_used};
 pub use objects::read_object;
-pub use reading::read_journal;
+pub use reading::{read_journal, read_journal_by};
 pub use rows::ImageRow;
 pub use used_blocks::{UsedBlock, UsedBlocks, bytes_at};
 pub use version_chains::{VersionChain, read_version_chain};

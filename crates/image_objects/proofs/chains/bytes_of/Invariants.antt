@@ -1,10 +1,11 @@
 use Rattle.std.proofs.Common.{◌≡◌, ◌≤◌, take}
-use Rattle.s4_types.specs.declared.limits.TheConstants.{CHAIN_ENTRY_BYTES}
-use Rattle.codec.specs.Entry.{entries_length}
+use Rattle.codec.specs.Entry.{entries_length_by}
+use Rattle.codec.specs.Versions.{chain_entry_bytes_by}
 use Rattle.image_objects.proofs.chains.bytes_of.Given as goal
 
 abbrev pub invariant-loop-entry : goal.invariant-loop-entry
 invariant-loop-entry l = record {
-  exact : l.bytes ≡ entries_length (take l.entry-index l.entries);
-  few : l.bytes ≤ CHAIN_ENTRY_BYTES;
+  exact : l.bytes ≡ entries_length_by l.version (take l.entry-index l.entries);
+  few : l.bytes ≤ chain_entry_bytes_by l.version;
+  most : l.most ≡ chain_entry_bytes_by l.version;
 }
