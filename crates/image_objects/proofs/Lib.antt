@@ -25,6 +25,7 @@ pub mod Firsts
 pub mod Walking
 pub mod Judging
 pub mod Seconds
+pub mod Grouping
 pub mod Holding
 pub mod Earlier
 pub mod Running

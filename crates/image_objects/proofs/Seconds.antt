@@ -1,18 +1,20 @@
 -- What the definitions by a version say of the second one.
-use Rattle.std.proofs.Common.{◌≡◌, ℕ, ◌+◌, ◌<◌, ◌&&◌, Bool, cond, eqb, ltb, true, List, [], ◌∷◌, Option, IsSome, refl, sym, ap, ◌∙◌, subst}
-use Rattle.std.specs.List.{AllByRecursion}
+use Rattle.std.proofs.Common.{◌≡◌, ℕ, ◌+◌, ◌<◌, List, [], ◌∷◌, Option, refl, sym, ap, ◌∙◌, subst}
 use Rattle.s4_types.specs.Pointer.{Place}
-use Rattle.s4_types.specs.declared.limits.TheConstants.{JOURNAL_ENTRY_BYTES, CHANGE_ENTRIES}
+use Rattle.s4_types.specs.declared.limits.TheConstants.{JOURNAL_ENTRY_BYTES}
 use Rattle.block_log.specs.Log.{Stored}
 use Rattle.codec.specs.Entry.{EntryFields, entry_length, entry_length_by, entries_length}
 use Rattle.codec.specs.Journal.{journal_at}
 use Rattle.codec.specs.declared.versions.ImageVersion.TheVariants.{Second}
-use Rattle.undo_redo.specs.Groups.{continues, grouped, grouped_behind}
-use Rattle.journal_chain.specs.Packing.{first_length, IsBlock, IsBehind, KeepsTheRule}
+use Rattle.undo_redo.specs.Groups.{grouped, grouped_behind}
+use Rattle.journal_chain.specs.Packing.{first_length, IsBehind, KeepsTheRule}
 use Rattle.journal_chain.specs.Chain.{journal_of, chain_links, chain_entries}
 use Rattle.image_objects.specs.declared.rows.ImageRow.{ImageRow}
 use Rattle.image_objects.specs.Chains.{blocks_used, entries_used, ChainStands}
-use Rattle.image_objects.specs.Versions.{journal_of_by, blocks_used_by, entries_used_by, first_length_by, IsBlockBy, IsBehindBy, KeepsTheRuleBy, grouped_by, grouped_behind_by, ChainStandsBy}
+use Rattle.image_objects.specs.Inodes.{first_before, first_used}
+use Rattle.image_objects.specs.VersionChain.{VersionChainStands, present_used}
+use Rattle.image_objects.specs.Objects.{ObjectStands}
+use Rattle.image_objects.specs.Versions.{journal_of_by, blocks_used_by, entries_used_by, first_length_by, IsBehindBy, KeepsTheRuleBy, grouped_by, grouped_behind_by, ChainStandsBy, first_used_by, present_used_by, VersionChainStandsBy, ObjectStandsBy}
 
 first_same : (entries : List EntryFields) → first_length_by Second entries ≡ first_length entries
 unfolding entry_length entry_length_by
@@ -69,4 +71,47 @@ chain_again used row clock s = record {
   limit = s.limit;
   moments = s.moments;
   groups = groups_same (entries_used used row) ∙ s.groups;
+}
+
+-- ---- the version chain and the object
+
+pub same_first : (used : Place → Option Stored) (row : ImageRow) → first_used_by Second used row ≡ first_used used row
+same_first used row = ap (first_before used row) (same_entries used row)
+
+pub same_present : (used : Place → Option Stored) (row : ImageRow) → present_used_by Second used row ≡ present_used used row
+unfolding chain_entries chain_links journal_of journal_of_by journal_at
+same_present used row = refl
+
+pub versions_are : (used : Place → Option Stored) (row : ImageRow) (clock : ℕ) → VersionChainStandsBy Second used row clock → VersionChainStands used row clock
+unfolding chain_entries chain_links journal_of journal_of_by journal_at
+versions_are used row clock s = record {
+  chain = chain_is used row clock s.chain;
+  beginning = s.beginning.0;
+  run = s.run;
+  order = s.order;
+}
+
+pub versions_again : (used : Place → Option Stored) (row : ImageRow) (clock : ℕ) → VersionChainStands used row clock → VersionChainStandsBy Second used row clock
+unfolding chain_entries chain_links journal_of journal_of_by journal_at
+versions_again used row clock s = record {
+  chain = chain_again used row clock s.chain;
+  beginning = (s.beginning, tt);
+  run = s.run;
+  order = s.order;
+}
+
+pub object_is : (used : Place → Option Stored) (row : ImageRow) (clock : ℕ) → ObjectStandsBy Second used row clock → ObjectStands used row clock
+unfolding chain_entries chain_links journal_of journal_of_by journal_at
+object_is used row clock s = record {
+  versions = versions_are used row clock s.versions;
+  led = s.led;
+  tidy = s.tidy;
+}
+
+pub object_again : (used : Place → Option Stored) (row : ImageRow) (clock : ℕ) → ObjectStands used row clock → ObjectStandsBy Second used row clock
+unfolding chain_entries chain_links journal_of journal_of_by journal_at
+object_again used row clock s = record {
+  versions = versions_again used row clock s.versions;
+  led = s.led;
+  tidy = s.tidy;
 }

@@ -75,6 +75,22 @@ pub struct ChainRead {
     pub bytes: usize,
 }
 
+/// A chain of the present version, with the bytes of the entries in its newest block.
+pub(crate) fn with_head_bytes(chain: ChainRead) -> ImageChain
+    requires { chain.bytes ≤ CHAIN_ENTRY_BYTES }
+    ensures entries { result.entries.items ≡ chain.entries.items }
+    ensures bytes { result.journal_bytes ≡ chain.bytes }
+    ensures head { result.head_bytes ≡ filled_bytes (packed chain.entries.items) }
+{
+    filled_bytes_after();
+    let head_bytes = head_bytes_of(chain.entries.as_slice()) as u16;
+    ImageChain {
+        entries: chain.entries,
+        journal_bytes: chain.bytes as u16,
+        head_bytes,
+    }
+}
+
 /// The entries of a row's journal chain in an image of a version whose clock is at a moment. None
 /// exactly where the chain isn't there.
 ///
@@ -144,14 +160,9 @@ pub fn read_chain<U: UsedBlocks>(
         ≡ filled_bytes (packed (entries_used (U.used used.now) row.now)))) }
     ensures refusal { IfErr result (λ e. e ≡ NoMemory) }
 {
-    filled_bytes_after();
     let Some(chain) = read_chain_by(alloc, ImageVersion::Second, used, row, clock)? else {
         return Ok(None);
     };
-    let head_bytes = head_bytes_of(chain.entries.as_slice()) as u16;
-    Ok(Some(ImageChain {
-        entries: chain.entries,
-        journal_bytes: chain.bytes as u16,
-        head_bytes,
-    }))
+    let chain = with_head_bytes(chain);
+    Ok(Some(chain))
 }

@@ -5,12 +5,15 @@ ghost use Rattle.s4_types.specs.declared.limits.TheConstants.{OBJECT_BLOCKS};
 ghost use Rattle.undo_redo.specs.Runs.{undone_all, redone_all, entries_by, blank};
 ghost use Rattle.time_read.specs.Orderly.{BeginsDead};
 ghost use Rattle.image_objects.specs.Inodes.{TellsTheRow, HasItsPlace, CheckpointStands};
-ghost use Rattle.image_objects.specs.Inodes.{BeginningStands, first_before};
+ghost use Rattle.image_objects.specs.Inodes.{BeginningStands, first_before, checkpoint_used};
+ghost use Rattle.image_objects.specs.Versions.{IsCheckpointOf, BeginningStandsBy};
 
 use crate::links::{has_status, is_same_slot};
+use crate::pointers::checkpoint_of;
 use crate::rows::ImageRow;
 use crate::{UsedBlocks, read_checkpoint};
-use codec::{Checkpoint, Entry, Inode, Status};
+use codec::versions::FIRST_OBJECT_BYTES;
+use codec::{Checkpoint, Entry, ImageVersion, Inode, Status};
 use s4_types::limits::OBJECT_BLOCKS;
 use s4_types::{Moment, Ptr};
 use undo_redo::laws::a_blank_inode_has_holes_alone;
@@ -163,7 +166,7 @@ fn first_of_checkpoint<U: UsedBlocks>(
 }
 
 /// The inode before all entries of a row. None where the row's beginning isn't there.
-pub(crate) fn first_inode<U: UsedBlocks>(
+fn first_inode<U: UsedBlocks>(
     used: &U,
     row: &ImageRow,
     clock: Moment,
@@ -181,4 +184,47 @@ pub(crate) fn first_inode<U: UsedBlocks>(
         None => blank_before(row, entries),
         Some(place) => first_of_checkpoint(used, row, clock, entries, place),
     }
+}
+
+/// Whether the checkpoint that a row names, where one is used there, is of an object that an image
+/// of a version may have.
+fn is_checkpoint_of<U: UsedBlocks>(version: ImageVersion, used: &U, row: &ImageRow) -> bool
+    ensures is { result ≡ true
+        → IsCheckpointOf version (checkpoint_used (U.used used.now) row.now) }
+    ensures only { IsCheckpointOf version (checkpoint_used (U.used used.now) row.now)
+        → result ≡ true }
+{
+    match version {
+        ImageVersion::First => match checkpoint_of(used, row) {
+            None => true,
+            Some(checkpoint) => checkpoint.inode().size <= FIRST_OBJECT_BYTES as u32,
+        },
+        ImageVersion::Second => true,
+    }
+}
+
+/// The inode before all entries of a row in an image of a version. None where the row's beginning
+/// isn't there.
+pub(crate) fn first_inode_by<U: UsedBlocks>(
+    version: ImageVersion,
+    used: &U,
+    row: &ImageRow,
+    clock: Moment,
+    entries: &[Entry],
+) -> Option<Inode>
+    ensures stands { IfSome result
+        (λ first. BeginningStandsBy version (U.used used.now) row.now clock entries.now) }
+    ensures first { IfSome result
+        (λ first. first ≡ first_before (U.used used.now) row.now entries.now) }
+    ensures count { IfSome result (λ first. length first.pointers ≡ OBJECT_BLOCKS) }
+    ensures only { IfNone result
+        (BeginningStandsBy version (U.used used.now) row.now clock entries.now → ⊥) }
+{
+    if !is_checkpoint_of(version, used, row) {
+        return None;
+    }
+    let Some(first) = first_inode(used, row, clock, entries) else {
+        return None;
+    };
+    Some(first)
 }

@@ -1,10 +1,8 @@
 //! Whether the pointers that a row refers to lead to its data.
-ghost use Rattle.std.specs.Prelude.{◌≡◌, true, [], ◌∷◌};
+ghost use Rattle.std.specs.Prelude.{◌≡◌, ◌++◌, true, [], ◌∷◌};
 ghost use Rattle.std.specs.List.{All};
 ghost use Rattle.version_store.specs.Store.{IsLed, sides_of, sides_told, pointers_kept};
-ghost use Rattle.image_objects.specs.Chains.{entries_used};
 ghost use Rattle.image_objects.specs.Inodes.{checkpoint_used};
-ghost use Rattle.image_objects.specs.Objects.{pointers_used};
 
 use crate::{ImageRow, UsedBlocks, bytes_at, read_checkpoint};
 use block_log::BlockKind;
@@ -94,14 +92,14 @@ fn are_entries_led<U: UsedBlocks>(used: &U, object: ObjectId, entries: &[Entry])
     true
 }
 
-/// Whether each pointer that a row refers to is a hole, or refers to a used data block of the row's
-/// object.
+/// Whether each pointer that a row's checkpoint and its entries refer to is a hole, or refers to a
+/// used data block of the row's object.
 pub(crate) fn is_row_led<U: UsedBlocks>(used: &U, row: &ImageRow, entries: &[Entry]) -> bool
-    requires { entries.now ≡ entries_used (U.used used.now) row.now }
-    ensures is { result ≡ true
-        → All (IsLed (U.used used.now) row.now.object) (pointers_used (U.used used.now) row.now) }
+    ensures is { result ≡ true → All (IsLed (U.used used.now) row.now.object)
+        (pointers_kept (checkpoint_used (U.used used.now) row.now) ++ sides_told entries.now) }
     ensures only { All (IsLed (U.used used.now) row.now.object)
-        (pointers_used (U.used used.now) row.now) → result ≡ true }
+        (pointers_kept (checkpoint_used (U.used used.now) row.now) ++ sides_told entries.now)
+        → result ≡ true }
 {
     is_checkpoint_led(used, row) && are_entries_led(used, row.object, entries)
 }

@@ -1,23 +1,36 @@
 //! A row's whole version chain.
-ghost use Rattle.std.specs.Prelude.{◌≡◌, length, IfSome, IfNone, IfOk, IfErr};
-ghost use Rattle.s4_types.specs.declared.limits.TheConstants.{OBJECT_BLOCKS};
+ghost use Rattle.std.specs.Prelude.{◌≡◌, ◌≤◌, length, IfSome, IfNone, IfOk, IfErr};
+ghost use Rattle.s4_types.specs.declared.limits.TheConstants.{OBJECT_BLOCKS, CHAIN_ENTRY_BYTES};
 ghost use Rattle.s4_types.specs.declared.refusals.Refusal.TheVariants.{NoMemory};
-ghost use Rattle.codec.specs.Entry.{entries_length};
+ghost use Rattle.codec.specs.Entry.{entries_length, entries_length_by};
 ghost use Rattle.journal_chain.specs.Packing.{packed, filled_bytes};
-ghost use Rattle.image_objects.specs.Chains.{ChainStands, entries_used};
+ghost use Rattle.image_objects.specs.Chains.{entries_used};
 ghost use Rattle.image_objects.specs.Inodes.{first_used};
 ghost use Rattle.image_objects.specs.VersionChain.{VersionChainStands, present_used};
+ghost use Rattle.image_objects.specs.Versions.{ChainStandsBy, entries_used_by, first_used_by};
+ghost use Rattle.image_objects.specs.Versions.{VersionChainStandsBy, present_used_by};
 
-use crate::chains::{ImageChain, read_chain};
-use crate::inodes::first_inode;
+use crate::chains::{ChainRead, ImageChain, read_chain_by, with_head_bytes};
+use crate::inodes::first_inode_by;
 use crate::links::is_run;
 use crate::order::is_orderly;
 use crate::rows::ImageRow;
 use crate::used_blocks::UsedBlocks;
-use codec::{Entry, Inode};
+use codec::{Entry, ImageVersion, Inode};
 use s4_types::{Moment, Refusal};
 use std::alloc::Global;
 use undo_redo::redo_all;
+
+/// A row's version chain as an image of a version has it.
+#[derive(Drop)]
+pub struct VersionsRead {
+    /// The entries of its journal chain, the oldest first, and their bytes.
+    pub chain: ChainRead,
+    /// The inode before all entries.
+    pub first: Inode,
+    /// The inode after all entries.
+    pub present: Inode,
+}
 
 /// A row's version chain as an image has it.
 #[derive(Drop)]
@@ -33,19 +46,23 @@ pub struct VersionChain {
 /// The inode before all entries of a chain that stands. None where the row's version chain isn't
 /// there.
 fn leading_inode<U: UsedBlocks>(
+    version: ImageVersion,
     used: &U,
     row: &ImageRow,
     clock: Moment,
     entries: &[Entry],
 ) -> Option<Inode>
-    requires chain { ChainStands (U.used used.now) row.now clock }
-    requires entries { entries.now ≡ entries_used (U.used used.now) row.now }
-    ensures stands { IfSome result (λ first. VersionChainStands (U.used used.now) row.now clock) }
-    ensures first { IfSome result (λ first. first ≡ first_used (U.used used.now) row.now) }
+    requires chain { ChainStandsBy version (U.used used.now) row.now clock }
+    requires entries { entries.now ≡ entries_used_by version (U.used used.now) row.now }
+    ensures stands { IfSome result
+        (λ first. VersionChainStandsBy version (U.used used.now) row.now clock) }
+    ensures first { IfSome result
+        (λ first. first ≡ first_used_by version (U.used used.now) row.now) }
     ensures count { IfSome result (λ first. length first.pointers ≡ OBJECT_BLOCKS) }
-    ensures only { IfNone result (VersionChainStands (U.used used.now) row.now clock → ⊥) }
+    ensures only { IfNone result
+        (VersionChainStandsBy version (U.used used.now) row.now clock → ⊥) }
 {
-    let Some(first) = first_inode(used, row, clock, entries) else {
+    let Some(first) = first_inode_by(version, used, row, clock, entries) else {
         return None;
     };
     if !is_run(&first, entries) {
@@ -55,6 +72,75 @@ fn leading_inode<U: UsedBlocks>(
         return None;
     }
     Some(first)
+}
+
+/// A row's version chain in an image of a version whose clock is at a moment. None exactly where it
+/// isn't there.
+///
+/// NoMemory alone, where the memory for the entries is refused. Linear in the chain's blocks.
+pub fn read_version_chain_by<U: UsedBlocks>(
+    alloc: Global,
+    version: ImageVersion,
+    used: &U,
+    row: &ImageRow,
+    clock: Moment,
+) -> Result<Option<VersionsRead>, Refusal>
+    ensures stands { IfOk result
+        (λ found. IfSome found
+        (λ versions. VersionChainStandsBy version (U.used used.now) row.now clock)) }
+    ensures only { IfOk result
+        (λ found. IfNone found
+        (VersionChainStandsBy version (U.used used.now) row.now clock → ⊥)) }
+    ensures entries { IfOk result
+        (λ found. IfSome found
+        (λ versions. versions.chain.entries.items
+        ≡ entries_used_by version (U.used used.now) row.now)) }
+    ensures bytes { IfOk result
+        (λ found. IfSome found
+        (λ versions. versions.chain.bytes
+        ≡ entries_length_by version (entries_used_by version (U.used used.now) row.now))) }
+    ensures most { IfOk result
+        (λ found. IfSome found (λ versions. versions.chain.bytes ≤ CHAIN_ENTRY_BYTES)) }
+    ensures first { IfOk result
+        (λ found. IfSome found
+        (λ versions. versions.first ≡ first_used_by version (U.used used.now) row.now)) }
+    ensures count { IfOk result
+        (λ found. IfSome found (λ versions. length versions.first.pointers ≡ OBJECT_BLOCKS)) }
+    ensures present { IfOk result
+        (λ found. IfSome found
+        (λ versions. versions.present ≡ present_used_by version (U.used used.now) row.now)) }
+    ensures refusal { IfErr result (λ e. e ≡ NoMemory) }
+{
+    let Some(chain) = read_chain_by(alloc, version, used, row, clock)? else {
+        return Ok(None);
+    };
+    let entries = chain.entries.as_slice();
+    let Some(first) = leading_inode(version, used, row, clock, entries) else {
+        return Ok(None);
+    };
+    let mut present = first;
+    redo_all(entries, &mut present);
+    Ok(Some(VersionsRead {
+        chain,
+        first,
+        present,
+    }))
+}
+
+/// A version chain of the present version, with the bytes of the entries in its newest block.
+pub(crate) fn with_chain_bytes(versions: VersionsRead) -> VersionChain
+    requires { versions.chain.bytes ≤ CHAIN_ENTRY_BYTES }
+    ensures entries { result.chain.entries.items ≡ versions.chain.entries.items }
+    ensures bytes { result.chain.journal_bytes ≡ versions.chain.bytes }
+    ensures head { result.chain.head_bytes ≡ filled_bytes (packed versions.chain.entries.items) }
+    ensures first { result.first ≡ versions.first }
+    ensures present { result.present ≡ versions.present }
+{
+    VersionChain {
+        chain: with_head_bytes(versions.chain),
+        first: versions.first,
+        present: versions.present,
+    }
 }
 
 /// A row's version chain in an image whose clock is at a moment. None exactly where it isn't there.
@@ -91,18 +177,10 @@ pub fn read_version_chain<U: UsedBlocks>(
         (λ versions. versions.present ≡ present_used (U.used used.now) row.now)) }
     ensures refusal { IfErr result (λ e. e ≡ NoMemory) }
 {
-    let Some(chain) = read_chain(alloc, used, row, clock)? else {
+    let Some(versions) = read_version_chain_by(alloc, ImageVersion::Second, used, row, clock)?
+    else {
         return Ok(None);
     };
-    let entries = chain.entries.as_slice();
-    let Some(first) = leading_inode(used, row, clock, entries) else {
-        return Ok(None);
-    };
-    let mut present = first;
-    redo_all(entries, &mut present);
-    Ok(Some(VersionChain {
-        chain,
-        first,
-        present,
-    }))
+    let versions = with_chain_bytes(versions);
+    Ok(Some(versions))
 }
