@@ -63,7 +63,7 @@ named_once view places p found is some = elim (cases_Bool (is_one_of places p)) 
 made_checkpoint : ℕ → ℕ → Inode → CheckpointFields
 made_checkpoint o m i = record { object = o; moment = m; inode = i }
 
-same_fields : (c : CheckpointFields) (o m : ℕ) (i : Inode) → c.object ≡ o → c.moment ≡ m → c.inode ≡ i → c ≡ record { object = o; moment = m; inode = i }
+pub same_fields : (c : CheckpointFields) (o m : ℕ) (i : Inode) → c.object ≡ o → c.moment ≡ m → c.inode ≡ i → c ≡ record { object = o; moment = m; inode = i }
 unfolding made_checkpoint
 same_fields c o m i eo em ei =
     ap (λ n. made_checkpoint n c.moment c.inode) eo ∙ ap (λ n. made_checkpoint o n c.inode) em ∙ ap (made_checkpoint o m) ei
@@ -89,10 +89,10 @@ created_none used row entries names =
 
 -- ---- the beginning, by whether a checkpoint is named
 
-first_undone : (used : Place → Option Stored) (row : ImageRow) (clock : ℕ) (entries : List EntryFields) (p : Place) (s : CheckpointStands used row clock entries p) → row.checkpoint ≡ Some p → undone_all (entries_by row.checkpoint_moment entries) s.found.inode ≡ first_before used row entries
+pub first_undone : (used : Place → Option Stored) (row : ImageRow) (clock : ℕ) (entries : List EntryFields) (p : Place) (s : CheckpointStands used row clock entries p) → row.checkpoint ≡ Some p → undone_all (entries_by row.checkpoint_moment entries) s.found.inode ≡ first_before used row entries
 first_undone used row clock entries p s names = first_with used row entries p s.found (undone_all (entries_by row.checkpoint_moment entries) s.found.inode) names s.decodes refl
 
-created_is : (used : Place → Option Stored) (row : ImageRow) (clock : ℕ) (entries : List EntryFields) (q : Option Place) → row.checkpoint ≡ q → MatchOption q ((row.checkpoint_moment ≡ 0) × BeginsDead entries) (λ p. CheckpointStands used row clock entries p) → (first_before used row entries).created ≡ row.created
+pub created_is : (used : Place → Option Stored) (row : ImageRow) (clock : ℕ) (entries : List EntryFields) (q : Option Place) → row.checkpoint ≡ q → MatchOption q ((row.checkpoint_moment ≡ 0) × BeginsDead entries) (λ p. CheckpointStands used row clock entries p) → (first_before used row entries).created ≡ row.created
 created_is used row clock entries None names h = created_none used row entries names
 created_is used row clock entries (Some p) names h =
     sym (ap (λ (i : Inode). i.created) (first_undone used row clock entries p h names)) ∙ all_undone_created (entries_by row.checkpoint_moment entries) h.found.inode ∙ h.tells.created

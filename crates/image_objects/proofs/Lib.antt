@@ -26,6 +26,7 @@ pub mod Walking
 pub mod Judging
 pub mod Seconds
 pub mod Grouping
+mod Writing
 pub mod Holding
 pub mod Earlier
 pub mod Running

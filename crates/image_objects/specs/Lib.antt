@@ -9,3 +9,4 @@ pub mod Chains
 pub mod Inodes
 pub mod VersionChain
 pub mod Versions
+pub mod Writing

@@ -12,7 +12,8 @@
 //!
 //! `version_chain_laws` says that a version chain that keeps the rules is a row of a drive, in
 //! order up to the clock, where of the object's journal blocks and checkpoints those alone are held
-//! that it names.
+//! that it names. `writing_laws` says that an object of an image, of whichever version, can be
+//! written into a drive.
 #![tactic(auto)]
 
 mod chains;
@@ -33,6 +34,7 @@ mod used_blocks;
 pub mod version_chain_laws;
 mod version_chains;
 mod walk;
+pub mod writing_laws;
 
 pub use chains::{ChainRead, ImageChain, read_chain, read_chain_by};
 pub use checkpoint_blocks::read_checkpoint;
