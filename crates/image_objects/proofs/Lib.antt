@@ -27,6 +27,7 @@ pub mod Judging
 pub mod Seconds
 pub mod Grouping
 mod Writing
+mod OldCheckpoints
 pub mod Holding
 pub mod Earlier
 pub mod Running

@@ -10,3 +10,4 @@ pub mod Inodes
 pub mod VersionChain
 pub mod Versions
 pub mod Writing
+pub mod OldCheckpoints

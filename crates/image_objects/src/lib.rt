@@ -13,7 +13,8 @@
 //! `version_chain_laws` says that a version chain that keeps the rules is a row of a drive, in
 //! order up to the clock, where of the object's journal blocks and checkpoints those alone are held
 //! that it names. `writing_laws` says that an object of an image, of whichever version, can be
-//! written into a drive.
+//! written into a drive, and `old_checkpoint_laws` that a checkpoint of an image of the first version
+//! is what its one block encodes.
 #![tactic(auto)]
 
 mod chains;
@@ -24,6 +25,7 @@ pub mod laws;
 mod links;
 mod naming;
 mod objects;
+pub mod old_checkpoint_laws;
 mod order;
 mod pointers;
 mod reading;
