@@ -58,6 +58,7 @@ one_image d bytes more image other spelled spelled_other saved saved_other =
     (one_list_of_spans d image other spelled.rules spelled_other.rules saved saved_other)
 
 pub one_spelling : (d : DriveFields) (bytes other : List ℕ) → SpellsSaved d bytes → SpellsSaved d other → bytes ≡ other
+unfolding image_bytes
 one_spelling d bytes other spells spells_other =
     let image : spells.image ≡ spells_other.image = one_image d bytes other spells.image spells_other.image spells.spelled.parts spells_other.spelled.parts spells.saved spells_other.saved in
     spells.spelled.parts.spelled ∙ ap image_bytes image ∙ sym spells_other.spelled.parts.spelled

@@ -32,7 +32,7 @@ use Rattle.image_parts.specs.Header.{header_bytes, KeepsHeaderRules}
 use Rattle.image_parts.specs.Frames.{frame_bytes}
 use Rattle.image_parts.specs.Rows.{row_bytes, RowsFollow}
 use Rattle.image_parts.specs.Spans.{span_bytes}
-use Rattle.image_parts.specs.Image.{Image, header_of, front_bytes, image_bytes}
+use Rattle.image_parts.specs.Image.{Image, header_of, front_bytes, front_bytes_by, image_bytes, image_bytes_by}
 use Rattle.image_objects.specs.Rows.{RowsAscend, RowsStand}
 use Rattle.image_objects.specs.Saved.{HoldsUsed, ObjectsAscend, saved_rows}
 use Rattle.verifier.specs.Rows.{SpellRows}
@@ -188,7 +188,7 @@ Ascending = (used : Place → Option Stored) (s : StoreFields) (low clock : ℕ)
 -- the parts, one after the other, are the front of an image
 front : (image : Image) (h : Header) (out : List ℕ) → h ≡ header_of image
     → out ≡ ((([] ++ header_bytes h) ++ flat_map frame_bytes image.frames) ++ flat_map row_bytes image.rows) ++ flat_map span_bytes image.spans → out ≡ front_bytes image
-unfolding front_bytes
+unfolding front_bytes front_bytes_by header_bytes
 front image h out same is =
     let header = header_bytes h in
     let frames = flat_map frame_bytes image.frames in
@@ -199,7 +199,7 @@ front image h out same is =
 
 pub saves : (d : DriveFields) (rows : List RowPart) (spans : List Span) (h : Header) (after out : List ℕ) → CheckpointLaws → Stand → Ascending → Shown d → AreSaved d.store.rows rows → SpansShown d spans → HeaderShown d (length rows) (length spans) h
     → AddsFrames d.store.table ([] ++ header_bytes h) after → out ≡ (after ++ flat_map row_bytes rows) ++ flat_map span_bytes spans → SpellsSaved d (out ++ sha256 out)
-unfolding image_bytes
+unfolding image_bytes image_bytes_by front_bytes
 saves d rows spans h after out checkpoints stand ascending shown saved seen head adds parts =
     let s : State = state_in d in
     let t : Table = d.store.table in
