@@ -66,6 +66,7 @@ no_run name rows is never (command.New new) h = other_letter name (codes "run") 
 no_run name rows is never (command.Verify verify) h = other_letter name (codes "run") (codes "verify") is h.0 (λ e. let no_way : 114 ≡ 118 = e in absurd (omega arith))
 no_run name rows is never (command.Run run) h = never run h.1
 no_run name rows is never (command.At at) h = other_letter name (codes "run") (codes "at") is h.0 (λ e. let no_way : 114 ≡ 97 = e in absurd (omega arith))
+no_run name rows is never (command.Migrate migrate) h = other_letter name (codes "run") (codes "migrate") is h.0 (λ e. let no_way : 114 ≡ 109 = e in absurd (omega arith))
 
 -- an error is that of another kind of result
 pub same_error : {X Y E : Type 0} (error other : E) → IsErrOf {T = X} (Err error) other → IsErrOf {T = Y} (Err error) other

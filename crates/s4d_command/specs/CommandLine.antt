@@ -18,6 +18,7 @@ use Rattle.s4d_command.specs.declared.New.{New}
 use Rattle.s4d_command.specs.declared.Verify.{Verify}
 use Rattle.s4d_command.specs.declared.Run.{Run}
 use Rattle.s4d_command.specs.declared.At.{At}
+use Rattle.s4d_command.specs.declared.Migrate.{Migrate}
 use Rattle.s4d_command.specs.declared.sessions.RunSession.{RunSession}
 use Rattle.s4d_command.specs.declared.sessions.TheConstants.{MOST_SESSIONS}
 
@@ -76,6 +77,10 @@ at_line = with_rule (with_rule (with_rule (new_app (codes "at"))
     (operand_rule (codes "object")))
     (operand_rule (codes "moment"))
 
+-- `migrate EARLIER IMAGE`
+abbrev pub migrate_line : App
+migrate_line = with_rule (with_rule (new_app (codes "migrate")) (operand_rule (codes "earlier"))) (operand_rule (codes "image"))
+
 -- the program with no word for help
 abbrev pub program : App
 program = on_top (λ s. record s { disable_help_flag = true; disable_help_subcommand = true })
@@ -83,8 +88,8 @@ program = on_top (λ s. record s { disable_help_flag = true; disable_help_subcom
 
 -- the program's whole command line
 abbrev pub line : App
-line = with_subcommand (with_subcommand (with_subcommand (with_subcommand (with_subcommand program
-    pipe_line.top) new_line.top) verify_line.top) run_line.top) at_line.top
+line = with_subcommand (with_subcommand (with_subcommand (with_subcommand (with_subcommand (with_subcommand program
+    pipe_line.top) new_line.top) verify_line.top) run_line.top) at_line.top) migrate_line.top
 
 -- the text is there, and reads as the number
 abbrev pub IsNumber : Option Text → ℕ → Type 0
@@ -159,6 +164,11 @@ pub record SpellsAt (rows : List Row) (at : At) : Type 0 where
   pub object : IsNumber (one_of (codes "object") rows) at.object
   pub moment : IsNumber (one_of (codes "moment") rows) at.moment
 
+-- The matches of `migrate` have these texts.
+pub record SpellsMigrate (rows : List Row) (migrate : Migrate) : Type 0 where
+  pub earlier : first_of (codes "earlier") rows ≡ Some migrate.earlier.now
+  pub image : first_of (codes "image") rows ≡ Some migrate.image.now
+
 -- The name and the matches of a subcommand encode the command.
 abbrev pub Spells : Option (Text × List Row) → Command → Type 0
 Spells None c = ⊥
@@ -167,6 +177,7 @@ Spells (Some named) (command.New new) = (named.0 ≡ codes "new") × SpellsNew n
 Spells (Some named) (command.Verify verify) = (named.0 ≡ codes "verify") × SpellsVerify named.1 verify
 Spells (Some named) (command.Run run) = (named.0 ≡ codes "run") × SpellsRun named.1 run
 Spells (Some named) (command.At at) = (named.0 ≡ codes "at") × SpellsAt named.1 at
+Spells (Some named) (command.Migrate migrate) = (named.0 ≡ codes "migrate") × SpellsMigrate named.1 migrate
 
 -- They encode none.
 abbrev pub SpellsNone : Option (Text × List Row) → Type 0

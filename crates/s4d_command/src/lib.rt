@@ -15,7 +15,7 @@ ghost use Rattle.clap.specs.Matches.{found_of};
 ghost use Rattle.clap.specs.Simple.{subcommand_of, subcommand_rows_of};
 ghost use Rattle.s4d_command.specs.CommandLine.{line, IsGiven, IsNumber, role_word};
 ghost use Rattle.s4d_command.specs.CommandLine.{Spells, SpellsNone, SpellsPipe, SpellsNew};
-ghost use Rattle.s4d_command.specs.CommandLine.{SpellsVerify, SpellsRun, SpellsAt};
+ghost use Rattle.s4d_command.specs.CommandLine.{SpellsVerify, SpellsRun, SpellsAt, SpellsMigrate};
 
 mod line;
 mod sessions;
@@ -44,6 +44,8 @@ pub enum Command<'a> {
     Run(Run<'a>),
     /// Gives what an object was at a moment.
     At(At<'a>),
+    /// Makes a new image of one of an earlier version.
+    Migrate(Migrate<'a>),
 }
 
 /// What `new` makes.
@@ -84,6 +86,15 @@ pub struct At<'a> {
     pub image: &'a str,
     pub object: u64,
     pub moment: u64,
+}
+
+/// What `migrate` reads and what it makes.
+#[derive(Clone, Copy)]
+pub struct Migrate<'a> {
+    /// The earlier image's file.
+    pub earlier: &'a str,
+    /// The new image's file.
+    pub image: &'a str,
 }
 
 /// The options of `pipe`.
@@ -170,6 +181,7 @@ fn named_command<'a>(
         "verify" => verify_asked(found),
         "run" => run_asked(alloc, found),
         "at" => at_asked(found),
+        "migrate" => migrate_asked(found),
         _ => Err(CommandError::Usage),
     }
 }
@@ -214,6 +226,17 @@ fn at_asked<'a>(found: &ArgMatches<'a>) -> Result<Command<'a>, CommandError>
 {
     match at_in(found) {
         Some(at) => Ok(Command::At(at)),
+        None => Err(CommandError::Usage),
+    }
+}
+
+fn migrate_asked<'a>(found: &ArgMatches<'a>) -> Result<Command<'a>, CommandError>
+    ensures spelled { IfOk result (Spells (Some (codes "migrate", rows_of (found_of found.now)))) }
+    ensures usage { IsErrOf result CommandError.Usage
+        → SpellsNone (Some (codes "migrate", rows_of (found_of found.now))) }
+{
+    match migrate_in(found) {
+        Some(migrate) => Ok(Command::Migrate(migrate)),
         None => Err(CommandError::Usage),
     }
 }
@@ -272,6 +295,17 @@ fn at_in<'a>(matches: &ArgMatches<'a>) -> Option<At<'a>>
         image: text_in(matches, "image")?,
         object: number(matches, "object")?,
         moment: number(matches, "moment")?,
+    })
+}
+
+fn migrate_in<'a>(matches: &ArgMatches<'a>) -> Option<Migrate<'a>>
+    ensures none { IfNone result
+        ((migrate : _) → SpellsMigrate (rows_of (found_of matches.now)) migrate → ⊥) }
+    ensures some { IfSome result (SpellsMigrate (rows_of (found_of matches.now))) }
+{
+    Some(Migrate {
+        earlier: text_in(matches, "earlier")?,
+        image: text_in(matches, "image")?,
     })
 }
 

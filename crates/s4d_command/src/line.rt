@@ -6,7 +6,7 @@ ghost use Rattle.clap.specs.declared.builder.command.Command.TheViews.{out-Comma
 ghost use Rattle.clap.specs.Walk.{rule_of};
 ghost use Rattle.clap.specs.Simple.{App, app_of, new_app, with_rule, with_subcommand};
 ghost use Rattle.s4d_command.specs.CommandLine.{line, program, pipe_line, new_line, verify_line};
-ghost use Rattle.s4d_command.specs.CommandLine.{run_line, at_line, IsLine};
+ghost use Rattle.s4d_command.specs.CommandLine.{run_line, at_line, migrate_line, IsLine};
 ghost use Rattle.s4d_command.specs.CommandLine.{option_rule, flag_rule, operand_rule, list_rule};
 
 use clap::{Arg, ArgAction, Command};
@@ -146,6 +146,13 @@ fn at_command<'a>(alloc: Global) -> Result<Command<'a>, AllocError>
     with_operand(alloc, object, "moment")
 }
 
+fn migrate_command<'a>(alloc: Global) -> Result<Command<'a>, AllocError>
+    ensures { IsLine result migrate_line }
+{
+    let earlier = with_operand(alloc, named(alloc, "migrate"), "earlier");
+    with_operand(alloc, earlier, "image")
+}
+
 // The program with one command more. The first refusal of memory stays.
 fn with_command<'a>(
     program: Result<Command<'a>, AllocError>,
@@ -176,5 +183,6 @@ pub(crate) fn command_line<'a>(alloc: Global) -> Result<Command<'a>, AllocError>
     let second = with_command(first, new_command(alloc));
     let third = with_command(second, verify_command(alloc));
     let fourth = with_command(third, run_command(alloc));
-    with_command(fourth, at_command(alloc))
+    let fifth = with_command(fourth, at_command(alloc));
+    with_command(fifth, migrate_command(alloc))
 }
