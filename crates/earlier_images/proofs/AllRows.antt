@@ -1,0 +1,146 @@
+-- The rows of an image that were read, one after another.
+use Rattle.std.proofs.Common.{◌≡◌, ℕ, List, [], ◌∷◌, ◌++◌, Bool, true, false, MatchBool, Option, None, Some, IfSome, IfNone, refl, sym, ap, ◌∙◌, subst, append_assoc}
+use Rattle.std.specs.List.{AllByRecursion, Contains}
+use Rattle.std.proofs.lemmas.List.{append-nil}
+use Rattle.std.proofs.lemmas.List.Elements.{All-contains, All-from_recursion, recursion_from_All, All-push, Contains-append_left, Contains-push}
+use Rattle.std.proofs.lemmas.Grind.{flat_map-append}
+use Rattle.s4_types.specs.Pointer.{Place}
+use Rattle.block_log.specs.Log.{Stored}
+use Rattle.codec.specs.declared.versions.ImageVersion.TheVariants.{First}
+use Rattle.image_parts.specs.declared.rows.RowPart.{RowPart}
+use Rattle.image_objects.specs.declared.rows.ImageRow.{ImageRow}
+use Rattle.image_objects.specs.Moments.{moments_of_chain, StandOnce}
+use Rattle.image_objects.specs.Versions.{entries_used_by, ObjectStandsBy}
+use Rattle.verifier.specs.Rows.{SpellsRow, SpellRows}
+use Rattle.earlier_images.specs.declared.rows.ReadRows.{ReadRows}
+use Rattle.earlier_images.specs.Rows.{RowsStandBy, moments_used_by}
+use Rattle.earlier_images.specs.private.OneRow.{IsRowRead, PartStands}
+use Rattle.earlier_images.proofs.MomentsOnce.{share_none, standing_once}
+
+-- ---- one row more
+
+spell_more : (parts : List RowPart) (rows : List ImageRow) (part : RowPart) (row : ImageRow) → SpellRows parts rows → SpellsRow part row → SpellRows (parts ++ part ∷ []) (rows ++ row ∷ [])
+spell_more [] [] part row front last = (last, tt)
+spell_more [] (r ∷ rows) part row front last = absurd front
+spell_more (x ∷ parts) [] part row front last = absurd front
+spell_more (x ∷ parts) (r ∷ rows) part row front last = (front.0, spell_more parts rows part row front.1 last)
+
+objects_more : (used : Place → Option Stored) (clock : ℕ) (rows : List ImageRow) (row : ImageRow) → AllByRecursion (λ r. ObjectStandsBy First used r clock) rows → ObjectStandsBy First used row clock
+    → AllByRecursion (λ r. ObjectStandsBy First used r clock) (rows ++ row ∷ [])
+objects_more used clock rows row front last =
+    let P : ImageRow → Type 0 = λ r. ObjectStandsBy First used r clock in
+    recursion_from_All P (rows ++ row ∷ []) (All-push P rows row (All-from_recursion P rows front) last)
+
+moments_more : (used : Place → Option Stored) (rows : List ImageRow) (row : ImageRow) → moments_used_by First used (rows ++ row ∷ []) ≡ moments_used_by First used rows ++ moments_of_chain (entries_used_by First used row)
+moments_more used rows row =
+    let f : ImageRow → List ℕ = λ r. moments_of_chain (entries_used_by First used r) in
+    flat_map-append f rows (row ∷ []) ∙ ap (λ (l : List ℕ). moments_used_by First used rows ++ l) (append-nil (f row))
+
+-- ---- rows that parts encode, one of which is looked at
+
+record SpelledAt (done : List RowPart) (part : RowPart) (rest : List RowPart) (rows : List ImageRow) : Type 0 where
+  front : List ImageRow
+  row : ImageRow
+  behind : List ImageRow
+  before : SpellRows done front
+  here : SpellsRow part row
+  after : SpellRows rest behind
+  is : rows ≡ front ++ row ∷ behind
+
+spelled_at : (done : List RowPart) (part : RowPart) (rest : List RowPart) (rows : List ImageRow) → SpellRows (done ++ part ∷ rest) rows → SpelledAt done part rest rows
+spelled_at [] part rest [] spelled = absurd spelled
+spelled_at [] part rest (r ∷ rows) spelled = record { front = []; row = r; behind = rows; before = tt; here = spelled.0; after = spelled.1; is = refl }
+spelled_at (x ∷ done) part rest [] spelled = absurd spelled
+spelled_at (x ∷ done) part rest (r ∷ rows) spelled =
+    let s : SpelledAt done part rest rows = spelled_at done part rest rows spelled.1 in
+    record { front = r ∷ s.front; row = s.row; behind = s.behind; before = (spelled.0, s.before); here = s.here; after = s.after; is = ap (λ (l : List ImageRow). r ∷ l) s.is }
+
+none_spelled : (rows : List ImageRow) → SpellRows [] rows → rows ≡ []
+none_spelled [] spelled = refl
+none_spelled (r ∷ rows) spelled = absurd spelled
+
+only_more : (done : List RowPart) (part : RowPart) (rows : List ImageRow) (row : ImageRow) → ((others : List ImageRow) → SpellRows done others → others ≡ rows) → ((other : ImageRow) → SpellsRow part other → other ≡ row)
+    → (others : List ImageRow) → SpellRows (done ++ part ∷ []) others → others ≡ rows ++ row ∷ []
+only_more done part rows row front last others spelled =
+    let s : SpelledAt done part [] others = spelled_at done part [] others spelled in
+    s.is ∙ ap (λ (l : List ImageRow). s.front ++ s.row ∷ l) (none_spelled s.behind s.after)
+    ∙ ap (λ (l : List ImageRow). l ++ s.row ∷ []) (front s.front s.before) ∙ ap (λ (r : ImageRow). rows ++ r ∷ []) (last s.row s.here)
+
+-- ---- what was read
+
+-- These rows are what the parts encode, and nothing else is; their objects keep the rules, and these are the moments of their chains.
+pub record AreRowsOf (used : Place → Option Stored) (clock : ℕ) (done : List RowPart) (rows : List ImageRow) (moments : List ℕ) : Type 0 where
+  pub spelled : SpellRows done rows
+  pub only : (others : List ImageRow) → SpellRows done others → others ≡ rows
+  pub stand : AllByRecursion (λ row. ObjectStandsBy First used row clock) rows
+  pub moments_are : moments ≡ moments_used_by First used rows
+
+-- the rows of these parts were read
+abbrev pub HaveRead : (Place → Option Stored) → ℕ → List RowPart → ReadRows → Type 0
+HaveRead used clock done now = AreRowsOf used clock done now.rows.items now.moments.items
+
+pub none_read : (used : Place → Option Stored) (clock : ℕ) (now : ReadRows) → now.rows.items ≡ [] → now.moments.items ≡ [] → HaveRead used clock [] now
+none_read used clock now rows moments =
+    let R : List ImageRow → Type 0 = λ l. AreRowsOf used clock [] l now.moments.items in
+    subst R (sym rows) (record { spelled = tt; only = none_spelled; stand = tt; moments_are = moments })
+
+pub one_read : (used : Place → Option Stored) (clock : ℕ) (done : List RowPart) (part : RowPart) (old new : ReadRows) → HaveRead used clock done old → IsRowRead used part clock old new → HaveRead used clock (done ++ part ∷ []) new
+one_read used clock done part old new h r =
+    let R : List ImageRow → Type 0 = λ l. AreRowsOf used clock (done ++ part ∷ []) l new.moments.items in
+    subst R (sym r.rows) (record {
+      spelled = spell_more done old.rows.items part r.row h.spelled r.spelled;
+      only = only_more done part old.rows.items r.row h.only r.only;
+      stand = objects_more used clock old.rows.items r.row h.stand r.stands;
+      moments_are = r.moments ∙ ap (λ (l : List ℕ). l ++ moments_of_chain (entries_used_by First used r.row)) h.moments_are ∙ sym (moments_more used old.rows.items r.row);
+    })
+
+-- ---- what that says of an image
+
+-- a row that keeps no rules
+pub one_falls : (used : Place → Option Stored) (clock : ℕ) (done : List RowPart) (part : RowPart) (rest all : List RowPart) → (PartStands used part clock → ⊥) → all ≡ done ++ part ∷ rest
+    → (rows : List ImageRow) → SpellRows all rows → RowsStandBy First used rows clock → ⊥
+one_falls used clock done part rest all falls whole rows spelled stand =
+    let s : SpelledAt done part rest rows = spelled_at done part rest rows (subst (λ (l : List RowPart). SpellRows l rows) whole spelled) in
+    let P : ImageRow → Type 0 = λ r. ObjectStandsBy First used r clock in
+    let there : Contains rows s.row = subst (λ (l : List ImageRow). Contains l s.row) (sym s.is)
+    (subst (λ (l : List ImageRow). Contains l s.row) (append_assoc s.front (s.row ∷ []) s.behind) (Contains-append_left (s.front ++ s.row ∷ []) s.behind s.row (Contains-push s.front s.row))) in
+    falls (record { row = s.row; spelled = s.here; stands = All-contains P rows s.row (All-from_recursion P rows stand.objects) there })
+
+-- all rows, where no two chains share a moment
+pub all_stand : (used : Place → Option Stored) (clock : ℕ) (all : List RowPart) (now : ReadRows) (rows : List ImageRow) → HaveRead used clock all now → rows ≡ now.rows.items → StandOnce now.moments.items → RowsStandBy First used rows clock
+all_stand used clock all now rows h is once =
+    let R : List ImageRow → Type 0 = λ l. RowsStandBy First used l clock in
+    subst R (sym is) (record { objects = h.stand; apart = share_none First used now.rows.items (subst StandOnce h.moments_are once) })
+
+-- all rows, where two chains share one
+pub moments_fall : (used : Place → Option Stored) (clock : ℕ) (all : List RowPart) (now : ReadRows) → HaveRead used clock all now → (StandOnce now.moments.items → ⊥)
+    → (rows : List ImageRow) → SpellRows all rows → RowsStandBy First used rows clock → ⊥
+moments_fall used clock all now h falls rows spelled stand =
+    falls (subst StandOnce (ap (moments_used_by First used) (h.only rows spelled) ∙ sym h.moments_are) (standing_once First used rows clock stand))
+
+-- ---- the loop over the rows
+
+pub row_read : (b : Bool) (used : Place → Option Stored) (part : RowPart) (clock : ℕ) (old new : ReadRows) → b ≡ true
+    → MatchBool b (IsRowRead used part clock old new) (PartStands used part clock → ⊥) → IsRowRead used part clock old new
+row_read b used part clock old new is h = subst (λ x. MatchBool x (IsRowRead used part clock old new) (PartStands used part clock → ⊥)) is h
+
+pub row_falls : (b : Bool) (used : Place → Option Stored) (part : RowPart) (clock : ℕ) (old new : ReadRows) → b ≡ false
+    → MatchBool b (IsRowRead used part clock old new) (PartStands used part clock → ⊥) → PartStands used part clock → ⊥
+row_falls b used part clock old new is h = subst (λ x. MatchBool x (IsRowRead used part clock old new) (PartStands used part clock → ⊥)) is h
+
+pub one_on : (all done : List RowPart) (part : RowPart) (left rest : List RowPart) → all ≡ done ++ left → left ≡ part ∷ rest → all ≡ (done ++ part ∷ []) ++ rest
+one_on all done part left rest whole is = whole ∙ ap (λ (l : List RowPart). done ++ l) is ∙ sym (append_assoc done (part ∷ []) rest)
+
+pub have_all : (used : Place → Option Stored) (clock : ℕ) (all done left : List RowPart) (now : ReadRows) → HaveRead used clock done now → all ≡ done ++ left → left ≡ [] → HaveRead used clock all now
+have_all used clock all done left now h whole is =
+    subst (λ (l : List RowPart). HaveRead used clock l now) (sym (whole ∙ ap (λ (l : List RowPart). done ++ l) is ∙ append-nil done)) h
+
+-- ---- the end of the loop
+
+pub both_some : {A : Type 0} (o : Option A) (P Q R : A → Type 0) → ((x : A) → P x → Q x → R x) → IfSome o P → IfSome o Q → IfSome o R
+both_some None P Q R f p q = tt
+both_some (Some x) P Q R f p q = f x p q
+
+pub none_then : {A : Type 0} (o : Option A) (P Q : Type 0) → IfNone o P → (P → Q) → IfNone o Q
+none_then None P Q h f = f h
+none_then (Some x) P Q h f = tt

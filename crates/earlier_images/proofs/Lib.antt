@@ -1,0 +1,7 @@
+mod FramesRead
+mod OneFrames
+mod TableNames
+mod MomentsOnce
+mod AllRows
+mod Faults
+mod OneImage

@@ -1,0 +1,203 @@
+-- No moment is in two chains, exactly where the moments of all chains, each of them once, have none twice.
+use Rattle.std.proofs.Common.{◌≡◌, ◌⊎◌, inl, inr, ℕ, zero, suc, ◌+◌, ◌<◌, ◌≤◌, ◌&&◌, Bool, true, false, cond, eqb, ltb, List, [], ◌∷◌, ◌++◌, get_or, map, Option, refl, sym, ◌∙◌, subst, arith}
+use Rattle.std.specs.Prelude.{nat_eq}
+use Rattle.std.specs.List.{AllByRecursion, Contains, IsDistinct, dedup_from}
+use Rattle.std.proofs.lemmas.Bool.{cases_Bool, cases_lt, cond-true, cond-false, and_parts, eq-eqb, eqb-true, ltb-true, ne_eqb, false≢true}
+use Rattle.std.proofs.lemmas.List.Elements.{All-contains, All-from_recursion, recursion_from_All, Contains-get_or, Contains-append_left, Contains-append_right, Contains-append_cases}
+use Rattle.std.proofs.lemmas.List.Kept.{Contains-dedup_nat, Contains-from_dedup}
+use Rattle.std.proofs.lemmas.Map.Keys.{IsDistinct-head, IsDistinct-tail, IsDistinct-cons}
+use Rattle.s4_types.specs.Pointer.{Place}
+use Rattle.block_log.specs.Log.{Stored}
+use Rattle.codec.specs.Entry.{EntryFields}
+use Rattle.codec.specs.declared.versions.ImageVersion.{ImageVersion}
+use Rattle.version_store.specs.Across.{ShareNoMoment}
+use Rattle.image_objects.specs.declared.rows.ImageRow.{ImageRow}
+use Rattle.image_objects.specs.Moments.{moments_of_chain, StandOnce}
+use Rattle.image_objects.specs.Versions.{grouped_by, grouped_behind_by, entries_used_by, ObjectStandsBy}
+use Rattle.earlier_images.specs.Rows.{RowsShareNoMomentBy, RowsStandBy, moments_used_by}
+
+-- ---- elements of lists that are made of others
+
+none_listed : {X : Type 0} (x : X) → Contains [] x → ⊥
+none_listed x (k, below, at) = omega (arith, below)
+
+one_listed : {X : Type 0} (x y : X) → Contains (x ∷ []) y → x ≡ y
+one_listed x y (zero, below, at) = at
+one_listed x y (suc k, below, at) = absurd (omega (arith, below))
+
+listed_cases : {X : Type 0} (x : X) (xs : List X) (y : X) → Contains (x ∷ xs) y → (x ≡ y) ⊎ Contains xs y
+listed_cases x xs y there = elim (Contains-append_cases (x ∷ []) xs y there) [
+  | inl here ↦ inl (one_listed x y here)
+  | inr behind ↦ inr behind
+]
+
+first_listed : {X : Type 0} (x : X) (xs : List X) → Contains (x ∷ xs) x
+first_listed x xs = Contains-append_left (x ∷ []) xs x (0, omega arith, refl)
+
+behind_listed : {X : Type 0} (x : X) (xs : List X) (y : X) → Contains xs y → Contains (x ∷ xs) y
+behind_listed x xs y there = Contains-append_right (x ∷ []) xs y there
+
+-- the moments of entries are those of the entries, and no others
+moments : List EntryFields → List ℕ
+moments entries = map (λ e. e.moment) entries
+
+mapped_there : (entries : List EntryFields) (e : EntryFields) → Contains entries e → Contains (moments entries) e.moment
+unfolding moments
+mapped_there [] e there = absurd (none_listed e there)
+mapped_there (x ∷ entries) e there = elim (listed_cases x entries e there) [
+  | inl is ↦ subst (λ (f : EntryFields). Contains (x.moment ∷ moments entries) f.moment) is (first_listed x.moment (moments entries))
+  | inr behind ↦ behind_listed x.moment (moments entries) e.moment (mapped_there entries e behind)
+]
+
+-- an entry of a moment
+record OfMoment (entries : List EntryFields) (m : ℕ) : Type 0 where
+  entry : EntryFields
+  listed : Contains entries entry
+  moment : entry.moment ≡ m
+
+mapped_from : (entries : List EntryFields) (m : ℕ) → Contains (moments entries) m → OfMoment entries m
+unfolding moments
+mapped_from [] m there = absurd (none_listed m there)
+mapped_from (x ∷ entries) m there = elim (listed_cases x.moment (moments entries) m there) [
+  | inl is ↦ record { entry = x; listed = first_listed x entries; moment = is }
+  | inr behind ↦ (let found : OfMoment entries m = mapped_from entries m behind in record { entry = found.entry; listed = behind_listed x entries found.entry found.listed; moment = found.moment })
+]
+
+chain_has : (entries : List EntryFields) (e : EntryFields) → Contains entries e → Contains (moments_of_chain entries) e.moment
+unfolding moments
+chain_has entries e there = Contains-dedup_nat (moments entries) e.moment (mapped_there entries e there)
+
+of_moment : (entries : List EntryFields) (m : ℕ) → Contains (moments_of_chain entries) m → OfMoment entries m
+unfolding moments
+of_moment entries m there = mapped_from entries m (Contains-from_dedup nat_eq (moments entries) m there)
+
+-- a moment of one of the rows is there
+rows_have : (version : ImageVersion) (used : Place → Option Stored) (rows : List ImageRow) (row : ImageRow) (m : ℕ) → Contains rows row → Contains (moments_of_chain (entries_used_by version used row)) m → Contains (moments_used_by version used rows) m
+rows_have version used [] row m there at = absurd (none_listed row there)
+rows_have version used (x ∷ rows) row m there at = elim (listed_cases x rows row there) [
+  | inl is ↦
+      Contains-append_left (moments_of_chain (entries_used_by version used x)) (moments_used_by version used rows) m (subst (λ (r : ImageRow). Contains (moments_of_chain (entries_used_by version used r)) m) (sym is) at)
+  | inr behind ↦ Contains-append_right (moments_of_chain (entries_used_by version used x)) (moments_used_by version used rows) m (rows_have version used rows row m behind at)
+]
+
+record OfARow (version : ImageVersion) (used : Place → Option Stored) (rows : List ImageRow) (m : ℕ) : Type 0 where
+  row : ImageRow
+  listed : Contains rows row
+  found : OfMoment (entries_used_by version used row) m
+
+of_a_row : (version : ImageVersion) (used : Place → Option Stored) (rows : List ImageRow) (m : ℕ) → Contains (moments_used_by version used rows) m → OfARow version used rows m
+of_a_row version used [] m there = absurd (none_listed m there)
+of_a_row version used (x ∷ rows) m there = elim (Contains-append_cases (moments_of_chain (entries_used_by version used x)) (moments_used_by version used rows) m there) [
+  | inl here ↦ record { row = x; listed = first_listed x rows; found = of_moment (entries_used_by version used x) m here }
+  | inr behind ↦ (let r : OfARow version used rows m = of_a_row version used rows m behind in record { row = r.row; listed = behind_listed x rows r.row r.listed; found = r.found })
+]
+
+-- ---- numbers that are once in joined lists
+
+none_twice : StandOnce []
+unfolding IsDistinct
+none_twice = tt
+
+once_behind : (xs ys : List ℕ) → StandOnce (xs ++ ys) → StandOnce ys
+once_behind [] ys once = once
+once_behind (x ∷ xs) ys once = once_behind xs ys (IsDistinct-tail nat_eq x (xs ++ ys) once)
+
+once_apart : (xs ys : List ℕ) (m : ℕ) → StandOnce (xs ++ ys) → Contains xs m → Contains ys m → ⊥
+once_apart [] ys m once first second = none_listed m first
+once_apart (x ∷ xs) ys m once first second = elim (listed_cases x xs m first) [
+  | inl is ↦
+      let P : ℕ → Type 0 = λ y. nat_eq x y ≡ false in
+      let apart : nat_eq x m ≡ false = All-contains P (xs ++ ys) m (All-from_recursion P (xs ++ ys) (IsDistinct-head nat_eq x (xs ++ ys) once)) (Contains-append_right xs ys m second) in
+      false≢true (sym apart ∙ eq-eqb x m is)
+  | inr behind ↦ once_apart xs ys m (IsDistinct-tail nat_eq x (xs ++ ys) once) behind second
+]
+
+apart_joined : (x : ℕ) (xs ys : List ℕ) → AllByRecursion (λ y. nat_eq x y ≡ false) xs → (Contains ys x → ⊥) → AllByRecursion (λ y. nat_eq x y ≡ false) (xs ++ ys)
+apart_joined x [] [] front none = tt
+apart_joined x [] (y ∷ ys) front none = (ne_eqb x y (λ (is : x ≡ y). none (subst (λ m. Contains (y ∷ ys) m) (sym is) (first_listed y ys))), apart_joined x [] ys front (λ there. none (behind_listed y ys x there)))
+apart_joined x (z ∷ xs) ys front none = (front.0, apart_joined x xs ys front.1 none)
+
+once_joined : (xs ys : List ℕ) → StandOnce xs → StandOnce ys → ((m : ℕ) → Contains xs m → Contains ys m → ⊥) → StandOnce (xs ++ ys)
+once_joined [] ys first second apart = second
+once_joined (x ∷ xs) ys first second apart =
+    IsDistinct-cons nat_eq x (xs ++ ys)
+    (apart_joined x xs ys (IsDistinct-head nat_eq x xs first) (λ there. apart x (first_listed x xs) there))
+    (once_joined xs ys (IsDistinct-tail nat_eq x xs first) second (λ m one other. apart m (behind_listed x xs m one) other))
+
+-- ---- the moments of one chain
+
+-- moments don't descend, from this one on
+abbrev AscendFrom : ℕ → List EntryFields → Type 0
+AscendFrom low [] = Unit {0}
+AscendFrom low (e ∷ entries) = (low ≤ e.moment) × AscendFrom e.moment entries
+
+one_more : (same goes rest later last : Bool) → cond same (goes && rest) (later && last) ≡ true → ((same ≡ true) × (rest ≡ true)) ⊎ ((later ≡ true) × (last ≡ true))
+one_more true goes rest later last h = inl (refl, (and_parts goes rest h).1)
+one_more false goes rest later last h = inr (and_parts later last h)
+
+-- those of grouped entries don't
+ascend : (version : ImageVersion) (entries : List EntryFields) (count : ℕ) (e : EntryFields) → grouped_behind_by version count e entries ≡ true → AscendFrom e.moment entries
+ascend version [] count e h = tt
+ascend version (f ∷ entries) count e h = elim (one_more (eqb e.moment f.moment) _ (grouped_behind_by version (count + 1) f entries) (ltb e.moment f.moment) (grouped_behind_by version 1 f entries) h) [
+  | inl same ↦ (let is : e.moment ≡ f.moment = eqb-true e.moment f.moment same.0 in (omega (arith, is), ascend version entries (count + 1) f same.1))
+  | inr later ↦ (let less : e.moment < f.moment = ltb-true e.moment f.moment later.0 in (omega (arith, less), ascend version entries 1 f later.1))
+]
+
+-- a number below the first of them is none of them
+below_all : (k a : ℕ) (entries : List EntryFields) → k < a → AscendFrom a entries → AllByRecursion (λ y. nat_eq k y ≡ false) (dedup_from nat_eq a (map (λ (e : EntryFields). e.moment) entries))
+below_all k a [] less h = (ne_eqb k a (λ (is : k ≡ a). omega (arith, less, is)), tt)
+below_all k a (e ∷ entries) less h =
+    let ms = map (λ (f : EntryFields). f.moment) entries in
+    let P : List ℕ → Type 0 = λ l. AllByRecursion (λ y. nat_eq k y ≡ false) l in
+    elim (cases_Bool (nat_eq e.moment a)) [
+      | inl is ↦ subst P (sym (cond-true (nat_eq e.moment a) (dedup_from nat_eq a ms) (a ∷ dedup_from nat_eq e.moment ms) is)) (below_all k a entries less (subst (λ n. AscendFrom n entries) (eqb-true e.moment a is) h.1))
+      | inr ne ↦ subst P (sym (cond-false (nat_eq e.moment a) (dedup_from nat_eq a ms) (a ∷ dedup_from nat_eq e.moment ms) ne))
+          (ne_eqb k a (λ (is : k ≡ a). omega (arith, less, is)), below_all k e.moment entries (omega (arith, less, h.0)) h.1)
+    ]
+
+once_from : (a : ℕ) (entries : List EntryFields) → AscendFrom a entries → StandOnce (dedup_from nat_eq a (map (λ (e : EntryFields). e.moment) entries))
+once_from a [] h = IsDistinct-cons nat_eq a [] tt none_twice
+once_from a (e ∷ entries) h =
+    let ms = map (λ (f : EntryFields). f.moment) entries in
+    elim (cases_Bool (nat_eq e.moment a)) [
+      | inl is ↦ subst StandOnce (sym (cond-true (nat_eq e.moment a) (dedup_from nat_eq a ms) (a ∷ dedup_from nat_eq e.moment ms) is)) (once_from a entries (subst (λ n. AscendFrom n entries) (eqb-true e.moment a is) h.1))
+      | inr ne ↦
+          let more : a < e.moment = elim (cases_lt a e.moment) [ inl less ↦ less | inr le ↦ absurd (false≢true (sym ne ∙ eq-eqb e.moment a (omega (arith, h.0, le)))) ] in
+          subst StandOnce (sym (cond-false (nat_eq e.moment a) (dedup_from nat_eq a ms) (a ∷ dedup_from nat_eq e.moment ms) ne))
+          (IsDistinct-cons nat_eq a (dedup_from nat_eq e.moment ms) (below_all a e.moment entries more h.1) (once_from e.moment entries h.1))
+    ]
+
+once_in_chain : (version : ImageVersion) (entries : List EntryFields) → grouped_by version entries ≡ true → StandOnce (moments_of_chain entries)
+once_in_chain version [] h = none_twice
+once_in_chain version (e ∷ entries) h = once_from e.moment entries (ascend version entries 1 e h)
+
+-- ---- the moments of all chains
+
+pub share_none : (version : ImageVersion) (used : Place → Option Stored) (rows : List ImageRow) → StandOnce (moments_used_by version used rows) → RowsShareNoMomentBy version used rows
+share_none version used [] once = tt
+share_none version used (x ∷ rows) once =
+    let P : ImageRow → Type 0 = λ other. ShareNoMoment (entries_used_by version used x) (entries_used_by version used other) in
+    let here : (other : ImageRow) → Contains rows other → P other = λ other there e f first second same.
+    once_apart (moments_of_chain (entries_used_by version used x)) (moments_used_by version used rows) e.moment once (chain_has (entries_used_by version used x) e first)
+    (rows_have version used rows other e.moment there (subst (λ m. Contains (moments_of_chain (entries_used_by version used other)) m) (sym same) (chain_has (entries_used_by version used other) f second))) in (
+      recursion_from_All P rows (λ k d below. here (get_or rows k d) (Contains-get_or rows k d below)),
+      share_none version used rows (once_behind (moments_of_chain (entries_used_by version used x)) (moments_used_by version used rows) once),
+    )
+
+pub stand_once : (version : ImageVersion) (used : Place → Option Stored) (rows : List ImageRow) → AllByRecursion (λ row. grouped_by version (entries_used_by version used row) ≡ true) rows → RowsShareNoMomentBy version used rows → StandOnce (moments_used_by version used rows)
+stand_once version used [] groups share = none_twice
+stand_once version used (x ∷ rows) groups share =
+    let P : ImageRow → Type 0 = λ other. ShareNoMoment (entries_used_by version used x) (entries_used_by version used other) in
+    once_joined (moments_of_chain (entries_used_by version used x)) (moments_used_by version used rows) (once_in_chain version (entries_used_by version used x) groups.0) (stand_once version used rows groups.1 share.1)
+    (λ m first second.
+    let e : OfMoment (entries_used_by version used x) m = of_moment (entries_used_by version used x) m first in
+    let r : OfARow version used rows m = of_a_row version used rows m second in
+    let apart : P r.row = All-contains P rows r.row (All-from_recursion P rows share.0) r.listed in
+    apart e.entry r.found.entry e.listed r.found.listed (e.moment ∙ sym r.found.moment))
+
+groups_of : (version : ImageVersion) (used : Place → Option Stored) (rows : List ImageRow) (clock : ℕ) → AllByRecursion (λ row. ObjectStandsBy version used row clock) rows → AllByRecursion (λ row. grouped_by version (entries_used_by version used row) ≡ true) rows
+groups_of version used [] clock stand = tt
+groups_of version used (x ∷ rows) clock stand = (stand.0.versions.chain.groups, groups_of version used rows clock stand.1)
+
+pub standing_once : (version : ImageVersion) (used : Place → Option Stored) (rows : List ImageRow) (clock : ℕ) → RowsStandBy version used rows clock → StandOnce (moments_used_by version used rows)
+standing_once version used rows clock stand = stand_once version used rows (groups_of version used rows clock stand.objects) stand.apart

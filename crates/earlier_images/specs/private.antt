@@ -1,0 +1,2 @@
+pub mod OneRow
+pub mod Rest

@@ -1,0 +1,121 @@
+//! Bytes that are the image of a drive of the first version, or not.
+ghost use Rattle.std.specs.Prelude.{◌≡◌, ◌⊎◌, Some, None, IfSome, IfNone, IfOk, IfErr};
+ghost use Rattle.s4_types.specs.declared.refusals.Cause.{Cause as Found};
+ghost use Rattle.s4_types.specs.declared.refusals.Refusal.TheVariants.{NoMemory, Damaged};
+ghost use Rattle.codec.specs.declared.versions.ImageVersion.TheVariants.{First};
+ghost use Rattle.image_parts.specs.Header.{KeepsHeaderRulesBy};
+ghost use Rattle.image_parts.specs.Image.{header_of, image_in};
+ghost use Rattle.verifier.specs.Rows.{SpellRows};
+ghost use Rattle.earlier_images.specs.Used.{AreFramesOf, used_in};
+ghost use Rattle.earlier_images.specs.Rows.{EarlierChainsStand, RowsStandBy};
+ghost use Rattle.earlier_images.specs.Images.{IsEarlierOf};
+ghost use Rattle.earlier_images.specs.Grammar.{SpellsEarlier, FirstEarlierFault};
+ghost use Rattle.earlier_images.specs.private.Rest.{FirstEarlierRest};
+
+use crate::frames::{EarlierFrames, read_frames};
+use crate::images::EarlierImage;
+use crate::laws::an_image_has_its_frames_once;
+use crate::rows::read_rows;
+use codec::ImageVersion;
+use image_objects::ImageRow;
+use image_parts::laws::images_of_a_version;
+use image_parts::{ImageParts, has_digest, rows_keep_rules, spans_keep_rules, split_parts_by};
+use s4_types::{Cause, Refusal, Span};
+use std::alloc::Global;
+
+/// The spans of an image, in their order. NoMemory alone.
+fn spans_of(alloc: Global, parts: &ImageParts<'_>) -> Result<Vec<Span>, Refusal>
+    ensures spans { IfOk result (λ spans. spans.items ≡ parts.now.spans) }
+    ensures refusal { IfErr result (λ e. e ≡ NoMemory) }
+{
+    let mut spans = Vec::new(alloc);
+    for span in parts.spans() {
+        spans.push(span)?;
+    }
+    Ok(spans)
+}
+
+/// The rows of an image over its frames. None where its chains don't keep the rules. NoMemory
+/// alone.
+fn read_chains(
+    alloc: Global,
+    frames: &EarlierFrames<'_>,
+    parts: &ImageParts<'_>,
+) -> Result<Option<Vec<ImageRow>>, Refusal>
+    requires { AreFramesOf parts.now.frames frames.now }
+    ensures spelled { IfOk result
+        (λ found. IfSome found (λ rows. SpellRows parts.now.rows rows.items)) }
+    ensures stand { IfOk result
+        (λ found. IfSome found
+        (λ rows. RowsStandBy First (used_in frames.now) rows.items parts.now.clock)) }
+    ensures chains { IfOk result (λ found. IfSome found (λ rows. EarlierChainsStand parts.now)) }
+    ensures none { IfOk result (λ found. IfNone found (EarlierChainsStand parts.now → ⊥)) }
+    ensures refusal { IfErr result (λ e. e ≡ NoMemory) }
+{
+    an_image_has_its_frames_once();
+    let Some(rows) = read_rows(alloc, frames, parts, parts.header().clock)? else {
+        return Ok(None);
+    };
+    Ok(Some(rows))
+}
+
+/// The image of parts whose header keeps its rules: their frames, spans, rows and chains are
+/// tested, in this order.
+///
+/// Damaged with the cause of the first of these tests that fails; NoMemory where memory was
+/// refused.
+fn read_rest<'a>(alloc: Global, parts: &ImageParts<'a>) -> Result<EarlierImage<'a>, Refusal>
+    requires { KeepsHeaderRulesBy First (header_of parts.now) }
+    ensures whole { IfOk result (λ image. FirstEarlierRest parts.now None) }
+    ensures read { IfOk result (λ image. IsEarlierOf parts.now image) }
+    ensures damaged { IfErr result
+        (λ e. (e ≡ NoMemory)
+        ⊎ ((cause : Found) × (e ≡ Damaged cause) × FirstEarlierRest parts.now (Some cause))) }
+{
+    let Some(frames) = read_frames(alloc, parts)? else {
+        return Err(Refusal::Damaged(Cause::Frame));
+    };
+    if !spans_keep_rules(parts) {
+        return Err(Refusal::Damaged(Cause::Span));
+    }
+    if !rows_keep_rules(parts) {
+        return Err(Refusal::Damaged(Cause::Row));
+    }
+    let Some(rows) = read_chains(alloc, &frames, parts)? else {
+        return Err(Refusal::Damaged(Cause::Chain));
+    };
+    let spans = spans_of(alloc, parts)?;
+    let header = parts.header();
+    Ok(EarlierImage {
+        clock: header.clock,
+        window: header.window,
+        floor: header.floor,
+        next: header.next,
+        frames,
+        rows,
+        spans,
+    })
+}
+
+/// The image of a drive that the bytes encode as the first version does. All of its tests look at
+/// the whole image before the next one does.
+///
+/// Damaged with the cause of the first test that fails, where the bytes encode no such image;
+/// NoMemory where memory was refused.
+pub fn read_earlier(alloc: Global, bytes: &[u8]) -> Result<EarlierImage<'_>, Refusal>
+    ensures whole { IfOk result (λ image. SpellsEarlier bytes.now (image_in bytes.now)) }
+    ensures read { IfOk result (λ image. IsEarlierOf (image_in bytes.now) image) }
+    ensures damaged { IfErr result
+        (λ e. (e ≡ NoMemory)
+        ⊎ ((cause : Found) × (e ≡ Damaged cause) × FirstEarlierFault bytes.now (Some cause))) }
+{
+    images_of_a_version();
+    let parts = match split_parts_by(ImageVersion::First, bytes) {
+        Ok(parts) => parts,
+        Err(cause) => return Err(Refusal::Damaged(cause)),
+    };
+    if !has_digest(bytes) {
+        return Err(Refusal::Damaged(Cause::Digest));
+    }
+    read_rest(alloc, &parts)
+}
