@@ -1,0 +1,42 @@
+-- An object of an image of the first version can be copied.
+use Rattle.std.proofs.Common.{◌≡◌, ℕ, List, ◌++◌, Option, Some, None, option_map, refl, sym, subst}
+use Rattle.std.specs.List.{All}
+use Rattle.s4_types.specs.Pointer.{Place}
+use Rattle.block_log.specs.Log.{Stored}
+use Rattle.codec.specs.Checkpoint.{CheckpointFields}
+use Rattle.codec.specs.declared.inodes.Inode.{Inode}
+use Rattle.codec.specs.declared.versions.ImageVersion.TheVariants.{First}
+use Rattle.undo_redo.specs.Runs.{inode_after}
+use Rattle.inode.specs.Contents.{contents_of}
+use Rattle.inode.specs.Tidiness.{Tidy}
+use Rattle.time_read.specs.Orderly.{IsFromTo, IsOrderlyChain}
+use Rattle.version_store.specs.Store.{IsLed, pointers_kept, sides_told}
+use Rattle.image_objects.specs.declared.rows.ImageRow.{ImageRow}
+use Rattle.image_objects.specs.Inodes.{checkpoint_used}
+use Rattle.image_objects.specs.Versions.{ObjectStandsBy, entries_used_by}
+use Rattle.image_objects.specs.Writing.{AnObjectOfAVersionCanBeWritten, inode_kept_in}
+use Rattle.migration.specs.Places.{pointers_in}
+use Rattle.migration.specs.Copied.{CanCopy, IsToldInOrder}
+
+same_pointers : (c : Option CheckpointFields) → pointers_in (option_map (λ k. k.inode) c) ≡ pointers_kept c
+same_pointers None = refl
+same_pointers (Some c) = refl
+
+pub can_copy : AnObjectOfAVersionCanBeWritten → (used : Place → Option Stored) (row : ImageRow) (clock : ℕ) → ObjectStandsBy First used row clock → CanCopy used row (inode_kept_in used row) (entries_used_by First used row)
+can_copy law used row clock stands =
+    let can = law First used row clock stands in
+    let entries = entries_used_by First used row in
+    record {
+      tell = can.can;
+      led = subst (λ (x : List (Option Place)). All (IsLed used row.object) (x ++ sides_told entries)) (sym (same_pointers (checkpoint_used used row))) stands.led;
+      tidy = λ t. subst (λ (i : Inode). Tidy (contents_of used) (inode_after i entries t)) (sym can.first) (stands.tidy t);
+    }
+
+pub told_in_order : AnObjectOfAVersionCanBeWritten → (used : Place → Option Stored) (row : ImageRow) (clock : ℕ) → IsFromTo 1 clock row.created → ObjectStandsBy First used row clock → IsToldInOrder row (inode_kept_in used row) (entries_used_by First used row) clock
+told_in_order law used row clock made stands =
+    let can = law First used row clock stands in
+    record {
+      made = made;
+      chain = subst (λ (i : Inode). IsOrderlyChain row.created clock i (entries_used_by First used row)) (sym can.first) can.order;
+      beginning = can.beginning;
+    }

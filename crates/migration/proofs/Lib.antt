@@ -1,0 +1,15 @@
+mod Sorting
+mod Ascending
+mod Moving
+mod Appending
+mod Mapping
+mod Written
+mod CopiedRows
+mod CanCopy
+mod Then
+mod Whole
+mod Parts
+mod Slots
+mod Fronts
+mod Filled
+mod Done

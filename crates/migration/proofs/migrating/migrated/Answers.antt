@@ -1,0 +1,104 @@
+use Rattle.std.proofs.Common.{◌≡◌, ◌≤◌, ◌<◌, ℕ, List, length, refl, sym, ap, subst, ◌∙◌, arith}
+use Rattle.std.specs.List.{AllByRecursion}
+use Rattle.s4_types.specs.Sizes.{IsFrameCount}
+use Rattle.s4_types.specs.declared.limits.TheConstants.{MOST_FRAMES}
+use Rattle.codec.specs.declared.versions.ImageVersion.TheVariants.{First}
+use Rattle.object_map.specs.declared.map.Row.{Row}
+use Rattle.segment_table.specs.Room.{log_of}
+use Rattle.segment_table.specs.Table.{Table}
+use Rattle.image_parts.specs.Image.{Image, image_in}
+use Rattle.image_objects.specs.declared.rows.ImageRow.{ImageRow}
+use Rattle.image_objects.specs.Versions.{ObjectStandsBy}
+use Rattle.earlier_images.specs.declared.frames.EarlierFrame.{EarlierFrame}
+use Rattle.earlier_images.specs.Images.{EarlierFields, IsEarlierOf}
+use Rattle.earlier_images.specs.Used.{used_in}
+use Rattle.migration.specs.Frames.{FillsFrames, frames_needed, fresh_log}
+use Rattle.migration.specs.Rows.{AscendAbove, CopyRows, blocks_of_rows}
+use Rattle.migration.specs.Migrated.{frames_then}
+use Rattle.migration.specs.private.Written.{SpellsParts}
+use Rattle.migration.proofs.Then.{Laws, as_many}
+use Rattle.migration.proofs.Done.{Done, Told, done, told_of, old_frames, old_rows, migrates, lays_out, no_more}
+use Rattle.migration.proofs.Whole.{as_many_rows}
+use Rattle.migration.proofs.migrating.migrated.Goals as goal
+
+pub copy_image-requires-clause-old : goal.copy_image-requires-clause-old
+copy_image-requires-clause-old c =
+    let old : EarlierFields = c.in_ok-old.old in
+    let few : length old.frames ≤ MOST_FRAMES = old_frames c.args.bytes.now (image_in c.args.bytes.now) old c.in_ok-old.ensures.whole c.in_ok-old.ensures.read in
+    let same : c.len.result ≡ length old.frames = c.len.ensures ∙ ap (λ (fs : List EarlierFrame). length fs) c.frames-used.ensures in
+    subst (λ n. n ≤ MOST_FRAMES) (sym same) few
+
+pub copy_image-requires-clause-ascend : goal.copy_image-requires-clause-ascend
+copy_image-requires-clause-ascend c =
+    let old : EarlierFields = c.in_ok-old.old in
+    subst (λ (rs : List ImageRow). AscendAbove 0 rs) (sym c.rows.ensures) (old_rows c.args.bytes.now (image_in c.args.bytes.now) old c.in_ok-old.ensures.whole c.in_ok-old.ensures.read).0
+
+pub copy_image-requires-clause-stand : goal.copy_image-requires-clause-stand
+copy_image-requires-clause-stand c =
+    let old : EarlierFields = c.in_ok-old.old in
+    subst (λ (fs : List EarlierFrame). AllByRecursion (λ row. ObjectStandsBy First (used_in fs) row c.clock.result) c.rows.result.now) (sym c.frames-used.ensures)
+    (subst (λ (k : ℕ). AllByRecursion (λ row. ObjectStandsBy First (used_in old.frames) row k) c.rows.result.now) (sym c.clock.ensures)
+    (subst (λ (rs : List ImageRow). AllByRecursion (λ row. ObjectStandsBy First (used_in old.frames) row old.clock) rs) (sym c.rows.ensures) c.in_ok-old.ensures.read.stand.objects))
+
+pub write_image-requires-clause-count : goal.write_image-requires-clause-count
+write_image-requires-clause-count c =
+    let old : EarlierFields = c.in_ok-old.old in
+    let laters : List Row = c.in_ok-copied.copied.rows.items in
+    let t : Table = c.in_ok-copied.copied.table in
+    let told : Told old.frames old.rows (length old.frames) t laters = told_of old c.frames-used.result.now c.rows.result.now c.len.result t laters c.frames-used.ensures c.rows.ensures c.len.ensures
+    (record { copied = c.in_ok-copied.ensures.copied; filled = c.in_ok-copied.ensures.frames; few = c.in_ok-copied.ensures.fits }) in
+    ap (λ (ls : List Row). length ls) c.as_slice.ensures.value ∙ as_many (used_in old.frames) old.rows laters (fresh_log (frames_then old)) (log_of t) told.copied
+
+pub write_image-requires-clause-rows : goal.write_image-requires-clause-rows
+write_image-requires-clause-rows c =
+    let old : EarlierFields = c.in_ok-old.old in
+    let few = c.in_ok-old.ensures.whole.parts.is.row_count in
+    let same = as_many_rows (image_in c.args.bytes.now).rows old.rows c.in_ok-old.ensures.read.spelled in
+    omega (arith, few, same)
+
+pub returns-clause-migrates : goal.returns-clause-migrates
+returns-clause-migrates c =
+    let old : EarlierFields = c.in_ok-old.old in
+    let laters : List Row = c.in_ok-copied.copied.rows.items in
+    let t : Table = c.in_ok-copied.copied.table in
+    let told : Told old.frames old.rows (length old.frames) t laters = told_of old c.frames-used.result.now c.rows.result.now c.len.result t laters c.frames-used.ensures c.rows.ensures c.len.ensures
+    (record { copied = c.in_ok-copied.ensures.copied; filled = c.in_ok-copied.ensures.frames; few = c.in_ok-copied.ensures.fits }) in
+    let laws : Laws = record {
+      saved = c.a_saved_row_tells_the_same.ensures;
+      stands = c.a_row_that_is_held_stands.ensures;
+      written = c.an_object_of_a_version_can_be_written.ensures;
+      matter = c.only_its_blocks_matter.ensures;
+      moments = c.mapped_entries_stay_in_order.ensures.old;
+    } in
+    let bytes = c.args.bytes.now in
+    let new = c.in_ok-new.new.items in
+    let all : Done bytes new (image_in bytes) old t laters = done bytes new (image_in bytes) old t laters c.as_slice.result.now c.in_ok-old.ensures.whole c.in_ok-old.ensures.read told c.frame_rules.ensures.count c.frame_rules.ensures.used c.as_slice.ensures.value c.in_ok-new.ensures.written in
+    migrates laws bytes new (image_in bytes) old t laters all
+
+pub returns-clause-layout : goal.returns-clause-layout
+returns-clause-layout c =
+    let old : EarlierFields = c.in_ok-old.old in
+    let laters : List Row = c.in_ok-copied.copied.rows.items in
+    let t : Table = c.in_ok-copied.copied.table in
+    let told : Told old.frames old.rows (length old.frames) t laters = told_of old c.frames-used.result.now c.rows.result.now c.len.result t laters c.frames-used.ensures c.rows.ensures c.len.ensures
+    (record { copied = c.in_ok-copied.ensures.copied; filled = c.in_ok-copied.ensures.frames; few = c.in_ok-copied.ensures.fits }) in
+    let laws : Laws = record {
+      saved = c.a_saved_row_tells_the_same.ensures;
+      stands = c.a_row_that_is_held_stands.ensures;
+      written = c.an_object_of_a_version_can_be_written.ensures;
+      matter = c.only_its_blocks_matter.ensures;
+      moments = c.mapped_entries_stay_in_order.ensures.old;
+    } in
+    let bytes = c.args.bytes.now in
+    let new = c.in_ok-new.new.items in
+    let all : Done bytes new (image_in bytes) old t laters = done bytes new (image_in bytes) old t laters c.as_slice.result.now c.in_ok-old.ensures.whole c.in_ok-old.ensures.read told c.frame_rules.ensures.count c.frame_rules.ensures.used c.as_slice.ensures.value c.in_ok-new.ensures.written in
+    lays_out laws bytes new (image_in bytes) old t laters all
+
+pub returns-clause-fits : goal.returns-clause-fits
+returns-clause-fits c =
+    let old : EarlierFields = c.in_ok-old.old in
+    let laters : List Row = c.in_ok-copied.copied.rows.items in
+    let t : Table = c.in_ok-copied.copied.table in
+    let told : Told old.frames old.rows (length old.frames) t laters = told_of old c.frames-used.result.now c.rows.result.now c.len.result t laters c.frames-used.ensures c.rows.ensures c.len.ensures
+    (record { copied = c.in_ok-copied.ensures.copied; filled = c.in_ok-copied.ensures.frames; few = c.in_ok-copied.ensures.fits }) in
+    no_more (c.images_of_a_version.ensures.read First) c.one_image_is_read.ensures c.args.bytes.now (image_in c.args.bytes.now) old c.in_ok-old.ensures.whole c.in_ok-old.ensures.read told.few

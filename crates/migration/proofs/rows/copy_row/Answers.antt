@@ -1,0 +1,127 @@
+use Rattle.std.proofs.Common.{◌≡◌, ◌≤◌, ◌<◌, ◌+◌, ◌-◌, ℕ, [], List, Option, length, drop, refl, subst, sym, ap, ◌∙◌, arith}
+use Rattle.std.specs.Prelude.{option_copied}
+use Rattle.std.specs.List.{AllByRecursion, All}
+use Rattle.std.proofs.lemmas.List.{append-nil, length-drop}
+use Rattle.s4_types.specs.Pointer.{Place}
+use Rattle.block_log.specs.Log.{Log}
+use Rattle.codec.specs.declared.inodes.Inode.{Inode}
+use Rattle.codec.specs.Entry.{EntryFields}
+use Rattle.object_map.specs.declared.map.Row.{Row}
+use Rattle.object_map.specs.Rows.{fresh_row}
+use Rattle.chain_rewriting.specs.Apart.{Passes}
+use Rattle.row_changes.specs.Moving.{moved_blocks}
+use Rattle.migration.specs.declared.moves.Move.{Move}
+use Rattle.migration.specs.Moves.{moved_by, is_moved, moves_to}
+use Rattle.migration.specs.Places.{places_told, pointers_told}
+use Rattle.migration.specs.Copied.{CopiesBy, entries_then, kept_then, moves_told}
+use Rattle.migration.specs.private.Copying.{Copying, IsUsedData}
+use Rattle.migration.proofs.Moving.{old_places, from_places, one_to_one}
+use Rattle.migration.proofs.Mapping.{all_used, each_goes, same_blocks, sides_within}
+use Rattle.migration.proofs.Written.{Laws, Wrote, copied_row}
+use Rattle.migration.proofs.rows.copy_row.Goals as goal
+
+-- where there is room for all there is for the data
+enough : {n m total : ℕ} (rest : ℕ) → n ≡ m → m + rest ≤ total → n ≤ total
+enough rest same room = omega (arith, same, room)
+
+pub copy_data-requires-clause-room : goal.copy_data-requires-clause-room
+copy_data-requires-clause-room g c =
+    let kept = c.args.kept in
+    let entries = c.args.entries.now in
+    let are : c.as_slice.result.now ≡ places_told kept entries = c.as_slice.ensures.value ∙ c.in_ok-places.ensures.places ∙ ap (λ (k : Option Inode). places_told k entries) c.as_ref.ensures.value in
+    enough (moved_blocks kept entries) (ap length are) c.requires.room
+
+pub copy_data-requires-clause-used : goal.copy_data-requires-clause-used
+copy_data-requires-clause-used g c =
+    let used = g.U.UsedBlocks.used c.args.used.now in
+    let entries = c.args.entries.now in
+    let are : c.as_slice.result.now ≡ places_told c.args.kept entries = c.as_slice.ensures.value ∙ c.in_ok-places.ensures.places ∙ ap (λ (k : Option Inode). places_told k entries) c.as_ref.ensures.value in
+    subst (λ (ps : List Place). AllByRecursion (IsUsedData used c.args.row.now.object) ps) (sym are) (all_used used c.args.row.now.object c.args.kept entries c.requires.told.led)
+
+pub map_entries-requires-clause-one : goal.map_entries-requires-clause-one
+map_entries-requires-clause-one g c = one_to_one c.one_place_has_one_name.ensures c.in_ok-moves.moves.list.items c.in_ok-moves.ensures.copied.apart
+
+pub map_entries-requires-clause-told : goal.map_entries-requires-clause-told
+map_entries-requires-clause-told g c =
+    let log = g.B.Blocks.log in
+    let kept = c.args.kept in
+    let entries = c.args.entries.now in
+    let moves = c.in_ok-moves.moves.list.items in
+    let ahead : List Place = (log c.args.table.now).ahead in
+    let are : c.as_slice.result.now ≡ places_told kept entries = c.as_slice.ensures.value ∙ c.in_ok-places.ensures.places ∙ ap (λ (k : Option Inode). places_told k entries) c.as_ref.ensures.value in
+    let fits : length c.as_slice.result.now ≤ length ahead = enough (moved_blocks kept entries) (ap length are) c.requires.room in
+    let from : old_places moves ≡ places_told kept entries = ap old_places (sym (append-nil moves) ∙ c.in_ok-moves.ensures.copied.exact) ∙ from_places c.as_slice.result.now ahead fits ∙ are in
+    sides_within c.what_a_chain_tells.ensures.listed moves kept entries (each_goes moves (pointers_told kept entries) from)
+
+pub returns-clause-copied : goal.returns-clause-copied
+returns-clause-copied g c =
+    let log = g.B.Blocks.log in
+    let used = g.U.UsedBlocks.used c.args.used.now in
+    let row = c.args.row.now in
+    let o = row.object in
+    let kept = c.args.kept in
+    let entries = c.args.entries.now in
+    let before : Log = log c.args.table.now in
+    let middle : Log = log c.copy_data.new.table in
+    let after : Log = log c.write_row.new.table in
+    let later : Row = c.in-Ok.later in
+    let moves : List Move = c.in_ok-moves.moves.list.items in
+    let are : c.as_slice.result.now ≡ places_told kept entries = c.as_slice.ensures.value ∙ c.in_ok-places.ensures.places ∙ ap (λ (k : Option Inode). places_told k entries) c.as_ref.ensures.value in
+    let fits : length c.as_slice.result.now ≤ length before.ahead = enough (moved_blocks kept entries) (ap length are) c.requires.room in
+    let copying : Copying used o (places_told kept entries) [] (length (places_told kept entries)) before middle moves = subst (λ (ps : List Place). Copying used o ps [] (length ps) before middle moves) are c.in_ok-moves.ensures.copied in
+    let laws : Laws moves = record {
+      one = c.one_place_has_one_name.ensures;
+      add_up = c.places_taken_add_up.ensures;
+      listed = c.what_a_chain_tells.ensures.listed;
+      points = c.what_a_chain_tells.ensures.points;
+      begins = c.what_a_row_tells_can_be_written.ensures.begins;
+      shown = c.a_mapped_run_is_a_run.ensures.shown (moved_by moves);
+      pointers = c.a_mapped_run_is_a_run.ensures.pointers (moved_by moves);
+      in_order = c.mapped_entries_stay_in_order.ensures.order (moved_by moves);
+      tells = c.a_mapped_chain_tells_of_mapped_places.ensures.order (moved_by moves);
+      same = c.a_mapped_chain_shows_the_same.ensures.chain (is_moved moves) (moved_by moves);
+      bytes = c.a_mapped_chain_takes_as_many_bytes.ensures.all (moved_by moves);
+      each = c.a_mapped_chain_takes_as_many_bytes.ensures.each (moved_by moves);
+      holes = c.a_checkpoint_takes_its_blocks.ensures.holes;
+      by = c.an_orderly_row_is_by_its_moment.ensures;
+    } in
+    let raw : Wrote o c.fresh-fresh.result row.checkpoint_moment (option_copied c.as_ref-2.result) c.map_entries.new.entries middle after later = record {
+      row = c.in-Ok.ensures.row;
+      journal = c.in-Ok.ensures.entries;
+      checkpoint = c.in-Ok.ensures.checkpoint;
+      inode = c.in-Ok.ensures.inode;
+      orderly = c.in-Ok.ensures.orderly;
+      fields = c.in-Ok.ensures.fields;
+      some = c.in-Ok.ensures.some;
+      others = c.write_row.ensures.others;
+      takes = c.in-Ok.ensures.takes;
+      order = c.in-Ok.ensures.order;
+    } in
+    let started : Wrote o (fresh_row row.created) row.checkpoint_moment (option_copied c.as_ref-2.result) c.map_entries.new.entries middle after later =
+    subst (λ (s : Row). Wrote o s row.checkpoint_moment (option_copied c.as_ref-2.result) c.map_entries.new.entries middle after later) c.fresh-fresh.ensures raw in
+    let with_entries : Wrote o (fresh_row row.created) row.checkpoint_moment (option_copied c.as_ref-2.result) (entries_then moves entries) middle after later =
+    subst (λ (es : List EntryFields). Wrote o (fresh_row row.created) row.checkpoint_moment (option_copied c.as_ref-2.result) es middle after later) c.map_entries.ensures started in
+    let wrote : Wrote o (fresh_row row.created) row.checkpoint_moment (kept_then moves kept) (entries_then moves entries) middle after later =
+    subst (λ (k : Option Inode). Wrote o (fresh_row row.created) row.checkpoint_moment k (entries_then moves entries) middle after later) (c.as_ref-2.ensures.value ∙ c.map_kept-kept.ensures) with_entries in
+    let copied : CopiesBy used row kept entries moves before after later = copied_row moves laws used row kept entries before middle after later c.requires.told c.requires.nothing (subst (λ (ps : List Place). length ps ≤ length before.ahead) are fits) copying wrote in
+    subst (λ (ms : List Move). CopiesBy used row kept entries ms before after later) (sym (append-nil moves) ∙ copying.exact) copied
+
+-- there is room for the checkpoint and the journal after the data
+no_less : (before middle : List Place) (n m blocks rest : ℕ) → middle ≡ drop n before → n ≡ m → blocks ≡ rest → m + rest ≤ length before → length middle < blocks → ⊥
+no_less before middle n m blocks rest left same as_many room short =
+    let count : length middle ≡ length before - n = ap length left ∙ length-drop n before in
+    omega (arith, count, same, as_many, room, short)
+
+pub unreachable-requires : goal.unreachable-requires
+unreachable-requires g c =
+    let log = g.B.Blocks.log in
+    let kept = c.args.kept in
+    let entries = c.args.entries.now in
+    let moves : List Move = c.in_ok-moves.moves.list.items in
+    let are : c.as_slice.result.now ≡ places_told kept entries = c.as_slice.ensures.value ∙ c.in_ok-places.ensures.places ∙ ap (λ (k : Option Inode). places_told k entries) c.as_ref.ensures.value in
+    let as_many : moved_blocks (option_copied c.as_ref-2.result) c.map_entries.new.entries ≡ moved_blocks kept entries =
+    ap (λ (k : Option Inode). moved_blocks k c.map_entries.new.entries) (c.as_ref-2.ensures.value ∙ c.map_kept-kept.ensures)
+    ∙ ap (λ (es : List EntryFields). moved_blocks (kept_then moves kept) es) c.map_entries.ensures
+    ∙ same_blocks c.a_checkpoint_takes_its_blocks.ensures.holes (moved_by moves) (c.a_mapped_chain_takes_as_many_bytes.ensures.each (moved_by moves)) kept entries in
+    no_less (log c.args.table.now).ahead (log c.copy_data.new.table).ahead (length c.as_slice.result.now) (length (places_told kept entries)) (moved_blocks (option_copied c.as_ref-2.result) c.map_entries.new.entries) (moved_blocks kept entries)
+    c.in_ok-moves.ensures.copied.takes.ahead (ap length are) as_many c.requires.room c.in_default.ensures.answer.1

@@ -1,0 +1,7 @@
+pub mod Places
+pub mod Moves
+pub mod Copied
+pub mod Rows
+pub mod Frames
+pub mod Migrated
+pub mod private

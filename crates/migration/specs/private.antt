@@ -1,0 +1,4 @@
+pub mod Copying
+pub mod Ranks
+pub mod Copied
+pub mod Written

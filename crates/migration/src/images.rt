@@ -1,0 +1,72 @@
+//! All objects of an image of the first version, copied into a new table of as many frames as are
+//! needed.
+ghost use Rattle.std.specs.Prelude.{◌≡◌, ◌⊎◌, ◌<◌, ◌≤◌, IfOk, IfErr};
+ghost use Rattle.std.specs.List.{AllByRecursion};
+ghost use Rattle.s4_types.specs.declared.limits.TheConstants.{MOST_FRAMES};
+ghost use Rattle.s4_types.specs.declared.refusals.Refusal.TheVariants.{NoMemory, NoRoom, Busy};
+ghost use Rattle.codec.specs.declared.versions.ImageVersion.TheVariants.{First};
+ghost use Rattle.segment_table.specs.Room.{log_of};
+ghost use Rattle.image_objects.specs.Versions.{ObjectStandsBy};
+ghost use Rattle.migration.specs.Frames.{FillsFrames, frames_needed, fresh_log};
+ghost use Rattle.migration.specs.Rows.{AscendAbove, CopyRows, blocks_of_rows};
+
+use crate::counting::{count_blocks, frames_filled, frames_needed};
+use crate::objects::copy_objects;
+use crate::tables::NewTable;
+use block_log::laws::{no_change_takes_no_place, places_taken_add_up};
+use image_objects::{ImageRow, UsedBlocks};
+use object_map::Row;
+use s4_types::{Moment, Refusal};
+use segment_table::SegmentTable;
+use std::alloc::Global;
+
+/// The objects of an image in a new table.
+#[derive(Drop)]
+pub(crate) struct Copied {
+    pub(crate) table: SegmentTable,
+    /// How many of its frames have blocks.
+    pub(crate) filled: u16,
+    /// The rows of the objects, by ascending object.
+    pub(crate) rows: Vec<Row>,
+}
+
+/// Copies the objects of all rows of an image that has this many frames into a new table of as many
+/// frames as are needed.
+///
+/// NoRoom exactly where these are more than `MOST_FRAMES`; NoMemory where memory was refused, Busy
+/// where the count of those that share the table was full.
+pub(crate) fn copy_image<U: UsedBlocks>(
+    alloc: Global,
+    used: &U,
+    rows: &[ImageRow],
+    clock: Moment,
+    old: usize,
+) -> Result<Copied, Refusal>
+    requires old { old ≤ MOST_FRAMES }
+    requires ascend { AscendAbove 0 rows.now }
+    requires stand { AllByRecursion (λ row. ObjectStandsBy First (U.used used.now) row clock)
+        rows.now }
+    ensures copied { IfOk result (λ c. CopyRows (U.used used.now) rows.now c.rows.items (fresh_log (frames_needed old (blocks_of_rows (U.used used.now) rows.now))) (log_of c.table)) }
+    ensures frames { IfOk result (λ c. FillsFrames (blocks_of_rows (U.used used.now) rows.now) (frames_needed old (blocks_of_rows (U.used used.now) rows.now)) c.table) }
+    ensures fits { IfOk result
+        (λ c. frames_needed old (blocks_of_rows (U.used used.now) rows.now) ≤ MOST_FRAMES) }
+    ensures refusal { IfErr result
+        (λ e. ((e ≡ NoMemory) ⊎ (e ≡ Busy))
+        ⊎ ((e ≡ NoRoom)
+        × (MOST_FRAMES < frames_needed old (blocks_of_rows (U.used used.now) rows.now)))) }
+{
+    places_taken_add_up();
+    no_change_takes_no_place();
+    let Some(blocks) = count_blocks(alloc, used, rows, clock)? else {
+        return Err(Refusal::NoRoom);
+    };
+    let frames = frames_needed(old, blocks);
+    let mut table = NewTable::new(alloc, frames)?;
+    let laters = copy_objects(alloc, &mut table, used, rows, clock)?;
+    let table = table.into_table();
+    Ok(Copied {
+        table,
+        filled: frames_filled(blocks),
+        rows: laters,
+    })
+}

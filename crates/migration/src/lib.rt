@@ -1,0 +1,21 @@
+//! An image of the first version becomes one of the present version.
+//!
+//! The layers above may rely on this: the new image says what the old one says, at all moments; its
+//! blocks are where a fixed order puts them; and what can't become an image is refused with the
+//! first version's own causes.
+#![tactic(auto)]
+
+mod copies;
+mod counting;
+mod images;
+mod migrating;
+mod moves;
+mod objects;
+mod places;
+mod rows;
+mod tables;
+mod writing;
+
+pub use migrating::{migrate, migrated};
+pub use moves::{Move, Moves};
+pub use rows::copy_row;

@@ -1,0 +1,72 @@
+//! Images of the first version, made into images of the present one.
+ghost use Rattle.std.specs.Prelude.{◌≡◌, ◌⊎◌, ℕ, List, Some, IfOk, IfErr};
+ghost use Rattle.s4_types.specs.declared.refusals.Cause.{Cause as Found};
+ghost use Rattle.s4_types.specs.declared.refusals.Refusal.TheVariants.{NoMemory, Busy, Damaged};
+ghost use Rattle.s4_types.specs.declared.refusals.Refusal.TheVariants.{NoRoom};
+ghost use Rattle.verifier.specs.Opened.{IsReadOf};
+ghost use Rattle.earlier_images.specs.Grammar.{FirstEarlierFault};
+ghost use Rattle.migration.specs.Migrated.{IsTooMuch, LaysOut, Migrates};
+
+use crate::images::copy_image;
+use crate::writing::write_image;
+use chain_rewriting::mapping_laws::mapped_entries_stay_in_order;
+use earlier_images::laws::one_image_is_read;
+use earlier_images::read_earlier;
+use image_objects::saving_laws::{a_row_that_is_held_stands, a_saved_row_tells_the_same};
+use image_objects::writing_laws::an_object_of_a_version_can_be_written;
+use image_parts::laws::images_of_a_version;
+use inode::laws::only_its_blocks_matter;
+use s4_types::Refusal;
+use segment_table::OverFrames;
+use std::alloc::Global;
+use std::thread::Threads;
+use verifier::laws::what_has_a_fault_spells_nothing;
+use verifier::{Image, verify};
+
+/// The bytes of the image of the present version that an image of the first one becomes. It says
+/// what that one says, at all moments. Its blocks are written in a fixed order from the first frame
+/// on: of each object, by ascending number, the data that it still has, by its old places, then its
+/// checkpoint, and then its journal, the oldest block first.
+///
+/// Damaged with the cause of the first of that version's tests that fails, where the bytes encode
+/// no image of it; NoRoom where the new image would have more than `MOST_FRAMES` frames, and only
+/// there; NoMemory where memory was refused, Busy where the count of those that share a new table
+/// was full.
+pub fn migrated(alloc: Global, bytes: &[u8]) -> Result<Vec<u8>, Refusal>
+    ensures migrates { IfOk result (λ new. Migrates bytes.now new.items) }
+    ensures layout { IfOk result (λ new. LaysOut bytes.now new.items) }
+    ensures fits { IfOk result (λ new. IsTooMuch bytes.now → ⊥) }
+    ensures refusal { IfErr result
+        (λ e. ((e ≡ NoMemory) ⊎ (e ≡ Busy))
+        ⊎ (((e ≡ NoRoom) × IsTooMuch bytes.now)
+        ⊎ ((cause : Found) × (e ≡ Damaged cause) × FirstEarlierFault bytes.now (Some cause)))) }
+{
+    a_saved_row_tells_the_same();
+    a_row_that_is_held_stands();
+    an_object_of_a_version_can_be_written();
+    only_its_blocks_matter();
+    mapped_entries_stay_in_order();
+    images_of_a_version();
+    one_image_is_read();
+    let old = read_earlier(alloc, bytes)?;
+    let used = old.frames();
+    let copied = copy_image(alloc, used, old.rows(), old.clock(), used.len())?;
+    let mut table = copied.table;
+    table.frame_rules();
+    let new = write_image(alloc, &old, &mut table, copied.filled, copied.rows.as_slice())?;
+    Ok(new)
+}
+
+/// The image of the present version that an image of the first one becomes, read back from the
+/// bytes that `migrated` writes. It refuses what that refuses, with the same causes.
+pub fn migrate<R: Threads>(rt: &R, alloc: Global, bytes: &[u8]) -> Result<Image, Refusal>
+    ensures migrates { IfOk result (λ image. (new : List ℕ) × Migrates bytes.now new × LaysOut bytes.now new × IsReadOf new image) }
+    ensures refusal { IfErr result
+        (λ e. ((e ≡ NoMemory) ⊎ (e ≡ Busy))
+        ⊎ (((e ≡ NoRoom) × IsTooMuch bytes.now)
+        ⊎ ((cause : Found) × (e ≡ Damaged cause) × FirstEarlierFault bytes.now (Some cause)))) }
+{
+    what_has_a_fault_spells_nothing();
+    let new = migrated(alloc, bytes)?;
+    verify(rt, alloc, new.as_slice())
+}
