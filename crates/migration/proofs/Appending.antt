@@ -1,5 +1,5 @@
 -- One more block of data is copied.
-use Rattle.std.proofs.Common.{◌≡◌, ℕ, ◌+◌, ◌==◌, ◌&&◌, Bool, true, false, cond, List, [], ◌∷◌, ◌++◌, length, map, Option, Some, None, IsSome, is_some, inl, inr, refl, sym, ap, subst, ◌∙◌}
+use Rattle.std.proofs.Common.{◌≡◌, ℕ, ◌+◌, ◌==◌, Bool, true, false, cond, List, [], ◌∷◌, ◌++◌, Option, Some, None, IsSome, is_some, inl, inr, refl, sym, ap, subst, ◌∙◌}
 use Rattle.std.specs.Prelude.{◌||◌}
 use Rattle.std.specs.List.{AllByRecursion}
 use Rattle.std.proofs.lemmas.Bool.{cases_Bool, or_left, or_right, or_from, or_parts, both_ways}
@@ -7,7 +7,7 @@ use Rattle.std.proofs.lemmas.List.{append_assoc, map-append}
 use Rattle.std.proofs.lemmas.List.Folds.{list_any-append}
 use Rattle.s4_types.specs.Pointer.{Place}
 use Rattle.block_log.specs.Log.{Log, Stored, of_kind, same_place, seen_as}
-use Rattle.block_log.specs.Growth.{Puts, OthersStay}
+use Rattle.block_log.specs.Growth.{Puts}
 use Rattle.block_log.specs.Taken.{TakesPlaces}
 use Rattle.block_log.specs.declared.kinds.BlockKind.TheVariants.{Data}
 use Rattle.checkpoint.specs.Held.{is_one_of}
@@ -15,7 +15,7 @@ use Rattle.migration.specs.declared.moves.Move.{Move}
 use Rattle.migration.specs.Moves.{moves_to, new_places}
 use Rattle.migration.specs.private.Copying.{Copying, IsCopied, AreApart}
 use Rattle.migration.proofs.Ascending.{same_turned}
-use Rattle.migration.proofs.Moving.{OnePlace, same_itself}
+use Rattle.migration.proofs.Moving.{OnePlace}
 
 abbrev pub PlacesAddUp : Type 0
 PlacesAddUp = (n m : ℕ) (first second third : Log) → TakesPlaces n first second → TakesPlaces m second third → TakesPlaces (n + m) first third

@@ -1,5 +1,5 @@
 -- One more object is copied.
-use Rattle.std.proofs.Common.{◌≡◌, ℕ, ◌+◌, ◌-◌, ◌<◌, ◌≤◌, ◌==◌, false, List, [], ◌∷◌, ◌++◌, length, drop, Option, None, refl, sym, ap, subst, ◌∙◌, arith}
+use Rattle.std.proofs.Common.{◌≡◌, ℕ, ◌+◌, ◌-◌, ◌≤◌, List, [], ◌∷◌, ◌++◌, length, drop, Option, None, refl, sym, ap, subst, ◌∙◌, arith}
 use Rattle.std.specs.List.{AllByRecursion}
 use Rattle.std.proofs.lemmas.Bool.{ne_eqb}
 use Rattle.std.proofs.lemmas.List.{append_assoc, length-drop}
@@ -7,7 +7,6 @@ use Rattle.s4_types.specs.Pointer.{Place}
 use Rattle.block_log.specs.Log.{Log, Stored, seen_as}
 use Rattle.codec.specs.declared.versions.ImageVersion.TheVariants.{First}
 use Rattle.object_map.specs.declared.map.Row.{Row}
-use Rattle.version_store.specs.Store.{HasNothing}
 use Rattle.image_objects.specs.declared.rows.ImageRow.{ImageRow}
 use Rattle.image_objects.specs.Versions.{ObjectStandsBy}
 use Rattle.migration.specs.Rows.{AscendAbove, CopiesObject, CopyRows, blocks_of, blocks_of_rows}

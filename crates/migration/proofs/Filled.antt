@@ -1,6 +1,6 @@
 -- A table that is filled from its first frame on.
-use Rattle.std.proofs.Common.{◌≡◌, ◌≢◌, ℕ, zero, suc, ◌+◌, ◌-◌, ◌*◌, ◌/◌, ◌<◌, ◌≤◌, List, [], ◌∷◌, ◌++◌, length, drop, Option, Some, None, Result, Ok, Err, IfOk, OnErr, inl, inr, replicate, refl, sym, ap, subst, ◌∙◌, arith}
-use Rattle.std.specs.Prelude.{max, MatchOption}
+use Rattle.std.proofs.Common.{◌≡◌, ◌≢◌, ℕ, zero, suc, ◌+◌, ◌-◌, ◌*◌, ◌<◌, ◌≤◌, List, [], ◌∷◌, ◌++◌, length, drop, Option, Some, None, Result, Ok, Err, IfOk, OnErr, inl, inr, replicate, refl, sym, ap, subst, ◌∙◌, arith}
+use Rattle.std.specs.Prelude.{MatchOption}
 use Rattle.std.specs.List.{flat_map, range_with_len}
 use Rattle.std.proofs.Math.ListN.{length-set, set}
 use Rattle.std.proofs.lemmas.List.{length-append, length-drop, length-replicate, drop-drop, drop-append-le, drop_at, get_or-replicate, get_or-set_other}
@@ -8,11 +8,10 @@ use Rattle.std.proofs.lemmas.Bool.{cases_eq, cases_lt}
 use Rattle.std.proofs.lemmas.Option.{none-some, same_Some}
 use Rattle.s4_types.specs.Pointer.{Place}
 use Rattle.s4_types.specs.declared.refusals.Refusal.{Refusal}
-use Rattle.s4_types.specs.declared.limits.TheConstants.{MOST_FRAMES, PAYLOAD_BLOCKS}
 use Rattle.block_log.specs.Log.{Log, Stored, appended, appended_at}
 use Rattle.block_log.specs.Taken.{TakesPlaces}
 use Rattle.codec.specs.declared.summaries.BlockRole.{BlockRole}
-use Rattle.segment_word.specs.Frames.{Free, Open, Sealed, Frame, no_frame}
+use Rattle.segment_word.specs.Frames.{Open, Sealed, Frame, no_frame}
 use Rattle.segment_word.specs.Handles.{Drive, fresh_frame}
 use Rattle.segment_word.specs.Layout.{frame_at}
 use Rattle.segment_table.specs.Changes.{IsAppended}

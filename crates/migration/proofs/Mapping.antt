@@ -1,25 +1,25 @@
 -- What is told of an object that is copied: of which places, and what becomes of it over the copies.
-use Rattle.std.proofs.Common.{◌≡◌, ◌⊎◌, ℕ, zero, suc, ◌+◌, ◌<◌, ◌==◌, ◌&&◌, Bool, true, false, cond, List, [], ◌∷◌, ◌++◌, length, map, get_or, Option, Some, None, IsSome, MatchOption, option_map, is_some, inl, inr, refl, sym, ap, subst, ◌∙◌, arith}
-use Rattle.std.specs.Prelude.{IfSome, ◌||◌}
+use Rattle.std.proofs.Common.{◌≡◌, ℕ, zero, suc, ◌+◌, ◌<◌, ◌==◌, ◌&&◌, Bool, true, false, List, [], ◌∷◌, ◌++◌, length, map, get_or, Option, Some, None, IsSome, MatchOption, option_map, is_some, inl, inr, refl, sym, ap, subst, ◌∙◌, arith}
+use Rattle.std.specs.Prelude.{IfSome}
 use Rattle.std.specs.List.{All, AllByRecursion, Contains}
 use Rattle.std.proofs.lemmas.Bool.{cases_Bool, or_cases, and_from, and_parts, eq-eqb, eqb-true, cond-true, cond-false}
 use Rattle.std.proofs.lemmas.Option.{none-some, same_Some}
 use Rattle.std.proofs.lemmas.List.{length-map}
-use Rattle.std.proofs.lemmas.List.Elements.{All-weaker, All-map, All-contains, All-contains_itself, All-from_recursion, recursion_from_All}
+use Rattle.std.proofs.lemmas.List.Elements.{All-contains, All-contains_itself, All-from_recursion, recursion_from_All}
 use Rattle.s4_types.specs.Pointer.{Place}
-use Rattle.block_log.specs.Log.{Log, Stored, of_kind, same_kind, same_place, seen_as}
+use Rattle.block_log.specs.Log.{Stored, of_kind, same_kind, same_place, seen_as}
 use Rattle.block_log.specs.declared.kinds.BlockKind.{BlockKind}
 use Rattle.block_log.specs.declared.kinds.BlockKind.TheVariants.{Journal, Checkpoint, Data, Pointers}
 use Rattle.codec.specs.Checkpoint.{pointer_at}
 use Rattle.codec.specs.Entry.{EntryFields, entry_length}
 use Rattle.codec.specs.declared.inodes.Inode.{Inode}
-use Rattle.undo_redo.specs.Runs.{blank, inode_after}
+use Rattle.undo_redo.specs.Runs.{blank}
 use Rattle.inode.specs.Contents.{bytes_stored}
 use Rattle.checkpoint.specs.Held.{is_one_of, checkpoint_blocks}
 use Rattle.journal_chain.specs.Sizes.{blocks_needed}
 use Rattle.time_read.specs.Orderly.{BeginsDead}
 use Rattle.chain_rewriting.specs.Apart.{Passes, ToldWithin}
-use Rattle.chain_rewriting.specs.CleaningLaws.{TellsWithin, PointsWithin}
+use Rattle.chain_rewriting.specs.CleaningLaws.{TellsWithin}
 use Rattle.chain_rewriting.specs.Places.{WhatIsToldIsListed}
 use Rattle.chain_rewriting.specs.Mapping.{mapped_slot, mapped_entries, mapped_inode}
 use Rattle.chain_rewriting.specs.MappingLaws.{MappedEntriesTakeAsManyBytes}
@@ -29,7 +29,7 @@ use Rattle.image_objects.specs.Saved.{HoldsUsed}
 use Rattle.version_store.proofs.Telling.{first_told}
 use Rattle.migration.specs.Places.{pointers_in, pointers_told, places_told, with_places}
 use Rattle.migration.specs.declared.moves.Move.{Move}
-use Rattle.migration.specs.Moves.{moved_by, is_moved}
+use Rattle.migration.specs.Moves.{is_moved}
 use Rattle.migration.specs.private.Copying.{IsUsedData}
 use Rattle.migration.proofs.Sorting.{all_with, with_has}
 use Rattle.migration.proofs.Moving.{OnePlace, same_itself, moved_is, old_places}

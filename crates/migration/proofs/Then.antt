@@ -1,12 +1,10 @@
 -- What the rows of a new image come to, where all that was held of each object once it was copied is used.
-use Rattle.std.proofs.Common.{◌≡◌, ℕ, ◌<◌, ◌≤◌, ◌==◌, Bool, true, false, cond, List, [], ◌∷◌, length, Option, Some, None, IsSome, inl, inr, refl, sym, ap, subst, ◌∙◌, suc, arith}
-use Rattle.std.specs.List.{AllByRecursion, Contains}
+use Rattle.std.proofs.Common.{◌≡◌, ℕ, ◌≤◌, ◌==◌, List, [], ◌∷◌, length, Option, Some, None, IsSome, inl, inr, refl, sym, ap, subst, ◌∙◌, suc, arith}
+use Rattle.std.specs.List.{AllByRecursion}
 use Rattle.std.proofs.lemmas.Bool.{cases_Bool, cond-true, cond-false}
 use Rattle.s4_types.specs.Pointer.{Place}
-use Rattle.s4_types.specs.declared.versions.Version.{Version}
-use Rattle.block_log.specs.Log.{Log, Stored, of_kind, seen_as}
+use Rattle.block_log.specs.Log.{Log, Stored, seen_as}
 use Rattle.block_log.specs.declared.kinds.BlockKind.TheVariants.{Data}
-use Rattle.codec.specs.Checkpoint.{pointer_at}
 use Rattle.codec.specs.Entry.{EntryFields}
 use Rattle.codec.specs.declared.inodes.Inode.{Inode}
 use Rattle.codec.specs.declared.versions.ImageVersion.TheVariants.{First}
@@ -15,7 +13,7 @@ use Rattle.object_map.specs.declared.map.Row.{Row}
 use Rattle.inode.specs.Contents.{bytes_stored, contents_of, meaning}
 use Rattle.inode.specs.Tidiness.{AgreeAt, PointersHeld}
 use Rattle.inode.specs.Laws.{OnlyItsBlocksMatter}
-use Rattle.time_read.specs.Rows.{IsRow, entries_of, inode_of}
+use Rattle.time_read.specs.Rows.{IsRow, inode_of}
 use Rattle.time_read.specs.Orderly.{IsFromTo, IsOrderly}
 use Rattle.chain_rewriting.specs.Mapping.{mapped_entries}
 use Rattle.chain_rewriting.specs.MappingLaws.{TheMomentsOfMappedEntriesAreOld}

@@ -1,5 +1,5 @@
 -- The new image, put together of its parts.
-use Rattle.std.proofs.Common.{◌≡◌, ℕ, zero, suc, ◌+◌, ◌-◌, ◌*◌, ◌<◌, ◌≤◌, ◌^◌, List, [], ◌∷◌, ◌++◌, length, get_or, Option, Some, None, inl, inr, refl, sym, ap, subst, ◌∙◌, arith}
+use Rattle.std.proofs.Common.{◌≡◌, ℕ, suc, ◌+◌, ◌≤◌, List, [], ◌∷◌, length, get_or, Option, Some, None, inl, inr, refl, sym, ap, subst, ◌∙◌, arith}
 use Rattle.std.specs.Prelude.{MatchOption}
 use Rattle.std.specs.Int.{w64}
 use Rattle.std.specs.List.{AllByRecursion}
@@ -13,10 +13,9 @@ use Rattle.object_map.specs.declared.map.Row.{Row}
 use Rattle.time_read.specs.Orderly.{IsFromTo}
 use Rattle.segment_table.specs.Table.{Table}
 use Rattle.segment_table.specs.Used.{used_at}
-use Rattle.image_parts.specs.Header.{KeepsHeaderRules, KeepsHeaderRulesBy}
 use Rattle.image_parts.specs.Frames.{FrameFields}
 use Rattle.image_parts.specs.Image.{Image, SpellsImageBy, header_of, image_bytes, image_bytes_by}
-use Rattle.image_parts.specs.Rows.{KeepsRowRules, RowsFollow}
+use Rattle.image_parts.specs.Rows.{RowsFollow}
 use Rattle.image_parts.specs.Spans.{IsSpan, KeepsSpanRules, KeepSpanRules, SpansFollow, SpansKeep}
 use Rattle.image_parts.specs.declared.headers.Header.{Header}
 use Rattle.image_parts.specs.declared.rows.RowPart.{RowPart}

@@ -1,7 +1,7 @@
 -- An object whose data was copied and whose row was written then.
-use Rattle.std.proofs.Common.{◌≡◌, ℕ, zero, suc, ◌+◌, ◌-◌, ◌≤◌, ◌==◌, ◌&&◌, Bool, true, false, List, [], ◌∷◌, ◌++◌, length, map, drop, reverse, Option, Some, None, IsSome, MatchOption, option_map, is_some, refl, sym, ap, subst, ◌∙◌, arith}
-use Rattle.std.specs.Prelude.{IfSome, ◌||◌}
-use Rattle.std.specs.List.{All, AllByRecursion, Contains}
+use Rattle.std.proofs.Common.{◌≡◌, ℕ, ◌≤◌, ◌==◌, true, false, List, [], ◌++◌, length, map, reverse, Option, Some, None, IsSome, MatchOption, option_map, is_some, refl, sym, ap, subst, ◌∙◌}
+use Rattle.std.specs.Prelude.{◌||◌}
+use Rattle.std.specs.List.{All, Contains}
 use Rattle.std.proofs.lemmas.Bool.{and_right}
 use Rattle.std.proofs.lemmas.List.{append-nil}
 use Rattle.std.proofs.lemmas.List.Elements.{All-weaker, All-map}
@@ -17,25 +17,24 @@ use Rattle.undo_redo.specs.Runs.{inode_after}
 use Rattle.inode.specs.Contents.{contents_of, meaning}
 use Rattle.inode.specs.Tidiness.{Tidy}
 use Rattle.journal_chain.specs.Chain.{chain_places}
-use Rattle.checkpoint.specs.Held.{is_one_of, of_checkpoints, seen_of, is_checkpoint_kind, or_others, begun_by}
+use Rattle.checkpoint.specs.Held.{is_one_of, seen_of, is_checkpoint_kind, or_others, begun_by}
 use Rattle.object_map.specs.declared.map.Row.{Row}
 use Rattle.object_map.specs.Rows.{fresh_row}
 use Rattle.time_read.specs.Rows.{IsRow, entries_of, checkpoint_of, inode_of, checkpoint_places_of}
 use Rattle.time_read.specs.Orderly.{IsFromTo, IsOrderly, IsOrderlyChain, BeginsDead}
 use Rattle.chain_rewriting.specs.Apart.{Passes, ToldWithin}
-use Rattle.chain_rewriting.specs.CleaningLaws.{PointsWithin}
-use Rattle.chain_rewriting.specs.Mapping.{mapped_slot, mapped_entries, mapped_inode, KeepsContents}
+use Rattle.chain_rewriting.specs.Mapping.{mapped_slot, mapped_inode, KeepsContents}
 use Rattle.chain_rewriting.specs.MappingLaws.{AMappedChainShowsMappedInodes, APointerIsMapped, MappedEntriesStayInOrder, AMappedChainTellsInOrder, AMappedChainShowsTheSame, AMappedChainTakesAsManyBytes, MappedEntriesTakeAsManyBytes}
 use Rattle.chain_rewriting.specs.Places.{WhatIsToldIsListed, AChainPointsToWhatItTells}
 use Rattle.row_changes.specs.Laws.{ItsFirstInodeIsMapped}
 use Rattle.row_changes.specs.Recent.{IsBy}
 use Rattle.row_changes.specs.Rewritten.{OnlyMetadataChanged}
 use Rattle.row_changes.specs.Moving.{checkpoint_kept, first_kept, moved_blocks}
-use Rattle.version_store.specs.Store.{HasNothing, IsLed, IsObject, DataIsNamed, pointers_kept, pointers_of, sides_told}
+use Rattle.version_store.specs.Store.{HasNothing, IsLed, pointers_kept, pointers_of, sides_told}
 use Rattle.image_objects.specs.declared.rows.ImageRow.{ImageRow}
 use Rattle.migration.specs.declared.moves.Move.{Move}
 use Rattle.migration.specs.Places.{pointers_in, pointers_told, places_told}
-use Rattle.migration.specs.Moves.{moved_by, is_moved, moves_to, new_places}
+use Rattle.migration.specs.Moves.{moved_by, is_moved, new_places}
 use Rattle.migration.specs.Copied.{CanCopy, CopiesBy, IsToldInOrder, entries_then, first_told, inode_told, kept_then, moves_told}
 use Rattle.migration.specs.private.Copying.{Copying, AreApart, IsUsedData}
 use Rattle.migration.proofs.Ascending.{apart, ascend_with}

@@ -1,6 +1,5 @@
 -- How many frames the new image has, and what each of them is.
-use Rattle.std.specs.Prelude.{◌≡◌, ℕ, ◌+◌, ◌-◌, ◌*◌, ◌/◌, ◌%◌, ◌<◌, ◌≤◌, max, drop, None, List, length}
-use Rattle.s4_types.specs.Pointer.{Place}
+use Rattle.std.specs.Prelude.{◌≡◌, ℕ, ◌+◌, ◌-◌, ◌*◌, ◌/◌, ◌<◌, ◌≤◌, max, drop, None, length}
 use Rattle.s4_types.specs.declared.limits.TheConstants.{FEWEST_FRAMES, PAYLOAD_BLOCKS, RESERVE_FRAMES}
 use Rattle.block_log.specs.Log.{Log}
 use Rattle.segment_word.specs.Frames.{Free, Open, Sealed}

@@ -1,9 +1,8 @@
 -- Where blocks go.
-use Rattle.std.specs.Prelude.{◌≡◌, ℕ, Bool, false, if◌then◌else◌, List, [], ◌∷◌, map}
+use Rattle.std.specs.Prelude.{Bool, if◌then◌else◌, List, [], ◌∷◌, map}
 use Rattle.std.specs.List.{list_any}
 use Rattle.s4_types.specs.Pointer.{Place}
 use Rattle.block_log.specs.Log.{same_place}
-use Rattle.checkpoint.specs.Held.{is_one_of}
 use Rattle.migration.specs.declared.moves.Move.{Move}
 
 -- where a place's block goes; a place that isn't among them stays

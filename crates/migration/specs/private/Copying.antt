@@ -1,5 +1,5 @@
 -- Blocks of data of an object are copied, one after the other. No public clause cites this file.
-use Rattle.std.specs.Prelude.{◌≡◌, ℕ, false, true, ◌==◌, ◌&&◌, List, [], ◌∷◌, ◌++◌, Option, IsSome}
+use Rattle.std.specs.Prelude.{◌≡◌, ℕ, false, true, List, [], ◌∷◌, ◌++◌, Option, IsSome}
 use Rattle.std.specs.List.{AllByRecursion}
 use Rattle.s4_types.specs.Pointer.{Place}
 use Rattle.block_log.specs.declared.kinds.BlockKind.TheVariants.{Data}

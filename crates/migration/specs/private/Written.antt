@@ -4,7 +4,7 @@ use Rattle.std.specs.List.{AllByRecursion}
 use Rattle.object_map.specs.declared.map.Row.{Row}
 use Rattle.segment_table.specs.Table.{Table}
 use Rattle.image_parts.specs.Frames.{FrameFields, IsFrame, KeepFrameRules}
-use Rattle.image_parts.specs.Image.{Image, image_bytes}
+use Rattle.image_parts.specs.Image.{image_bytes}
 use Rattle.image_parts.specs.Rows.{IsRow}
 use Rattle.image_parts.specs.declared.headers.Header.{Header}
 use Rattle.image_parts.specs.declared.rows.RowPart.{RowPart}

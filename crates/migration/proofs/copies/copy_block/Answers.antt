@@ -1,4 +1,4 @@
-use Rattle.std.proofs.Common.{◌≡◌, ◌+◌, List, refl, subst, sym, ◌∙◌}
+use Rattle.std.proofs.Common.{◌+◌, List, refl, subst, sym, ◌∙◌}
 use Rattle.std.proofs.lemmas.Bool.{eq-eqb}
 use Rattle.migration.specs.declared.moves.Move.{Move}
 use Rattle.migration.specs.private.Copying.{Copying}

@@ -1,10 +1,9 @@
-use Rattle.std.proofs.Common.{◌≡◌, ◌+◌, ◌*◌, ◌≤◌, ℕ, length, sym, ap, subst, ◌∙◌, arith}
-use Rattle.s4_types.specs.Pointer.{Place}
+use Rattle.std.proofs.Common.{◌≡◌, ◌*◌, ◌≤◌, ℕ, length, sym, ap, subst, ◌∙◌}
 use Rattle.block_log.specs.Log.{Log}
 use Rattle.block_log.specs.Taken.{TakesPlaces}
-use Rattle.segment_table.specs.Room.{log_of, new_places}
+use Rattle.segment_table.specs.Room.{log_of}
 use Rattle.segment_table.specs.Table.{Table}
-use Rattle.migration.specs.Frames.{FillsFrames, frames_needed, fresh_log}
+use Rattle.migration.specs.Frames.{frames_needed, fresh_log}
 use Rattle.migration.specs.declared.counting.TheConstants.{MOST_COPIED}
 use Rattle.migration.specs.Rows.{CopyRows, blocks_of_rows}
 use Rattle.migration.proofs.Filled.{fills, has_room, length_new, counted as counted_is, takes_all}

@@ -1,21 +1,19 @@
-use Rattle.std.proofs.Common.{◌≡◌, ◌≤◌, ◌<◌, ℕ, List, length, refl, sym, ap, subst, ◌∙◌, arith}
+use Rattle.std.proofs.Common.{◌≡◌, ◌≤◌, ℕ, List, length, sym, ap, subst, ◌∙◌, arith}
 use Rattle.std.specs.List.{AllByRecursion}
-use Rattle.s4_types.specs.Sizes.{IsFrameCount}
 use Rattle.s4_types.specs.declared.limits.TheConstants.{MOST_FRAMES}
 use Rattle.codec.specs.declared.versions.ImageVersion.TheVariants.{First}
 use Rattle.object_map.specs.declared.map.Row.{Row}
 use Rattle.segment_table.specs.Room.{log_of}
 use Rattle.segment_table.specs.Table.{Table}
-use Rattle.image_parts.specs.Image.{Image, image_in}
+use Rattle.image_parts.specs.Image.{image_in}
 use Rattle.image_objects.specs.declared.rows.ImageRow.{ImageRow}
 use Rattle.image_objects.specs.Versions.{ObjectStandsBy}
 use Rattle.earlier_images.specs.declared.frames.EarlierFrame.{EarlierFrame}
-use Rattle.earlier_images.specs.Images.{EarlierFields, IsEarlierOf}
+use Rattle.earlier_images.specs.Images.{EarlierFields}
 use Rattle.earlier_images.specs.Used.{used_in}
-use Rattle.migration.specs.Frames.{FillsFrames, frames_needed, fresh_log}
-use Rattle.migration.specs.Rows.{AscendAbove, CopyRows, blocks_of_rows}
+use Rattle.migration.specs.Frames.{fresh_log}
+use Rattle.migration.specs.Rows.{AscendAbove}
 use Rattle.migration.specs.Migrated.{frames_then}
-use Rattle.migration.specs.private.Written.{SpellsParts}
 use Rattle.migration.proofs.Then.{Laws, as_many}
 use Rattle.migration.proofs.Done.{Done, Told, done, told_of, old_frames, old_rows, migrates, lays_out, no_more}
 use Rattle.migration.proofs.Whole.{as_many_rows}

@@ -1,4 +1,4 @@
-use Rattle.std.proofs.Common.{rules, ◌≡◌, List, Option, subst, sym, ◌∙◌}
+use Rattle.std.proofs.Common.{rules, ◌≡◌, List, Option, subst, sym}
 use Rattle.codec.specs.Entry.{EntryFields}
 use Rattle.codec.specs.declared.inodes.Inode.{Inode}
 use Rattle.codec.specs.declared.versions.ImageVersion.TheVariants.{First}

@@ -1,9 +1,8 @@
-use Rattle.std.proofs.Common.{rules, ◌≡◌, [], List, Option, sym, ap, ◌∙◌}
+use Rattle.std.proofs.Common.{rules, ◌≡◌, [], List, ap, ◌∙◌}
 use Rattle.std.specs.Prelude.{option_copied}
 use Rattle.s4_types.specs.Pointer.{Place}
-use Rattle.codec.specs.declared.inodes.Inode.{Inode}
 use Rattle.version_store.specs.Store.{sides_told}
-use Rattle.migration.specs.Places.{with_places, places_told, pointers_in}
+use Rattle.migration.specs.Places.{with_places, pointers_in}
 use Rattle.migration.proofs.Sorting.{with_join}
 use Rattle.migration.proofs.places.places_told.Goals.{in-Some+in_ok-put_slots, in_default}
 use Rattle.migration.proofs.places.places_told.Goals as goal

@@ -1,6 +1,6 @@
-use Rattle.std.proofs.Common.{◌≡◌, ◌≤◌, ◌<◌, ◌+◌, ◌-◌, ℕ, [], List, Option, length, drop, refl, subst, sym, ap, ◌∙◌, arith}
+use Rattle.std.proofs.Common.{◌≡◌, ◌≤◌, ◌<◌, ◌+◌, ◌-◌, ℕ, [], List, Option, length, drop, subst, sym, ap, ◌∙◌, arith}
 use Rattle.std.specs.Prelude.{option_copied}
-use Rattle.std.specs.List.{AllByRecursion, All}
+use Rattle.std.specs.List.{AllByRecursion}
 use Rattle.std.proofs.lemmas.List.{append-nil, length-drop}
 use Rattle.s4_types.specs.Pointer.{Place}
 use Rattle.block_log.specs.Log.{Log}
@@ -8,12 +8,11 @@ use Rattle.codec.specs.declared.inodes.Inode.{Inode}
 use Rattle.codec.specs.Entry.{EntryFields}
 use Rattle.object_map.specs.declared.map.Row.{Row}
 use Rattle.object_map.specs.Rows.{fresh_row}
-use Rattle.chain_rewriting.specs.Apart.{Passes}
 use Rattle.row_changes.specs.Moving.{moved_blocks}
 use Rattle.migration.specs.declared.moves.Move.{Move}
-use Rattle.migration.specs.Moves.{moved_by, is_moved, moves_to}
+use Rattle.migration.specs.Moves.{moved_by, is_moved}
 use Rattle.migration.specs.Places.{places_told, pointers_told}
-use Rattle.migration.specs.Copied.{CopiesBy, entries_then, kept_then, moves_told}
+use Rattle.migration.specs.Copied.{CopiesBy, entries_then, kept_then}
 use Rattle.migration.specs.private.Copying.{Copying, IsUsedData}
 use Rattle.migration.proofs.Moving.{old_places, from_places, one_to_one}
 use Rattle.migration.proofs.Mapping.{all_used, each_goes, same_blocks, sides_within}

@@ -1,15 +1,13 @@
-use Rattle.std.proofs.Common.{◌≡◌, ℕ, List, [], ◌++◌, length, sym, ap, subst, ◌∙◌}
+use Rattle.std.proofs.Common.{◌≡◌, ℕ, List, [], ◌++◌, length, ap, subst, ◌∙◌}
 use Rattle.std.specs.List.{flat_map}
-use Rattle.sha2.specs.Sha256.{sha256}
 use Rattle.s4_types.specs.declared.spans.Span.{Span}
-use Rattle.object_map.specs.declared.map.Row.{Row}
 use Rattle.image_parts.specs.declared.headers.Header.{Header}
 use Rattle.image_parts.specs.declared.rows.RowPart.{RowPart}
 use Rattle.image_parts.specs.Header.{header_bytes}
 use Rattle.image_parts.specs.Frames.{frame_bytes}
 use Rattle.image_parts.specs.Rows.{row_bytes}
 use Rattle.image_parts.specs.Spans.{span_bytes}
-use Rattle.image_parts.specs.Image.{header_of, image_bytes}
+use Rattle.image_parts.specs.Image.{header_of}
 use Rattle.image_objects.specs.declared.rows.ImageRow.{ImageRow}
 use Rattle.verifier.specs.Saved.{AddsFrames}
 use Rattle.migration.specs.private.Written.{ArePartsOf, header_with}
