@@ -6,12 +6,8 @@ use Rattle.std.proofs.lemmas.Bool.{cases_Bool, cond-true, cond-false, cond_both,
 use Rattle.s4_types.specs.Pointer.{Place}
 use Rattle.block_log.specs.Log.{same_place}
 use Rattle.checkpoint.specs.Held.{is_one_of}
-use Rattle.migration.specs.Places.{is_before, put_place, with_places}
+use Rattle.migration.specs.Places.{Ascend, Before, is_before, put_place, with_places}
 use Rattle.migration.specs.private.Copying.{AreApart}
-
--- one place is before another, in other words
-abbrev pub Before : Place → Place → Type 0
-Before p q = (p.frame < q.frame) ⊎ ((p.frame ≡ q.frame) × ((p.block < q.block) ⊎ ((p.block ≡ q.block) × (p.generation < q.generation))))
 
 -- the test of two blocks of one frame
 abbrev pub in_one_frame : Place → Place → Bool
@@ -81,11 +77,6 @@ otherwise p q not other = elim (either q p) [
   | inr (inl before) ↦ before
   | inr (inr same) ↦ absurd (both_ways (same_place q p) other same)
 ]
-
--- places in order
-abbrev pub Ascend : List Place → Type 0
-Ascend [] = Unit {0}
-Ascend (p ∷ places) = AllByRecursion (Before p) places × Ascend places
 
 all_later : (p q : Place) (places : List Place) → Before p q → AllByRecursion (Before q) places → AllByRecursion (Before p) places
 all_later p q [] before all = tt

@@ -91,10 +91,10 @@ pub comes_from : OnePlace → (moves : List Move) (q : Place) → AreApart (old_
 comes_from one [] q apart is = absurd (cc)
 comes_from one (m ∷ moves) q apart is = elim (or_cases (same_place m.to q) (is_one_of (new_places moves) q) is) [
   | inl here ↦ record {
-      place = m.from;
-      moved = or_left (same_place m.from m.from) (is_moved moves m.from) (same_itself m.from);
-      goes = goes_here m moves m.from (same_itself m.from) ∙ one m.to q here;
-    }
+    place = m.from;
+    moved = or_left (same_place m.from m.from) (is_moved moves m.from) (same_itself m.from);
+    goes = goes_here m moves m.from (same_itself m.from) ∙ one m.to q here;
+  }
   | inr later ↦ (let rest = comes_from one moves q apart.1 later in
       let not : same_place m.from rest.place ≡ false = elim (cases_Bool (same_place m.from rest.place)) [
         | inl same ↦ absurd (both_ways (is_one_of (old_places moves) m.from) apart.0 (subst (λ (x : Place). is_one_of (old_places moves) x ≡ true) (sym (one m.from rest.place same)) (sym (moved_is moves rest.place) ∙ rest.moved)))

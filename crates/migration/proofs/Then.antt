@@ -136,8 +136,8 @@ apart_from laws used newer row later [] (l ∷ laters) clock is are apart = absu
 apart_from laws used newer row later (r ∷ rows) [] clock is are apart = absurd are
 apart_from laws used newer row later (r ∷ rows) (l ∷ laters) clock is are apart = (
   subst (λ (es : List EntryFields). ShareNoMoment es (entries_used newer (saved_row r.object l))) (sym is.entries)
-  (subst (λ (es : List EntryFields). ShareNoMoment (mapped_entries is.to (entries_used_by First used row)) es) (sym are.0.entries)
-  (share_none laws is.to are.0.to (entries_used_by First used row) (entries_used_by First used r) apart.0)),
+      (subst (λ (es : List EntryFields). ShareNoMoment (mapped_entries is.to (entries_used_by First used row)) es) (sym are.0.entries)
+      (share_none laws is.to are.0.to (entries_used_by First used row) (entries_used_by First used r) apart.0)),
   apart_from laws used newer row later rows laters clock is are.1 apart.1,
 )
 

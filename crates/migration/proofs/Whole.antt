@@ -106,8 +106,7 @@ new_follow used newer time h k object created o made (part ∷ parts) (n ∷ nex
     let ascends = rules.ascends in
     let later_made = rules.later in
     let given = rules.given in
-    let past = rules.made in
-    (
+    let past = rules.made in (
       record {
         ascends = omega (arith, same_object, was_object, is_object, ascends);
         later = omega (arith, same_made, was_created, is_created, kept, later_made);

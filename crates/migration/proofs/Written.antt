@@ -146,10 +146,10 @@ copied_row moves laws used row kept entries before middle after later can nothin
     let same = λ (t : ℕ). laws.same (contents_of used) (contents_of after.held) (first_told row kept entries) entries t (contents_kept used o moves after is) within in
     let led : pointers_of after.held o later ≡ map (mapped_slot f) (pointers_told kept entries) = led_is moves laws after.held row kept entries later wrote.journal wrote.checkpoint in
     let orderly : (latest : ℕ) → IsToldInOrder row kept entries latest → IsOrderly after.held o later latest = λ latest told. wrote.orderly latest
-        (subst (λ (i : Inode). IsOrderlyChain row.created latest i (entries_then moves entries)) (sym (first_is moves laws row kept entries)) (laws.in_order row.created latest (first_told row kept entries) entries told.chain))
-        told.made (beginning_mapped f (IsFromTo row.created latest row.checkpoint_moment) kept entries told.beginning) in
+    (subst (λ (i : Inode). IsOrderlyChain row.created latest i (entries_then moves entries)) (sym (first_is moves laws row kept entries)) (laws.in_order row.created latest (first_told row kept entries) entries told.chain))
+    told.made (beginning_mapped f (IsFromTo row.created latest row.checkpoint_moment) kept entries told.beginning) in
     let others : (kind : BlockKind) (other : ℕ) → (o == other) ≡ false → of_kind kind other after.held ≡ of_kind kind other before.held = λ kind other not. wrote.others kind other (and_right (same_kind Journal kind || is_checkpoint_kind kind) (o == other) not)
-          ∙ (λ i q. copying.others kind other q (and_right (same_kind kind Data) (o == other) not) i) in
+    ∙ (λ i q. copying.others kind other q (and_right (same_kind kind Data) (o == other) not) i) in
     let blocks : moved_blocks (kept_then moves kept) (entries_then moves entries) ≡ moved_blocks kept entries = same_blocks laws.holes f laws.each kept entries in
     record {
       stands = wrote.row;

@@ -1,5 +1,6 @@
 -- The places of data that an object still has, in the order in which they are copied.
-use Rattle.std.specs.Prelude.{Bool, nat_lt, ◌==◌, if◌then◌else◌, List, [], ◌∷◌, ◌++◌, Option, Some, None}
+use Rattle.std.specs.Prelude.{◌≡◌, ◌⊎◌, ◌<◌, Bool, nat_lt, ◌==◌, if◌then◌else◌, List, [], ◌∷◌, ◌++◌, Option, Some, None}
+use Rattle.std.specs.List.{AllByRecursion}
 use Rattle.s4_types.specs.Pointer.{Place}
 use Rattle.block_log.specs.Log.{same_place}
 use Rattle.codec.specs.declared.inodes.Inode.{Inode}
@@ -33,3 +34,14 @@ pointers_told kept entries = pointers_in kept ++ sides_told entries
 -- the places of its data, each once and in order
 abbrev pub places_told : Option Inode → List EntryFields → List Place
 places_told kept entries = with_places [] (pointers_told kept entries)
+
+-- ---- what this comes to
+
+-- One place is before another: its frame is, or of one frame its block is, or of one block its generation is.
+abbrev pub Before : Place → Place → Type 0
+Before p q = (p.frame < q.frame) ⊎ ((p.frame ≡ q.frame) × ((p.block < q.block) ⊎ ((p.block ≡ q.block) × (p.generation < q.generation))))
+
+-- places ascend strictly, so that none is listed twice
+abbrev pub Ascend : List Place → Type 0
+Ascend [] = Unit {0}
+Ascend (p ∷ places) = AllByRecursion (Before p) places × Ascend places

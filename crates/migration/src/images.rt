@@ -3,7 +3,7 @@
 ghost use Rattle.std.specs.Prelude.{◌≡◌, ◌⊎◌, ◌<◌, ◌≤◌, IfOk, IfErr};
 ghost use Rattle.std.specs.List.{AllByRecursion};
 ghost use Rattle.s4_types.specs.declared.limits.TheConstants.{MOST_FRAMES};
-ghost use Rattle.s4_types.specs.declared.refusals.Refusal.TheVariants.{NoMemory, NoRoom, Busy};
+ghost use Rattle.s4_types.specs.declared.refusals.Refusal.TheVariants.{NoMemory, NoRoom};
 ghost use Rattle.codec.specs.declared.versions.ImageVersion.TheVariants.{First};
 ghost use Rattle.segment_table.specs.Room.{log_of};
 ghost use Rattle.image_objects.specs.Versions.{ObjectStandsBy};
@@ -33,8 +33,7 @@ pub(crate) struct Copied {
 /// Copies the objects of all rows of an image that has this many frames into a new table of as many
 /// frames as are needed.
 ///
-/// NoRoom exactly where these are more than `MOST_FRAMES`; NoMemory where memory was refused, Busy
-/// where the count of those that share the table was full.
+/// NoRoom exactly where these are more than `MOST_FRAMES`; NoMemory where memory was refused.
 pub(crate) fn copy_image<U: UsedBlocks>(
     alloc: Global,
     used: &U,
@@ -51,7 +50,7 @@ pub(crate) fn copy_image<U: UsedBlocks>(
     ensures fits { IfOk result
         (λ c. frames_needed old (blocks_of_rows (U.used used.now) rows.now) ≤ MOST_FRAMES) }
     ensures refusal { IfErr result
-        (λ e. ((e ≡ NoMemory) ⊎ (e ≡ Busy))
+        (λ e. (e ≡ NoMemory)
         ⊎ ((e ≡ NoRoom)
         × (MOST_FRAMES < frames_needed old (blocks_of_rows (U.used used.now) rows.now)))) }
 {

@@ -8,6 +8,7 @@
 mod copies;
 mod counting;
 mod images;
+pub mod laws;
 mod migrating;
 mod moves;
 mod objects;
@@ -17,5 +18,4 @@ mod tables;
 mod writing;
 
 pub use migrating::{migrate, migrated};
-pub use moves::{Move, Moves};
-pub use rows::copy_row;
+pub use moves::Move;

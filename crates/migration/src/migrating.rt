@@ -1,7 +1,7 @@
 //! Images of the first version, made into images of the present one.
 ghost use Rattle.std.specs.Prelude.{◌≡◌, ◌⊎◌, ℕ, List, Some, IfOk, IfErr};
 ghost use Rattle.s4_types.specs.declared.refusals.Cause.{Cause as Found};
-ghost use Rattle.s4_types.specs.declared.refusals.Refusal.TheVariants.{NoMemory, Busy, Damaged};
+ghost use Rattle.s4_types.specs.declared.refusals.Refusal.TheVariants.{NoMemory, Damaged};
 ghost use Rattle.s4_types.specs.declared.refusals.Refusal.TheVariants.{NoRoom};
 ghost use Rattle.verifier.specs.Opened.{IsReadOf};
 ghost use Rattle.earlier_images.specs.Grammar.{FirstEarlierFault};
@@ -30,14 +30,13 @@ use verifier::{Image, verify};
 ///
 /// Damaged with the cause of the first of that version's tests that fails, where the bytes encode
 /// no image of it; NoRoom where the new image would have more than `MOST_FRAMES` frames, and only
-/// there; NoMemory where memory was refused, Busy where the count of those that share a new table
-/// was full.
+/// there; NoMemory where memory was refused.
 pub fn migrated(alloc: Global, bytes: &[u8]) -> Result<Vec<u8>, Refusal>
     ensures migrates { IfOk result (λ new. Migrates bytes.now new.items) }
     ensures layout { IfOk result (λ new. LaysOut bytes.now new.items) }
     ensures fits { IfOk result (λ new. IsTooMuch bytes.now → ⊥) }
     ensures refusal { IfErr result
-        (λ e. ((e ≡ NoMemory) ⊎ (e ≡ Busy))
+        (λ e. (e ≡ NoMemory)
         ⊎ (((e ≡ NoRoom) × IsTooMuch bytes.now)
         ⊎ ((cause : Found) × (e ≡ Damaged cause) × FirstEarlierFault bytes.now (Some cause)))) }
 {
@@ -53,7 +52,13 @@ pub fn migrated(alloc: Global, bytes: &[u8]) -> Result<Vec<u8>, Refusal>
     let copied = copy_image(alloc, used, old.rows(), old.clock(), used.len())?;
     let mut table = copied.table;
     table.frame_rules();
-    let new = write_image(alloc, &old, &mut table, copied.filled, copied.rows.as_slice())?;
+    let new = write_image(
+        alloc,
+        &old,
+        &mut table,
+        copied.filled,
+        copied.rows.as_slice(),
+    )?;
     Ok(new)
 }
 
@@ -62,7 +67,7 @@ pub fn migrated(alloc: Global, bytes: &[u8]) -> Result<Vec<u8>, Refusal>
 pub fn migrate<R: Threads>(rt: &R, alloc: Global, bytes: &[u8]) -> Result<Image, Refusal>
     ensures migrates { IfOk result (λ image. (new : List ℕ) × Migrates bytes.now new × LaysOut bytes.now new × IsReadOf new image) }
     ensures refusal { IfErr result
-        (λ e. ((e ≡ NoMemory) ⊎ (e ≡ Busy))
+        (λ e. (e ≡ NoMemory)
         ⊎ (((e ≡ NoRoom) × IsTooMuch bytes.now)
         ⊎ ((cause : Found) × (e ≡ Damaged cause) × FirstEarlierFault bytes.now (Some cause)))) }
 {

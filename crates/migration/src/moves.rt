@@ -14,7 +14,7 @@ pub struct Move {
 
 /// Where blocks go: a place that isn't among them stays.
 #[derive(Drop)]
-pub struct Moves {
+pub(crate) struct Moves {
     pub(crate) list: Vec<Move>,
 }
 

@@ -11,13 +11,13 @@ use crate::moves::Moves;
 use crate::places::places_told;
 use block_log::Blocks;
 use block_log::laws::{one_place_has_one_name, places_taken_add_up};
-use chain_rewriting::{map_entries, map_inode};
 use chain_rewriting::mapping_laws::{
     a_mapped_chain_shows_the_same, a_mapped_chain_takes_as_many_bytes,
     a_mapped_chain_tells_of_mapped_places, a_mapped_run_is_a_run, mapped_entries_stay_in_order,
 };
-use checkpoint::laws::a_checkpoint_takes_its_blocks;
 use chain_rewriting::renaming_laws::what_a_chain_tells;
+use chain_rewriting::{map_entries, map_inode};
+use checkpoint::laws::a_checkpoint_takes_its_blocks;
 use codec::{Entry, Inode};
 use image_objects::{ImageRow, UsedBlocks};
 use object_map::Row;
@@ -43,7 +43,7 @@ fn map_kept(moves: &Moves, kept: Option<Inode>) -> Option<Inode>
 ///
 /// There must be room for all of its blocks. NoMemory alone, where the memory for the list of its
 /// blocks is refused; then the table may have some of them.
-pub fn copy_row<B: Blocks, U: UsedBlocks>(
+pub(crate) fn copy_row<B: Blocks, U: UsedBlocks>(
     alloc: Global,
     table: &mut B,
     used: &U,

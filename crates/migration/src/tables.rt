@@ -1,7 +1,7 @@
 //! A new table, filled from its first frame on.
-ghost use Rattle.std.specs.Prelude.{◌≡◌, ◌⊎◌, IfOk, IfErr, None};
+ghost use Rattle.std.specs.Prelude.{◌≡◌, IfOk, IfErr};
 ghost use Rattle.s4_types.specs.Sizes.{IsFrameCount};
-ghost use Rattle.s4_types.specs.declared.refusals.Refusal.TheVariants.{NoMemory, Busy};
+ghost use Rattle.s4_types.specs.declared.refusals.Refusal.TheVariants.{NoMemory};
 ghost use Rattle.segment_table.specs.Room.{log_of};
 ghost use Rattle.migration.specs.Frames.{IsFilled, fresh_log};
 
@@ -32,13 +32,16 @@ impl Model for NewTable {
 impl NewTable {
     /// A table of `FEWEST_FRAMES` to `MOST_FRAMES` frames: nothing is held.
     ///
-    /// NoMemory where memory was refused, Busy where the count of those that share it was full.
+    /// NoMemory alone, where memory was refused.
     pub(crate) fn new(alloc: Global, frames: usize) -> Result<Self, Refusal>
         requires { IsFrameCount frames }
         ensures log { IfOk result (λ t. log_of t ≡ fresh_log frames) }
-        ensures refusal { IfErr result (λ e. (e ≡ NoMemory) ⊎ (e ≡ Busy)) }
+        ensures refusal { IfErr result (λ e. e ≡ NoMemory) }
     {
-        let table = SegmentTable::new(alloc, frames)?;
+        // Nobody shares a new table yet, so that no count of those who do is full.
+        let Ok(table) = SegmentTable::new(alloc, frames) else {
+            return Err(Refusal::NoMemory);
+        };
         Ok(NewTable { table })
     }
 

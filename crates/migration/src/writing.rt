@@ -89,7 +89,12 @@ pub(crate) fn write_image(
 {
     table.frame_rules();
     let parts = parts_of(alloc, old.rows(), laters)?;
-    let header = header_of(old, table.frame_count(), parts.len() as u32, old.spans().len() as u32);
+    let header = header_of(
+        old,
+        table.frame_count(),
+        parts.len() as u32,
+        old.spans().len() as u32,
+    );
     let length = image_length(header.frames, with_blocks, header.rows, header.spans);
     let mut out = Vec::with_capacity(alloc, length)?;
     push_header(&mut out, &header)?;

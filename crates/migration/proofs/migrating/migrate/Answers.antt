@@ -1,7 +1,7 @@
 use Rattle.std.proofs.Common.{◌≡◌, ◌⊎◌, inl, inr, ℕ, List, Some, Result, Ok, Err, IfOk, IfErr, subst, sym}
 use Rattle.s4_types.specs.declared.refusals.Cause.{Cause as Found}
 use Rattle.s4_types.specs.declared.refusals.Refusal.{Refusal}
-use Rattle.s4_types.specs.declared.refusals.Refusal.TheVariants.{NoMemory, Busy, Damaged, NoRoom}
+use Rattle.s4_types.specs.declared.refusals.Refusal.TheVariants.{NoMemory, Damaged, NoRoom}
 use Rattle.verifier.specs.Grammar.{FirstFault, SpellsDrive}
 use Rattle.verifier.specs.Images.{ImageFields}
 use Rattle.verifier.specs.Opened.{IsReadOf}
@@ -29,9 +29,9 @@ returns-clause-refusal g c =
     let old = c.args.bytes.now in
     let written = c.in_ok-new.ensures.migrates.written in
     err_so (λ e. (e ≡ NoMemory) ⊎ ((cause : Found) × (e ≡ Damaged cause) × FirstFault c.as_slice.result.now (Some cause)))
-    (λ e. ((e ≡ NoMemory) ⊎ (e ≡ Busy)) ⊎ (((e ≡ NoRoom) × IsTooMuch old) ⊎ ((cause : Found) × (e ≡ Damaged cause) × FirstEarlierFault old (Some cause)))) c.verify.result
+    (λ e. (e ≡ NoMemory) ⊎ (((e ≡ NoRoom) × IsTooMuch old) ⊎ ((cause : Found) × (e ≡ Damaged cause) × FirstEarlierFault old (Some cause)))) c.verify.result
     (λ e bad. elim bad [
-      | inl memory ↦ inl (inl memory)
+      | inl memory ↦ inl memory
       | inr fault ↦ absurd (c.what_has_a_fault_spells_nothing.ensures c.as_slice.result.now fault.0 c.in_ok-new.ensures.migrates.is fault.2
           (subst (λ (bytes : List ℕ). SpellsDrive bytes c.in_ok-new.ensures.migrates.is) (sym c.as_slice.ensures.value) written))
     ]) c.verify.ensures.damaged

@@ -1,0 +1,18 @@
+use Rattle.std.specs.Prelude.{IfSome}
+use Rattle.std.proofs.Common.{◌≡◌, true, []}
+use Rattle.std.proofs.lemmas.List.Elements.{All-contains, All-from_recursion}
+use Rattle.checkpoint.specs.Held.{is_one_of}
+use Rattle.migration.specs.Places.{places_told, pointers_told}
+use Rattle.migration.proofs.Ascending.{ascend_with}
+use Rattle.migration.proofs.Mapping.{is_told}
+use Rattle.migration.proofs.Moving.{same_itself}
+use Rattle.migration.proofs.Sorting.{with_has}
+use Rattle.migration.proofs.laws.places_of_data_ascend.Goals as goal
+
+pub returns : goal.returns
+returns c = record {
+  ascend = λ kept entries. ascend_with [] (pointers_told kept entries) tt;
+  each = λ kept entries p there. All-contains (λ s. IfSome s (λ q. is_one_of (places_told kept entries) q ≡ true)) (pointers_told kept entries) _
+      (All-from_recursion (λ s. IfSome s (λ q. is_one_of (places_told kept entries) q ≡ true)) (pointers_told kept entries) (with_has same_itself [] (pointers_told kept entries))) there;
+  only = λ kept entries p is. is_told c.one_place_has_one_name.ensures (pointers_told kept entries) p is;
+}
