@@ -4,6 +4,9 @@ from __future__ import annotations
 from typing import ClassVar, Dict, NamedTuple, Optional, Type
 
 
+ADVICE = {"s4d: Damaged header": "image of an earlier version: `s4d migrate OLD NEW` makes a new one; or no image"}
+
+
 class Ended(NamedTuple):
     """How a program ended: its exit status, negative for a signal, and its text on standard error."""
 
@@ -11,7 +14,8 @@ class Ended(NamedTuple):
     said: str
 
     def __str__(self) -> str:
-        return f"{self.said or 'the program printed nothing'} (status {self.status})"
+        advice = f"; {ADVICE[self.said]}" if self.said in ADVICE else ""
+        return f"{self.said or 'the program printed nothing'} (status {self.status}{advice})"
 
 
 class Error(Exception):
