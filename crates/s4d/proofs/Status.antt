@@ -1,11 +1,24 @@
 -- What the status of a line of words says that isn't done.
-use Rattle.std.proofs.Common.{◌≡◌, ◌⊎◌, ℕ, List, Option, arith, inl, inr, refl}
-use Rattle.clap.specs.Walk.{Text}
+use Rattle.std.proofs.Common.{◌≡◌, ◌⊎◌, ℕ, List, Option, Some, None, arith, inl, inr, refl}
+use Rattle.clap.specs.Walk.{Row, Text}
+use Rattle.s4_types.specs.Sizes.{IsFrameCount}
+use Rattle.s4d_command.specs.CommandLine.{Spells}
 use Rattle.s4d_command.specs.declared.Command.{Command}
 use Rattle.s4d_command.specs.declared.Command.TheVariants as command
+use Rattle.s4d_command.specs.declared.New.{New}
+use Rattle.s4d_command.specs.declared.Pipe.{Pipe}
 use Rattle.s4d.specs.declared.faults.Undone.{Undone}
 use Rattle.s4d.specs.declared.faults.Undone.TheVariants as undone
 use Rattle.s4d.specs.Performing.{IsUsage, SaysUndone, SaysUndoneOf, status_of}
+
+-- a session of a new drive and a new image have frames within the limits
+pub pipe_frames : (named : Option (Text × List Row)) (pipe : Pipe) → Spells named (command.Pipe pipe) → IsFrameCount pipe.frames
+pipe_frames None pipe says = absurd says
+pipe_frames (Some named) pipe says = (says.1.fewest, says.1.most)
+
+pub new_frames : (named : Option (Text × List Row)) (new : New) → Spells named (command.New new) → IsFrameCount new.frames
+new_frames None new says = absurd says
+new_frames (Some named) new says = (says.1.fewest, says.1.most)
 
 -- it is 1 or 2
 pub some_status : (why : Undone) → (status_of why ≡ 1) ⊎ (status_of why ≡ 2)
@@ -26,6 +39,7 @@ module _ (opens : List ℕ → Option (List ℕ) → Type 0) (files files' : Lis
   not_usage (command.Verify verify) says = says
   not_usage (command.Run run) says = says
   not_usage (command.At at) says = says
+  not_usage (command.Migrate migrate) says = says
 
   -- 2 is that of words which are none
   pub usage_of : (words : List Text) (why : Undone) → SaysUndone opens files files' input output input' output' failures failures' words why → status_of why ≡ 2 → IsUsage words

@@ -1,3 +1,4 @@
+pub mod Migrating
 pub mod Opening
 pub mod Performing
 pub mod Piping

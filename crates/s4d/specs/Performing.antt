@@ -1,11 +1,12 @@
 -- What the status of a line of words says.
-use Rattle.std.specs.Prelude.{◌≡◌, ◌≢◌, ◌⊎◌, ℕ, Bool, List, Option, None, true, false, ⊤}
+use Rattle.std.specs.Prelude.{◌≡◌, ◌≢◌, ◌⊎◌, ◌+◌, ℕ, Bool, List, Option, None, true, false, ⊤}
 use Rattle.clap.specs.Takes.{takes}
 use Rattle.clap.specs.Walk.{Text}
 use Rattle.clap.specs.Simple.{subcommand_of}
 use Rattle.s4_types.specs.declared.refusals.Refusal.TheVariants.{Busy, NoMemory}
 use Rattle.s4d_command.specs.CommandLine.{line, Spells, SpellsNone}
 use Rattle.s4d_command.specs.declared.At.{At}
+use Rattle.s4d_command.specs.declared.Migrate.{Migrate}
 use Rattle.s4d_command.specs.declared.New.{New}
 use Rattle.s4d_command.specs.declared.Pipe.{Pipe}
 use Rattle.s4d_command.specs.declared.Run.{Run}
@@ -13,6 +14,7 @@ use Rattle.s4d_command.specs.declared.Verify.{Verify}
 use Rattle.s4d_command.specs.declared.Command.{Command}
 use Rattle.s4d_command.specs.declared.Command.TheVariants as command
 use Rattle.serving.specs.declared.ends.ServeEnd.TheVariants.{Ended}
+use Rattle.image_commands.specs.declared.faults.Fault.TheVariants.{WriteFailed}
 use Rattle.image_commands.specs.declared.host_files.Output.{Output}
 use Rattle.image_commands.specs.Faults.{KeepsMade, SaysUnmade, SaysUnverified}
 use Rattle.image_commands.specs.Making.{HasNew}
@@ -20,6 +22,7 @@ use Rattle.image_commands.specs.ReadingPast.{GivesObject, SaysUngiven}
 use Rattle.image_commands.specs.Verifying.{TellsImage}
 use Rattle.s4d.specs.declared.faults.Undone.{Undone}
 use Rattle.s4d.specs.declared.faults.Undone.TheVariants as undone
+use Rattle.s4d.specs.Migrating.{HasMigrated, MigratesImage, SaysUnmigrated}
 use Rattle.s4d.specs.Opening.{HoldsAt}
 use Rattle.s4d.specs.Piping.{Pipes}
 use Rattle.s4d.specs.Running.{RunsImage, SaysNotRun}
@@ -44,13 +47,14 @@ status_of _ = 1
 -- A command other than a session of a new drive is done, by the bytes that a writer of a file holds, by what is known of files before and
 -- after, and by what the output has then: there is the image of a new drive of this many frames with this window; the line of an image is
 -- written; an image was read, a drive that began with it served each session to the end of its input, and what it is saved as is there;
--- the bytes of an object at a moment are written.
+-- the bytes of an object at a moment are written; there is the new image of an earlier one, and its line is written.
 abbrev pub IsDoneOver : (opens : List ℕ → Option (List ℕ) → Type 0) → (files files' : List ℕ → Option (List ℕ)) → (output output' : Option (List ℕ)) → Command → Type 0
 IsDoneOver opens files files' output output' (command.Pipe pipe) = ⊥
 IsDoneOver opens files files' output output' (command.New new) = HasNew new.frames new.window (files' new.image.now)
 IsDoneOver opens files files' output output' (command.Verify verify) = TellsImage (files verify.image.now) output output'
 IsDoneOver opens files files' output output' (command.Run run) = RunsImage opens run files files' (files' run.image.now) true
 IsDoneOver opens files files' output output' (command.At at) = GivesObject (files at.image.now) at.object at.moment output output'
+IsDoneOver opens files files' output output' (command.Migrate migrate) = MigratesImage files files' output output' migrate
 
 -- The words give a session; it read the input, wrote the output, and came to the end of the input. Or they give another command, which
 -- is done.
@@ -81,6 +85,15 @@ abbrev pub SaysNotGiven : (files : List ℕ → Option (List ℕ)) → (failures
 SaysNotGiven files failures failures' at (undone.Failed fault) = SaysUngiven (files at.image.now) at.image.now at.object at.moment failures failures' fault
 SaysNotGiven files failures failures' at _ = ⊥
 
+-- no new image of an earlier one is there; or it is there, and may not last, or its line isn't written, as the output failed once more
+abbrev pub SaysNotMigrated : (files files' : List ℕ → Option (List ℕ)) → (failures failures' : ℕ) → Migrate → Undone → Type 0
+SaysNotMigrated files files' failures failures' asked (undone.Failed WriteFailed) =
+    (failures' ≡ failures + 1) × HasMigrated (files asked.earlier.now) (files' asked.image.now)
+SaysNotMigrated files files' failures failures' asked (undone.Failed fault) = SaysUnmigrated files files' asked fault
+SaysNotMigrated files files' failures failures' asked (undone.Unlasting path) =
+    (path.now ≡ asked.image.now) × HasMigrated (files asked.earlier.now) (files' asked.image.now)
+SaysNotMigrated files files' failures failures' asked _ = ⊥
+
 -- Sessions weren't served or not saved; what they did is there, and may not last; or it is there, and not each session came to the end of
 -- its input, with its replies in its file.
 abbrev pub SaysRunUndone : (opens : List ℕ → Option (List ℕ) → Type 0) → (files files' : List ℕ → Option (List ℕ)) → Run → Undone → Type 0
@@ -100,6 +113,7 @@ module _ (opens : List ℕ → Option (List ℕ) → Type 0) (files files' : Lis
   SaysUndoneOf (command.Verify verify) why = SaysNotVerified files failures failures' verify why
   SaysUndoneOf (command.Run run) why = SaysRunUndone opens files files' run why
   SaysUndoneOf (command.At at) why = SaysNotGiven files failures failures' at why
+  SaysUndoneOf (command.Migrate migrate) why = SaysNotMigrated files files' failures failures' migrate why
 
   -- Why a line of words isn't done: the words give no command; memory was short for them; or they encode one that isn't done.
   abbrev pub SaysUndone : List Text → Undone → Type 0

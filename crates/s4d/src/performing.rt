@@ -5,7 +5,8 @@ ghost use Rattle.s4_types.specs.Sizes.{IsFrameCount};
 ghost use Rattle.s4d.specs.Opening.{HoldsAt};
 ghost use Rattle.s4d.specs.Performing.{IsDone, IsUndone, IsUsage, SaysNotGiven, SaysNotNew};
 ghost use Rattle.s4d.specs.Performing.{SaysNotVerified, SaysRunUndone, SaysUndone, SaysUnpiped};
-ghost use Rattle.s4d.specs.Performing.{status_of};
+ghost use Rattle.s4d.specs.Performing.{SaysNotMigrated, status_of};
+ghost use Rattle.s4d.specs.Migrating.{MigratesImage};
 ghost use Rattle.image_commands.specs.Making.{HasNew};
 ghost use Rattle.image_commands.specs.ReadingPast.{GivesObject};
 ghost use Rattle.image_commands.specs.Verifying.{TellsImage};
@@ -13,10 +14,11 @@ ghost use Rattle.s4d.specs.Piping.{Pipes};
 ghost use Rattle.s4d.specs.Running.{RunsImage};
 
 use crate::faults::Undone;
+use crate::migrating::migrate_file;
 use crate::piping::serve_pipe;
 use crate::running::run_file;
-use image_commands::{Files, Placed, make_file, verify_file, write_object};
-use s4d_command::{At, Command, CommandError, New, Pipe, Run, Verify, command_of};
+use image_commands::{Files, Placed, make_file, verify_file, write_object, write_out};
+use s4d_command::{At, Command, CommandError, Migrate, New, Pipe, Run, Verify, command_of};
 use serving::{ServeEnd, Sink, Source};
 use std::alloc::Global;
 use std::convert::AsStr;
@@ -105,6 +107,7 @@ fn perform_line<
         Ok(Command::Verify(asked)) => perform_verify(rt, alloc, files, asked, writer),
         Ok(Command::At(asked)) => perform_at(rt, alloc, files, asked, writer),
         Ok(Command::Run(run)) => perform_run(rt, alloc, files, run, errors),
+        Ok(Command::Migrate(asked)) => perform_migrate(rt, alloc, files, asked, writer),
         Err(CommandError::NoMemory) => Err(Undone::NoMemory),
         Err(CommandError::Usage) => Err(Undone::Usage),
     }
@@ -188,6 +191,35 @@ fn perform_at<'a, T: Threads, F: Files, W: Sink>(
         asked.entry) }
 {
     match write_object(rt, alloc, files, asked, writer) {
+        Ok(()) => Ok(()),
+        Err(fault) => Err(Undone::Failed(fault)),
+    }
+}
+
+// Makes a new image of an earlier one, and writes the line of its numbers.
+fn perform_migrate<'a, T: Threads, F: Files, W: Sink>(
+    rt: &T,
+    alloc: Global,
+    files: &mut F,
+    asked: Migrate<'a>,
+    writer: &mut W,
+) -> Result<(), Undone<'a>>
+    requires writer { W.failures writer.old + 1 < 2 ^ 64 }
+    ensures done { OnOk result
+        (MigratesImage (F.contents files.old) (F.contents files.new) (W.passed writer.old)
+        (W.passed writer.new) asked.entry) }
+    ensures undone { IfErr result
+        (SaysNotMigrated (F.contents files.old) (F.contents files.new) (W.failures writer.old)
+        (W.failures writer.new) asked.entry) }
+{
+    let made = match migrate_file(rt, alloc, files, asked) {
+        Ok(made) => made,
+        Err(fault) => return Err(Undone::Failed(fault)),
+    };
+    if made.placed == Placed::NotLasting {
+        return Err(Undone::Unlasting(asked.image));
+    }
+    match write_out(writer, made.line.as_bytes()) {
         Ok(()) => Ok(()),
         Err(fault) => Err(Undone::Failed(fault)),
     }

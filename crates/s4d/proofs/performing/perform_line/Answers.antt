@@ -1,9 +1,24 @@
-use Rattle.std.proofs.Common.{inl, inr, map, subst}
+use Rattle.std.proofs.Common.{Err, ap, inl, inr, map, refl, subst}
 use Rattle.clap.specs.Simple.{subcommand_of}
 use Rattle.s4d_command.specs.CommandLine.{line, Spells}
 use Rattle.s4d_command.specs.declared.Command.TheVariants as command
+use Rattle.s4d_command.specs.declared.CommandError.{CommandError}
 use Rattle.s4d.proofs.Ends.{if_err, on_ok}
+use Rattle.s4d.proofs.Status.{new_frames, pipe_frames}
 use Rattle.s4d.proofs.performing.perform_line.Goals as goal
+
+pub perform_session-requires-clause-frames : goal.perform_session-requires-clause-frames
+perform_session-requires-clause-frames g c =
+    let words = map g.S.AsStr.text c.args.words.now in
+    pipe_frames (subcommand_of line words) c.in-Ok-Pipe.pipe (subst (Spells (subcommand_of line words)) c.in-Ok-Pipe.field-0-is c.in-Ok-Pipe.ensures.spelled)
+
+pub perform_new-requires-clause-frames : goal.perform_new-requires-clause-frames
+perform_new-requires-clause-frames g c κs within =
+    let words = map g.S.AsStr.text c.args.words.now in
+    new_frames (subcommand_of line words) c.in-Ok-New.new (subst (Spells (subcommand_of line words)) c.in-Ok-New.field-0-is c.in-Ok-New.ensures.spelled)
+
+pub returns-in-Err-Usage-clause-undone : goal.returns-in-Err-Usage-clause-undone
+returns-in-Err-Usage-clause-undone g c = inl (refl, c.in-Err-Usage.ensures.usage (ap (λ (e : CommandError). Err e) c.in-Err-Usage.field-0-is))
 
 pub returns-in-Ok-Pipe : goal.returns-in-Ok-Pipe
 returns-in-Ok-Pipe g c =
@@ -48,4 +63,13 @@ returns-in-Ok-Run g c =
     record {
       done = on_ok c.perform_run.result (λ fact. inr (command.Run x, spelled, fact)) c.perform_run.ensures.done;
       undone = if_err c.perform_run.result (λ why says. inr (inr (command.Run x, spelled, says))) c.perform_run.ensures.undone;
+    }
+
+pub returns-in-Ok-Migrate : goal.returns-in-Ok-Migrate
+returns-in-Ok-Migrate g c =
+    let x = c.in-Ok-Migrate.asked in
+    let spelled = subst (Spells (subcommand_of line (map g.S.AsStr.text c.args.words.now))) c.in-Ok-Migrate.field-0-is c.in-Ok-Migrate.ensures.spelled in
+    record {
+      done = on_ok c.perform_migrate.result (λ fact. inr (command.Migrate x, spelled, fact)) c.perform_migrate.ensures.done;
+      undone = if_err c.perform_migrate.result (λ why says. inr (inr (command.Migrate x, spelled, says))) c.perform_migrate.ensures.undone;
     }

@@ -1,0 +1,141 @@
+-- Why no new image of an earlier one is in its place, from why a step towards it failed.
+use Rattle.std.proofs.Common.{◌≡◌, ◌⊎◌, ◌∙◌, ℕ, List, Option, Some, None, inl, inr, refl, sym, subst}
+use Rattle.s4_types.specs.declared.refusals.Cause.{Cause}
+use Rattle.s4_types.specs.declared.refusals.Refusal.{Refusal}
+use Rattle.s4_types.specs.declared.refusals.Refusal.TheVariants.{Busy, Damaged, NoMemory, NoRoom}
+use Rattle.s4d_command.specs.declared.Migrate.{Migrate}
+use Rattle.image_commands.specs.declared.faults.Fault.{Fault}
+use Rattle.image_commands.specs.declared.faults.Fault.TheVariants.{CannotRead, CannotWrite, HasBytes, KeptIn, Refused, WriteFailed}
+use Rattle.image_commands.specs.Faults.{KeepsNew, SaysUnplaced, SaysUnreadable, SaysUnwritable}
+use Rattle.image_commands.specs.Files.{AreKnown}
+use Rattle.image_commands.specs.Verifying.{image_line}
+use Rattle.image_parts.specs.Image.{Image as ImageParts, image_in}
+use Rattle.verifier.specs.Grammar.{SpellsDrive}
+use Rattle.verifier.specs.Images.{ImageFields, IsImageOf}
+use Rattle.verifier.specs.Opened.{IsReadOf}
+use Rattle.earlier_images.specs.Grammar.{FirstEarlierFault}
+use Rattle.migration.specs.Migrated.{IsTooMuch, LaysOut, Migrates}
+use Rattle.s4d.specs.Migrating.{HasLine, HasMigrated, RefusesEarlier, SaysEarlierUnread, SaysNoPlace, SaysUnmigrated, SaysUntaken}
+use Rattle.s4d.proofs.Fronts.{known_damaged}
+
+-- memory was short
+pub memory : (known : Option (List ℕ)) (refusal : Refusal) → refusal ≡ NoMemory → RefusesEarlier known refusal
+memory known refusal is = subst (RefusesEarlier known) (sym is) (inl refl)
+
+-- what is read of a file becomes no new image
+pub refused_so : (known : Option (List ℕ)) (bytes : List ℕ) (e : Refusal) → AreKnown known bytes
+    → ((e ≡ NoMemory) ⊎ (e ≡ Busy)) ⊎ (((e ≡ NoRoom) × IsTooMuch bytes) ⊎ ((cause : Cause) × (e ≡ Damaged cause) × FirstEarlierFault bytes (Some cause)))
+    → RefusesEarlier known e
+refused_so known bytes e same (inl (inl short)) = memory known e short
+refused_so known bytes e same (inl (inr busy)) = subst (RefusesEarlier known) (sym busy) (inr refl)
+refused_so None bytes e same (inr (inl (is, much))) = subst (RefusesEarlier None) (sym is) tt
+refused_so (Some whole) bytes e same (inr (inl (is, much))) = subst (RefusesEarlier (Some whole)) (sym is) (subst IsTooMuch (sym same) much)
+refused_so known bytes e same (inr (inr (cause, is, fault))) = subst (RefusesEarlier known) (sym is) (known_damaged known bytes cause same fault)
+
+-- nor do the same bytes
+pub refused_alike : (bytes other : List ℕ) (e : Refusal) → bytes ≡ other
+    → ((e ≡ NoMemory) ⊎ (e ≡ Busy)) ⊎ (((e ≡ NoRoom) × IsTooMuch bytes) ⊎ ((cause : Cause) × (e ≡ Damaged cause) × FirstEarlierFault bytes (Some cause)))
+    → ((e ≡ NoMemory) ⊎ (e ≡ Busy)) ⊎ (((e ≡ NoRoom) × IsTooMuch other) ⊎ ((cause : Cause) × (e ≡ Damaged cause) × FirstEarlierFault other (Some cause)))
+refused_alike bytes other e same refused =
+    subst (λ (xs : List ℕ). ((e ≡ NoMemory) ⊎ (e ≡ Busy)) ⊎ (((e ≡ NoRoom) × IsTooMuch xs) ⊎ ((cause : Cause) × (e ≡ Damaged cause) × FirstEarlierFault xs (Some cause)))) same refused
+
+-- the line of an image that was read of a file's bytes
+pub has_line : (known : Option (List ℕ)) (bytes : List ℕ) (image : ImageFields) (line saved : List ℕ) → ((xs : List ℕ) (parts : ImageParts) → SpellsDrive xs parts → image_in xs ≡ parts)
+    → AreKnown known bytes → IsReadOf bytes image → saved ≡ image_line image → line ≡ saved → HasLine known line
+has_line known bytes image line saved one read of told is =
+    let same : image_in bytes ≡ of.parts = one bytes of.parts of.spelled in
+    record {
+      image = image;
+      verified = record {
+        bytes = bytes;
+        read = read;
+        spelled = subst (SpellsDrive bytes) (sym same) of.spelled;
+        told = subst (λ (parts : ImageParts). IsImageOf parts image) (sym same) of.told;
+      };
+      is = is ∙ told;
+    }
+
+-- an earlier image that can't be read
+pub earlier_unread : (known : Option (List ℕ)) (earlier : List ℕ) (fault : Fault) → SaysUnreadable earlier fault → SaysEarlierUnread known earlier fault
+earlier_unread known earlier (Refused refusal) says = memory known refusal says
+earlier_unread known earlier (CannotRead path obstacle) says = says
+earlier_unread known earlier (CannotWrite path obstacle) says = absurd says
+earlier_unread known earlier (HasBytes path) says = absurd says
+earlier_unread known earlier (KeptIn path obstacle kept) says = absurd says
+earlier_unread known earlier WriteFailed says = absurd says
+
+-- one that can't be claimed, as it can't be written
+pub untaken : (earlier : List ℕ) (fault : Fault) → SaysUnwritable earlier fault → SaysUntaken earlier fault
+untaken earlier (Refused refusal) says = says
+untaken earlier (CannotRead path obstacle) says = absurd says
+untaken earlier (CannotWrite path obstacle) says = says
+untaken earlier (HasBytes path) says = absurd says
+untaken earlier (KeptIn path obstacle kept) says = absurd says
+untaken earlier WriteFailed says = absurd says
+
+-- a place that can't be written is none
+pub no_place : (known : Option (List ℕ)) (image : List ℕ) (fault : Fault) → SaysUnwritable image fault → SaysNoPlace known image fault
+no_place known image (Refused refusal) says = says
+no_place known image (CannotRead path obstacle) says = absurd says
+no_place known image (CannotWrite path obstacle) says = says
+no_place known image (HasBytes path) says = absurd says
+no_place known image (KeptIn path obstacle kept) says = absurd says
+no_place known image WriteFailed says = absurd says
+
+-- and an image that can't be written there isn't in it
+pub unplaced : (image : List ℕ) (fault : Fault) → SaysUnwritable image fault → SaysUnplaced image fault
+unplaced image (Refused refusal) says = says
+unplaced image (CannotRead path obstacle) says = absurd says
+unplaced image (CannotWrite path obstacle) says = says
+unplaced image (HasBytes path) says = absurd says
+unplaced image (KeptIn path obstacle kept) says = absurd says
+unplaced image WriteFailed says = absurd says
+
+-- nor is it in another file
+pub names_none : (image bytes : List ℕ) (files : List ℕ → Option (List ℕ)) (fault : Fault) → SaysUnwritable image fault → KeepsNew files bytes fault
+names_none image bytes files (Refused refusal) says = tt
+names_none image bytes files (CannotRead path obstacle) says = tt
+names_none image bytes files (CannotWrite path obstacle) says = tt
+names_none image bytes files (HasBytes path) says = tt
+names_none image bytes files (KeptIn path obstacle kept) says = absurd says
+names_none image bytes files WriteFailed says = tt
+
+-- What is known of files, and what was asked for.
+module _ (files files' : List ℕ → Option (List ℕ)) (asked : Migrate) where
+  -- there is no place
+  pub for_no_place : (fault : Fault) → SaysNoPlace (files asked.image.now) asked.image.now fault → SaysUnmigrated files files' asked fault
+  for_no_place (Refused refusal) says = memory (files asked.earlier.now) refusal says
+  for_no_place (CannotRead path obstacle) says = absurd says
+  for_no_place (CannotWrite path obstacle) says = inr says
+  for_no_place (HasBytes path) says = says
+  for_no_place (KeptIn path obstacle kept) says = absurd says
+  for_no_place WriteFailed says = absurd says
+
+  -- the earlier image isn't claimed
+  pub for_untaken : (fault : Fault) → SaysUntaken asked.earlier.now fault → SaysUnmigrated files files' asked fault
+  for_untaken (Refused refusal) says = memory (files asked.earlier.now) refusal says
+  for_untaken (CannotRead path obstacle) says = says
+  for_untaken (CannotWrite path obstacle) says = inl says
+  for_untaken (HasBytes path) says = absurd says
+  for_untaken (KeptIn path obstacle kept) says = absurd says
+  for_untaken WriteFailed says = absurd says
+
+  -- it isn't read
+  pub for_unread : (fault : Fault) → SaysEarlierUnread (files asked.earlier.now) asked.earlier.now fault → SaysUnmigrated files files' asked fault
+  for_unread (Refused refusal) says = says
+  for_unread (CannotRead path obstacle) says = says
+  for_unread (CannotWrite path obstacle) says = absurd says
+  for_unread (HasBytes path) says = absurd says
+  for_unread (KeptIn path obstacle kept) says = absurd says
+  for_unread WriteFailed says = absurd says
+
+  -- the new one isn't in its place
+  pub for_unplaced : (old new : List ℕ) → AreKnown (files asked.earlier.now) old → Migrates old new → LaysOut old new
+      → (fault : Fault) → SaysUnplaced asked.image.now fault → KeepsNew files' new fault → SaysUnmigrated files files' asked fault
+  for_unplaced old new read migrates layout (Refused refusal) says kept = memory (files asked.earlier.now) refusal says
+  for_unplaced old new read migrates layout (CannotRead path obstacle) says kept = absurd says
+  for_unplaced old new read migrates layout (CannotWrite path obstacle) says kept = inr says
+  for_unplaced old new read migrates layout (HasBytes path) says kept = absurd says
+  for_unplaced old new read migrates layout (KeptIn path obstacle file) says kept =
+      (says, record { old = old; read = read; new = new; migrates = migrates; layout = layout; kept = kept })
+  for_unplaced old new read migrates layout WriteFailed says kept = absurd says

@@ -1,0 +1,228 @@
+//! `migrate`: a new image of one of the first version.
+ghost use Rattle.std.specs.Prelude.{◌≡◌, ◌⊎◌, ℕ, false, [], List, None, IfErr, IfOk, OnErr, OnOk};
+ghost use Rattle.std.specs.Prelude.{string_bytes};
+ghost use Rattle.std.specs.Io.KnownBytes.{Keeps};
+ghost use Rattle.s4_types.specs.declared.refusals.Cause.{Cause as Found};
+ghost use Rattle.s4_types.specs.declared.refusals.Refusal.TheVariants.{Busy, Damaged, NoMemory};
+ghost use Rattle.s4_types.specs.declared.refusals.Refusal.TheVariants.{NoRoom};
+ghost use Rattle.segment_table.specs.Room.{log_of};
+ghost use Rattle.version_store.specs.Store.{fields_of};
+ghost use Rattle.drive.specs.Opened.{base_of};
+ghost use Rattle.image_parts.specs.Image.{Image as ImageParts};
+ghost use Rattle.verifier.specs.Grammar.{SpellsDrive};
+ghost use Rattle.verifier.specs.Images.{ImageFields, IsImageOf};
+ghost use Rattle.verifier.specs.Opened.{IsOpenedOf, IsReadOf};
+ghost use Rattle.image_commands.specs.Faults.{KeepsNew, SaysUnplaced};
+ghost use Rattle.image_commands.specs.Files.{AreKnown};
+ghost use Rattle.image_commands.specs.Verifying.{image_line};
+ghost use Rattle.earlier_images.specs.Grammar.{FirstEarlierFault};
+ghost use Rattle.migration.specs.Migrated.{IsTooMuch, LaysOut, Migrates};
+ghost use Rattle.s4d.specs.Migrating.{HasLine, HasMigrated, SaysNoPlace, SaysUnmigrated, SaysUntaken};
+
+use crate::earlier_files::read_earlier;
+use drive::OpenedDrive;
+use image_commands::{Fault, Files, Obstacle, Place, Placed, writing};
+use migration::migrate;
+use s4_types::Refusal;
+use s4d_command::Migrate;
+use segment_word::Naming;
+use std::alloc::{AllocError, Global};
+use std::marker::Brand;
+use std::thread::Threads;
+use verifier::laws::what_has_no_fault_is_an_image;
+use verifier::opening_laws::what_is_opened_is_saved_as_it_was;
+use verifier::{Image, open, save};
+
+/// A new image that is in its place.
+#[derive(Drop)]
+pub struct Migrated {
+    pub placed: Placed,
+    /// The line of its numbers.
+    pub line: String,
+}
+
+/// The bytes of a new image, and the line of its numbers.
+#[derive(Drop)]
+struct Saved {
+    bytes: Vec<u8>,
+    line: String,
+}
+
+/// Makes a new image of one of the first version, by a name that no file has or in place of a file
+/// without bytes. What has bytes is refused, since it may be a drive.
+///
+/// The earlier image is claimed until the new one is in its place: nobody changes it meanwhile, and
+/// one that another program serves is refused. Whatever happens it stays as it is.
+pub fn migrate_file<'a, T: Threads, F: Files>(
+    rt: &T,
+    alloc: Global,
+    files: &mut F,
+    asked: Migrate<'a>,
+) -> Result<Migrated, Fault<'a>>
+    ensures image { OnOk result
+        (HasMigrated (F.contents files.old asked.entry.earlier.now)
+        (F.contents files.new asked.entry.image.now)) }
+    ensures line { IfOk result
+        (λ made. HasLine (F.contents files.new asked.entry.image.now) (string_bytes made.line)) }
+    // What has bytes is refused.
+    ensures empty { OnOk result (AreKnown (F.contents files.old asked.entry.image.now) []) }
+    ensures earlier { Keeps (F.contents files.old asked.entry.earlier.now)
+        (F.contents files.new asked.entry.earlier.now) }
+    ensures others { OnOk result
+        ((path : List ℕ)
+        → F.apart asked.entry.image.now path
+        → Keeps (F.contents files.old path) (F.contents files.new path)) }
+    ensures kept { OnErr result
+        ((path : List ℕ) → Keeps (F.contents files.old path) (F.contents files.new path)) }
+    ensures fault { IfErr result
+        (SaysUnmigrated (F.contents files.old) (F.contents files.new) asked.entry) }
+{
+    what_has_no_fault_is_an_image();
+    // It comes first: a name that is taken is refused at once, the earlier image's own too.
+    let place = match claim_empty(alloc, files, asked) {
+        Ok(place) => place,
+        Err(fault) => return Err(fault),
+    };
+    let claim = match claim_earlier(alloc, files, asked.earlier) {
+        Ok(claim) => claim,
+        Err(fault) => return Err(fault),
+    };
+    let bytes = match read_earlier(alloc, files, &claim, asked.earlier) {
+        Ok(bytes) => bytes,
+        Err(fault) => return Err(fault),
+    };
+    let saved = match save_migrated(rt, alloc, bytes) {
+        Ok(saved) => saved,
+        Err(refusal) => return Err(Fault::Refused(refusal)),
+    };
+    put_new(alloc, files, asked.image, place, saved)
+}
+
+// Claims the path of the new image, where no file is, or one without bytes. What is written to it
+// is never what the earlier image has.
+fn claim_empty<'a, F: Files>(
+    alloc: Global,
+    files: &F,
+    asked: Migrate<'a>,
+) -> Result<F::Claim, Fault<'a>>
+    ensures claimed { IfOk result (λ claim. F.leads claim asked.entry.image.now) }
+    ensures empty { OnOk result (AreKnown (F.contents files.now asked.entry.image.now) []) }
+    ensures apart { OnOk result (F.apart asked.entry.image.now asked.entry.earlier.now) }
+    ensures fault { IfErr result
+        (SaysNoPlace (F.contents files.now asked.entry.image.now) asked.entry.image.now) }
+{
+    let claim = match files.claim(alloc, asked.image) {
+        Ok(claim) => claim,
+        Err(obstacle) => return Err(writing(obstacle, asked.image)),
+    };
+    match files.has_bytes(&claim) {
+        Ok(false) => {}
+        Ok(true) => return Err(Fault::HasBytes(asked.image)),
+        Err(error) => return Err(writing(Obstacle::of(error.kind()), asked.image)),
+    }
+    match files.are_same(asked.image, asked.earlier) {
+        Ok(false) => Ok(claim),
+        Ok(true) => Err(Fault::CannotWrite(asked.image, Obstacle::Shared)),
+        Err(error) => Err(writing(Obstacle::of(error.kind()), asked.image)),
+    }
+}
+
+// Claims the earlier image. Where not even its folder is there, it can't be read.
+fn claim_earlier<'a, F: Files>(
+    alloc: Global,
+    files: &F,
+    path: &'a str,
+) -> Result<F::Claim, Fault<'a>>
+    ensures claimed { IfOk result (λ claim. F.leads claim path.now) }
+    ensures fault { IfErr result (SaysUntaken path.now) }
+{
+    match files.claim(alloc, path) {
+        Ok(claim) => Ok(claim),
+        Err(Obstacle::NoFolder) => Err(Fault::CannotRead(path, Obstacle::NotThere)),
+        Err(obstacle) => Err(writing(obstacle, path)),
+    }
+}
+
+// What the new image of an earlier one is saved as, and the line of its numbers.
+//
+// At most three copies of the blocks are there at once, all within `migrate`: the earlier image's
+// bytes, and of the new one its bytes beside the table that they are written from, or are read
+// into. Its bytes are let go before the drive is opened; from there on there are two, the image's
+// and the drive's, and then the drive's and what it is saved as.
+fn save_migrated<T: Threads>(rt: &T, alloc: Global, bytes: Vec<u8>) -> Result<Saved, Refusal>
+    ensures migrates { IfOk result (λ saved. Migrates bytes.items saved.bytes.items) }
+    ensures layout { IfOk result (λ saved. LaysOut bytes.items saved.bytes.items) }
+    ensures line { IfOk result
+        (λ saved. (image : ImageFields)
+        × IsReadOf saved.bytes.items image × (string_bytes saved.line ≡ image_line image)) }
+    ensures refusal { IfErr result
+        (λ e. ((e ≡ NoMemory) ⊎ (e ≡ Busy))
+        ⊎ (((e ≡ NoRoom) × IsTooMuch bytes.items)
+        ⊎ ((cause : Found) × (e ≡ Damaged cause) × FirstEarlierFault bytes.items (Some cause)))) }
+{
+    let image = match migrate(rt, alloc, bytes.as_slice()) {
+        Ok(image) => image,
+        Err(refusal) => return Err(refusal),
+    };
+    drop(bytes);
+    let line = line_of(alloc, &image)?;
+    let opened = open(alloc, image)?;
+    let bytes = save_named::<Brand>(alloc, opened)?;
+    Ok(Saved { bytes, line })
+}
+
+// What a drive that was just opened is saved as: the bytes that its image was read of.
+fn save_named<J: Naming>(alloc: Global, opened: OpenedDrive) -> Result<Vec<u8>, Refusal>
+    requires accepts { opened.accepts ≡ J.accepts }
+    requires frames { opened.store.table.seat.table ≡ J.frames }
+    requires base { base_of (fields_of log_of opened.store) opened.timeline opened.next ≡ J.base }
+    ensures same { IfOk result (λ saved. (bytes : List ℕ) (parts : ImageParts) (image : ImageFields) → SpellsDrive bytes parts → IsImageOf parts image → IsOpenedOf image opened
+        → saved.items ≡ bytes) }
+    ensures refusal { IfErr result (λ e. e ≡ NoMemory) }
+{
+    what_is_opened_is_saved_as_it_was();
+    let mut drive = opened.named::<J>();
+    save(alloc, &mut drive)
+}
+
+// The line that `verify` writes of an image.
+fn line_of(alloc: Global, image: &Image) -> Result<String, AllocError>
+    ensures { IfOk result (λ line. string_bytes line ≡ image_line image.now) }
+{
+    let (frames, objects, window) = (image.frames(), image.objects(), image.window());
+    let (clock, floor) = (image.clock().number(), image.floor().number());
+    format!(in alloc;
+        "ok frames={frames} objects={objects} clock={clock} window={window} floor={floor}\n"
+    )
+}
+
+// Puts the new image in its place, which is claimed.
+fn put_new<'a, F: Files>(
+    alloc: Global,
+    files: &mut F,
+    path: &'a str,
+    claim: F::Claim,
+    saved: Saved,
+) -> Result<Migrated, Fault<'a>>
+    requires claimed { F.leads claim path.now }
+    ensures image { OnOk result (AreKnown (F.contents files.new path.now) saved.bytes.items) }
+    ensures line { IfOk result (λ made. string_bytes made.line ≡ string_bytes saved.line) }
+    ensures others { OnOk result
+        ((other : List ℕ)
+        → F.apart path.now other
+        → Keeps (F.contents files.old other) (F.contents files.new other)) }
+    ensures kept { OnErr result
+        ((other : List ℕ) → Keeps (F.contents files.old other) (F.contents files.new other)) }
+    ensures fault { IfErr result (SaysUnplaced path.now) }
+    ensures named { IfErr result (KeepsNew (F.contents files.new) saved.bytes.items) }
+{
+    let Saved { bytes, line } = saved;
+    let place = match Place::beside(alloc, files, path, claim, 0) {
+        Ok(place) => place,
+        Err(fault) => return Err(fault),
+    };
+    match place.put(files, bytes.as_slice()) {
+        Ok(placed) => Ok(Migrated { placed, line }),
+        Err(fault) => Err(fault),
+    }
+}
