@@ -7,7 +7,7 @@ ghost use Rattle.s4_images.specs.Failures.{restyled, shown_by};
 use history_export::{ExportError, ExportedFile};
 use image_commands::{Fault, Obstacle};
 use moment_words::{MomentStyle, ShownMoment};
-use s4_types::{Moment, Refusal};
+use s4_types::{Cause, Moment, Refusal};
 use std::alloc::AllocError;
 use thiserror::Error;
 
@@ -151,6 +151,9 @@ impl From<AllocError> for Failure {
 // What can be done where the drive refuses something.
 fn advice(refusal: Refusal) -> &'static str {
     match refusal {
+        Refusal::Damaged(Cause::Header) => {
+            "`s4d migrate` makes a new image of one of version 1; else read an older copy of the image"
+        }
         Refusal::Damaged(_) => "read an older copy of the image",
         Refusal::NoMemory => "try again with more memory",
         Refusal::ClockEnd =>
