@@ -2,13 +2,14 @@
 """Measures `s4d` over a full image of 1,024 frames, in seconds by the clock of a whole process and in the memory that it has at most:
 verify; at, which verifies, opens and reads; and run with no request, which verifies, opens and saves, and has to save the same bytes.
 Between them goes one SHA-256 of the image's bytes by Python's hashlib, the digest. Of seven rounds the median is printed with the least
-and the most.
+and the most. Then the same of migrate, over a full image of version 1 (tests/images/v1/most.xz), and of verify over the new one.
 
     images.py [PROGRAM [OTHER]]      crates/s4d/out/s4d where it isn't given; build it by `rt run` there
 
 OTHER is the program of another commit, which runs between over the same image: then its figures are printed too.
 """
 import hashlib
+import lzma
 import os
 import subprocess
 import sys
@@ -22,6 +23,7 @@ OBJECTS = 75
 WHOLE = bytes(range(256)) * (wire.WHOLE // 256)  # the most bytes that an object may have
 WRITES = wire.WHOLE // wire.PIECE  # of an object
 RUNS = 7
+OLD = os.path.join(os.path.dirname(os.path.abspath(__file__)), "..", "tests", "images", "v1", "most.xz")
 
 
 def requests():
@@ -29,8 +31,14 @@ def requests():
     return wire.create() * OBJECTS + b"".join(wire.write_whole(number, WHOLE) for number in range(1, OBJECTS + 1))
 
 
-def run(program, words, folder):
-    """The seconds of one call."""
+def removed(folder, name):
+    if name and os.path.exists(os.path.join(folder, name)):
+        os.remove(os.path.join(folder, name))
+
+
+def run(program, words, folder, made=None):
+    """The seconds of one call; a file that it makes is removed before."""
+    removed(folder, made)
     began = time.monotonic()
     subprocess.run([program, *words], cwd=folder, stdout=subprocess.DEVNULL, check=True)
     return time.monotonic() - began
@@ -47,11 +55,14 @@ def bytes_of(path):
         return file.read()
 
 
-def measure(programs, name, words, image, folder):
+def measure(programs, name, words, image, folder, made=None):
     """Prints a line of what a call takes each program, and how many digests that is."""
-    rounds = [[digest(image)] + [run(it, words, folder) for it in programs] for _ in range(RUNS)]
+    rounds = [[digest(image)] + [run(it, words, folder, made) for it in programs] for _ in range(RUNS)]
     digests, mine, *others = zip(*rounds)
-    most = [f"{wire.memory([it, *words], cwd=folder):,}" for it in programs]
+    most = []
+    for it in programs:
+        removed(folder, made)
+        most.append(f"{wire.memory([it, *words], cwd=folder):,}")
     beside = "".join(f"; other {spread(it)} s, {ratio(it, mine)} times" for it in others)
     print(f"{name}: {spread(mine)} s, {ratio(mine, digests)} digests{beside}; at most {', other '.join(most)} KiB", flush=True)
 
@@ -78,6 +89,12 @@ def main():
         measure(programs, "run without a request", ["run", "--no-upkeep", "image", "client:none:out"], image, folder)
         if bytes_of(os.path.join(folder, "image")) != image:
             sys.exit("images.py: what was saved again without a request are other bytes")
+        with lzma.open(OLD) as kept, open(os.path.join(folder, "old"), "wb") as file:
+            file.write(kept.read())
+        old = bytes_of(os.path.join(folder, "old"))
+        print(f"an image of version 1 of {len(old):,} bytes")
+        measure(programs, "migrate", ["migrate", "old", "new"], old, folder, "new")
+        measure(programs, "verify of the new one", ["verify", "new"], old, folder)
 
 
 if __name__ == "__main__":
