@@ -34,10 +34,11 @@ refused_so known bytes e same (inr (inr (cause, is, fault))) = subst (RefusesEar
 
 -- nor do the same bytes
 pub refused_alike : (bytes other : List ℕ) (e : Refusal) → bytes ≡ other
-    → ((e ≡ NoMemory) ⊎ (e ≡ Busy)) ⊎ (((e ≡ NoRoom) × IsTooMuch bytes) ⊎ ((cause : Cause) × (e ≡ Damaged cause) × FirstEarlierFault bytes (Some cause)))
+    → (e ≡ NoMemory) ⊎ (((e ≡ NoRoom) × IsTooMuch bytes) ⊎ ((cause : Cause) × (e ≡ Damaged cause) × FirstEarlierFault bytes (Some cause)))
     → ((e ≡ NoMemory) ⊎ (e ≡ Busy)) ⊎ (((e ≡ NoRoom) × IsTooMuch other) ⊎ ((cause : Cause) × (e ≡ Damaged cause) × FirstEarlierFault other (Some cause)))
-refused_alike bytes other e same refused =
-    subst (λ (xs : List ℕ). ((e ≡ NoMemory) ⊎ (e ≡ Busy)) ⊎ (((e ≡ NoRoom) × IsTooMuch xs) ⊎ ((cause : Cause) × (e ≡ Damaged cause) × FirstEarlierFault xs (Some cause)))) same refused
+refused_alike bytes other e same (inl short) = inl (inl short)
+refused_alike bytes other e same (inr refused) =
+    inr (subst (λ (xs : List ℕ). ((e ≡ NoRoom) × IsTooMuch xs) ⊎ ((cause : Cause) × (e ≡ Damaged cause) × FirstEarlierFault xs (Some cause))) same refused)
 
 -- the line of an image that was read of a file's bytes
 pub has_line : (known : Option (List ℕ)) (bytes : List ℕ) (image : ImageFields) (line saved : List ℕ) → ((xs : List ℕ) (parts : ImageParts) → SpellsDrive xs parts → image_in xs ≡ parts)
