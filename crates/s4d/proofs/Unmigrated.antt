@@ -2,7 +2,7 @@
 use Rattle.std.proofs.Common.{◌≡◌, ◌⊎◌, ◌∙◌, ℕ, List, Option, Some, None, inl, inr, refl, sym, subst}
 use Rattle.s4_types.specs.declared.refusals.Cause.{Cause}
 use Rattle.s4_types.specs.declared.refusals.Refusal.{Refusal}
-use Rattle.s4_types.specs.declared.refusals.Refusal.TheVariants.{Busy, Damaged, NoMemory, NoRoom}
+use Rattle.s4_types.specs.declared.refusals.Refusal.TheVariants.{Damaged, NoMemory, NoRoom}
 use Rattle.s4d_command.specs.declared.Migrate.{Migrate}
 use Rattle.image_commands.specs.declared.faults.Fault.{Fault}
 use Rattle.image_commands.specs.declared.faults.Fault.TheVariants.{CannotRead, CannotWrite, HasBytes, KeptIn, Refused, WriteFailed}
@@ -20,14 +20,13 @@ use Rattle.s4d.proofs.Fronts.{known_damaged}
 
 -- memory was short
 pub memory : (known : Option (List ℕ)) (refusal : Refusal) → refusal ≡ NoMemory → RefusesEarlier known refusal
-memory known refusal is = subst (RefusesEarlier known) (sym is) (inl refl)
+memory known refusal is = subst (RefusesEarlier known) (sym is) refl
 
 -- what is read of a file becomes no new image
 pub refused_so : (known : Option (List ℕ)) (bytes : List ℕ) (e : Refusal) → AreKnown known bytes
-    → ((e ≡ NoMemory) ⊎ (e ≡ Busy)) ⊎ (((e ≡ NoRoom) × IsTooMuch bytes) ⊎ ((cause : Cause) × (e ≡ Damaged cause) × FirstEarlierFault bytes (Some cause)))
+    → (e ≡ NoMemory) ⊎ (((e ≡ NoRoom) × IsTooMuch bytes) ⊎ ((cause : Cause) × (e ≡ Damaged cause) × FirstEarlierFault bytes (Some cause)))
     → RefusesEarlier known e
-refused_so known bytes e same (inl (inl short)) = memory known e short
-refused_so known bytes e same (inl (inr busy)) = subst (RefusesEarlier known) (sym busy) (inr refl)
+refused_so known bytes e same (inl short) = memory known e short
 refused_so None bytes e same (inr (inl (is, much))) = subst (RefusesEarlier None) (sym is) tt
 refused_so (Some whole) bytes e same (inr (inl (is, much))) = subst (RefusesEarlier (Some whole)) (sym is) (subst IsTooMuch (sym same) much)
 refused_so known bytes e same (inr (inr (cause, is, fault))) = subst (RefusesEarlier known) (sym is) (known_damaged known bytes cause same fault)
@@ -35,10 +34,9 @@ refused_so known bytes e same (inr (inr (cause, is, fault))) = subst (RefusesEar
 -- nor do the same bytes
 pub refused_alike : (bytes other : List ℕ) (e : Refusal) → bytes ≡ other
     → (e ≡ NoMemory) ⊎ (((e ≡ NoRoom) × IsTooMuch bytes) ⊎ ((cause : Cause) × (e ≡ Damaged cause) × FirstEarlierFault bytes (Some cause)))
-    → ((e ≡ NoMemory) ⊎ (e ≡ Busy)) ⊎ (((e ≡ NoRoom) × IsTooMuch other) ⊎ ((cause : Cause) × (e ≡ Damaged cause) × FirstEarlierFault other (Some cause)))
-refused_alike bytes other e same (inl short) = inl (inl short)
-refused_alike bytes other e same (inr refused) =
-    inr (subst (λ (xs : List ℕ). ((e ≡ NoRoom) × IsTooMuch xs) ⊎ ((cause : Cause) × (e ≡ Damaged cause) × FirstEarlierFault xs (Some cause))) same refused)
+    → (e ≡ NoMemory) ⊎ (((e ≡ NoRoom) × IsTooMuch other) ⊎ ((cause : Cause) × (e ≡ Damaged cause) × FirstEarlierFault other (Some cause)))
+refused_alike bytes other e same refused =
+    subst (λ (xs : List ℕ). (e ≡ NoMemory) ⊎ (((e ≡ NoRoom) × IsTooMuch xs) ⊎ ((cause : Cause) × (e ≡ Damaged cause) × FirstEarlierFault xs (Some cause)))) same refused
 
 -- the line of an image that was read of a file's bytes
 pub has_line : (known : Option (List ℕ)) (bytes : List ℕ) (image : ImageFields) (line saved : List ℕ) → ((xs : List ℕ) (parts : ImageParts) → SpellsDrive xs parts → image_in xs ≡ parts)

@@ -3,7 +3,7 @@ use Rattle.std.specs.Prelude.{◌≡◌, ◌⊎◌, ◌+◌, ℕ, List, ⊤, Opt
 use Rattle.std.specs.Io.KnownBytes.{Appends}
 use Rattle.s4_types.specs.declared.refusals.Cause.{Cause}
 use Rattle.s4_types.specs.declared.refusals.Refusal.{Refusal}
-use Rattle.s4_types.specs.declared.refusals.Refusal.TheVariants.{Busy, Damaged, NoMemory, NoRoom}
+use Rattle.s4_types.specs.declared.refusals.Refusal.TheVariants.{Damaged, NoMemory, NoRoom}
 use Rattle.verifier.specs.Images.{ImageFields}
 use Rattle.s4d_command.specs.declared.Migrate.{Migrate}
 use Rattle.image_commands.specs.declared.faults.Fault.{Fault}
@@ -48,7 +48,7 @@ IsTooMuchOf (Some bytes) = IsTooMuch bytes
 abbrev pub RefusesEarlier : Option (List ℕ) → Refusal → Type 0
 RefusesEarlier known NoRoom = IsTooMuchOf known
 RefusesEarlier known (Damaged cause) = IsDamagedEarlier known cause
-RefusesEarlier known refusal = (refusal ≡ NoMemory) ⊎ (refusal ≡ Busy)
+RefusesEarlier known refusal = refusal ≡ NoMemory
 
 -- why an earlier image can't be claimed: it can't be read, or not be written; or memory was short
 abbrev pub SaysUntaken : (earlier : List ℕ) → Fault → Type 0

@@ -3,15 +3,10 @@ ghost use Rattle.std.specs.Prelude.{◌≡◌, ◌⊎◌, ℕ, false, [], List, 
 ghost use Rattle.std.specs.Prelude.{string_bytes};
 ghost use Rattle.std.specs.Io.KnownBytes.{Keeps};
 ghost use Rattle.s4_types.specs.declared.refusals.Cause.{Cause as Found};
-ghost use Rattle.s4_types.specs.declared.refusals.Refusal.TheVariants.{Busy, Damaged, NoMemory};
+ghost use Rattle.s4_types.specs.declared.refusals.Refusal.TheVariants.{Damaged, NoMemory};
 ghost use Rattle.s4_types.specs.declared.refusals.Refusal.TheVariants.{NoRoom};
-ghost use Rattle.segment_table.specs.Room.{log_of};
-ghost use Rattle.version_store.specs.Store.{fields_of};
-ghost use Rattle.drive.specs.Opened.{base_of};
-ghost use Rattle.image_parts.specs.Image.{Image as ImageParts};
-ghost use Rattle.verifier.specs.Grammar.{SpellsDrive};
-ghost use Rattle.verifier.specs.Images.{ImageFields, IsImageOf};
-ghost use Rattle.verifier.specs.Opened.{IsOpenedOf, IsReadOf};
+ghost use Rattle.verifier.specs.Images.{ImageFields};
+ghost use Rattle.verifier.specs.Opened.{IsReadOf};
 ghost use Rattle.image_commands.specs.Faults.{KeepsNew, SaysUnplaced};
 ghost use Rattle.image_commands.specs.Files.{AreKnown};
 ghost use Rattle.image_commands.specs.Verifying.{image_line};
@@ -20,18 +15,14 @@ ghost use Rattle.migration.specs.Migrated.{IsTooMuch, LaysOut, Migrates};
 ghost use Rattle.s4d.specs.Migrating.{HasLine, HasMigrated, SaysNoPlace, SaysUnmigrated, SaysUntaken};
 
 use crate::earlier_files::read_earlier;
-use drive::OpenedDrive;
 use image_commands::{Fault, Files, Obstacle, Place, Placed, writing};
-use migration::migrate;
+use migration::migrated;
 use s4_types::Refusal;
 use s4d_command::Migrate;
-use segment_word::Naming;
 use std::alloc::{AllocError, Global};
-use std::marker::Brand;
 use std::thread::Threads;
-use verifier::laws::what_has_no_fault_is_an_image;
-use verifier::opening_laws::what_is_opened_is_saved_as_it_was;
-use verifier::{Image, open, save};
+use verifier::laws::{what_has_a_fault_spells_nothing, what_has_no_fault_is_an_image};
+use verifier::{Image, verify};
 
 /// A new image that is in its place.
 #[derive(Drop)]
@@ -143,12 +134,11 @@ fn claim_earlier<'a, F: Files>(
     }
 }
 
-// What the new image of an earlier one is saved as, and the line of its numbers.
+// The bytes of the new image of an earlier one, read back, and the line of its numbers.
 //
-// At most three copies of the blocks are there at once, all within `migrate`: the earlier image's
-// bytes, and of the new one its bytes beside the table that they are written from, or are read
-// into. Its bytes are let go before the drive is opened; from there on there are two, the image's
-// and the drive's, and then the drive's and what it is saved as.
+// At most three copies of the blocks are there at once, all within `migrated`: the earlier image's
+// bytes, and of the new one its bytes beside the table that they are written from. The earlier
+// bytes are let go before the new ones are read.
 fn save_migrated<T: Threads>(rt: &T, alloc: Global, bytes: Vec<u8>) -> Result<Saved, Refusal>
     ensures migrates { IfOk result (λ saved. Migrates bytes.items saved.bytes.items) }
     ensures layout { IfOk result (λ saved. LaysOut bytes.items saved.bytes.items) }
@@ -156,33 +146,22 @@ fn save_migrated<T: Threads>(rt: &T, alloc: Global, bytes: Vec<u8>) -> Result<Sa
         (λ saved. (image : ImageFields)
         × IsReadOf saved.bytes.items image × (string_bytes saved.line ≡ image_line image)) }
     ensures refusal { IfErr result
-        (λ e. ((e ≡ NoMemory) ⊎ (e ≡ Busy))
+        (λ e. (e ≡ NoMemory)
         ⊎ (((e ≡ NoRoom) × IsTooMuch bytes.items)
         ⊎ ((cause : Found) × (e ≡ Damaged cause) × FirstEarlierFault bytes.items (Some cause)))) }
 {
-    let image = match migrate(rt, alloc, bytes.as_slice()) {
-        Ok(image) => image,
+    what_has_a_fault_spells_nothing();
+    let new = match migrated(alloc, bytes.as_slice()) {
+        Ok(new) => new,
         Err(refusal) => return Err(refusal),
     };
     drop(bytes);
+    let image = match verify(rt, alloc, new.as_slice()) {
+        Ok(image) => image,
+        Err(refusal) => return Err(refusal),
+    };
     let line = line_of(alloc, &image)?;
-    let opened = open(alloc, image)?;
-    let bytes = save_named::<Brand>(alloc, opened)?;
-    Ok(Saved { bytes, line })
-}
-
-// What a drive that was just opened is saved as: the bytes that its image was read of.
-fn save_named<J: Naming>(alloc: Global, opened: OpenedDrive) -> Result<Vec<u8>, Refusal>
-    requires accepts { opened.accepts ≡ J.accepts }
-    requires frames { opened.store.table.seat.table ≡ J.frames }
-    requires base { base_of (fields_of log_of opened.store) opened.timeline opened.next ≡ J.base }
-    ensures same { IfOk result (λ saved. (bytes : List ℕ) (parts : ImageParts) (image : ImageFields) → SpellsDrive bytes parts → IsImageOf parts image → IsOpenedOf image opened
-        → saved.items ≡ bytes) }
-    ensures refusal { IfErr result (λ e. e ≡ NoMemory) }
-{
-    what_is_opened_is_saved_as_it_was();
-    let mut drive = opened.named::<J>();
-    save(alloc, &mut drive)
+    Ok(Saved { bytes: new, line })
 }
 
 // The line that `verify` writes of an image.

@@ -1,7 +1,5 @@
-use Rattle.std.proofs.Common.{◌≡◌, ◌⊎◌, List, ℕ, subst, sym}
-use Rattle.image_commands.specs.Verifying.{image_line}
-use Rattle.verifier.specs.Opened.{IsReadOf}
-use Rattle.migration.specs.Migrated.{LaysOut, Migrates}
+use Rattle.std.proofs.Common.{inl, inr, List, ℕ, subst, sym}
+use Rattle.verifier.specs.Grammar.{SpellsDrive}
 use Rattle.s4d.proofs.Unmigrated.{refused_alike}
 use Rattle.s4d.proofs.migrating.save_migrated.Goals as goal
 
@@ -9,20 +7,12 @@ pub returns-in-Err-clause-refusal : goal.returns-in-Err-clause-refusal
 returns-in-Err-clause-refusal g c =
     refused_alike c.as_slice.result.now c.args.bytes.items c.in-Err.refusal c.as_slice.ensures.value c.in-Err.ensures.refusal
 
-pub returns-clause-migrates : goal.returns-clause-migrates
-returns-clause-migrates g c =
-    let new = c.in-Ok.ensures.migrates in
-    let same : c.in_ok-bytes.bytes.items ≡ new.0 = c.in_ok-bytes.ensures.same new.0 new.3.parts c.in-Ok.image new.3.spelled new.3.told c.in_ok-opened.ensures.opened in
-    subst (λ (xs : List ℕ). Migrates c.args.bytes.items xs) (sym same) (subst (λ (xs : List ℕ). Migrates xs new.0) c.as_slice.ensures.value new.1)
-
-pub returns-clause-layout : goal.returns-clause-layout
-returns-clause-layout g c =
-    let new = c.in-Ok.ensures.migrates in
-    let same : c.in_ok-bytes.bytes.items ≡ new.0 = c.in_ok-bytes.ensures.same new.0 new.3.parts c.in-Ok.image new.3.spelled new.3.told c.in_ok-opened.ensures.opened in
-    subst (λ (xs : List ℕ). LaysOut c.args.bytes.items xs) (sym same) (subst (λ (xs : List ℕ). LaysOut xs new.0) c.as_slice.ensures.value new.2)
-
-pub returns-clause-line : goal.returns-clause-line
-returns-clause-line g c =
-    let new = c.in-Ok.ensures.migrates in
-    let same : c.in_ok-bytes.bytes.items ≡ new.0 = c.in_ok-bytes.ensures.same new.0 new.3.parts c.in-Ok.image new.3.spelled new.3.told c.in_ok-opened.ensures.opened in
-    (c.in-Ok.image, subst (λ (xs : List ℕ). IsReadOf xs c.in-Ok.image) (sym same) new.3, c.in_ok-line.ensures)
+-- what was just written encodes an image, so no fault is found in it
+pub returns-in-Err-verify-clause-refusal : goal.returns-in-Err-verify-clause-refusal
+returns-in-Err-verify-clause-refusal g c =
+    let is = c.in-Ok.ensures.migrates.is in
+    elim c.in-Err-verify.ensures.damaged [
+      | inl memory ↦ inl memory
+      | inr fault ↦ absurd (c.what_has_a_fault_spells_nothing.ensures c.as_slice-2.result.now fault.0 is fault.2
+          (subst (λ (bytes : List ℕ). SpellsDrive bytes is) (sym c.as_slice-2.ensures.value) c.in-Ok.ensures.migrates.written))
+    ]
