@@ -11,6 +11,7 @@ pub mod PartLaws
 pub mod SmallLaws
 pub mod Ascending
 pub mod EntryLaws
+pub mod Allowed
 pub mod Lengths
 pub mod Payload
 pub mod SummaryLaws

@@ -66,6 +66,12 @@ unfoldable pub is_small : EntryFields → Bool
 is_small e =
     nat_le e.before.size FIRST_OBJECT_BYTES && (nat_le e.after.size FIRST_OBJECT_BYTES && list_all has_small_index e.triples)
 
+-- An entry of these two sizes and these triples is of an object that an image of a version can have.
+abbrev pub is_allowed_by : ImageVersion → ℕ → ℕ → List Triple → Bool
+is_allowed_by First before after triples =
+    nat_le before FIRST_OBJECT_BYTES && (nat_le after FIRST_OBJECT_BYTES && list_all has_small_index triples)
+is_allowed_by Second before after triples = true
+
 -- the rules of a single entry in an image of a version
 abbrev pub entry_rules_by : ImageVersion → EntryFields → Bool
 entry_rules_by First e = entry_rules e && is_small e

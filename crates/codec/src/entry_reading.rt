@@ -2,8 +2,7 @@ ghost use Rattle.std.specs.Prelude.{◌≡◌, ℕ, List, length, Option};
 ghost use Rattle.std.specs.List.{list_all};
 ghost use Rattle.codec.specs.Fields.{Reads};
 ghost use Rattle.codec.specs.Entry.{EntryFields, flags_at, text_at, pair_at, index_at_by};
-ghost use Rattle.codec.specs.Entry.{triple_at_by, triples_at_by, is_small, has_small_index};
-ghost use Rattle.codec.specs.Entry.{checked_entry_by};
+ghost use Rattle.codec.specs.Entry.{triple_at_by, triples_at_by, has_small_index, is_allowed_by};
 ghost use Rattle.codec.specs.Entry.{behind_statuses, behind_count, entry_at_by};
 
 use crate::attributes::Attribute;
@@ -117,36 +116,18 @@ fn have_small_indices(triples: &[Triple]) -> bool
         .all(|triple| (triple.index as usize) < FIRST_OBJECT_BLOCKS)
 }
 
-/// Whether an entry is of an object as small as those of the first version.
-#[tactic(auto, unfolding(crate::specs::Entry::is_small))]
-fn is_small(entry: &Entry) -> bool
-    ensures { result ≡ is_small entry.now }
+/// Whether an entry of these two sizes and triples is of an object that an image of a version can
+/// have.
+fn is_allowed(version: ImageVersion, before: u32, after: u32, triples: &[Triple]) -> bool
+    ensures { result ≡ is_allowed_by version before after triples.now }
 {
-    entry.before().size <= FIRST_OBJECT_BYTES as u32
-        && entry.after().size <= FIRST_OBJECT_BYTES as u32
-        && have_small_indices(entry.triples())
-}
-
-/// The entry of a change in an image of a version. None where it breaks a rule of single entries.
-fn entry_of(
-    version: ImageVersion,
-    moment: Moment,
-    before: Status,
-    after: Status,
-    pair: Option<Pair>,
-    triples: Triples,
-) -> Option<Entry>
-    ensures { Reads (λ e. e) result (checked_entry_by version (record { moment = moment; before = before; after = after; pair = pair; triples = triples.items })) }
-{
-    let entry = Entry::new(moment, before, after, pair, triples)?;
     match version {
         ImageVersion::First => {
-            if !is_small(&entry) {
-                return None;
-            }
-            Some(entry)
+            before <= FIRST_OBJECT_BYTES as u32
+                && after <= FIRST_OBJECT_BYTES as u32
+                && have_small_indices(triples)
         }
-        ImageVersion::Second => Some(entry),
+        ImageVersion::Second => true,
     }
 }
 
@@ -169,7 +150,10 @@ fn read_behind_statuses(
     let Some((triples, rest)) = read_triples(version, count, rest) else {
         return None;
     };
-    let entry = entry_of(version, moment, before, after, pair, triples)?;
+    if !is_allowed(version, before.size, after.size, &triples) {
+        return None;
+    }
+    let entry = Entry::new(moment, before, after, pair, triples)?;
     Some((entry, rest))
 }
 
