@@ -16,7 +16,7 @@ use Rattle.image_objects.specs.Inodes.{checkpoint_used}
 use Rattle.image_objects.specs.Versions.{ObjectStandsBy, entries_used_by}
 use Rattle.image_objects.specs.Writing.{AnObjectOfAVersionCanBeWritten, inode_kept_in}
 use Rattle.migration.specs.Places.{pointers_in}
-use Rattle.migration.specs.Copied.{CanCopy, IsToldInOrder}
+use Rattle.migration.specs.Copied.{CanCopy, IsInOrder}
 
 same_pointers : (c : Option CheckpointFields) → pointers_in (option_map (λ k. k.inode) c) ≡ pointers_kept c
 same_pointers None = refl
@@ -27,13 +27,13 @@ can_copy law used row clock stands =
     let can = law First used row clock stands in
     let entries = entries_used_by First used row in
     record {
-      tell = can.can;
+      write = can.can;
       led = subst (λ (x : List (Option Place)). All (IsLed used row.object) (x ++ sides_told entries)) (sym (same_pointers (checkpoint_used used row))) stands.led;
       tidy = λ t. subst (λ (i : Inode). Tidy (contents_of used) (inode_after i entries t)) (sym can.first) (stands.tidy t);
     }
 
-pub told_in_order : AnObjectOfAVersionCanBeWritten → (used : Place → Option Stored) (row : ImageRow) (clock : ℕ) → IsFromTo 1 clock row.created → ObjectStandsBy First used row clock → IsToldInOrder row (inode_kept_in used row) (entries_used_by First used row) clock
-told_in_order law used row clock made stands =
+pub in_order_by : AnObjectOfAVersionCanBeWritten → (used : Place → Option Stored) (row : ImageRow) (clock : ℕ) → IsFromTo 1 clock row.created → ObjectStandsBy First used row clock → IsInOrder row (inode_kept_in used row) (entries_used_by First used row) clock
+in_order_by law used row clock made stands =
     let can = law First used row clock stands in
     record {
       made = made;

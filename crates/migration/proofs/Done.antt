@@ -20,7 +20,7 @@ use Rattle.earlier_images.specs.Used.{AreFramesOf, used_in}
 use Rattle.migration.specs.Frames.{FillsFrames, frames_needed, fresh_log}
 use Rattle.migration.specs.Rows.{AscendAbove, CopyRows, blocks_of_rows}
 use Rattle.migration.specs.Migrated.{IsTooMuch, LaysOut, Migrates, frames_then, rows_then}
-use Rattle.migration.specs.private.Written.{SpellsParts}
+use Rattle.migration.specs.private.Written.{AreBytesOf}
 use Rattle.migration.proofs.Then.{AreThen, Laws, all_then, rows_stand, same_versions}
 use Rattle.migration.proofs.Whole.{image_written, rows_ascend, spells}
 
@@ -48,7 +48,7 @@ pub record Done (bytes new : List ℕ) (was : Image) (earlier : EarlierFields) (
   pub filled : FillsFrames (blocks_of_rows (used_in earlier.frames) earlier.rows) (frames_then earlier) t
   pub count : IsFrameCount (length t.seat.frames)
   pub used : HoldsUsedBlocks t
-  pub parts : SpellsParts earlier t laters new
+  pub parts : AreBytesOf earlier t laters new
 
 are_then : Laws → (bytes new : List ℕ) (was : Image) (earlier : EarlierFields) (t : Table) (laters : List Row) → Done bytes new was earlier t laters → AreThen (used_in earlier.frames) (used_at t) earlier.rows laters earlier.clock
 are_then laws bytes new was earlier t laters d =
@@ -123,7 +123,7 @@ told_of earlier frames rows count t laters same_frames same_rows same_count told
     (subst (λ n. Told frames rows n t laters) (same_count ∙ ap (λ (fs : List EarlierFrame). length fs) same_frames) told))
 
 pub done : (bytes new : List ℕ) (was : Image) (earlier : EarlierFields) (t : Table) (laters slice : List Row) → SpellsEarlier bytes was → IsEarlierOf was earlier → Told earlier.frames earlier.rows (length earlier.frames) t laters
-    → IsFrameCount (length t.seat.frames) → HoldsUsedBlocks t → slice ≡ laters → SpellsParts earlier t slice new → Done bytes new was earlier t laters
+    → IsFrameCount (length t.seat.frames) → HoldsUsedBlocks t → slice ≡ laters → AreBytesOf earlier t slice new → Done bytes new was earlier t laters
 done bytes new was earlier t laters slice read of told count used same parts = record {
   read = read;
   of = of;
@@ -131,5 +131,5 @@ done bytes new was earlier t laters slice read of told count used same parts = r
   filled = told.filled;
   count = count;
   used = used;
-  parts = subst (λ (ls : List Row). SpellsParts earlier t ls new) same parts;
+  parts = subst (λ (ls : List Row). AreBytesOf earlier t ls new) same parts;
 }

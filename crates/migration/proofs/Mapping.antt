@@ -27,7 +27,7 @@ use Rattle.row_changes.specs.Moving.{checkpoint_kept, first_kept, kept_blocks, m
 use Rattle.version_store.specs.Store.{HasNothing, IsLed, pointers_kept, sides_told}
 use Rattle.image_objects.specs.Saved.{HoldsUsed}
 use Rattle.version_store.proofs.Telling.{first_told}
-use Rattle.migration.specs.Places.{pointers_in, pointers_told, places_told, with_places}
+use Rattle.migration.specs.Places.{pointers_in, data_pointers, data_places, with_places}
 use Rattle.migration.specs.declared.moves.Move.{Move}
 use Rattle.migration.specs.Moves.{is_moved}
 use Rattle.migration.specs.private.Copying.{IsUsedData}
@@ -37,8 +37,8 @@ use Rattle.migration.proofs.Moving.{OnePlace, same_itself, moved_is, old_places}
 -- ---- of which places it tells
 
 -- each is the place of a used data block
-pub all_used : (used : Place → Option Stored) (o : ℕ) (kept : Option Inode) (entries : List EntryFields) → All (IsLed used o) (pointers_told kept entries) → AllByRecursion (IsUsedData used o) (places_told kept entries)
-all_used used o kept entries led = all_with (IsUsedData used o) [] (pointers_told kept entries) tt (recursion_from_All (IsLed used o) (pointers_told kept entries) led)
+pub all_used : (used : Place → Option Stored) (o : ℕ) (kept : Option Inode) (entries : List EntryFields) → All (IsLed used o) (data_pointers kept entries) → AllByRecursion (IsUsedData used o) (data_places kept entries)
+all_used used o kept entries led = all_with (IsUsedData used o) [] (data_pointers kept entries) tt (recursion_from_All (IsLed used o) (data_pointers kept entries) led)
 
 -- each is told
 told_by : OnePlace → (P : Place → Type 0) (places : List Place) (q : Place) → AllByRecursion P places → is_one_of places q ≡ true → P q
@@ -74,7 +74,7 @@ each_goes moves slots from = All-from_recursion (GoesSomewhere moves) slots (goe
 abbrev pub of_pointers : List (Option Place) → Inode
 of_pointers pointers = record (blank 0) { pointers = pointers }
 
-pub sides_within : WhatIsToldIsListed → (moves : List Move) (kept : Option Inode) (entries : List EntryFields) → All (GoesSomewhere moves) (pointers_told kept entries) → AllByRecursion (TellsWithin (Passes (is_moved moves))) entries
+pub sides_within : WhatIsToldIsListed → (moves : List Move) (kept : Option Inode) (entries : List EntryFields) → All (GoesSomewhere moves) (data_pointers kept entries) → AllByRecursion (TellsWithin (Passes (is_moved moves))) entries
 sides_within listed moves kept entries all = ((listed (is_moved moves) (of_pointers (pointers_in kept)) entries).1 all).sides
 
 pub kept_pointers : (o m : ℕ) (kept : Option Inode) → pointers_kept (checkpoint_kept o m kept) ≡ pointers_in kept
@@ -86,12 +86,12 @@ each_slot None Is h = tt
 each_slot (Some p) Is h = h p refl
 
 -- the first inode points to such places alone, too
-pub told_within : WhatIsToldIsListed → (moves : List Move) (o created m : ℕ) (kept : Option Inode) (entries : List EntryFields) → All (GoesSomewhere moves) (pointers_told kept entries) → ToldWithin (Passes (is_moved moves)) (first_kept o created m kept entries) entries
+pub told_within : WhatIsToldIsListed → (moves : List Move) (o created m : ℕ) (kept : Option Inode) (entries : List EntryFields) → All (GoesSomewhere moves) (data_pointers kept entries) → ToldWithin (Passes (is_moved moves)) (first_kept o created m kept entries) entries
 told_within listed moves o created m kept entries all =
     let first : Inode = first_kept o created m kept entries in
     record {
       pointers = λ k. each_slot (pointer_at first k) (Passes (is_moved moves))
-          (λ p at. All-contains (GoesSomewhere moves) (pointers_told kept entries) (Some p) all
+          (λ p at. All-contains (GoesSomewhere moves) (data_pointers kept entries) (Some p) all
           (subst (λ (x : List (Option Place)). Contains (x ++ sides_told entries) (Some p)) (kept_pointers o m kept) (first_told created m entries (checkpoint_kept o m kept) k p at)));
       sides = sides_within listed moves kept entries all;
     }

@@ -29,11 +29,11 @@ use Rattle.image_objects.specs.Versions.{ObjectStandsBy, entries_used_by, inode_
 use Rattle.image_objects.specs.Writing.{AnObjectOfAVersionCanBeWritten, inode_kept_in}
 use Rattle.verifier.specs.Opened.{inode_of_rows, version_of_rows}
 use Rattle.earlier_images.specs.Rows.{RowsShareNoMomentBy}
-use Rattle.migration.specs.Copied.{moves_told}
+use Rattle.migration.specs.Copied.{data_moves}
 use Rattle.migration.specs.Moves.{moved_by}
 use Rattle.migration.specs.Rows.{CopiesObject, CopyRows}
 use Rattle.migration.specs.Migrated.{inode_of_earlier, version_of_earlier, rows_then}
-use Rattle.migration.proofs.CanCopy.{told_in_order}
+use Rattle.migration.proofs.CanCopy.{in_order_by}
 
 -- what the crates below say
 pub record Laws : Type 0 where
@@ -75,18 +75,18 @@ pub one_then : Laws → (used newer : Place → Option Stored) (row : ImageRow) 
 one_then laws used newer row before between later clock stands made holds copied =
     let o : ℕ = row.object in
     let can = laws.written First used row clock stands in
-    let told = told_in_order laws.written used row clock made stands in
-    let saved : IsSavedAsHeld newer between.held o later = laws.saved newer between.held o later holds copied.stands in
+    let told = in_order_by laws.written used row clock made stands in
+    let saved : IsSavedAsHeld newer between.held o later = laws.saved newer between.held o later holds copied.is_row in
     let object : IsObject between.held o later clock = copied.objects clock told in
     record {
       stands = laws.stands newer between.held o clock clock later holds object (copied.orderly clock told) (omega arith);
       created = ap (λ (r : Row). r.created) copied.fields;
-      to = moved_by (moves_told (inode_kept_in used row) (entries_used_by First used row) before);
+      to = moved_by (data_moves (inode_kept_in used row) (entries_used_by First used row) before);
       entries = saved.entries ∙ copied.journal;
       versions = λ t.
           ap (meaning (contents_of newer)) (saved.inodes t)
           ∙ (laws.matter (contents_of between.held) (contents_of newer) (inode_of between.held o later t) (agree newer between.held o (inode_of between.held o later t) holds (object.pointers t))).0
-          ∙ copied.shown t
+          ∙ copied.versions t
           ∙ ap (λ (i : Inode). meaning (contents_of used) (inode_after i (entries_used_by First used row) t)) can.first;
     }
 

@@ -27,7 +27,7 @@ use Rattle.earlier_images.specs.Images.{EarlierFields, IsEarlierOf}
 use Rattle.earlier_images.specs.Used.{used_in}
 use Rattle.migration.specs.Rows.{AscendAbove}
 use Rattle.migration.specs.Migrated.{rows_then}
-use Rattle.migration.specs.private.Written.{SpellsParts}
+use Rattle.migration.specs.private.Written.{AreBytesOf}
 use Rattle.migration.proofs.Then.{AreThen}
 
 -- ---- what the old rows keep
@@ -134,7 +134,7 @@ unfolding image_bytes
 spelled_by image bytes is = is
 
 pub spells : (bytes new : List ℕ) (was : Image) (earlier : EarlierFields) (t : Table) (laters : List Row) → SpellsImageBy First bytes was → IsEarlierOf was earlier → IsFrameCount (length t.seat.frames)
-    → AreThen (used_in earlier.frames) (used_at t) earlier.rows laters earlier.clock → RowsStand (used_at t) (rows_then earlier.rows laters) earlier.clock → (parts : SpellsParts earlier t laters new)
+    → AreThen (used_in earlier.frames) (used_at t) earlier.rows laters earlier.clock → RowsStand (used_at t) (rows_then earlier.rows laters) earlier.clock → (parts : AreBytesOf earlier t laters new)
     → SpellsDrive new (image_written earlier parts.frames parts.parts)
 spells bytes new was earlier t laters read of count are stand parts =
     let image : Image = image_written earlier parts.frames parts.parts in

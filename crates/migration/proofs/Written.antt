@@ -33,9 +33,9 @@ use Rattle.row_changes.specs.Moving.{checkpoint_kept, first_kept, moved_blocks}
 use Rattle.version_store.specs.Store.{HasNothing, IsLed, pointers_kept, pointers_of, sides_told}
 use Rattle.image_objects.specs.declared.rows.ImageRow.{ImageRow}
 use Rattle.migration.specs.declared.moves.Move.{Move}
-use Rattle.migration.specs.Places.{pointers_in, pointers_told, places_told}
+use Rattle.migration.specs.Places.{pointers_in, data_pointers, data_places}
 use Rattle.migration.specs.Moves.{moved_by, is_moved, new_places}
-use Rattle.migration.specs.Copied.{CanCopy, CopiesBy, IsToldInOrder, entries_then, first_told, inode_told, kept_then, moves_told}
+use Rattle.migration.specs.Copied.{CanCopy, CopiesBy, IsInOrder, entries_then, first_inode, inode_at, kept_then, data_moves}
 use Rattle.migration.specs.private.Copying.{Copying, AreApart, IsUsedData}
 use Rattle.migration.proofs.Ascending.{apart, ascend_with}
 use Rattle.migration.proofs.Appending.{PlacesAddUp}
@@ -83,19 +83,19 @@ no_checkpoints o x first parts =
 
 -- the first inode is the mapped one
 pub first_is : (moves : List Move) → Laws moves → (row : ImageRow) (kept : Option Inode) (entries : List EntryFields)
-    → first_kept row.object row.created row.checkpoint_moment (kept_then moves kept) (entries_then moves entries) ≡ mapped_inode (moved_by moves) (first_told row kept entries)
+    → first_kept row.object row.created row.checkpoint_moment (kept_then moves kept) (entries_then moves entries) ≡ mapped_inode (moved_by moves) (first_inode row kept entries)
 first_is moves laws row kept entries = laws.begins (moved_by moves) row.object row.created row.checkpoint_moment kept entries
 
 -- so it is at each moment
 then_is : (moves : List Move) → Laws moves → (row : ImageRow) (kept : Option Inode) (entries : List EntryFields) (t : ℕ)
-    → inode_after (first_kept row.object row.created row.checkpoint_moment (kept_then moves kept) (entries_then moves entries)) (entries_then moves entries) t ≡ mapped_inode (moved_by moves) (inode_told row kept entries t)
+    → inode_after (first_kept row.object row.created row.checkpoint_moment (kept_then moves kept) (entries_then moves entries)) (entries_then moves entries) t ≡ mapped_inode (moved_by moves) (inode_at row kept entries t)
 then_is moves laws row kept entries t =
-    ap (λ (i : Inode). inode_after i (entries_then moves entries) t) (first_is moves laws row kept entries) ∙ laws.shown (first_told row kept entries) entries t
+    ap (λ (i : Inode). inode_after i (entries_then moves entries) t) (first_is moves laws row kept entries) ∙ laws.shown (first_inode row kept entries) entries t
 
 -- the pointers of the row are the mapped ones
 led_is : (moves : List Move) → Laws moves → (held : Place → Option Stored) (row : ImageRow) (kept : Option Inode) (entries : List EntryFields) (later : Row)
     → entries_of held row.object later ≡ entries_then moves entries → checkpoint_of held row.object later ≡ checkpoint_kept row.object row.checkpoint_moment (kept_then moves kept)
-    → pointers_of held row.object later ≡ map (mapped_slot (moved_by moves)) (pointers_told kept entries)
+    → pointers_of held row.object later ≡ map (mapped_slot (moved_by moves)) (data_pointers kept entries)
 led_is moves laws held row kept entries later told kept_is =
     let f : Place → Place = moved_by moves in
     ap (λ (es : List EntryFields). pointers_kept (checkpoint_of held row.object later) ++ sides_told es) told
@@ -129,55 +129,55 @@ pointed_then : (used : Place → Option Stored) (o : ℕ) (moves : List Move) (a
 pointed_then used o moves after is slot p goes at = subst (λ (x : Option Place). IsLed after.held o x) at (led_then used o moves after is slot goes)
 
 pub copied_row : (moves : List Move) → Laws moves → (used : Place → Option Stored) (row : ImageRow) (kept : Option Inode) (entries : List EntryFields) (before middle after : Log) (later : Row)
-    → CanCopy used row kept entries → HasNothing before.held row.object → length (places_told kept entries) ≤ length before.ahead
-    → Copying used row.object (places_told kept entries) [] (length (places_told kept entries)) before middle moves
+    → CanCopy used row kept entries → HasNothing before.held row.object → length (data_places kept entries) ≤ length before.ahead
+    → Copying used row.object (data_places kept entries) [] (length (data_places kept entries)) before middle moves
     → Wrote row.object (fresh_row row.created) row.checkpoint_moment (kept_then moves kept) (entries_then moves entries) middle after later
     → CopiesBy used row kept entries moves before after later
 copied_row moves laws used row kept entries before middle after later can nothing fits copying wrote =
     let f : Place → Place = moved_by moves in
     let o : ℕ = row.object in
-    let exact : moves ≡ moves_told kept entries before = sym (append-nil moves) ∙ copying.exact in
-    let from : old_places moves ≡ places_told kept entries = ap old_places exact ∙ from_places (places_told kept entries) before.ahead fits in
-    let goes : All (GoesSomewhere moves) (pointers_told kept entries) = each_goes moves (pointers_told kept entries) from in
-    let within : ToldWithin (Passes (is_moved moves)) (first_told row kept entries) entries = told_within laws.listed moves o row.created row.checkpoint_moment kept entries goes in
-    let is : Data_is used o moves after = data_then laws.one used o (places_told kept entries) (length (places_told kept entries)) before middle after moves copying wrote.others in
-    let inodes : (t : ℕ) → inode_of after.held o later t ≡ mapped_inode f (inode_told row kept entries t) = λ t. wrote.inode t ∙ then_is moves laws row kept entries t in
-    let mapped : (t : ℕ) → inode_of after.held o later t ≡ inode_after (mapped_inode f (first_told row kept entries)) (entries_then moves entries) t = λ t. inodes t ∙ sym (laws.shown (first_told row kept entries) entries t) in
-    let same = λ (t : ℕ). laws.same (contents_of used) (contents_of after.held) (first_told row kept entries) entries t (contents_kept used o moves after is) within in
-    let led : pointers_of after.held o later ≡ map (mapped_slot f) (pointers_told kept entries) = led_is moves laws after.held row kept entries later wrote.journal wrote.checkpoint in
-    let orderly : (latest : ℕ) → IsToldInOrder row kept entries latest → IsOrderly after.held o later latest = λ latest told. wrote.orderly latest
-    (subst (λ (i : Inode). IsOrderlyChain row.created latest i (entries_then moves entries)) (sym (first_is moves laws row kept entries)) (laws.in_order row.created latest (first_told row kept entries) entries told.chain))
+    let exact : moves ≡ data_moves kept entries before = sym (append-nil moves) ∙ copying.exact in
+    let from : old_places moves ≡ data_places kept entries = ap old_places exact ∙ from_places (data_places kept entries) before.ahead fits in
+    let goes : All (GoesSomewhere moves) (data_pointers kept entries) = each_goes moves (data_pointers kept entries) from in
+    let within : ToldWithin (Passes (is_moved moves)) (first_inode row kept entries) entries = told_within laws.listed moves o row.created row.checkpoint_moment kept entries goes in
+    let is : Data_is used o moves after = data_then laws.one used o (data_places kept entries) (length (data_places kept entries)) before middle after moves copying wrote.others in
+    let inodes : (t : ℕ) → inode_of after.held o later t ≡ mapped_inode f (inode_at row kept entries t) = λ t. wrote.inode t ∙ then_is moves laws row kept entries t in
+    let mapped : (t : ℕ) → inode_of after.held o later t ≡ inode_after (mapped_inode f (first_inode row kept entries)) (entries_then moves entries) t = λ t. inodes t ∙ sym (laws.shown (first_inode row kept entries) entries t) in
+    let same = λ (t : ℕ). laws.same (contents_of used) (contents_of after.held) (first_inode row kept entries) entries t (contents_kept used o moves after is) within in
+    let led : pointers_of after.held o later ≡ map (mapped_slot f) (data_pointers kept entries) = led_is moves laws after.held row kept entries later wrote.journal wrote.checkpoint in
+    let orderly : (latest : ℕ) → IsInOrder row kept entries latest → IsOrderly after.held o later latest = λ latest told. wrote.orderly latest
+    (subst (λ (i : Inode). IsOrderlyChain row.created latest i (entries_then moves entries)) (sym (first_is moves laws row kept entries)) (laws.in_order row.created latest (first_inode row kept entries) entries told.chain))
     told.made (beginning_mapped f (IsFromTo row.created latest row.checkpoint_moment) kept entries told.beginning) in
     let others : (kind : BlockKind) (other : ℕ) → (o == other) ≡ false → of_kind kind other after.held ≡ of_kind kind other before.held = λ kind other not. wrote.others kind other (and_right (same_kind Journal kind || is_checkpoint_kind kind) (o == other) not)
     ∙ (λ i q. copying.others kind other q (and_right (same_kind kind Data) (o == other) not) i) in
     let blocks : moved_blocks (kept_then moves kept) (entries_then moves entries) ≡ moved_blocks kept entries = same_blocks laws.holes f laws.each kept entries in
     record {
-      stands = wrote.row;
+      is_row = wrote.row;
       journal = wrote.journal;
       checkpoint = wrote.checkpoint;
       inodes = inodes;
-      shown = λ t. ap (meaning (contents_of after.held)) (mapped t) ∙ (same t).0;
+      versions = λ t. ap (meaning (contents_of after.held)) (mapped t) ∙ (same t).0;
       objects = λ latest told. record {
         stands = wrote.row;
         by = laws.by after.held o later latest wrote.row (orderly latest told);
         led = subst (λ (x : List (Option Place)). All (IsLed after.held o) x) (sym led)
-            (All-map (IsLed after.held o) (mapped_slot f) (pointers_told kept entries) (All-weaker (GoesSomewhere moves) (λ s. IsLed after.held o (mapped_slot f s)) (led_then used o moves after is) (pointers_told kept entries) goes));
+            (All-map (IsLed after.held o) (mapped_slot f) (data_pointers kept entries) (All-weaker (GoesSomewhere moves) (λ s. IsLed after.held o (mapped_slot f s)) (led_then used o moves after is) (data_pointers kept entries) goes));
         tidy = λ t. subst (λ (i : Inode). Tidy (contents_of after.held) i) (sym (mapped t)) ((same t).1 (can.tidy t));
-        pointers = λ t k p at. pointed_then used o moves after is (pointer_at (inode_told row kept entries t) k) p
-            (laws.points (is_moved moves) (first_told row kept entries) entries t within k)
-            (sym (laws.pointers (inode_told row kept entries t) k) ∙ ap (λ (i : Inode). pointer_at i k) (sym (inodes t)) ∙ at);
+        pointers = λ t k p at. pointed_then used o moves after is (pointer_at (inode_at row kept entries t) k) p
+            (laws.points (is_moved moves) (first_inode row kept entries) entries t within k)
+            (sym (laws.pointers (inode_at row kept entries t) k) ∙ ap (λ (i : Inode). pointer_at i k) (sym (inodes t)) ∙ at);
       };
       orderly = orderly;
       fields = wrote.fields ∙ ap (λ n. record (fresh_row row.created) { checkpoint = later.checkpoint; checkpoint_moment = row.checkpoint_moment; head = later.head; journal_bytes = n; head_bytes = later.head_bytes }) (laws.bytes entries);
       some = wrote.some ∙ some_mapped f kept;
       named = λ p some.
-          let came = comes_from laws.one moves p (subst (λ (x : List Place). AreApart x) (sym from) (apart (places_told kept entries) (ascend_with [] (pointers_told kept entries) tt))) (is.only p some) in
-          let told : Contains (pointers_told kept entries) (Some came.place) = is_told laws.one (pointers_told kept entries) came.place (ap (λ (x : List Place). is_one_of x came.place) (sym from) ∙ sym (moved_is moves came.place) ∙ came.moved) in
-          let there : Contains (map (mapped_slot f) (pointers_told kept entries)) (Some (f came.place)) = contains_mapped (mapped_slot f) (pointers_told kept entries) (Some came.place) told in
-          subst (λ (x : List (Option Place)). Contains x (Some p)) (sym led) (subst (λ (q : Place). Contains (map (mapped_slot f) (pointers_told kept entries)) (Some q)) came.goes there);
+          let came = comes_from laws.one moves p (subst (λ (x : List Place). AreApart x) (sym from) (apart (data_places kept entries) (ascend_with [] (data_pointers kept entries) tt))) (is.only p some) in
+          let told : Contains (data_pointers kept entries) (Some came.place) = is_told laws.one (data_pointers kept entries) came.place (ap (λ (x : List Place). is_one_of x came.place) (sym from) ∙ sym (moved_is moves came.place) ∙ came.moved) in
+          let there : Contains (map (mapped_slot f) (data_pointers kept entries)) (Some (f came.place)) = contains_mapped (mapped_slot f) (data_pointers kept entries) (Some came.place) told in
+          subst (λ (x : List (Option Place)). Contains x (Some p)) (sym led) (subst (λ (q : Place). Contains (map (mapped_slot f) (data_pointers kept entries)) (Some q)) came.goes there);
       copies = λ p moved. (is.copied p moved).1;
       others = others;
       stay = held_stays o before.held after.held nothing others;
       order = copying.ahead ∙ ap (λ (x : List Place). new_places moves ++ x) wrote.order;
-      takes = laws.add_up (length (places_told kept entries)) (moved_blocks kept entries) before middle after copying.takes (subst (λ n. TakesPlaces n middle after) blocks wrote.takes);
+      takes = laws.add_up (length (data_places kept entries)) (moved_blocks kept entries) before middle after copying.takes (subst (λ n. TakesPlaces n middle after) blocks wrote.takes);
     }

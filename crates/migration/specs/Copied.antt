@@ -22,33 +22,33 @@ use Rattle.version_store.specs.Store.{IsLed, IsObject, DataIsNamed}
 use Rattle.image_objects.specs.declared.rows.ImageRow.{ImageRow}
 use Rattle.image_objects.specs.Saved.{HoldsUsed}
 use Rattle.migration.specs.declared.moves.Move.{Move}
-use Rattle.migration.specs.Places.{pointers_told, places_told}
+use Rattle.migration.specs.Places.{data_pointers, data_places}
 use Rattle.migration.specs.Moves.{moved_by, is_moved, moves_to, new_places}
 
 -- the inode before these entries of a row with this inode in its checkpoint, if it has one
-abbrev pub first_told : ImageRow → Option Inode → List EntryFields → Inode
-first_told row kept entries = first_kept row.object row.created row.checkpoint_moment kept entries
+abbrev pub first_inode : ImageRow → Option Inode → List EntryFields → Inode
+first_inode row kept entries = first_kept row.object row.created row.checkpoint_moment kept entries
 
 -- the inode of such a row that is current at a moment
-abbrev pub inode_told : ImageRow → Option Inode → List EntryFields → ℕ → Inode
-inode_told row kept entries t = inode_after (first_told row kept entries) entries t
+abbrev pub inode_at : ImageRow → Option Inode → List EntryFields → ℕ → Inode
+inode_at row kept entries t = inode_after (first_inode row kept entries) entries t
 
--- A row's object can be copied, with this inode in its checkpoint, if it has one, and these entries. A row can tell them; each
+-- A row's object can be copied, with this inode in its checkpoint, if it has one, and these entries. A row of a drive can have them; each
 -- of their pointers is a hole or refers to a used data block of the object; and at each moment the inode is tidy.
 pub record CanCopy (used : Place → Option Stored) (row : ImageRow) (kept : Option Inode) (entries : List EntryFields) : Type 0 where
-  pub tell : CanWrite row.object row.created row.checkpoint_moment kept entries
-  pub led : All (IsLed used row.object) (pointers_told kept entries)
-  pub tidy : (t : ℕ) → Tidy (contents_of used) (inode_told row kept entries t)
+  pub write : CanWrite row.object row.created row.checkpoint_moment kept entries
+  pub led : All (IsLed used row.object) (data_pointers kept entries)
+  pub tidy : (t : ℕ) → Tidy (contents_of used) (inode_at row kept entries t)
 
 -- They are in order up to a latest moment.
-pub record IsToldInOrder (row : ImageRow) (kept : Option Inode) (entries : List EntryFields) (latest : ℕ) : Type 0 where
+pub record IsInOrder (row : ImageRow) (kept : Option Inode) (entries : List EntryFields) (latest : ℕ) : Type 0 where
   pub made : IsFromTo 1 latest row.created
-  pub chain : IsOrderlyChain row.created latest (first_told row kept entries) entries
+  pub chain : IsOrderlyChain row.created latest (first_inode row kept entries) entries
   pub beginning : MatchOption kept (BeginsDead entries) (λ i. IsFromTo row.created latest row.checkpoint_moment)
 
 -- where the data of a row's object goes: block by block, in order, to the places ahead
-abbrev pub moves_told : Option Inode → List EntryFields → Log → List Move
-moves_told kept entries before = moves_to (places_told kept entries) before.ahead
+abbrev pub data_moves : Option Inode → List EntryFields → Log → List Move
+data_moves kept entries before = moves_to (data_places kept entries) before.ahead
 
 -- the inode in a checkpoint, if there is one, once its blocks went there
 abbrev pub kept_then : List Move → Option Inode → Option Inode
@@ -60,21 +60,21 @@ entries_then moves entries = mapped_entries (moved_by moves) entries
 
 -- how many blocks an object has with this inode in its checkpoint, if it has one, and these entries: its data, its checkpoint
 -- and its journal
-abbrev pub blocks_told : Option Inode → List EntryFields → ℕ
-blocks_told kept entries = length (places_told kept entries) + moved_blocks kept entries
+abbrev pub object_blocks : Option Inode → List EntryFields → ℕ
+object_blocks kept entries = length (data_places kept entries) + moved_blocks kept entries
 
 -- A row's object was copied into a log that held nothing of it, its data by these moves, and this is its row there. Its data is
 -- at the first places ahead; then come the blocks of its checkpoint, and then those of its journal, the oldest first. Nothing
 -- else of it is held. Its checkpoint and its entries are the old ones but for the places of data; so at each moment it is what
 -- it was. Nothing of other objects has changed, and what was held stays.
 pub record CopiesBy (used : Place → Option Stored) (row : ImageRow) (kept : Option Inode) (entries : List EntryFields) (moves : List Move) (before after : Log) (later : Row) : Type 0 where
-  pub stands : IsRow after.held row.object later
+  pub is_row : IsRow after.held row.object later
   pub journal : entries_of after.held row.object later ≡ entries_then moves entries
   pub checkpoint : checkpoint_of after.held row.object later ≡ checkpoint_kept row.object row.checkpoint_moment (kept_then moves kept)
-  pub inodes : (t : ℕ) → inode_of after.held row.object later t ≡ mapped_inode (moved_by moves) (inode_told row kept entries t)
-  pub shown : (t : ℕ) → meaning (contents_of after.held) (inode_of after.held row.object later t) ≡ meaning (contents_of used) (inode_told row kept entries t)
-  pub objects : (latest : ℕ) → IsToldInOrder row kept entries latest → IsObject after.held row.object later latest
-  pub orderly : (latest : ℕ) → IsToldInOrder row kept entries latest → IsOrderly after.held row.object later latest
+  pub inodes : (t : ℕ) → inode_of after.held row.object later t ≡ mapped_inode (moved_by moves) (inode_at row kept entries t)
+  pub versions : (t : ℕ) → meaning (contents_of after.held) (inode_of after.held row.object later t) ≡ meaning (contents_of used) (inode_at row kept entries t)
+  pub objects : (latest : ℕ) → IsInOrder row kept entries latest → IsObject after.held row.object later latest
+  pub orderly : (latest : ℕ) → IsInOrder row kept entries latest → IsOrderly after.held row.object later latest
   pub fields : later ≡ record (fresh_row row.created) {
     checkpoint = later.checkpoint;
     checkpoint_moment = row.checkpoint_moment;
@@ -91,8 +91,8 @@ pub record CopiesBy (used : Place → Option Stored) (row : ImageRow) (kept : Op
       ≡ new_places moves
       ++ (checkpoint_places_of after.held row.object later
       ++ (reverse (chain_places (of_kind Journal row.object after.held) row.object later.head) ++ after.ahead))
-  pub takes : TakesPlaces (blocks_told kept entries) before after
+  pub takes : TakesPlaces (object_blocks kept entries) before after
 
 -- The same, where the data went in the order of its old places.
 abbrev pub CopiesRow : (Place → Option Stored) → ImageRow → Option Inode → List EntryFields → Log → Log → Row → Type 0
-CopiesRow used row kept entries before after later = CopiesBy used row kept entries (moves_told kept entries before) before after later
+CopiesRow used row kept entries before after later = CopiesBy used row kept entries (data_moves kept entries before) before after later

@@ -28,12 +28,12 @@ pointers_in None = []
 pointers_in (Some i) = i.pointers
 
 -- All pointers to data of an object with this inode in its checkpoint, if there is one, and these entries, holes among them.
-abbrev pub pointers_told : Option Inode → List EntryFields → List (Option Place)
-pointers_told kept entries = pointers_in kept ++ sides_told entries
+abbrev pub data_pointers : Option Inode → List EntryFields → List (Option Place)
+data_pointers kept entries = pointers_in kept ++ sides_told entries
 
 -- the places of its data, each once and in order
-abbrev pub places_told : Option Inode → List EntryFields → List Place
-places_told kept entries = with_places [] (pointers_told kept entries)
+abbrev pub data_places : Option Inode → List EntryFields → List Place
+data_places kept entries = with_places [] (data_pointers kept entries)
 
 -- ---- what this comes to
 

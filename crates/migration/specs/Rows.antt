@@ -7,7 +7,7 @@ use Rattle.object_map.specs.declared.map.Row.{Row}
 use Rattle.image_objects.specs.declared.rows.ImageRow.{ImageRow}
 use Rattle.image_objects.specs.Versions.{entries_used_by}
 use Rattle.image_objects.specs.Writing.{inode_kept_in}
-use Rattle.migration.specs.Copied.{CopiesRow, blocks_told}
+use Rattle.migration.specs.Copied.{CopiesRow, object_blocks}
 
 -- the objects of rows ascend strictly, from above a number
 abbrev pub AscendAbove : ℕ → List ImageRow → Type 0
@@ -16,7 +16,7 @@ AscendAbove low (row ∷ rows) = (low < row.object) × AscendAbove row.object ro
 
 -- how many blocks the object of a row still has: its data, its checkpoint, and its journal as it is written now
 abbrev pub blocks_of : (Place → Option Stored) → ImageRow → ℕ
-blocks_of used row = blocks_told (inode_kept_in used row) (entries_used_by First used row)
+blocks_of used row = object_blocks (inode_kept_in used row) (entries_used_by First used row)
 
 -- the same of all rows together
 abbrev pub blocks_of_rows : (Place → Option Stored) → List ImageRow → ℕ

@@ -13,7 +13,7 @@ ghost use Rattle.migration.specs.Frames.{frames_filled, frames_needed};
 ghost use Rattle.migration.specs.declared.counting.TheConstants.{MOST_COPIED};
 
 use crate::objects::inode_kept;
-use crate::places::places_told;
+use crate::places::data_places;
 use checkpoint::checkpoint_blocks;
 use checkpoint::laws::a_checkpoint_takes_its_blocks;
 use codec::{ImageVersion, Inode};
@@ -57,7 +57,7 @@ fn blocks_of<U: UsedBlocks>(
     };
     let kept = inode_kept(used, row);
     let entries = versions.chain.entries.as_slice();
-    let places = places_told(alloc, kept.as_ref(), entries)?;
+    let places = data_places(alloc, kept.as_ref(), entries)?;
     Ok(places.len() + (kept_blocks(kept.as_ref()) + journal_blocks(entries)))
 }
 

@@ -6,7 +6,7 @@ ghost use Rattle.s4_types.specs.Pointer.{Place};
 ghost use Rattle.codec.specs.declared.inodes.Inode.{Inode};
 ghost use Rattle.codec.specs.Entry.{EntryFields};
 ghost use Rattle.checkpoint.specs.Held.{is_one_of};
-ghost use Rattle.migration.specs.Places.{Ascend, places_told, pointers_told};
+ghost use Rattle.migration.specs.Places.{Ascend, data_places, data_pointers};
 
 use block_log::laws::one_place_has_one_name;
 
@@ -14,13 +14,13 @@ use block_log::laws::one_place_has_one_name;
 /// are those to which its pointers refer.
 pub fn places_of_data_ascend()
     ensures ascend { (kept : Option Inode) (entries : List EntryFields)
-        → Ascend (places_told kept entries) }
+        → Ascend (data_places kept entries) }
     ensures each { (kept : Option Inode) (entries : List EntryFields) (p : Place)
-        → Contains (pointers_told kept entries) (Some p)
-        → is_one_of (places_told kept entries) p ≡ true }
+        → Contains (data_pointers kept entries) (Some p)
+        → is_one_of (data_places kept entries) p ≡ true }
     ensures only { (kept : Option Inode) (entries : List EntryFields) (p : Place)
-        → is_one_of (places_told kept entries) p ≡ true
-        → Contains (pointers_told kept entries) (Some p) }
+        → is_one_of (data_places kept entries) p ≡ true
+        → Contains (data_pointers kept entries) (Some p) }
 {
     one_place_has_one_name();
 }

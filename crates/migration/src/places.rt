@@ -3,7 +3,7 @@ ghost use Rattle.std.specs.Prelude.{◌≡◌, ◌≤◌, length, OnOk, IfOk, If
 ghost use Rattle.s4_types.specs.declared.refusals.Refusal.TheVariants.{NoMemory};
 ghost use Rattle.block_log.specs.Log.{same_place};
 ghost use Rattle.version_store.specs.Store.{sides_of, sides_told};
-ghost use Rattle.migration.specs.Places.{is_before, put_place, with_places, places_told};
+ghost use Rattle.migration.specs.Places.{is_before, put_place, with_places, data_places};
 ghost use Rattle.migration.specs.private.Ranks.{rank_in};
 
 use codec::{Entry, Inode, Triple};
@@ -85,7 +85,7 @@ fn put_sides(places: &mut Vec<Ptr>, triples: &[Triple]) -> Result<(), Refusal>
 }
 
 /// The same of both sides of the triples of entries.
-fn put_told(places: &mut Vec<Ptr>, entries: &[Entry]) -> Result<(), Refusal>
+fn put_entries(places: &mut Vec<Ptr>, entries: &[Entry]) -> Result<(), Refusal>
     ensures places { OnOk result
         (places.new.items ≡ with_places places.old.items (sides_told entries.now)) }
     ensures refusal { IfErr result (λ e. e ≡ NoMemory) }
@@ -98,19 +98,19 @@ fn put_told(places: &mut Vec<Ptr>, entries: &[Entry]) -> Result<(), Refusal>
 
 /// The places of the data of an object with this inode in its checkpoint, if there is one, and
 /// these entries: each once, by ascending frames and blocks. NoMemory alone.
-pub(crate) fn places_told(
+pub(crate) fn data_places(
     alloc: Global,
     kept: Option<&Inode>,
     entries: &[Entry],
 ) -> Result<Vec<Ptr>, Refusal>
     ensures places { IfOk result
-        (λ places. places.items ≡ places_told (option_copied kept.entry) entries.now) }
+        (λ places. places.items ≡ data_places (option_copied kept.entry) entries.now) }
     ensures refusal { IfErr result (λ e. e ≡ NoMemory) }
 {
     let mut places = Vec::new(alloc);
     if let Some(inode) = kept {
         put_slots(&mut places, &inode.pointers)?;
     }
-    put_told(&mut places, entries)?;
+    put_entries(&mut places, entries)?;
     Ok(places)
 }

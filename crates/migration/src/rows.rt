@@ -4,11 +4,11 @@ ghost use Rattle.s4_types.specs.declared.refusals.Refusal.TheVariants.{NoMemory}
 ghost use Rattle.chain_rewriting.specs.Mapping.{mapped_inode};
 ghost use Rattle.version_store.specs.Store.{HasNothing};
 ghost use Rattle.migration.specs.Moves.{moved_by};
-ghost use Rattle.migration.specs.Copied.{CanCopy, CopiesRow, blocks_told};
+ghost use Rattle.migration.specs.Copied.{CanCopy, CopiesRow, object_blocks};
 
 use crate::copies::copy_data;
 use crate::moves::Moves;
-use crate::places::places_told;
+use crate::places::data_places;
 use block_log::Blocks;
 use block_log::laws::{one_place_has_one_name, places_taken_add_up};
 use chain_rewriting::mapping_laws::{
@@ -52,9 +52,9 @@ pub(crate) fn copy_row<B: Blocks, U: UsedBlocks>(
     entries: &mut [Entry],
 ) -> Result<Row, Refusal>
     requires object { 1 ≤ row.now.object }
-    requires told { CanCopy (U.used used.now) row.now kept entries.old }
+    requires can { CanCopy (U.used used.now) row.now kept entries.old }
     requires nothing { HasNothing (B.log table.old).held row.now.object }
-    requires room { blocks_told kept entries.old ≤ length (B.log table.old).ahead }
+    requires room { object_blocks kept entries.old ≤ length (B.log table.old).ahead }
     ensures copied { IfOk result (λ later. CopiesRow (U.used used.now) row.now kept entries.old (B.log table.old) (B.log table.new) later) }
     ensures refusal { IfErr result (λ e. e ≡ NoMemory) }
 {
@@ -70,7 +70,7 @@ pub(crate) fn copy_row<B: Blocks, U: UsedBlocks>(
     a_mapped_chain_takes_as_many_bytes();
     a_mapped_chain_tells_of_mapped_places();
     an_orderly_row_is_by_its_moment();
-    let places = places_told(alloc, kept.as_ref(), entries)?;
+    let places = data_places(alloc, kept.as_ref(), entries)?;
     let moves = copy_data(alloc, table, used, row.object, places.as_slice())?;
     let kept = map_kept(&moves, kept);
     map_entries(&moves, entries);

@@ -6,7 +6,7 @@ ghost use Rattle.codec.specs.Fields.{number, SpellsSlot};
 ghost use Rattle.image_parts.specs.Rows.{IsRow};
 ghost use Rattle.image_objects.specs.Saved.{saved_row};
 ghost use Rattle.verifier.specs.Rows.{SpellsRow};
-ghost use Rattle.migration.specs.private.Written.{ArePartsOf, SpellsParts, header_with};
+ghost use Rattle.migration.specs.private.Written.{ArePartsOf, AreBytesOf, header_with};
 
 use codec::encode_ptr;
 use earlier_images::EarlierImage;
@@ -84,7 +84,7 @@ pub(crate) fn write_image(
     requires count { length laters.now ≡ length old.now.rows }
     requires rows { length old.now.rows < 2 ^ 32 }
     requires spans { length old.now.spans < 2 ^ 32 }
-    ensures written { IfOk result (λ bytes. SpellsParts old.now table.old laters.now bytes.items) }
+    ensures written { IfOk result (λ bytes. AreBytesOf old.now table.old laters.now bytes.items) }
     ensures refusal { IfErr result (λ e. e ≡ NoMemory) }
 {
     table.frame_rules();

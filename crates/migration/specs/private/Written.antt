@@ -24,7 +24,7 @@ abbrev pub header_with : EarlierFields → ℕ → ℕ → ℕ → Header
 header_with old frames rows spans = record { frames = frames; clock = old.clock; window = old.window; floor = old.floor; next = old.next; rows = rows; spans = spans }
 
 -- The bytes are those of an image with the numbers and spans of an old one, the frames of a table, and these rows.
-pub record SpellsParts (old : EarlierFields) (t : Table) (laters : List Row) (bytes : List ℕ) : Type 0 where
+pub record AreBytesOf (old : EarlierFields) (t : Table) (laters : List Row) (bytes : List ℕ) : Type 0 where
   pub frames : List FrameFields
   pub are_frames : AllByRecursion IsFrame frames
   pub rules : KeepFrameRules frames

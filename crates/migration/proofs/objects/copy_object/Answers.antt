@@ -8,8 +8,8 @@ use Rattle.migration.specs.Copied.{CanCopy}
 use Rattle.migration.proofs.CanCopy.{can_copy}
 use Rattle.migration.proofs.objects.copy_object.Goals as goal
 
-pub copy_row-requires-clause-told : goal.copy_row-requires-clause-told
-copy_row-requires-clause-told g c =
+pub copy_row-requires-clause-can : goal.copy_row-requires-clause-can
+copy_row-requires-clause-can g c =
     let used = g.U.UsedBlocks.used c.args.used.now in
     let row = c.args.row.now in
     let found : c.as_mut_slice-entries.result.now ≡ entries_used_by First used row = search rules in

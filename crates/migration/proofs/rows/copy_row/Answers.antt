@@ -11,7 +11,7 @@ use Rattle.object_map.specs.Rows.{fresh_row}
 use Rattle.row_changes.specs.Moving.{moved_blocks}
 use Rattle.migration.specs.declared.moves.Move.{Move}
 use Rattle.migration.specs.Moves.{moved_by, is_moved}
-use Rattle.migration.specs.Places.{places_told, pointers_told}
+use Rattle.migration.specs.Places.{data_places, data_pointers}
 use Rattle.migration.specs.Copied.{CopiesBy, entries_then, kept_then}
 use Rattle.migration.specs.private.Copying.{Copying, IsUsedData}
 use Rattle.migration.proofs.Moving.{old_places, from_places, one_to_one}
@@ -27,15 +27,15 @@ pub copy_data-requires-clause-room : goal.copy_data-requires-clause-room
 copy_data-requires-clause-room g c =
     let kept = c.args.kept in
     let entries = c.args.entries.now in
-    let are : c.as_slice.result.now ≡ places_told kept entries = c.as_slice.ensures.value ∙ c.in_ok-places.ensures.places ∙ ap (λ (k : Option Inode). places_told k entries) c.as_ref.ensures.value in
+    let are : c.as_slice.result.now ≡ data_places kept entries = c.as_slice.ensures.value ∙ c.in_ok-places.ensures.places ∙ ap (λ (k : Option Inode). data_places k entries) c.as_ref.ensures.value in
     enough (moved_blocks kept entries) (ap length are) c.requires.room
 
 pub copy_data-requires-clause-used : goal.copy_data-requires-clause-used
 copy_data-requires-clause-used g c =
     let used = g.U.UsedBlocks.used c.args.used.now in
     let entries = c.args.entries.now in
-    let are : c.as_slice.result.now ≡ places_told c.args.kept entries = c.as_slice.ensures.value ∙ c.in_ok-places.ensures.places ∙ ap (λ (k : Option Inode). places_told k entries) c.as_ref.ensures.value in
-    subst (λ (ps : List Place). AllByRecursion (IsUsedData used c.args.row.now.object) ps) (sym are) (all_used used c.args.row.now.object c.args.kept entries c.requires.told.led)
+    let are : c.as_slice.result.now ≡ data_places c.args.kept entries = c.as_slice.ensures.value ∙ c.in_ok-places.ensures.places ∙ ap (λ (k : Option Inode). data_places k entries) c.as_ref.ensures.value in
+    subst (λ (ps : List Place). AllByRecursion (IsUsedData used c.args.row.now.object) ps) (sym are) (all_used used c.args.row.now.object c.args.kept entries c.requires.can.led)
 
 pub map_entries-requires-clause-one : goal.map_entries-requires-clause-one
 map_entries-requires-clause-one g c = one_to_one c.one_place_has_one_name.ensures c.in_ok-moves.moves.list.items c.in_ok-moves.ensures.copied.apart
@@ -47,10 +47,10 @@ map_entries-requires-clause-told g c =
     let entries = c.args.entries.now in
     let moves = c.in_ok-moves.moves.list.items in
     let ahead : List Place = (log c.args.table.now).ahead in
-    let are : c.as_slice.result.now ≡ places_told kept entries = c.as_slice.ensures.value ∙ c.in_ok-places.ensures.places ∙ ap (λ (k : Option Inode). places_told k entries) c.as_ref.ensures.value in
+    let are : c.as_slice.result.now ≡ data_places kept entries = c.as_slice.ensures.value ∙ c.in_ok-places.ensures.places ∙ ap (λ (k : Option Inode). data_places k entries) c.as_ref.ensures.value in
     let fits : length c.as_slice.result.now ≤ length ahead = enough (moved_blocks kept entries) (ap length are) c.requires.room in
-    let from : old_places moves ≡ places_told kept entries = ap old_places (sym (append-nil moves) ∙ c.in_ok-moves.ensures.copied.exact) ∙ from_places c.as_slice.result.now ahead fits ∙ are in
-    sides_within c.what_a_chain_tells.ensures.listed moves kept entries (each_goes moves (pointers_told kept entries) from)
+    let from : old_places moves ≡ data_places kept entries = ap old_places (sym (append-nil moves) ∙ c.in_ok-moves.ensures.copied.exact) ∙ from_places c.as_slice.result.now ahead fits ∙ are in
+    sides_within c.what_a_chain_tells.ensures.listed moves kept entries (each_goes moves (data_pointers kept entries) from)
 
 pub returns-clause-copied : goal.returns-clause-copied
 returns-clause-copied g c =
@@ -65,9 +65,9 @@ returns-clause-copied g c =
     let after : Log = log c.write_row.new.table in
     let later : Row = c.in-Ok.later in
     let moves : List Move = c.in_ok-moves.moves.list.items in
-    let are : c.as_slice.result.now ≡ places_told kept entries = c.as_slice.ensures.value ∙ c.in_ok-places.ensures.places ∙ ap (λ (k : Option Inode). places_told k entries) c.as_ref.ensures.value in
+    let are : c.as_slice.result.now ≡ data_places kept entries = c.as_slice.ensures.value ∙ c.in_ok-places.ensures.places ∙ ap (λ (k : Option Inode). data_places k entries) c.as_ref.ensures.value in
     let fits : length c.as_slice.result.now ≤ length before.ahead = enough (moved_blocks kept entries) (ap length are) c.requires.room in
-    let copying : Copying used o (places_told kept entries) [] (length (places_told kept entries)) before middle moves = subst (λ (ps : List Place). Copying used o ps [] (length ps) before middle moves) are c.in_ok-moves.ensures.copied in
+    let copying : Copying used o (data_places kept entries) [] (length (data_places kept entries)) before middle moves = subst (λ (ps : List Place). Copying used o ps [] (length ps) before middle moves) are c.in_ok-moves.ensures.copied in
     let laws : Laws moves = record {
       one = c.one_place_has_one_name.ensures;
       add_up = c.places_taken_add_up.ensures;
@@ -102,7 +102,7 @@ returns-clause-copied g c =
     subst (λ (es : List EntryFields). Wrote o (fresh_row row.created) row.checkpoint_moment (option_copied c.as_ref-2.result) es middle after later) c.map_entries.ensures started in
     let wrote : Wrote o (fresh_row row.created) row.checkpoint_moment (kept_then moves kept) (entries_then moves entries) middle after later =
     subst (λ (k : Option Inode). Wrote o (fresh_row row.created) row.checkpoint_moment k (entries_then moves entries) middle after later) (c.as_ref-2.ensures.value ∙ c.map_kept-kept.ensures) with_entries in
-    let copied : CopiesBy used row kept entries moves before after later = copied_row moves laws used row kept entries before middle after later c.requires.told c.requires.nothing (subst (λ (ps : List Place). length ps ≤ length before.ahead) are fits) copying wrote in
+    let copied : CopiesBy used row kept entries moves before after later = copied_row moves laws used row kept entries before middle after later c.requires.can c.requires.nothing (subst (λ (ps : List Place). length ps ≤ length before.ahead) are fits) copying wrote in
     subst (λ (ms : List Move). CopiesBy used row kept entries ms before after later) (sym (append-nil moves) ∙ copying.exact) copied
 
 -- there is room for the checkpoint and the journal after the data
@@ -117,10 +117,10 @@ unreachable-requires g c =
     let kept = c.args.kept in
     let entries = c.args.entries.now in
     let moves : List Move = c.in_ok-moves.moves.list.items in
-    let are : c.as_slice.result.now ≡ places_told kept entries = c.as_slice.ensures.value ∙ c.in_ok-places.ensures.places ∙ ap (λ (k : Option Inode). places_told k entries) c.as_ref.ensures.value in
+    let are : c.as_slice.result.now ≡ data_places kept entries = c.as_slice.ensures.value ∙ c.in_ok-places.ensures.places ∙ ap (λ (k : Option Inode). data_places k entries) c.as_ref.ensures.value in
     let as_many : moved_blocks (option_copied c.as_ref-2.result) c.map_entries.new.entries ≡ moved_blocks kept entries =
     ap (λ (k : Option Inode). moved_blocks k c.map_entries.new.entries) (c.as_ref-2.ensures.value ∙ c.map_kept-kept.ensures)
     ∙ ap (λ (es : List EntryFields). moved_blocks (kept_then moves kept) es) c.map_entries.ensures
     ∙ same_blocks c.a_checkpoint_takes_its_blocks.ensures.holes (moved_by moves) (c.a_mapped_chain_takes_as_many_bytes.ensures.each (moved_by moves)) kept entries in
-    no_less (log c.args.table.now).ahead (log c.copy_data.new.table).ahead (length c.as_slice.result.now) (length (places_told kept entries)) (moved_blocks (option_copied c.as_ref-2.result) c.map_entries.new.entries) (moved_blocks kept entries)
+    no_less (log c.args.table.now).ahead (log c.copy_data.new.table).ahead (length c.as_slice.result.now) (length (data_places kept entries)) (moved_blocks (option_copied c.as_ref-2.result) c.map_entries.new.entries) (moved_blocks kept entries)
     c.in_ok-moves.ensures.copied.takes.ahead (ap length are) as_many c.requires.room c.in_default.ensures.answer.1

@@ -6,7 +6,7 @@ use Rattle.codec.specs.Entry.{EntryFields}
 use Rattle.version_store.specs.Store.{sides_of, sides_told}
 use Rattle.migration.specs.Places.{with_places}
 use Rattle.migration.proofs.Sorting.{with_join}
-use Rattle.migration.proofs.places.put_told.Goals as goal
+use Rattle.migration.proofs.places.put_entries.Goals as goal
 
 pub loop-entry-preserved : goal.loop-entry-preserved
 loop-entry-preserved c =

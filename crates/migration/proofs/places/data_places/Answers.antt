@@ -4,8 +4,8 @@ use Rattle.s4_types.specs.Pointer.{Place}
 use Rattle.version_store.specs.Store.{sides_told}
 use Rattle.migration.specs.Places.{with_places, pointers_in}
 use Rattle.migration.proofs.Sorting.{with_join}
-use Rattle.migration.proofs.places.places_told.Goals.{in-Some+in_ok-put_slots, in_default}
-use Rattle.migration.proofs.places.places_told.Goals as goal
+use Rattle.migration.proofs.places.data_places.Goals.{in-Some+in_ok-put_slots, in_default}
+use Rattle.migration.proofs.places.data_places.Goals as goal
 
 pub returns-clause-places : goal.returns-clause-places
 returns-clause-places c =
@@ -14,4 +14,4 @@ returns-clause-places c =
       | in-Some+in_ok-put_slots w ↦ search rules
       | in_default w ↦ search rules
     ] in
-    c.in_ok-put_told.ensures.places ∙ ap (λ (x : List Place). with_places x (sides_told entries)) first ∙ with_join [] (pointers_in (option_copied c.args.kept)) (sides_told entries)
+    c.in_ok-put_entries.ensures.places ∙ ap (λ (x : List Place). with_places x (sides_told entries)) first ∙ with_join [] (pointers_in (option_copied c.args.kept)) (sides_told entries)
