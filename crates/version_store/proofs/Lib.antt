@@ -20,6 +20,7 @@ pub mod Steps
 pub mod Subjects
 pub mod Kind
 pub mod Present
+pub mod ReadByInode
 pub mod Cached
 pub mod Beside
 pub mod Planned

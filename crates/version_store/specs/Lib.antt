@@ -1,4 +1,5 @@
 pub mod Planning
+pub mod Reading
 pub mod Across
 pub mod Store
 pub mod Tallies

@@ -6,6 +6,7 @@ ghost use Rattle.s4_types.specs.declared.refusals.Refusal.TheVariants.{NoMemory}
 ghost use Rattle.object_map.specs.Objects.{IsNextAbove};
 ghost use Rattle.object_map.specs.Rows.{row_of};
 ghost use Rattle.inode.specs.Contents.{contents_of, bytes_of};
+ghost use Rattle.version_store.specs.Reading.{HasLive, IsUnread};
 ghost use Rattle.version_store.specs.Store.{fields_of, IsStore};
 ghost use Rattle.checkpoint.specs.declared.cache.TheConstants.{CACHED_INODES};
 ghost use Rattle.version_store.specs.Versions.{entries_of_object, inode_in, distance_in};
@@ -22,6 +23,7 @@ mod upkeep;
 
 use crate::laws::{an_object_has_an_inode_at_all_moments_or_at_none, the_present_stays};
 use crate::leading::lead_back;
+use crate::readers::{Reader, read_live};
 use block_log::Blocks;
 use checkpoint::InodeCache;
 use codec::{Entry, Inode};
@@ -229,6 +231,38 @@ impl<B: Blocks> Store<B> {
             return Ok(Vec::new(self.alloc));
         };
         time_read::entries(self.alloc, &mut self.table, object, &row)
+    }
+
+    /// What a reader has of an object by its inode at a moment: from the store's last change on by
+    /// the present one, which isn't copied; else by a copy that is led back.
+    ///
+    /// NoObject where the object isn't there then; else what the reader is refused for.
+    pub fn read_at<R: Reader<B>>(
+        &mut self,
+        object: ObjectId,
+        at: Moment,
+        reader: R,
+    ) -> Result<R::Read, Refusal>
+        requires { IsStore (fields_of B.log self.old) }
+        ensures reads { IfOk result
+            (λ read. HasLive (fields_of B.log self.old) object at
+            (λ inode. R.reads reader self.new.table inode read)) }
+        ensures refused { IfErr result
+            (λ e. IsUnread (fields_of B.log self.old) object at
+            (λ inode. R.refuses reader self.new.table inode e) e) }
+        ensures same { fields_of B.log self.new ≡ fields_of B.log self.old }
+    {
+        held_pointers_lead();
+        the_present_stays();
+        let Some(kept) = self.objects.get(object) else {
+            return Err(Refusal::NoObject);
+        };
+        if self.latest <= at {
+            return read_live(self.alloc, &mut self.table, &kept.value.inode, reader);
+        }
+        let mut inode = kept.value.inode;
+        self.lead_back(object, at, &mut inode);
+        read_live(self.alloc, &mut self.table, &inode, reader)
     }
 
     /// The bytes of an object at a moment from an offset on, `len` of them or as many as there are;

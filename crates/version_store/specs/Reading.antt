@@ -1,0 +1,23 @@
+-- What is read of an object of a store, and why it isn't.
+use Rattle.std.specs.Prelude.{◌≡◌, ◌⊎◌, ℕ, true, false, Some}
+use Rattle.s4_types.specs.declared.refusals.Refusal.{Refusal}
+use Rattle.s4_types.specs.declared.refusals.Refusal.TheVariants.{NoObject}
+use Rattle.s4_types.specs.declared.versions.Version.TheVariants.{Absent}
+use Rattle.codec.specs.declared.inodes.Inode.{Inode}
+use Rattle.version_store.specs.Store.{StoreFields}
+use Rattle.version_store.specs.Versions.{inode_in, version_in}
+
+-- an object has a live inode at a moment, and this holds of it
+pub record HasLive (s : StoreFields) (o t : ℕ) (Holds : Inode → Type 0) : Type 0 where
+  pub inode : Inode
+  pub there : inode_in s o t ≡ Some inode
+  pub alive : inode.alive ≡ true
+  pub holds : Holds inode
+
+-- an object isn't read at a moment: it is absent then, or by its live inode it is refused
+abbrev pub IsUnread : StoreFields → ℕ → ℕ → (Inode → Type 0) → Refusal → Type 0
+IsUnread s o t Refuses e = ((e ≡ NoObject) × (version_in s o t ≡ Absent)) ⊎ HasLive s o t Refuses
+
+-- by an inode an object isn't read: it is dead, or it is alive and refused
+abbrev pub IsUnreadBy : Inode → (Inode → Type 0) → Refusal → Type 0
+IsUnreadBy i Refuses e = ((e ≡ NoObject) × (i.alive ≡ false)) ⊎ ((i.alive ≡ true) × Refuses i)
