@@ -1,5 +1,5 @@
 -- What an accepted request is answered, and what a request leaves.
-use Rattle.std.specs.Prelude.{◌≡◌, ◌↔◌, ◌<◌, ◌-◌, ℕ, min, Bool, true, false, if◌then◌else◌, List, [], ◌∷◌, ◌++◌, Option, None, Some, Result, Ok, Err, MatchResult, MatchBool}
+use Rattle.std.specs.Prelude.{◌≡◌, ◌⊎◌, ◌↔◌, ◌<◌, ◌-◌, ℕ, min, Bool, true, false, if◌then◌else◌, List, [], ◌∷◌, ◌++◌, Option, None, Some, Result, Ok, Err, MatchResult, MatchBool}
 use Rattle.std.specs.List.{list_any}
 use Rattle.s4_types.specs.declared.changes.Change.{Change}
 use Rattle.s4_types.specs.declared.refusals.Refusal.{Refusal}
@@ -121,6 +121,17 @@ telling_refusal s o t = or_then (moment_refusal s o t) (if is_absent (version_of
 -- hold, and of its attribute and moments.
 abbrev pub MeansVersion : DriveFields → ℕ → ℕ → Inode → Type 0
 MeansVersion d object t i = version_of (state_in d) object t ≡ Live (bytes_of (contents_of (store_of d).log.held) i) i.attribute i.created i.changed
+
+-- An object has a live inode at a moment that means the version that the history tells, and this holds of the inode.
+pub record HasVersion (d : DriveFields) (object t : ℕ) (Holds : Inode → Type 0) : Type 0 where
+  pub inode : Inode
+  pub there : inode_in (store_of d) object t ≡ Some inode
+  pub version : MeansVersion d object t inode
+  pub holds : Holds inode
+
+-- Nothing is told of an object at a moment: it is refused first; or nothing refuses it first, and by the inode it is refused.
+abbrev pub IsUntold : DriveFields → ℕ → ℕ → (Inode → Type 0) → Refusal → Type 0
+IsUntold d object t Refuses e = (telling_refusal (state_in d) object t ≡ Some e) ⊎ ((telling_refusal (state_in d) object t ≡ None) × HasVersion d object t Refuses)
 
 -- a read is answered so: nothing refuses it first, and this is the model's reply
 abbrev pub IsAnswered : Option Refusal → State → Request → Reply → Type 0
