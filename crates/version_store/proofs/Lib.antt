@@ -23,7 +23,6 @@ pub mod Present
 pub mod ReadByInode
 pub mod Cached
 pub mod Beside
-pub mod Planned
 pub mod Costing
 pub mod Turning
 pub mod Making

@@ -1,11 +1,10 @@
 //! A store of objects: made, looked at and read.
-ghost use Rattle.std.specs.Prelude.{◌≡◌, ℕ, ◌+◌, ◌^◌, ◌≤◌, ◌<◌, Some, None, length, take, drop};
-ghost use Rattle.std.specs.Prelude.{IsSome, IfSome, IfNone, IfOk, IfErr, option_copied, option_map};
+ghost use Rattle.std.specs.Prelude.{◌≡◌, ℕ, ◌+◌, ◌^◌, ◌≤◌, ◌<◌, Some, None, length};
+ghost use Rattle.std.specs.Prelude.{IfSome, IfNone, IfOk, IfErr, option_copied, option_map};
 ghost use Rattle.s4_types.specs.Pointer.{Place};
 ghost use Rattle.s4_types.specs.declared.refusals.Refusal.TheVariants.{NoMemory};
 ghost use Rattle.object_map.specs.Objects.{IsNextAbove};
 ghost use Rattle.object_map.specs.Rows.{row_of};
-ghost use Rattle.inode.specs.Contents.{contents_of, bytes_of};
 ghost use Rattle.version_store.specs.Reading.{HasLive, IsUnread};
 ghost use Rattle.version_store.specs.Store.{fields_of, IsStore};
 ghost use Rattle.checkpoint.specs.declared.cache.TheConstants.{CACHED_INODES};
@@ -154,7 +153,7 @@ impl<B: Blocks> Store<B> {
     /// newest first, by the index: that takes no memory, and no block is read. Where memory for the
     /// index was refused, the inode is led to from the nearest checkpoint, or where memory for that
     /// is refused too by a walk of the journal.
-    pub fn lead_back(&mut self, object: ObjectId, at: Moment, inode: &mut Inode)
+    fn lead_back(&mut self, object: ObjectId, at: Moment, inode: &mut Inode)
         requires store { IsStore (fields_of B.log self.old) }
         requires present { inode_in (fields_of B.log self.old) object self.old.latest
             ≡ Some inode.old }
@@ -263,54 +262,5 @@ impl<B: Blocks> Store<B> {
         let mut inode = kept.value.inode;
         self.lead_back(object, at, &mut inode);
         read_live(self.alloc, &mut self.table, &inode, reader)
-    }
-
-    /// The bytes of an object at a moment from an offset on, `len` of them or as many as there are;
-    /// the inode is the object's at that moment. Each block is read once.
-    ///
-    /// NoMemory alone, where the memory for the bytes is refused.
-    pub fn read(
-        &mut self,
-        object: ObjectId,
-        at: Moment,
-        inode: &Inode,
-        offset: u64,
-        len: u64,
-    ) -> Result<Vec<u8>, Refusal>
-        requires store { IsStore (fields_of B.log self.old) }
-        requires inode { inode_in (fields_of B.log self.old) object at ≡ Some inode.now }
-        ensures bytes { IfOk result
-            (λ bytes. bytes.items
-            ≡ take len
-            (drop offset (bytes_of (contents_of (B.log self.old.table).held) inode.now))) }
-        ensures refusal { IfErr result (λ e. e ≡ NoMemory) }
-        ensures same { fields_of B.log self.new ≡ fields_of B.log self.old }
-    {
-        held_pointers_lead();
-        inode::read(self.alloc, &mut self.table, inode, offset, len)
-    }
-
-    /// The bytes of an object that has a row, as they are now: [`Store::read`] of its present
-    /// inode, which isn't copied.
-    ///
-    /// NoMemory alone, where the memory for the bytes is refused.
-    pub fn read_present(
-        &mut self,
-        object: ObjectId,
-        offset: u64,
-        len: u64,
-    ) -> Result<Vec<u8>, Refusal>
-        requires store { IsStore (fields_of B.log self.old) }
-        requires there { IsSome (inode_in (fields_of B.log self.old) object self.old.latest) }
-        ensures bytes { IfOk result (λ bytes. IfSome (inode_in (fields_of B.log self.old) object self.old.latest)
-            (λ inode. bytes.items ≡ take len (drop offset (bytes_of (contents_of (B.log self.old.table).held) inode)))) }
-        ensures refusal { IfErr result (λ e. e ≡ NoMemory) }
-        ensures same { fields_of B.log self.new ≡ fields_of B.log self.old }
-    {
-        held_pointers_lead();
-        let Some(kept) = self.objects.get(object) else {
-            unreachable!()
-        };
-        inode::read(self.alloc, &mut self.table, &kept.value.inode, offset, len)
     }
 }
