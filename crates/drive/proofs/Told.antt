@@ -55,9 +55,6 @@ version_there s store w next o t found kept visible is = sym (kept.versions o t 
 live_means : (contents : Place → List ℕ) (i : Inode) → i.alive ≡ true → meaning contents i ≡ Live (bytes_of contents i) i.attribute i.created i.changed
 live_means contents i is = ap (λ (b : Bool). cond b (Live (bytes_of contents i) i.attribute i.created i.changed) Absent) is
 
-dead_means : (contents : Place → List ℕ) (i : Inode) → i.alive ≡ false → meaning contents i ≡ Absent
-dead_means contents i is = ap (λ (b : Bool). cond b (Live (bytes_of contents i) i.attribute i.created i.changed) Absent) is
-
 -- a live inode tells the version
 pub live_version : (s : State) (store : StoreFields) (w : Timeline) (next o t : ℕ) (found : Option Inode) (i : Inode) → IsKeptDrive s store w next → IsVisible s o t → found ≡ inode_in store o t → found ≡ Some i → i.alive ≡ true
     → version_of s o t ≡ Live (bytes_of (contents_of store.log.held) i) i.attribute i.created i.changed
@@ -74,17 +71,10 @@ absent_told s o t free is =
     ap (λ (r : Option Refusal). or_then r (cond (is_absent (version_of s o t)) (Some NoObject) None)) free
     ∙ ap (λ (v : Version). cond (is_absent v) (Some NoObject) None) is
 
--- without an inode, and with a dead one, there is no object
-pub none_told : (s : State) (store : StoreFields) (w : Timeline) (next o t : ℕ) (found : Option Inode) → IsKeptDrive s store w next → IsVisible s o t → found ≡ inode_in store o t → found ≡ None → telling_refusal s o t ≡ Some NoObject
-none_told s store w next o t found kept visible is none =
-    absent_told s o t (visible_free s o t visible) (version_there s store w next o t found kept visible is ∙ ap (λ (x : Option Inode). version_by store.log.held x) none)
-
-pub dead_told : (s : State) (store : StoreFields) (w : Timeline) (next o t : ℕ) (found : Option Inode) (i : Inode) → IsKeptDrive s store w next → IsVisible s o t → found ≡ inode_in store o t → found ≡ Some i → i.alive ≡ false → telling_refusal s o t ≡ Some NoObject
-dead_told s store w next o t found i kept visible is some dead =
-    absent_told s o t (visible_free s o t visible) (version_there s store w next o t found kept visible is ∙ ap (λ (x : Option Inode). version_by store.log.held x) some ∙ dead_means (contents_of store.log.held) i dead)
-
-pub moment_told : (s : State) (o t : ℕ) (e : Refusal) → moment_refusal s o t ≡ Some e → telling_refusal s o t ≡ Some e
-moment_told s o t e is = ap (λ (r : Option Refusal). or_then r (cond (is_absent (version_of s o t)) (Some NoObject) None)) is
+-- what refuses a moment refuses to tell of it
+pub moment_told : (s : State) (o t u : ℕ) (e : Refusal) → t ≡ u → moment_refusal s o t ≡ Some e → telling_refusal s o u ≡ Some e
+moment_told s o t u e is first =
+    ap (λ (r : Option Refusal). or_then r (cond (is_absent (version_of s o u)) (Some NoObject) None)) (ap (λ (n : ℕ). moment_refusal s o n) (sym is) ∙ first)
 
 -- ---- what a reader has
 

@@ -1,8 +1,7 @@
-use Rattle.std.proofs.Common.{◌≡◌, ℕ, inl, subst}
+use Rattle.std.proofs.Common.{inl}
 use Rattle.std.proofs.lemmas.Result.{err_from_is_err_and}
 use Rattle.drive.specs.Fields.{state_in, store_of}
 use Rattle.drive.specs.Keeping.{IsKeptDrive}
-use Rattle.drive.specs.Answering.{telling_refusal}
 use Rattle.drive.proofs.Parts.{kept_of, drive_as}
 use Rattle.drive.proofs.Told.{moment_told, read_version, unread_version}
 use Rattle.drive.proofs.drive.Drive.read_at.Goals as goal
@@ -11,8 +10,7 @@ pub returns-in_err-visible-clause-refused : goal.returns-in_err-visible-clause-r
 returns-in_err-visible-clause-refused g c =
     let p = err_from_is_err_and c.from_residual.result c.from_residual.ensures.1 in
     let kept : IsKeptDrive (state_in c.args.self.now) (store_of c.args.self.now) c.self.inside.window c.self.inside.next = kept_of c.args.self.now g.J.Naming.base c.self.inside.history c.self.inside.store c.self.inside.window c.self.inside.next c.self.view_is c.self.invariant in
-    rw (p.1, p.2) (inl (subst (λ (t : ℕ). telling_refusal (state_in c.args.self.now) c.args.object t ≡ _) c.moment_asked-moment.ensures
-    (moment_told (state_in c.args.self.now) c.args.object c.moment_asked-moment.result _ (c.in_err-visible.ensures (state_in c.args.self.now) kept.window))))
+    rw (p.1, p.2) (inl (moment_told (state_in c.args.self.now) c.args.object c.moment_asked-moment.result _ _ c.moment_asked-moment.ensures (c.in_err-visible.ensures (state_in c.args.self.now) kept.window)))
 
 pub returns-clause-free : goal.returns-clause-free
 returns-clause-free g c =
