@@ -5,6 +5,7 @@ ghost use Rattle.s4_types.specs.declared.limits.TheConstants.{READ_BYTES};
 ghost use Rattle.s4_types.specs.declared.requests.Request.TheVariants.{Query};
 ghost use Rattle.s4_types.specs.declared.requests.Question.TheVariants.{Read, GetAttr};
 ghost use Rattle.s4_types.specs.declared.refusals.Refusal.TheVariants.{NoMemory};
+ghost use Rattle.s4_types.specs.declared.replies.Reply.TheVariants.{Attr};
 ghost use Rattle.s4_model.specs.Refusals.{first_refusal, asked};
 ghost use Rattle.s4_model.specs.Step.{reply_to_read};
 ghost use Rattle.drive.specs.Later.{later_refusal};
@@ -35,8 +36,7 @@ impl<B: Blocks> Reader<B> for Attributes {
     type Read = Reply;
 
     ghost reads = { λ reader table inode reply.
-        (reply ≡ Reply.Attr inode.size inode.created inode.changed inode.attribute)
-        × ReplyFits reply };
+        (reply ≡ Attr inode.size inode.created inode.changed inode.attribute) × ReplyFits reply };
 
     ghost refuses = { λ reader table inode e. e ≡ NoMemory };
 
