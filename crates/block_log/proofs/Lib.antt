@@ -1,3 +1,3 @@
-mod Places
-mod Taking
+pub mod Places
+pub mod Taking
 mod Names

@@ -1,3 +1,4 @@
 pub mod Log
 pub mod Growth
 pub mod Taken
+pub mod Laws

@@ -5,6 +5,10 @@ ghost use Rattle.s4_types.specs.declared.limits.TheConstants.{BLOCK_BYTES};
 ghost use Rattle.s4_types.specs.declared.refusals.Refusal.TheVariants.{NoMemory, NoSpace};
 ghost use Rattle.block_log.specs.Log.{Log, Stored, appended, dropped, held_more, is_data};
 ghost use Rattle.block_log.specs.Log.{NamesAreOfData};
+ghost use Rattle.block_log.specs.Laws.{OnePlaceHasOneName, AnAppendPutsOneBlock};
+ghost use Rattle.block_log.specs.Laws.{ADropTakesOneBlock, AnAppendTakesOnePlace};
+ghost use Rattle.block_log.specs.Laws.{ADropTakesNoPlace, NoChangeTakesNoPlace};
+ghost use Rattle.block_log.specs.Laws.{PlacesTakenAddUp};
 
 use crate::kinds::BlockKind;
 use s4_types::limits::BLOCK_BYTES;
@@ -74,4 +78,13 @@ pub trait Blocks {
     /// How many blocks can be appended before there is no space: at most 15,360.
     fn blocks_left(&self) -> usize
         ensures { result ≡ length (log self.now).ahead };
+
+    // Laws of logs, for the functions that change a table.
+    ghost one_place_has_one_name: { OnePlaceHasOneName };
+    ghost an_append_puts_one_block: { AnAppendPutsOneBlock };
+    ghost a_drop_takes_one_block: { ADropTakesOneBlock };
+    ghost an_append_takes_one_place: { AnAppendTakesOnePlace };
+    ghost a_drop_takes_no_place: { ADropTakesNoPlace };
+    ghost no_change_takes_no_place: { NoChangeTakesNoPlace };
+    ghost places_taken_add_up: { PlacesTakenAddUp };
 }

@@ -11,11 +11,6 @@ ghost use Rattle.block_log.specs.Taken.{TakesPlaces};
 ghost use Rattle.s4_types.specs.declared.limits.TheConstants.{CHECKPOINT_BLOCKS, CHECKPOINT_PARTS};
 ghost use Rattle.s4_types.specs.declared.refusals.Refusal.TheVariants.{NoMemory, NoSpace};
 
-use block_log::laws::{
-    a_drop_takes_no_place, a_drop_takes_one_block, an_append_puts_one_block,
-    an_append_takes_one_place, no_change_takes_no_place, one_place_has_one_name,
-    places_taken_add_up,
-};
 use block_log::{Block, BlockKind, Blocks};
 use codec::laws::a_checkpoint_is_read;
 use codec::part_laws::{a_block_begins_with_its_kind, a_checkpoint_is_its_blocks};
@@ -58,9 +53,6 @@ fn write_part<B: Blocks>(table: &mut B, checkpoint: &Checkpoint, part: u8) -> Op
     ensures takes { TakesPlaces (part_blocks checkpoint.now.inode part) (B.log table.old)
         (B.log table.new) }
 {
-    an_append_puts_one_block();
-    an_append_takes_one_place();
-    no_change_takes_no_place();
     let block = checkpoint.pointer_block(part)?;
     let bytes = encode_pointer_block(&block);
     let Ok(place) = table.append(BlockKind::Pointers, checkpoint.object(), &bytes) else {
@@ -98,10 +90,6 @@ pub fn write_checkpoint<B: Blocks>(table: &mut B, checkpoint: &Checkpoint) -> Re
     a_checkpoint_is_read();
     a_checkpoint_is_its_blocks();
     a_block_begins_with_its_kind();
-    one_place_has_one_name();
-    an_append_puts_one_block();
-    an_append_takes_one_place();
-    places_taken_add_up();
     if table.blocks_left() < checkpoint_blocks(checkpoint.inode()) {
         return Err(Refusal::NoSpace);
     }
@@ -259,10 +247,6 @@ fn drop_place<B: Blocks>(table: &mut B, object: ObjectId, place: Option<Ptr>)
     ensures named { (B.log table.new).named ≡ (B.log table.old).named }
     ensures takes { TakesPlaces 0 (B.log table.old) (B.log table.new) }
 {
-    one_place_has_one_name();
-    a_drop_takes_one_block();
-    a_drop_takes_no_place();
-    no_change_takes_no_place();
     if let Some(place) = place {
         table.drop_block(place);
     }
@@ -276,9 +260,6 @@ pub fn drop_checkpoint<B: Blocks>(table: &mut B, object: ObjectId, place: Option
     ensures named { (B.log table.new).named ≡ (B.log table.old).named }
     ensures takes { TakesPlaces 0 (B.log table.old) (B.log table.new) }
 {
-    one_place_has_one_name();
-    no_change_takes_no_place();
-    places_taken_add_up();
     let Some(place) = place else {
         return;
     };

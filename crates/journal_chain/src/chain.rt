@@ -26,7 +26,6 @@ use crate::table::{reopen, write};
 use crate::writing::{bytes_of, finish, first_block, sizes_of, take_all, take_others};
 use arrayvec::ArrayVec;
 use block_log::Blocks;
-use block_log::laws::{no_change_takes_no_place, places_taken_add_up};
 use codec::{Entry, JournalBytes};
 use s4_types::limits::{CHAIN_ENTRIES, SHORTEST_ENTRY_BYTES};
 use s4_types::{ObjectId, Ptr, Refusal};
@@ -193,7 +192,6 @@ impl Chain {
         blocks_have_the_entries();
         bytes_add_up();
         chains_are_short();
-        places_taken_add_up();
         let stale = self.reopened(first.byte_count());
         let mut block = self.begun(table, first);
         take_others(table, &mut block, later);
@@ -294,7 +292,6 @@ impl Chain {
         ensures object { result.object ≡ object }
         ensures bytes { result.bytes ≡ bytes }
     {
-        places_taken_add_up();
         let mut chain = Chain::empty(object);
         let mut block = first_block(object, first);
         take_all(table, &mut block, later);
@@ -368,7 +365,6 @@ impl Chain {
         ensures object { result.object ≡ object }
     {
         chains_are_short();
-        no_change_takes_no_place();
         let bytes = bytes_of(entries);
         let [first, later @ ..] = entries else {
             return Chain::of_none(object, table);
@@ -394,7 +390,6 @@ impl Chain {
     {
         blocks_have_the_entries();
         chains_are_short();
-        places_taken_add_up();
         let stale = places(table, self.head());
         let chain = Chain::afresh(self.object(), table, first, later, bytes);
         drop_all(table, stale.as_slice());

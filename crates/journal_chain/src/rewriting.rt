@@ -12,7 +12,6 @@ ghost use Rattle.journal_chain.specs.Back.{links_back, places_back};
 use crate::table::open;
 use arrayvec::ArrayVec;
 use block_log::Blocks;
-use block_log::laws::{a_drop_takes_no_place, no_change_takes_no_place, places_taken_add_up};
 use s4_types::Ptr;
 use s4_types::limits::CHAIN_BLOCKS;
 
@@ -46,8 +45,6 @@ fn drop_one<B: Blocks>(table: &mut B, place: Option<Ptr>)
         → (B.log table.new).named ≡ (B.log table.old).named }
     ensures takes { TakesPlaces 0 (B.log table.old) (B.log table.new) }
 {
-    a_drop_takes_no_place();
-    no_change_takes_no_place();
     match place {
         Some(place) => table.drop_block(place),
         None => {}
@@ -67,8 +64,6 @@ pub(crate) fn drop_all<B: Blocks>(table: &mut B, places: &[Option<Ptr>])
         → (B.log table.new).named ≡ (B.log table.old).named }
     ensures takes { TakesPlaces 0 (B.log table.old) (B.log table.new) }
 {
-    no_change_takes_no_place();
-    places_taken_add_up();
     for place in places {
         drop_one(table, *place);
     }

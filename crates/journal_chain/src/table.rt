@@ -2,7 +2,6 @@
 ghost use Rattle.std.specs.Prelude.{◌≡◌, ◌≤◌, ◌<◌, length, Some, IsSome};
 ghost use Rattle.journal_chain.specs.Writing.{Put, spelled_journal};
 
-use block_log::laws::an_append_takes_one_place;
 use block_log::{BlockKind, Blocks};
 use codec::{EntryReader, JournalBytes};
 use s4_types::Ptr;
@@ -33,7 +32,6 @@ pub(crate) fn write<B: Blocks>(table: &mut B, block: &JournalBytes) -> Ptr
     requires room { 0 < length (B.log table.old).ahead }
     ensures { Put (B.log table.old) (B.log table.new) result block.now }
 {
-    an_append_takes_one_place();
     table
         .append(BlockKind::Journal, block.object(), block.as_bytes())
         .unwrap()

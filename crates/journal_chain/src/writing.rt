@@ -14,7 +14,6 @@ ghost use Rattle.journal_chain.specs.Writing.{Finished, InOrder, Unfinished};
 use crate::table::write;
 use arrayvec::ArrayVec;
 use block_log::Blocks;
-use block_log::laws::{a_drop_takes_no_place, no_change_takes_no_place, places_taken_add_up};
 use codec::{Entry, JournalBytes};
 use s4_types::{ObjectId, Ptr};
 use undo_redo::OtherEntries;
@@ -76,7 +75,6 @@ pub(crate) fn take<B: Blocks>(table: &mut B, block: &mut JournalBytes, entry: &E
     ensures filled { entries_length block.new.entries
         ≡ filled_with (entries_length block.old.entries) (entry_length entry.now) }
 {
-    no_change_takes_no_place();
     if block.fits(entry) {
         block.add(entry);
         return;
@@ -105,8 +103,6 @@ pub(crate) fn take_all<B: Blocks>(table: &mut B, block: &mut JournalBytes, entri
     ensures named { (B.log table.new).named ≡ (B.log table.old).named }
     ensures object { block.new.object ≡ block.old.object }
 {
-    no_change_takes_no_place();
-    places_taken_add_up();
     for entry in entries {
         take(table, block, entry);
     }
@@ -134,8 +130,6 @@ pub(crate) fn take_others<B: Blocks>(
     ensures named { (B.log table.new).named ≡ (B.log table.old).named }
     ensures object { block.new.object ≡ block.old.object }
 {
-    no_change_takes_no_place();
-    places_taken_add_up();
     for entry in others {
         take(table, block, &entry);
     }
@@ -159,8 +153,6 @@ pub(crate) fn finish<B: Blocks>(table: &mut B, block: &JournalBytes, stale: Opti
         → (B.log table.new).named ≡ (B.log table.old).named }
     ensures takes { TakesPlaces 1 (B.log table.old) (B.log table.new) }
 {
-    a_drop_takes_no_place();
-    places_taken_add_up();
     let head = write(table, block);
     if let Some(old) = stale {
         table.drop_block(old);

@@ -15,7 +15,6 @@ ghost use Rattle.row_changes.specs.Recent.{IsBy};
 ghost use Rattle.row_changes.specs.Moved.{IsMoved, DropsSides, places_gone};
 
 use block_log::Blocks;
-use block_log::laws::{no_change_takes_no_place, places_taken_add_up};
 use checkpoint::laws::{
     a_checkpoint_has_its_blocks, a_checkpoint_rests_on_its_blocks,
     checkpoints_of_two_moments_share_no_block,
@@ -132,7 +131,6 @@ pub fn record_checkpoint<B: Blocks>(
     a_checkpoint_rests_on_its_blocks();
     a_checkpoint_has_its_blocks();
     checkpoints_of_two_moments_share_no_block();
-    places_taken_add_up();
     a_run_has_one_end_and_one_beginning();
     the_inode_at_a_moment();
     let place = put(table, object, inode, moment)?;
@@ -171,8 +169,6 @@ fn drop_each<B: Blocks>(table: &mut B, object: ObjectId, row: &Row)
     a_checkpoint_rests_on_its_blocks();
     a_checkpoint_has_its_blocks();
     checkpoints_of_two_moments_share_no_block();
-    no_change_takes_no_place();
-    places_taken_add_up();
     let sides = row.sides.as_slice();
     for side in sides {
         drop_checkpoint(table, object, Some(side.place));

@@ -29,7 +29,6 @@ ghost use Rattle.row_changes.specs.Moving.{kept_blocks, moved_blocks};
 use crate::checkpoints::{drop_named, put_ahead};
 use arrayvec::ArrayVec;
 use block_log::Blocks;
-use block_log::laws::places_taken_add_up;
 use checkpoint::laws::{a_checkpoint_has_its_blocks, a_checkpoint_rests_on_its_blocks};
 use checkpoint::{checkpoint_blocks, drop_checkpoint};
 use codec::{Entry, Inode};
@@ -107,7 +106,6 @@ fn put_anew<B: Blocks>(
 {
     a_checkpoint_rests_on_its_blocks();
     a_checkpoint_has_its_blocks();
-    places_taken_add_up();
     let place = put_ahead(table, object, inode, moment);
     drop_checkpoint(table, object, row.checkpoint);
     place
@@ -190,7 +188,6 @@ fn write_chain<B: Blocks>(table: &mut B, object: ObjectId, row: &Row, entries: &
     ensures takes { TakesPlaces (whole_blocks entries.now) (B.log table.old) (B.log table.new) }
     ensures named { (B.log table.new).named ≡ (B.log table.old).named }
 {
-    places_taken_add_up();
     changes_add_up();
     drop_chain(table, object, row);
     Chain::write_whole(object, table, entries)
@@ -277,7 +274,6 @@ pub fn write_row<B: Blocks>(
         < moved_blocks (option_copied kept.entry) entries.now)) }
     ensures unchanged { OnErr result (B.log table.new ≡ B.log table.old) }
 {
-    places_taken_add_up();
     a_chain_has_its_entries();
     a_chain_is_its_journal_blocks();
     a_row_tells_a_chain();

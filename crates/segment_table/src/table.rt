@@ -8,6 +8,8 @@ ghost use Rattle.s4_types.specs.declared.limits.TheConstants.{BLOCK_BYTES};
 ghost use Rattle.s4_types.specs.declared.refusals.Refusal.TheVariants.{NoMemory, Busy, NoSpace};
 ghost use Rattle.s4_types.specs.declared.refusals.Refusal.TheVariants.{InUse};
 ghost use Rattle.block_log.specs.Log.{appended, dropped, held_more, is_data, NamesAreOfData};
+ghost use Rattle.block_log.proofs.Places.{one_place, puts, takes};
+ghost use Rattle.block_log.proofs.Taking.{append_takes, drop_takes, none_taken, adds_up};
 ghost use Rattle.segment_word.specs.Frames.{Pinned, is_draining};
 ghost use Rattle.segment_word.specs.Frames.Phase.{Open, Sealed};
 ghost use Rattle.segment_word.specs.Layout.{frame_at, block_bytes};
@@ -277,6 +279,14 @@ impl OverFrames for SegmentTable {
 
 impl Blocks for SegmentTable {
     ghost log = { log_of };
+
+    ghost one_place_has_one_name = { one_place };
+    ghost an_append_puts_one_block = { puts };
+    ghost a_drop_takes_one_block = { takes };
+    ghost an_append_takes_one_place = { append_takes };
+    ghost a_drop_takes_no_place = { drop_takes };
+    ghost no_change_takes_no_place = { none_taken };
+    ghost places_taken_add_up = { adds_up };
 
     fn append(&mut self, kind: BlockKind, object: ObjectId, block: &Block) -> Result<Ptr, Refusal>
         requires { 1 ≤ object }

@@ -6,10 +6,6 @@ ghost use Rattle.block_log.specs.Log.{Log};
 ghost use Rattle.version_store.specs.Relocating.{AreCopies, frame_of_copies};
 ghost use Rattle.version_store.specs.private.Relocating.{Appending};
 
-use block_log::laws::{
-    an_append_puts_one_block, an_append_takes_one_place, no_change_takes_no_place,
-    one_place_has_one_name, places_taken_add_up,
-};
 use block_log::{Block, BlockKind, Blocks};
 use chain_rewriting::Renaming;
 use chain_rewriting::renaming_laws::moves_are_put_in_one_by_one;
@@ -46,10 +42,6 @@ fn append_copy<B: Blocks>(
         → Appending object copies before (B.log table.old) renaming.old (copy.now ∷ rest) count
         → Appending object copies before (B.log table.new) renaming.new rest (count + 1) }
 {
-    one_place_has_one_name();
-    an_append_puts_one_block();
-    an_append_takes_one_place();
-    places_taken_add_up();
     moves_are_put_in_one_by_one();
     let Ok(place) = table.append(BlockKind::Data, object, &copy.bytes) else {
         unreachable!()
@@ -70,7 +62,6 @@ pub(crate) fn append_copies<B: Blocks>(
     ensures appending { Appending object copies.now (B.log table.old) (B.log table.new) result []
         (length copies.now) }
 {
-    no_change_takes_no_place();
     moves_are_put_in_one_by_one();
     let mut renaming = frame_of(copies);
     for copy in copies {

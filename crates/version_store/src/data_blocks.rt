@@ -15,7 +15,6 @@ ghost use Rattle.version_store.specs.private.Recounting.{Uncounts};
 
 use crate::recounts::recount;
 use block_log::Blocks;
-use block_log::laws::places_taken_add_up;
 use checkpoint::laws::a_checkpoint_has_its_blocks;
 use checkpoint::{drop_checkpoint, read_checkpoint};
 use codec::{Entry, Inode};
@@ -167,7 +166,6 @@ pub(crate) fn drop_all<B: Blocks>(
 {
     a_row_is_its_own_blocks();
     a_checkpoint_has_its_blocks();
-    places_taken_add_up();
     recount(table, object, &[], pointers);
     let bare = drop_sides(table, object, row);
     drop_journal(table, object, &bare);

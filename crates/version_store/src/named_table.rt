@@ -1,5 +1,7 @@
 //! The segment table of the drive that a type names.
 ghost use Rattle.std.specs.Prelude.{◌≡◌};
+ghost use Rattle.block_log.proofs.Places.{one_place, puts, takes};
+ghost use Rattle.block_log.proofs.Taking.{append_takes, drop_takes, none_taken, adds_up};
 ghost use Rattle.segment_table.specs.Room.{log_of};
 
 use block_log::{Block, BlockKind, Blocks};
@@ -42,6 +44,14 @@ impl<J: Naming> NamedTable<J> {
 
 impl<J: Naming> Blocks for NamedTable<J> {
     ghost log = { log_of };
+
+    ghost one_place_has_one_name = { one_place };
+    ghost an_append_puts_one_block = { puts };
+    ghost a_drop_takes_one_block = { takes };
+    ghost an_append_takes_one_place = { append_takes };
+    ghost a_drop_takes_no_place = { drop_takes };
+    ghost no_change_takes_no_place = { none_taken };
+    ghost places_taken_add_up = { adds_up };
 
     #[tactic(auto, using(crate::proofs::InPlace::appended_here))]
     fn append(&mut self, kind: BlockKind, object: ObjectId, block: &Block) -> Result<Ptr, Refusal> {

@@ -11,9 +11,6 @@ ghost use Rattle.version_store.specs.private.Names.{held_named, places_copied, p
 
 use crate::copies::CopiedBlock;
 use block_log::Blocks;
-use block_log::laws::{
-    a_drop_takes_no_place, no_change_takes_no_place, one_place_has_one_name, places_taken_add_up,
-};
 use chain_rewriting::Renaming;
 use codec::{Entry, Inode, Triple};
 use s4_types::Ptr;
@@ -28,7 +25,6 @@ fn hold_name<B: Blocks>(table: &mut B, pointer: Option<Ptr>)
     ensures held { (B.log table.new).held ≡ (B.log table.old).held }
     ensures takes { TakesPlaces 0 (B.log table.old) (B.log table.new) }
 {
-    no_change_takes_no_place();
     if let Some(place) = pointer {
         table.hold(place);
     }
@@ -43,8 +39,6 @@ pub(crate) fn hold_names<B: Blocks>(table: &mut B, pointers: &[Option<Ptr>])
     ensures held { (B.log table.new).held ≡ (B.log table.old).held }
     ensures takes { TakesPlaces 0 (B.log table.old) (B.log table.new) }
 {
-    no_change_takes_no_place();
-    places_taken_add_up();
     for pointer in pointers {
         hold_name(table, *pointer);
     }
@@ -57,8 +51,6 @@ fn hold_sides<B: Blocks>(table: &mut B, triples: &[Triple])
         → (B.log table.old).named p + length (sides_of triples.now) < 2 ^ 32 }
     ensures { Gives (B.log table.old) (sides_of triples.now) (B.log table.new) }
 {
-    no_change_takes_no_place();
-    places_taken_add_up();
     for triple in triples {
         hold_names(table, &[triple.before, triple.after]);
     }
@@ -71,8 +63,6 @@ pub(crate) fn hold_between<B: Blocks>(table: &mut B, entries: &EntriesBetween<'_
         → (B.log table.old).named p + length (sides_told entries.now) < 2 ^ 32 }
     ensures { Gives (B.log table.old) (sides_told entries.now) (B.log table.new) }
 {
-    no_change_takes_no_place();
-    places_taken_add_up();
     let (first, others) = entries.split_first();
     hold_sides(table, first.triples());
     for entry in others {
@@ -87,8 +77,6 @@ pub(crate) fn hold_copied<B: Blocks>(table: &mut B, copies: &[CopiedBlock])
     requires room { (p : Place) → (B.log table.old).named p + length copies.now < 2 ^ 32 }
     ensures { Gives (B.log table.old) (places_copied copies.now) (B.log table.new) }
 {
-    no_change_takes_no_place();
-    places_taken_add_up();
     for copy in copies {
         hold_name(table, Some(copy.place));
     }
@@ -102,8 +90,6 @@ pub(crate) fn hold_renamed<B: Blocks>(table: &mut B, renaming: &Renaming, pointe
     ensures { Gives (B.log table.old) (map (renamed_slot renaming.now) pointers.now)
         (B.log table.new) }
 {
-    no_change_takes_no_place();
-    places_taken_add_up();
     for pointer in pointers {
         hold_name(table, renaming.rename(*pointer));
     }
@@ -118,9 +104,6 @@ fn drop_name<B: Blocks>(table: &mut B, pointer: Option<Ptr>)
         → (B.log table.new).held q ≡ held_named (B.log table.old).held (B.log table.new).named q }
     ensures takes { TakesPlaces 0 (B.log table.old) (B.log table.new) }
 {
-    one_place_has_one_name();
-    a_drop_takes_no_place();
-    no_change_takes_no_place();
     table.names();
     if let Some(place) = pointer {
         table.drop_block(place);
@@ -137,8 +120,6 @@ pub(crate) fn drop_names<B: Blocks>(table: &mut B, pointers: &[Option<Ptr>])
         → (B.log table.new).held q ≡ held_named (B.log table.old).held (B.log table.new).named q }
     ensures takes { TakesPlaces 0 (B.log table.old) (B.log table.new) }
 {
-    no_change_takes_no_place();
-    places_taken_add_up();
     table.names();
     for pointer in pointers {
         drop_name(table, *pointer);
@@ -150,8 +131,6 @@ pub(crate) fn drop_copied<B: Blocks>(table: &mut B, copies: &[CopiedBlock])
     requires { All (IsOfDataOrNothing (B.log table.old).held) (places_copied copies.now) }
     ensures { TakesAway (B.log table.old) (places_copied copies.now) (B.log table.new) }
 {
-    no_change_takes_no_place();
-    places_taken_add_up();
     table.names();
     for copy in copies {
         drop_name(table, Some(copy.place));
@@ -165,7 +144,6 @@ pub(crate) fn drop_kept<B: Blocks>(table: &mut B, inode: Option<&Inode>)
     ensures { TakesAway (B.log table.old) (pointers_in (option_copied inode.entry))
         (B.log table.new) }
 {
-    no_change_takes_no_place();
     table.names();
     if let Some(inode) = inode {
         drop_names(table, &inode.pointers);

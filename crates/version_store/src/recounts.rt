@@ -14,7 +14,6 @@ ghost use Rattle.version_store.specs.private.Recounting.{Recounts};
 use crate::copies::CopiedBlock;
 use crate::names::{drop_kept, drop_names, hold_between, hold_copied, hold_names, hold_renamed};
 use block_log::Blocks;
-use block_log::laws::{one_place_has_one_name, places_taken_add_up};
 use chain_rewriting::Renaming;
 use checkpoint::laws::a_checkpoint_has_its_blocks;
 use checkpoint::read_checkpoint;
@@ -38,8 +37,6 @@ pub(crate) fn count_change<B: Blocks>(
     ensures { Recounts object (B.log table.old) (sides_told entries.now) hand.now
         (B.log table.new) }
 {
-    one_place_has_one_name();
-    places_taken_add_up();
     hold_between(table, entries);
     table.names();
     drop_names(table, hand);
@@ -77,8 +74,6 @@ pub(crate) fn count_checkpoint<B: Blocks>(
     ensures { Recounts object (B.log table.old) inode.now.pointers
         (pointers_in (option_copied gone.entry)) (B.log table.new) }
 {
-    one_place_has_one_name();
-    places_taken_add_up();
     hold_names(table, &inode.pointers);
     table.names();
     drop_kept(table, gone);
@@ -98,8 +93,6 @@ pub(crate) fn recount<B: Blocks>(
     requires room { (p : Place) → (B.log table.old).named p + length more.now < 2 ^ 32 }
     ensures { Recounts object (B.log table.old) more.now fewer.now (B.log table.new) }
 {
-    one_place_has_one_name();
-    places_taken_add_up();
     hold_names(table, more);
     table.names();
     drop_names(table, fewer);
@@ -128,8 +121,6 @@ pub(crate) fn count_renaming<B: Blocks>(
         (places_copied copies.now ++ map (renamed_slot renaming.now) led.now)
         (names.now ++ renaming.now.moves) (B.log table.new) }
 {
-    one_place_has_one_name();
-    places_taken_add_up();
     hold_copied(table, copies);
     hold_renamed(table, renaming, led);
     table.names();

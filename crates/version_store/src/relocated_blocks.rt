@@ -19,7 +19,6 @@ use crate::names::drop_copied;
 use crate::recounts::count_renaming;
 use crate::written_anew::move_blocks;
 use block_log::Blocks;
-use block_log::laws::{one_place_has_one_name, places_taken_add_up};
 use chain_rewriting::Renaming;
 use chain_rewriting::renaming_laws::{
     a_renamed_chain_takes_as_many_bytes, a_renamed_checkpoint_keeps_the_rules,
@@ -97,8 +96,6 @@ pub(crate) fn relocate_blocks<B: Blocks>(
     ensures entries { journal.new.entries.items
         ≡ renamed_entries result.renaming (entries_of (B.log table.old).held object row.now) }
 {
-    one_place_has_one_name();
-    places_taken_add_up();
     a_row_is_its_own_blocks();
     an_orderly_row_stays();
     a_run_has_one_end_and_one_beginning();

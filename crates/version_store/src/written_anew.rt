@@ -14,7 +14,6 @@ ghost use Rattle.version_store.specs.private.Replacing.{Rewrites};
 ghost use Rattle.version_store.specs.private.Relocating.{Moved};
 
 use block_log::Blocks;
-use block_log::laws::places_taken_add_up;
 use codec::{Entry, Inode};
 use object_map::Row;
 use row_changes::{drop_sides, move_row, rewrite_row};
@@ -45,7 +44,6 @@ pub(crate) fn rewrite_blocks<B: Blocks>(
         (B.log table.new) }
     ensures named { (B.log table.new).named ≡ (B.log table.old).named }
 {
-    places_taken_add_up();
     let bare = drop_sides(table, object, row);
     let Ok(next) = rewrite_row(table, object, &bare, present, moment, entries) else {
         unreachable!()
@@ -69,7 +67,6 @@ pub(crate) fn move_blocks<B: Blocks>(
         (option_copied kept.entry) entries.now }
     ensures named { (B.log table.new).named ≡ (B.log table.old).named }
 {
-    places_taken_add_up();
     let bare = drop_sides(table, object, row);
     let Ok(next) = move_row(table, object, &bare, kept, entries) else {
         unreachable!()

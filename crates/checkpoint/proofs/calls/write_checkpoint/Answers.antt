@@ -40,7 +40,7 @@ returns-clause-written g c =
     } in
     let read : ReadLaws = record { first = c.a_checkpoint_is_read.ensures.first; part = c.a_checkpoint_is_read.ensures.pointers; first_begins = c.a_block_begins_with_its_kind.ensures.first; part_begins = c.a_block_begins_with_its_kind.ensures.pointers } in
     let whole : WholeLaws = record { whole = c.a_checkpoint_is_its_blocks.ensures.whole; told = c.a_checkpoint_is_its_blocks.ensures.told; holes = c.a_checkpoint_is_its_blocks.ensures.holes } in
-    let all = ok_written read whole c.one_place_has_one_name.ensures c.an_append_puts_one_block.ensures c.args.checkpoint.now (g.B.Blocks.log c.args.table.now) (g.B.Blocks.log c.write_part-one.new.table) (g.B.Blocks.log c.write_part-two.new.table) (g.B.Blocks.log c.write_part-three.new.table) (g.B.Blocks.log c.append.new.self) c.write_part-one.result c.write_part-two.result c.write_part-three.result c.encode_first_block-bytes.result c.object.result c.object.ensures.object parts c.append.result c.append.ensures.appended c.append.ensures.fresh in
+    let all = ok_written read whole g.met.B.Blocks.one_place_has_one_name g.met.B.Blocks.an_append_puts_one_block c.args.checkpoint.now (g.B.Blocks.log c.args.table.now) (g.B.Blocks.log c.write_part-one.new.table) (g.B.Blocks.log c.write_part-two.new.table) (g.B.Blocks.log c.write_part-three.new.table) (g.B.Blocks.log c.append.new.self) c.write_part-one.result c.write_part-two.result c.write_part-three.result c.encode_first_block-bytes.result c.object.result c.object.ensures.object parts c.append.result c.append.ensures.appended c.append.ensures.fresh in
     ok_told c.args.checkpoint.now (g.B.Blocks.log c.args.table.now) (g.B.Blocks.log c.append.new.self) c.append.result all
 
 pub returns-clause-growth : goal.returns-clause-growth
@@ -55,7 +55,7 @@ returns-clause-growth g c =
     } in
     let read : ReadLaws = record { first = c.a_checkpoint_is_read.ensures.first; part = c.a_checkpoint_is_read.ensures.pointers; first_begins = c.a_block_begins_with_its_kind.ensures.first; part_begins = c.a_block_begins_with_its_kind.ensures.pointers } in
     let whole : WholeLaws = record { whole = c.a_checkpoint_is_its_blocks.ensures.whole; told = c.a_checkpoint_is_its_blocks.ensures.told; holes = c.a_checkpoint_is_its_blocks.ensures.holes } in
-    let all = ok_written read whole c.one_place_has_one_name.ensures c.an_append_puts_one_block.ensures c.args.checkpoint.now (g.B.Blocks.log c.args.table.now) (g.B.Blocks.log c.write_part-one.new.table) (g.B.Blocks.log c.write_part-two.new.table) (g.B.Blocks.log c.write_part-three.new.table) (g.B.Blocks.log c.append.new.self) c.write_part-one.result c.write_part-two.result c.write_part-three.result c.encode_first_block-bytes.result c.object.result c.object.ensures.object parts c.append.result c.append.ensures.appended c.append.ensures.fresh in
+    let all = ok_written read whole g.met.B.Blocks.one_place_has_one_name g.met.B.Blocks.an_append_puts_one_block c.args.checkpoint.now (g.B.Blocks.log c.args.table.now) (g.B.Blocks.log c.write_part-one.new.table) (g.B.Blocks.log c.write_part-two.new.table) (g.B.Blocks.log c.write_part-three.new.table) (g.B.Blocks.log c.append.new.self) c.write_part-one.result c.write_part-two.result c.write_part-three.result c.encode_first_block-bytes.result c.object.result c.object.ensures.object parts c.append.result c.append.ensures.appended c.append.ensures.fresh in
     ok_puts c.args.checkpoint.now (g.B.Blocks.log c.args.table.now) (g.B.Blocks.log c.append.new.self) c.append.result all
 
 pub returns-clause-order : goal.returns-clause-order
@@ -70,12 +70,12 @@ returns-clause-order g c =
     } in
     let read : ReadLaws = record { first = c.a_checkpoint_is_read.ensures.first; part = c.a_checkpoint_is_read.ensures.pointers; first_begins = c.a_block_begins_with_its_kind.ensures.first; part_begins = c.a_block_begins_with_its_kind.ensures.pointers } in
     let whole : WholeLaws = record { whole = c.a_checkpoint_is_its_blocks.ensures.whole; told = c.a_checkpoint_is_its_blocks.ensures.told; holes = c.a_checkpoint_is_its_blocks.ensures.holes } in
-    let all = ok_written read whole c.one_place_has_one_name.ensures c.an_append_puts_one_block.ensures c.args.checkpoint.now (g.B.Blocks.log c.args.table.now) (g.B.Blocks.log c.write_part-one.new.table) (g.B.Blocks.log c.write_part-two.new.table) (g.B.Blocks.log c.write_part-three.new.table) (g.B.Blocks.log c.append.new.self) c.write_part-one.result c.write_part-two.result c.write_part-three.result c.encode_first_block-bytes.result c.object.result c.object.ensures.object parts c.append.result c.append.ensures.appended c.append.ensures.fresh in
+    let all = ok_written read whole g.met.B.Blocks.one_place_has_one_name g.met.B.Blocks.an_append_puts_one_block c.args.checkpoint.now (g.B.Blocks.log c.args.table.now) (g.B.Blocks.log c.write_part-one.new.table) (g.B.Blocks.log c.write_part-two.new.table) (g.B.Blocks.log c.write_part-three.new.table) (g.B.Blocks.log c.append.new.self) c.write_part-one.result c.write_part-two.result c.write_part-three.result c.encode_first_block-bytes.result c.object.result c.object.ensures.object parts c.append.result c.append.ensures.appended c.append.ensures.fresh in
     ok_order c.args.checkpoint.now (g.B.Blocks.log c.args.table.now) (g.B.Blocks.log c.append.new.self) c.append.result all
 
 pub returns-clause-takes : goal.returns-clause-takes
 returns-clause-takes g c =
-    ok_takes c.places_taken_add_up.ensures c.an_append_takes_one_place.ensures c.args.checkpoint.now.inode (g.B.Blocks.log c.args.table.now) (g.B.Blocks.log c.write_part-one.new.table) (g.B.Blocks.log c.write_part-two.new.table) (g.B.Blocks.log c.write_part-three.new.table) (g.B.Blocks.log c.append.new.self) (first_stored c.object.result c.encode_first_block-bytes.result) c.write_part-one.ensures.takes c.write_part-two.ensures.takes c.write_part-three.ensures.takes c.append.result c.append.ensures.appended
+    ok_takes g.met.B.Blocks.places_taken_add_up g.met.B.Blocks.an_append_takes_one_place c.args.checkpoint.now.inode (g.B.Blocks.log c.args.table.now) (g.B.Blocks.log c.write_part-one.new.table) (g.B.Blocks.log c.write_part-two.new.table) (g.B.Blocks.log c.write_part-three.new.table) (g.B.Blocks.log c.append.new.self) (first_stored c.object.result c.encode_first_block-bytes.result) c.write_part-one.ensures.takes c.write_part-two.ensures.takes c.write_part-three.ensures.takes c.append.result c.append.ensures.appended
 
 pub returns-clause-answer : goal.returns-clause-answer
 returns-clause-answer g c =

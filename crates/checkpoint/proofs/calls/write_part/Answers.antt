@@ -5,7 +5,7 @@ use Rattle.checkpoint.proofs.calls.write_part.Goals as goal
 
 pub returns-in_err-block-clause-takes : goal.returns-in_err-block-clause-takes
 returns-in_err-block-clause-takes g c =
-    subst (λ (n : ℕ). TakesPlaces n (g.B.Blocks.log c.args.table.now) (g.B.Blocks.log c.args.table.now)) (sym (no_blocks c.args.checkpoint.now c.args.part (sym c.pointer_block.ensures ∙ c.in_err-block.was))) (c.no_change_takes_no_place.ensures (g.B.Blocks.log c.args.table.now))
+    subst (λ (n : ℕ). TakesPlaces n (g.B.Blocks.log c.args.table.now) (g.B.Blocks.log c.args.table.now)) (sym (no_blocks c.args.checkpoint.now c.args.part (sym c.pointer_block.ensures ∙ c.in_err-block.was))) (g.met.B.Blocks.no_change_takes_no_place (g.B.Blocks.log c.args.table.now))
 
 pub unreachable-requires : goal.unreachable-requires
 unreachable-requires g c =
@@ -13,4 +13,4 @@ unreachable-requires g c =
 
 pub returns-clause-takes : goal.returns-clause-takes
 returns-clause-takes g c =
-    let one = one_block c.args.checkpoint.now c.args.part c.in_ok-block.block (sym c.pointer_block.ensures ∙ c.in_ok-block.was) in subst (λ (n : ℕ). TakesPlaces n (g.B.Blocks.log c.args.table.now) (g.B.Blocks.log c.append.new.self)) (sym one) (c.an_append_takes_one_place.ensures (g.B.Blocks.log c.args.table.now) (g.B.Blocks.log c.append.new.self) _ c.in-Ok.place c.in-Ok.ensures.appended)
+    let one = one_block c.args.checkpoint.now c.args.part c.in_ok-block.block (sym c.pointer_block.ensures ∙ c.in_ok-block.was) in subst (λ (n : ℕ). TakesPlaces n (g.B.Blocks.log c.args.table.now) (g.B.Blocks.log c.append.new.self)) (sym one) (g.met.B.Blocks.an_append_takes_one_place (g.B.Blocks.log c.args.table.now) (g.B.Blocks.log c.append.new.self) _ c.in-Ok.place c.in-Ok.ensures.appended)

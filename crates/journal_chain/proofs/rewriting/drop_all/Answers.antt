@@ -21,5 +21,5 @@ loop-place-preserved g c =
       named = λ o head entries f. c.drop_one.ensures.named o rest head entries
           (subst (λ l. Finished now o l head entries) (next_place c.args.places.now c.loop-place.place-index c.place-item.result c.loop-place-test.true c.place-item.is) (c.loop-place.invariant.finished o head entries f))
           ∙ c.loop-place.invariant.named o head entries f;
-      takes = c.places_taken_add_up.ensures 0 0 (g.B.Blocks.log c.args.table.now) (g.B.Blocks.log c.loop-place.table) (g.B.Blocks.log c.drop_one.new.table) c.loop-place.invariant.takes c.drop_one.ensures.takes;
+      takes = g.met.B.Blocks.places_taken_add_up 0 0 (g.B.Blocks.log c.args.table.now) (g.B.Blocks.log c.loop-place.table) (g.B.Blocks.log c.drop_one.new.table) c.loop-place.invariant.takes c.drop_one.ensures.takes;
     }

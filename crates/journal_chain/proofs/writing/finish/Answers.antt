@@ -25,7 +25,7 @@ returns-in-Some-clause-takes g c =
     let first = g.B.Blocks.log c.args.table.now in
     let between = g.B.Blocks.log c.write-head.new.table in
     subst (TakesPlaces 1 first) (sym c.drop_block.ensures)
-    (c.places_taken_add_up.ensures 1 0 first between (dropped between c.in-Some.old) c.write-head.ensures.takes (c.a_drop_takes_no_place.ensures between c.in-Some.old))
+    (g.met.B.Blocks.places_taken_add_up 1 0 first between (dropped between c.in-Some.old) c.write-head.ensures.takes (g.met.B.Blocks.a_drop_takes_no_place between c.in-Some.old))
 
 pub returns-in_default-clause-finished : goal.returns-in_default-clause-finished
 returns-in_default-clause-finished g c = λ entries u.

@@ -27,7 +27,7 @@ loop-entry-preserved g c =
       others = search rules;
       named = c.take.ensures.named ∙ c.loop-entry.invariant.named;
       takes = λ after rest. c.loop-entry.invariant.takes after
-          (takes_more filled later entries i entry now then after c.places_taken_add_up.ensures c.loop-entry-test.true c.entry-item.is c.take.ensures.filled c.take.ensures.takes rest);
+          (takes_more filled later entries i entry now then after g.met.B.Blocks.places_taken_add_up c.loop-entry-test.true c.entry-item.is c.take.ensures.filled c.take.ensures.takes rest);
       room = room_more filled later entries i entry now.ahead then.ahead c.loop-entry-test.true c.entry-item.is c.take.ensures.filled c.take.ensures.takes.ahead c.loop-entry.invariant.room;
       object = search rules;
       least = search rules;
@@ -37,4 +37,4 @@ pub returns-clause-takes : goal.returns-clause-takes
 returns-clause-takes g c =
     let log = g.B.Blocks.log c.loop-entry.table in
     c.loop-entry.invariant.takes log
-    (takes_end (entries_length c.loop-entry.block.entries) c.args.entries.now c.loop-entry.entry-index log c.loop-entry-test.false (c.no_change_takes_no_place.ensures log))
+    (takes_end (entries_length c.loop-entry.block.entries) c.args.entries.now c.loop-entry.entry-index log c.loop-entry-test.false (g.met.B.Blocks.no_change_takes_no_place log))

@@ -46,7 +46,7 @@ loop-entry-preserved g c =
       others = search rules;
       named = c.take.ensures.named ∙ c.loop-entry.invariant.named;
       takes = λ after others. c.loop-entry.invariant.takes after
-          (takes_next filled later left rest entry now then after c.places_taken_add_up.ensures c.in-Some.ensures.steps c.take.ensures.filled c.take.ensures.takes others);
+          (takes_next filled later left rest entry now then after g.met.B.Blocks.places_taken_add_up c.in-Some.ensures.steps c.take.ensures.filled c.take.ensures.takes others);
       room = room_next filled later left rest entry now.ahead then.ahead c.in-Some.ensures.steps c.take.ensures.filled c.take.ensures.takes.ahead c.loop-entry.invariant.room;
       whole = append_assoc so_far (entry ∷ []) rest ∙ ap (λ (l : List EntryFields). so_far ++ l) (sym c.in-Some.ensures.steps) ∙ c.loop-entry.invariant.whole;
       object = search rules;
@@ -57,7 +57,7 @@ pub returns-clause-takes : goal.returns-clause-takes
 returns-clause-takes g c =
     let log = g.B.Blocks.log c.loop-entry.table in
     c.loop-entry.invariant.takes log
-    (takes_none (entries_length c.loop-entry.block.entries) c.loop-entry.entry-iterator log c.in-None.ensures.steps.0 (c.no_change_takes_no_place.ensures log))
+    (takes_none (entries_length c.loop-entry.block.entries) c.loop-entry.entry-iterator log c.in-None.ensures.steps.0 (g.met.B.Blocks.no_change_takes_no_place log))
 
 pub returns-clause-unfinished : goal.returns-clause-unfinished
 returns-clause-unfinished g c = λ stale before u.

@@ -33,5 +33,5 @@ loop-side-preserved g c =
     record {
       dropped = next_dropped first.held now.held next.held c.args.object sides c.loop-side.side-index side side c.loop-side-test.true c.side-item.is was c.drop_checkpoint.ensures.dropped;
       named = c.drop_checkpoint.ensures.named ∙ c.loop-side.invariant.named;
-      takes = c.places_taken_add_up.ensures 0 0 first now next c.loop-side.invariant.takes c.drop_checkpoint.ensures.takes;
+      takes = g.met.B.Blocks.places_taken_add_up 0 0 first now next c.loop-side.invariant.takes c.drop_checkpoint.ensures.takes;
     }

@@ -59,7 +59,7 @@ returns g c =
           (moved log.held between.held later.held o place (place_of gone) put dropped);
       some = search rules;
       others = put_only log.held between.held later.held o place c.in_ok-place.ensures.growth dropped.others;
-      takes = taken_first log between later (checkpoint_blocks inode) c.places_taken_add_up.ensures c.in_ok-place.ensures.takes c.drop_side.ensures.takes;
+      takes = taken_first log between later (checkpoint_blocks inode) g.met.B.Blocks.places_taken_add_up c.in_ok-place.ensures.takes c.drop_side.ensures.takes;
       named = c.drop_side.ensures.named ∙ c.put.ensures.named;
       answer = search rules;
       unchanged = search rules;

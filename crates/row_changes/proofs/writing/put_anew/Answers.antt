@@ -53,6 +53,6 @@ returns g c =
           ∙ ap (λ (ps : List Place). ps ++ between.ahead) (sym (new_places log.held between.held between.held after.held o place row.checkpoint s d))
           ∙ ap (λ (ps : List Place). checkpoint_places after.held o place ++ ps) (sym c.drop_checkpoint.ensures.takes.ahead);
       others = put_only log.held between.held after.held o place c.put_ahead-place.ensures.growth d.others;
-      takes = taken_first log between after (checkpoint_blocks inode) c.places_taken_add_up.ensures c.put_ahead-place.ensures.takes c.drop_checkpoint.ensures.takes;
+      takes = taken_first log between after (checkpoint_blocks inode) g.met.B.Blocks.places_taken_add_up c.put_ahead-place.ensures.takes c.drop_checkpoint.ensures.takes;
       named = c.drop_checkpoint.ensures.named ∙ c.put_ahead-place.ensures.named;
     }

@@ -11,7 +11,7 @@ abbrev one : CopiedBlock → Option Place
 one = λ c. Some c.place
 
 pub loop-copy-init : goal.loop-copy-init
-loop-copy-init g c = none_taken_away c.no_change_takes_no_place.ensures (g.B.Blocks.log c.args.table.now) c.names.ensures
+loop-copy-init g c = none_taken_away g.met.B.Blocks.no_change_takes_no_place (g.B.Blocks.log c.args.table.now) c.names.ensures
 
 pub drop_name-requires : goal.drop_name-requires
 drop_name-requires g c = record {
@@ -21,7 +21,7 @@ drop_name-requires g c = record {
 
 pub loop-copy-preserved : goal.loop-copy-preserved
 loop-copy-preserved g c =
-    takes_more c.places_taken_add_up.ensures (g.B.Blocks.log c.args.table.now) (g.B.Blocks.log c.loop-copy.table) (g.B.Blocks.log c.drop_name.new.table)
+    takes_more g.met.B.Blocks.places_taken_add_up (g.B.Blocks.log c.args.table.now) (g.B.Blocks.log c.loop-copy.table) (g.B.Blocks.log c.drop_name.new.table)
     (places_copied (take (c.loop-copy.copy-index + 1) c.args.copies.now)) (places_copied (take c.loop-copy.copy-index c.args.copies.now)) (one c.copy-item.result ∷ [])
     (mapped_take one c.args.copies.now c.loop-copy.copy-index c.copy-item.result c.loop-copy-test.true c.copy-item.is)
     c.loop-copy.invariant (record { named = c.drop_name.ensures.named; held = c.drop_name.ensures.held; takes = c.drop_name.ensures.takes })

@@ -6,5 +6,5 @@ pub loop-pointer-init : goal.loop-pointer-init
 loop-pointer-init g c = record {
   named = λ q. omega arith;
   held = all_held (g.B.Blocks.log c.args.table.now) c.names.ensures;
-  takes = c.no_change_takes_no_place.ensures (g.B.Blocks.log c.args.table.now);
+  takes = g.met.B.Blocks.no_change_takes_no_place (g.B.Blocks.log c.args.table.now);
 }

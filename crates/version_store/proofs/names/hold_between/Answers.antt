@@ -37,7 +37,7 @@ hold_sides-requires g c =
 
 pub loop-entry-init : goal.loop-entry-init
 loop-entry-init g c = record {
-  given = none_given c.no_change_takes_no_place.ensures (g.B.Blocks.log c.hold_sides.new.table);
+  given = none_given g.met.B.Blocks.no_change_takes_no_place (g.B.Blocks.log c.hold_sides.new.table);
   whole = ap (λ (es : List EntryFields). drop 1 es) c.split_first-others.ensures ∙ sym c.into_iter-entry-iterator.ensures.into_iter_gives;
 }
 
@@ -79,7 +79,7 @@ loop-entry-preserved g c =
     let e = c.in-Some.entry in
     record {
       given = subst (λ (xs : List (Option Place)). Gives (g.B.Blocks.log c.hold_sides.new.table) xs (g.B.Blocks.log c.hold_sides-in-loop-entry.new.table)) (sym (told_more so_far e))
-          (gives_join c.places_taken_add_up.ensures (g.B.Blocks.log c.hold_sides.new.table) (g.B.Blocks.log c.loop-entry.table) (g.B.Blocks.log c.hold_sides-in-loop-entry.new.table) (sides_told so_far) (one e) c.loop-entry.invariant.given
+          (gives_join g.met.B.Blocks.places_taken_add_up (g.B.Blocks.log c.hold_sides.new.table) (g.B.Blocks.log c.loop-entry.table) (g.B.Blocks.log c.hold_sides-in-loop-entry.new.table) (sides_told so_far) (one e) c.loop-entry.invariant.given
           (subst (λ (triples : List Triple). Gives (g.B.Blocks.log c.loop-entry.table) (sides_of triples) (g.B.Blocks.log c.hold_sides-in-loop-entry.new.table)) c.triples-in-loop-entry.ensures.triples c.hold_sides-in-loop-entry.ensures));
       whole = c.loop-entry.invariant.whole ∙ ap (λ (es : List EntryFields). so_far ++ es) c.in-Some.ensures.steps ∙ sym (append_assoc so_far (e ∷ []) c.next.new.self);
     }
@@ -92,5 +92,5 @@ returns g c =
     let all : so_far ≡ others = sym (append-nil so_far) ∙ ap (λ (es : List EntryFields). so_far ++ es) (sym c.in-None.ensures.steps.0) ∙ sym c.loop-entry.invariant.whole ∙ ap (λ (es : List EntryFields). drop 1 es) c.split_first-others.ensures in
     let whole : one first ++ sides_told so_far ≡ sides_told c.args.entries.now = ap (λ (es : List EntryFields). one first ++ sides_told es) all ∙ sym (ap sides_told c.split_first-others.ensures) in
     subst (λ (xs : List (Option Place)). Gives (g.B.Blocks.log c.args.table.now) xs (g.B.Blocks.log c.loop-entry.table)) whole
-    (gives_join c.places_taken_add_up.ensures (g.B.Blocks.log c.args.table.now) (g.B.Blocks.log c.hold_sides.new.table) (g.B.Blocks.log c.loop-entry.table) (one first) (sides_told so_far)
+    (gives_join g.met.B.Blocks.places_taken_add_up (g.B.Blocks.log c.args.table.now) (g.B.Blocks.log c.hold_sides.new.table) (g.B.Blocks.log c.loop-entry.table) (one first) (sides_told so_far)
     (subst (λ (triples : List Triple). Gives (g.B.Blocks.log c.args.table.now) (sides_of triples) (g.B.Blocks.log c.hold_sides.new.table)) c.triples.ensures.triples c.hold_sides.ensures) c.loop-entry.invariant.given)

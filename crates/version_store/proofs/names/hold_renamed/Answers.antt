@@ -7,7 +7,7 @@ use Rattle.version_store.proofs.Gathering.{mapped_take, all_mapped_at, none_give
 use Rattle.version_store.proofs.names.hold_renamed.Goals as goal
 
 pub loop-pointer-init : goal.loop-pointer-init
-loop-pointer-init g c = none_given c.no_change_takes_no_place.ensures (g.B.Blocks.log c.args.table.now)
+loop-pointer-init g c = none_given g.met.B.Blocks.no_change_takes_no_place (g.B.Blocks.log c.args.table.now)
 
 pub hold_name-requires : goal.hold_name-requires
 hold_name-requires g c = record {
@@ -19,7 +19,7 @@ hold_name-requires g c = record {
 
 pub loop-pointer-preserved : goal.loop-pointer-preserved
 loop-pointer-preserved g c =
-    gives_more c.places_taken_add_up.ensures (g.B.Blocks.log c.args.table.now) (g.B.Blocks.log c.loop-pointer.table) (g.B.Blocks.log c.hold_name.new.table)
+    gives_more g.met.B.Blocks.places_taken_add_up (g.B.Blocks.log c.args.table.now) (g.B.Blocks.log c.loop-pointer.table) (g.B.Blocks.log c.hold_name.new.table)
     (map (renamed_slot c.args.renaming.now) (take (c.loop-pointer.pointer-index + 1) c.args.pointers.now)) (map (renamed_slot c.args.renaming.now) (take c.loop-pointer.pointer-index c.args.pointers.now)) (renamed_slot c.args.renaming.now c.pointer-item.result ∷ [])
     (mapped_take (renamed_slot c.args.renaming.now) c.args.pointers.now c.loop-pointer.pointer-index c.pointer-item.result c.loop-pointer-test.true c.pointer-item.is)
     c.loop-pointer.invariant

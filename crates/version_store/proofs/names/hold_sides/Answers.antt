@@ -13,7 +13,7 @@ abbrev one : Triple → List (Option Place)
 one = λ t. t.before ∷ t.after ∷ []
 
 pub loop-triple-init : goal.loop-triple-init
-loop-triple-init g c = none_given c.no_change_takes_no_place.ensures (g.B.Blocks.log c.args.table.now)
+loop-triple-init g c = none_given g.met.B.Blocks.no_change_takes_no_place (g.B.Blocks.log c.args.table.now)
 
 pub hold_names-requires-clause-of_data : goal.hold_names-requires-clause-of_data
 hold_names-requires-clause-of_data g c =
@@ -26,7 +26,7 @@ hold_names-requires-clause-room g c = λ q.
 
 pub loop-triple-preserved : goal.loop-triple-preserved
 loop-triple-preserved g c =
-    gives_more c.places_taken_add_up.ensures (g.B.Blocks.log c.args.table.now) (g.B.Blocks.log c.loop-triple.table) (g.B.Blocks.log c.hold_names.new.table)
+    gives_more g.met.B.Blocks.places_taken_add_up (g.B.Blocks.log c.args.table.now) (g.B.Blocks.log c.loop-triple.table) (g.B.Blocks.log c.hold_names.new.table)
     (sides_of (take (c.loop-triple.triple-index + 1) c.args.triples.now)) (sides_of (take c.loop-triple.triple-index c.args.triples.now)) (one c.triple-item.result)
     (flat_take one c.args.triples.now c.loop-triple.triple-index c.triple-item.result c.loop-triple-test.true c.triple-item.is)
     c.loop-triple.invariant (record { named = c.hold_names.ensures.named; held = c.hold_names.ensures.held; takes = c.hold_names.ensures.takes })

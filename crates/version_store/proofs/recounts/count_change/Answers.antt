@@ -19,5 +19,5 @@ drop_names-requires g c =
 
 pub returns : goal.returns
 returns g c =
-    recounted c.one_place_has_one_name.ensures c.places_taken_add_up.ensures c.args.object (g.B.Blocks.log c.args.table.now) (g.B.Blocks.log c.hold_between.new.table) (g.B.Blocks.log c.drop_names.new.table) (sides_told c.args.entries.now) c.args.hand.now
+    recounted g.met.B.Blocks.one_place_has_one_name g.met.B.Blocks.places_taken_add_up c.args.object (g.B.Blocks.log c.args.table.now) (g.B.Blocks.log c.hold_between.new.table) (g.B.Blocks.log c.drop_names.new.table) (sides_told c.args.entries.now) c.args.hand.now
     c.requires.told c.requires.hand c.hold_between.ensures c.names.ensures (record { named = c.drop_names.ensures.named; held = c.drop_names.ensures.held; takes = c.drop_names.ensures.takes }) c.names-2.ensures

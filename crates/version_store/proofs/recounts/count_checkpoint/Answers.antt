@@ -18,5 +18,5 @@ drop_kept-requires g c =
 
 pub returns : goal.returns
 returns g c =
-    recounted c.one_place_has_one_name.ensures c.places_taken_add_up.ensures c.args.object (g.B.Blocks.log c.args.table.now) (g.B.Blocks.log c.hold_names.new.table) (g.B.Blocks.log c.drop_kept.new.table) c.args.inode.now.pointers (pointers_in (option_copied c.args.gone))
+    recounted g.met.B.Blocks.one_place_has_one_name g.met.B.Blocks.places_taken_add_up c.args.object (g.B.Blocks.log c.args.table.now) (g.B.Blocks.log c.hold_names.new.table) (g.B.Blocks.log c.drop_kept.new.table) c.args.inode.now.pointers (pointers_in (option_copied c.args.gone))
     c.requires.pointers c.requires.gone (record { named = c.hold_names.ensures.named; held = c.hold_names.ensures.held; takes = c.hold_names.ensures.takes }) c.names.ensures c.drop_kept.ensures c.names-2.ensures

@@ -52,10 +52,10 @@ returns g c =
     let copied = places_copied c.args.copies.now in
     let renamed = map (renamed_slot c.args.renaming.now) c.args.led.now in
     let moves = c.args.renaming.now.moves in
-    let gives : Gives before (copied ++ renamed) given = gives_join c.places_taken_add_up.ensures before (g.B.Blocks.log c.hold_copied.new.table) given copied renamed c.hold_copied.ensures c.hold_renamed.ensures in
+    let gives : Gives before (copied ++ renamed) given = gives_join g.met.B.Blocks.places_taken_add_up before (g.B.Blocks.log c.hold_copied.new.table) given copied renamed c.hold_copied.ensures c.hold_renamed.ensures in
     let second : TakesAway (g.B.Blocks.log c.drop_names.new.table) moves after = subst (λ (xs : List (Option Place)). TakesAway (g.B.Blocks.log c.drop_names.new.table) xs after) c.moves.ensures
     (record { named = c.drop_names-2.ensures.named; held = c.drop_names-2.ensures.held; takes = c.drop_names-2.ensures.takes }) in
-    let takes : TakesAway given (c.args.names.now ++ moves) after = takes_join c.places_taken_add_up.ensures given (g.B.Blocks.log c.drop_names.new.table) after c.args.names.now moves
+    let takes : TakesAway given (c.args.names.now ++ moves) after = takes_join g.met.B.Blocks.places_taken_add_up given (g.B.Blocks.log c.drop_names.new.table) after c.args.names.now moves
     (record { named = c.drop_names.ensures.named; held = c.drop_names.ensures.held; takes = c.drop_names.ensures.takes }) second in
-    recounted c.one_place_has_one_name.ensures c.places_taken_add_up.ensures o before given after (copied ++ renamed) (c.args.names.now ++ moves)
+    recounted g.met.B.Blocks.one_place_has_one_name g.met.B.Blocks.places_taken_add_up o before given after (copied ++ renamed) (c.args.names.now ++ moves)
     (All-append (IsLed before.held o) copied renamed c.requires.copied c.requires.renamed) (All-append (IsLed before.held o) c.args.names.now moves c.requires.names c.requires.new) gives c.names.ensures takes c.names-2.ensures

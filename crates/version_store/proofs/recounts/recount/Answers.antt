@@ -18,6 +18,6 @@ drop_names-requires g c = record {
 
 pub returns : goal.returns
 returns g c =
-    recounted c.one_place_has_one_name.ensures c.places_taken_add_up.ensures c.args.object (g.B.Blocks.log c.args.table.now) (g.B.Blocks.log c.hold_names.new.table) (g.B.Blocks.log c.drop_names.new.table) c.args.more.now c.args.fewer.now
+    recounted g.met.B.Blocks.one_place_has_one_name g.met.B.Blocks.places_taken_add_up c.args.object (g.B.Blocks.log c.args.table.now) (g.B.Blocks.log c.hold_names.new.table) (g.B.Blocks.log c.drop_names.new.table) c.args.more.now c.args.fewer.now
     c.requires.more c.requires.fewer (record { named = c.hold_names.ensures.named; held = c.hold_names.ensures.held; takes = c.hold_names.ensures.takes }) c.names.ensures
     (record { named = c.drop_names.ensures.named; held = c.drop_names.ensures.held; takes = c.drop_names.ensures.takes }) c.names-2.ensures

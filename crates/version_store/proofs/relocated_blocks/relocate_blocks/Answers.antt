@@ -39,7 +39,7 @@ move_blocks-row-requires-clause-row g c =
     let between = g.B.Blocks.log c.append_copies-renaming.new.table in
     let counted = g.B.Blocks.log c.count_renaming.new.table in
     let copied : Copied before between c.args.object c.args.row.now c.args.copies.now c.append_copies-renaming.result = record {
-      one = c.one_place_has_one_name.ensures;
+      one = g.met.B.Blocks.one_place_has_one_name;
       are = c.requires.copies;
       appended = c.append_copies-renaming.ensures.appending;
       names = c.names.ensures;
@@ -85,7 +85,7 @@ returns-clause-moved g c =
     let later = g.B.Blocks.log c.drop_copied.new.table in
     let counted = g.B.Blocks.log c.count_renaming.new.table in
     let copied : Copied before between c.args.object c.args.row.now c.args.copies.now c.append_copies-renaming.result = record {
-      one = c.one_place_has_one_name.ensures;
+      one = g.met.B.Blocks.one_place_has_one_name;
       are = c.requires.copies;
       appended = c.append_copies-renaming.ensures.appending;
       names = c.names.ensures;
@@ -118,15 +118,15 @@ returns-clause-moved g c =
     let entries : c.as_slice.result.now ≡ renamed_entries r (entries_of before.held o row) = c.as_slice.ensures.value ∙ c.rename.ensures.entries ∙ ap (renamed_entries r) c.requires.journal.entries in
     let n : Moved counted moved o row next (kept_renamed r (checkpoint_of before.held o row)) (renamed_entries r (entries_of before.held o row)) =
     subst (λ (es : List EntryFields). Moved counted moved o row next (kept_renamed r (checkpoint_of before.held o row)) es) entries (subst (λ (i : Option Inode). Moved counted moved o row next i c.as_slice.result.now) kept c.move_blocks-row.ensures.moved) in
-    let m : Moved between moved o row next (kept_renamed r (checkpoint_of before.held o row)) (renamed_entries r (entries_of before.held o row)) = moved_over c.places_taken_add_up.ensures between counted moved o row next (kept_renamed r (checkpoint_of before.held o row)) (renamed_entries r (entries_of before.held o row)) held counts.takes n in
+    let m : Moved between moved o row next (kept_renamed r (checkpoint_of before.held o row)) (renamed_entries r (entries_of before.held o row)) = moved_over g.met.B.Blocks.places_taken_add_up between counted moved o row next (kept_renamed r (checkpoint_of before.held o row)) (renamed_entries r (entries_of before.held o row)) held counts.takes n in
     let d : Dropped before between moved later o copies r = record {
-      one = c.one_place_has_one_name.ensures;
+      one = g.met.B.Blocks.one_place_has_one_name;
       are = c.requires.copies;
       appended = c.append_copies-renaming.ensures.appending;
       metadata = m.metadata;
       dropped = last_held before between o row copies r copied counted counts moved c.move_blocks-row.ensures.moved.metadata c.move_blocks-row.ensures.named c.names-2.ensures later c.drop_copied.ensures;
     } in
-    relocates laws c.renamed_entries_stay_in_order.ensures.order c.a_renamed_chain_takes_as_many_bytes.ensures.each c.a_checkpoint_takes_its_blocks.ensures.holes c.a_row_is_its_own_blocks.ensures.row c.a_row_is_its_own_blocks.ensures.inode c.an_orderly_row_stays.ensures.blocks c.places_taken_add_up.ensures
+    relocates laws c.renamed_entries_stay_in_order.ensures.order c.a_renamed_chain_takes_as_many_bytes.ensures.each c.a_checkpoint_takes_its_blocks.ensures.holes c.a_row_is_its_own_blocks.ensures.row c.a_row_is_its_own_blocks.ensures.inode c.an_orderly_row_stays.ensures.blocks g.met.B.Blocks.places_taken_add_up
     before between moved later o row next copies r c.requires.row m d c.drop_copied.ensures.takes
 
 pub count_renaming-requires : goal.count_renaming-requires
@@ -139,7 +139,7 @@ count_renaming-requires g c =
     let r = c.append_copies-renaming.result in
     let a = c.append_copies-renaming.ensures.appending in
     let copied : Copied before between c.args.object c.args.row.now c.args.copies.now c.append_copies-renaming.result = record {
-      one = c.one_place_has_one_name.ensures;
+      one = g.met.B.Blocks.one_place_has_one_name;
       are = c.requires.copies;
       appended = c.append_copies-renaming.ensures.appending;
       names = c.names.ensures;
@@ -163,7 +163,7 @@ drop_copied-requires g c =
     let counted = g.B.Blocks.log c.count_renaming.new.table in
     let moved = g.B.Blocks.log c.move_blocks-row.new.table in
     let copied : Copied before between c.args.object c.args.row.now c.args.copies.now c.append_copies-renaming.result = record {
-      one = c.one_place_has_one_name.ensures;
+      one = g.met.B.Blocks.one_place_has_one_name;
       are = c.requires.copies;
       appended = c.append_copies-renaming.ensures.appending;
       names = c.names.ensures;
@@ -184,7 +184,7 @@ returns-clause-named g c =
     let counted = g.B.Blocks.log c.count_renaming.new.table in
     let moved = g.B.Blocks.log c.move_blocks-row.new.table in
     let copied : Copied before between c.args.object c.args.row.now c.args.copies.now c.append_copies-renaming.result = record {
-      one = c.one_place_has_one_name.ensures;
+      one = g.met.B.Blocks.one_place_has_one_name;
       are = c.requires.copies;
       appended = c.append_copies-renaming.ensures.appending;
       names = c.names.ensures;

@@ -49,7 +49,7 @@ returns g c =
             → MatchOption r.checkpoint (BeginsDead entries) (λ p. IsFromTo r.created latest r.checkpoint_moment) → IsOrderly later.held o next latest) bare c.in-Ok.ensures.orderly;
         fields = subst (λ (r : Row). next ≡ record r { checkpoint = next.checkpoint; head = next.head; journal_bytes = entries_length entries; head_bytes = next.head_bytes }) bare c.in-Ok.ensures.fields;
         metadata = metadata_behind o before.held between.held later.held c.drop_sides-bare.ensures.dropped.others c.move_row.ensures.others;
-        takes = taken_behind c.places_taken_add_up.ensures n before between later c.drop_sides-bare.ensures.takes c.in-Ok.ensures.takes;
+        takes = taken_behind g.met.B.Blocks.places_taken_add_up n before between later c.drop_sides-bare.ensures.takes c.in-Ok.ensures.takes;
         chains = λ p there. among_same before between n p c.drop_sides-bare.ensures.takes (c.in-Ok.ensures.journal p there);
         checkpoints = λ p there. among_same before between n p c.drop_sides-bare.ensures.takes (c.in-Ok.ensures.checkpoints p there);
       };

@@ -52,6 +52,6 @@ returns g c =
         some = c.in-Ok.ensures.some;
       };
       others = metadata_behind o before.held between.held later.held c.drop_sides-bare.ensures.dropped.others c.rewrite_row.ensures.others;
-      takes = taken_behind c.places_taken_add_up.ensures (rewritten_blocks present entries) before between later c.drop_sides-bare.ensures.takes c.in-Ok.ensures.takes;
+      takes = taken_behind g.met.B.Blocks.places_taken_add_up (rewritten_blocks present entries) before between later c.drop_sides-bare.ensures.takes c.in-Ok.ensures.takes;
       named = c.rewrite_row.ensures.named ∙ c.drop_sides-bare.ensures.named;
     }

@@ -42,6 +42,6 @@ returns-clause-takes g c =
     let log = g.B.Blocks.log c.args.table.now in
     let log2 = g.B.Blocks.log c.take_all.new.table in
     let sizes = map entry_length c.args.later.now in
-    takes_last (breaks (filled_with 0 (entry_length c.args.first.now)) sizes) log log2 (g.B.Blocks.log c.write-head.new.table) c.places_taken_add_up.ensures
+    takes_last (breaks (filled_with 0 (entry_length c.args.first.now)) sizes) log log2 (g.B.Blocks.log c.write-head.new.table) g.met.B.Blocks.places_taken_add_up
     (subst (λ n. TakesPlaces (breaks n sizes) log log2) c.first_block-block.ensures.filled c.take_all.ensures.takes)
     c.write-head.ensures.takes

@@ -69,7 +69,7 @@ returns-clause-takes g c =
     let log = g.B.Blocks.log c.args.table.now in
     let log2 = g.B.Blocks.log c.take_others.new.table in
     let sizes = map entry_length c.args.later in
-    takes_last (breaks (filled_with chain.filled (entry_length c.args.first.now)) sizes) log log2 (g.B.Blocks.log c.finish-head.new.table) c.places_taken_add_up.ensures
+    takes_last (breaks (filled_with chain.filled (entry_length c.args.first.now)) sizes) log log2 (g.B.Blocks.log c.finish-head.new.table) g.met.B.Blocks.places_taken_add_up
     (subst (λ n. TakesPlaces (breaks n sizes) log log2) c.begun-block.ensures.filled
     (subst (λ (l : Log). TakesPlaces (breaks (entries_length c.begun-block.result.entries) sizes) l log2) c.begun-block.ensures.same c.take_others.ensures.takes))
     c.finish-head.ensures.takes
