@@ -16,10 +16,16 @@ use codec::part_laws::{
     blocks_tell_their_checkpoint,
 };
 
-/// A checkpoint is a matter of its own blocks: where those are as they were, it is the same, and so
-/// are its places.
-pub fn a_checkpoint_rests_on_its_blocks()
-    ensures told { (held later : Place → Option Stored) (o : ℕ) (p : Place)
+/// A checkpoint is in its own blocks.
+///
+/// `same` and `places`: where those are as they were, it is the same, and so are its places. `held`,
+/// `first` and `once`: where it can be read, each of its blocks is held, they are at places apart,
+/// and the pointer to it refers to one of them. `placed`, `some`, `few` and `holes`: they are as
+/// many as its inode takes, at least one and no more than any takes, and how many is a matter of
+/// which of its pointers are holes. `apart`: two checkpoints of an object that have a block in
+/// common are of one moment.
+pub fn a_checkpoint_is_in_its_blocks()
+    ensures same { (held later : Place → Option Stored) (o : ℕ) (p : Place)
         → ((q : Place)
         → is_one_of (checkpoint_places held o p) q ≡ true
         → of_checkpoints o later q ≡ of_checkpoints o held q)
@@ -29,11 +35,6 @@ pub fn a_checkpoint_rests_on_its_blocks()
         → is_one_of (checkpoint_places held o p) q ≡ true
         → of_checkpoints o later q ≡ of_checkpoints o held q)
         → checkpoint_places later o p ≡ checkpoint_places held o p }
-{}
-
-/// Where a checkpoint is told, each of its blocks is held, and they are at places apart. The
-/// pointer that it is told by leads to one of them.
-pub fn a_checkpoint_has_its_blocks()
     ensures held { (held : Place → Option Stored) (o : ℕ) (p : Place)
         → IsSome (checkpoint_held held o p) → HasItsBlocks held o (Some p) }
     ensures first { (held : Place → Option Stored) (o : ℕ) (p : Place)
@@ -41,15 +42,6 @@ pub fn a_checkpoint_has_its_blocks()
     ensures once { (held : Place → Option Stored) (o : ℕ) (p q : Place)
         → IsSome (checkpoint_held held o p)
         → count_by (λ r. same_place r q) (checkpoint_places held o p) ≤ 1 }
-{
-    one_place_has_one_name();
-    a_block_begins_with_its_kind();
-    a_part_is_in_its_block();
-}
-
-/// A checkpoint is in as many blocks as its inode takes: at least one, and no more than any does.
-/// How many they are is a matter of which of its pointers are holes.
-pub fn a_checkpoint_takes_its_blocks()
     ensures placed { (held : Place → Option Stored) (o : ℕ) (p : Place) (c : CheckpointFields)
         → checkpoint_held held o p ≡ Some c
         → length (checkpoint_places held o p) ≡ checkpoint_blocks c.inode }
@@ -58,20 +50,14 @@ pub fn a_checkpoint_takes_its_blocks()
     ensures holes { (i j : Inode)
         → map is_some i.pointers ≡ map is_some j.pointers
         → checkpoint_blocks i ≡ checkpoint_blocks j }
-{
-    a_block_begins_with_its_kind();
-    a_part_is_in_its_block();
-    a_first_block_has_all_pointers();
-    blocks_tell_their_checkpoint();
-}
-
-/// Two checkpoints of an object that have a block in common are of one moment.
-pub fn checkpoints_of_two_moments_share_no_block()
-    ensures { (held : Place → Option Stored) (o : ℕ) (p r q : Place) (c d : CheckpointFields) → checkpoint_held held o p ≡ Some c → checkpoint_held held o r ≡ Some d
+    ensures apart { (held : Place → Option Stored) (o : ℕ) (p r q : Place)
+        (c d : CheckpointFields)
+        → checkpoint_held held o p ≡ Some c → checkpoint_held held o r ≡ Some d
         → IsInBoth held o p r q → c.moment ≡ d.moment }
 {
     one_place_has_one_name();
     a_block_begins_with_its_kind();
     a_part_is_in_its_block();
+    a_first_block_has_all_pointers();
     blocks_tell_their_checkpoint();
 }

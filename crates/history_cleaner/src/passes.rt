@@ -20,7 +20,7 @@ use crate::cleaning::clean_object;
 use crate::frames::{count_risen, note_generations, vacate};
 use crate::laws::held_is_what_is_reached;
 use crate::places::names_places;
-use checkpoint::laws::a_checkpoint_has_its_blocks;
+use checkpoint::laws::a_checkpoint_is_in_its_blocks;
 use drive::Drive;
 use object_map::Row;
 use s4_types::{ObjectId, Refusal};
@@ -116,7 +116,7 @@ fn clean_all<J: Naming>(alloc: Global, drive: &mut Drive<J>) -> Result<Cleanings
     ensures needed { KeepsVersions (state_in drive.old) (store_of drive.old) (store_of drive.new) }
 {
     held_is_what_is_reached();
-    a_checkpoint_has_its_blocks();
+    a_checkpoint_is_in_its_blocks();
     drive.rules();
     let mut object = ObjectId::new(0);
     let mut cleanings = Cleanings {

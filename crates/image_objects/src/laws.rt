@@ -29,7 +29,7 @@ use crate::version_chain_laws::{
     a_chain_that_stands_is_held, a_version_chain_that_stands_is_a_row,
 };
 use block_log::laws::one_place_has_one_name;
-use checkpoint::laws::a_checkpoint_rests_on_its_blocks;
+use checkpoint::laws::a_checkpoint_is_in_its_blocks;
 use inode::laws::only_its_blocks_matter;
 use journal_chain::laws::a_chain_has_its_entries;
 use row_changes::laws::an_orderly_row_is_by_its_moment;
@@ -82,7 +82,7 @@ pub fn an_object_that_stands_is_held()
     ensures { (used held : Place → Option Stored) (rows : List ImageRow) (row : ImageRow) (clock stamp : ℕ) → RowsAscend clock 0 0 rows → RowsStand used rows clock → HoldsWhatIsNamed used held rows → Contains rows row
         → IsHeldAsUsed used held row clock stamp }
 {
-    a_checkpoint_rests_on_its_blocks();
+    a_checkpoint_is_in_its_blocks();
     a_chain_that_stands_is_held();
     a_chain_has_its_entries();
     a_version_chain_that_stands_is_a_row();
@@ -99,7 +99,7 @@ pub fn rows_that_stand_tell_few()
         → times_told used rows p ≤ ROW_POINTERS }
 {
     one_place_has_one_name();
-    a_checkpoint_rests_on_its_blocks();
+    a_checkpoint_is_in_its_blocks();
     an_object_that_stands_is_held();
     places_have_few_names();
 }
@@ -112,7 +112,7 @@ pub fn rows_that_stand_make_a_store()
         → log.held ≡ held → NamesAreOfData log → NamesAreCounted used log.named rows → log.spent + length log.ahead < 2 ^ 46 → IsStore (record { rows = kept_rows used rows; log = log; latest = clock }) }
 {
     one_place_has_one_name();
-    a_checkpoint_rests_on_its_blocks();
+    a_checkpoint_is_in_its_blocks();
     an_object_that_stands_is_held();
 }
 

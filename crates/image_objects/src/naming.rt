@@ -21,7 +21,7 @@ use crate::checkpoint_blocks::read_first;
 use crate::pointers::checkpoint_of;
 use crate::{ImageRow, UsedBlocks, VersionChain, read_journal};
 use block_log::laws::one_place_has_one_name;
-use checkpoint::laws::a_checkpoint_has_its_blocks;
+use checkpoint::laws::a_checkpoint_is_in_its_blocks;
 use codec::{Entry, FirstBlock, Triple};
 use s4_types::limits::CHAIN_BLOCKS;
 use s4_types::{Ptr, Refusal};
@@ -187,7 +187,7 @@ pub fn push_named<U: UsedBlocks>(
     ensures refusal { IfErr result (λ e. e ≡ NoMemory) }
 {
     one_place_has_one_name();
-    a_checkpoint_has_its_blocks();
+    a_checkpoint_is_in_its_blocks();
     push_all(used, row, versions.chain.entries.as_slice(), places)
 }
 
@@ -201,5 +201,5 @@ pub fn what_a_row_names_is_used()
         → ObjectStands used row clock → HasItsBlocks used row.object row.checkpoint }
 {
     one_place_has_one_name();
-    a_checkpoint_has_its_blocks();
+    a_checkpoint_is_in_its_blocks();
 }

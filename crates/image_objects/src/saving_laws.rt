@@ -12,7 +12,7 @@ ghost use Rattle.image_objects.specs.Rows.{RowsAscend, RowsStand};
 ghost use Rattle.image_objects.specs.Saved.{HoldsUsed, HoldsWhatIsSaved, IsSavedAsHeld};
 ghost use Rattle.image_objects.specs.Saved.{ObjectsAscend, saved_row, saved_rows};
 
-use checkpoint::laws::{a_checkpoint_has_its_blocks, a_checkpoint_rests_on_its_blocks};
+use checkpoint::laws::a_checkpoint_is_in_its_blocks;
 use inode::laws::only_its_blocks_matter;
 use journal_chain::packing::laws::packing_keeps_the_rule;
 use row_changes::laws::a_row_keeps_the_making;
@@ -26,8 +26,7 @@ pub fn a_saved_row_tells_the_same()
     ensures { (used held : Place → Option Stored) (o : ℕ) (row : Row) → HoldsUsed used held
         → IsRow held o row → IsSavedAsHeld used held o row }
 {
-    a_checkpoint_rests_on_its_blocks();
-    a_checkpoint_has_its_blocks();
+    a_checkpoint_is_in_its_blocks();
 }
 
 /// Where what is held is used, an object that is held is in the image under the row that its own is
@@ -36,8 +35,7 @@ pub fn a_row_that_is_held_stands()
     ensures { (used held : Place → Option Stored) (o latest clock : ℕ) (row : Row) → HoldsUsed used held → IsObject held o row latest → IsOrderly held o row latest → latest ≤ clock
         → ObjectStands used (saved_row o row) clock }
 {
-    a_checkpoint_rests_on_its_blocks();
-    a_checkpoint_has_its_blocks();
+    a_checkpoint_is_in_its_blocks();
     packing_keeps_the_rule();
     a_run_has_one_end_and_one_beginning();
     a_row_keeps_the_making();
@@ -53,8 +51,7 @@ pub fn a_store_stands_in_its_image()
     ensures ascend { (used : Place → Option Stored) (s : StoreFields) (low clock : ℕ) → IsStore s → s.latest ≤ clock → HoldsUsed used s.log.held → ObjectsAscend low s.rows
         → RowsAscend clock 0 0 (saved_rows s.rows) }
 {
-    a_checkpoint_rests_on_its_blocks();
-    a_checkpoint_has_its_blocks();
+    a_checkpoint_is_in_its_blocks();
     a_row_that_is_held_stands();
 }
 
@@ -64,7 +61,6 @@ pub fn what_is_held_is_what_saved_rows_name()
     ensures { (used : Place → Option Stored) (s : StoreFields) (low : ℕ) → IsStore s → HoldsUsed used s.log.held → ObjectsAscend low s.rows
         → HoldsWhatIsSaved used s }
 {
-    a_checkpoint_rests_on_its_blocks();
-    a_checkpoint_has_its_blocks();
+    a_checkpoint_is_in_its_blocks();
     what_is_held_is_what_rows_name();
 }

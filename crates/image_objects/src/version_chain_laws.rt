@@ -13,7 +13,7 @@ ghost use Rattle.time_read.specs.Orderly.{IsFromTo, IsOrderly};
 ghost use Rattle.image_objects.specs.declared.rows.ImageRow.{ImageRow};
 
 use block_log::laws::one_place_has_one_name;
-use checkpoint::laws::a_checkpoint_rests_on_its_blocks;
+use checkpoint::laws::a_checkpoint_is_in_its_blocks;
 use journal_chain::laws::a_chain_has_its_entries;
 use journal_chain::packing::laws::one_packing_keeps_the_rule;
 
@@ -42,7 +42,7 @@ pub fn a_version_chain_that_stands_is_a_row()
         → IsOrderly held row.object (kept_row used row stamp) clock }
 {
     one_place_has_one_name();
-    a_checkpoint_rests_on_its_blocks();
+    a_checkpoint_is_in_its_blocks();
     one_packing_keeps_the_rule();
     a_chain_has_its_entries();
 }

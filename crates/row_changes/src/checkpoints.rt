@@ -15,10 +15,7 @@ ghost use Rattle.row_changes.specs.Recent.{IsBy};
 ghost use Rattle.row_changes.specs.Moved.{IsMoved, DropsSides, places_gone};
 
 use block_log::Blocks;
-use checkpoint::laws::{
-    a_checkpoint_has_its_blocks, a_checkpoint_rests_on_its_blocks,
-    checkpoints_of_two_moments_share_no_block,
-};
+use checkpoint::laws::a_checkpoint_is_in_its_blocks;
 use checkpoint::{drop_checkpoint, write_checkpoint};
 use codec::{Checkpoint, Inode};
 use object_map::{Row, Side, Sides};
@@ -128,9 +125,7 @@ pub fn record_checkpoint<B: Blocks>(
         (λ e. (e ≡ NoSpace) × (length (B.log table.old).ahead < checkpoint_blocks inode.now)) }
     ensures unchanged { OnErr result (B.log table.new ≡ B.log table.old) }
 {
-    a_checkpoint_rests_on_its_blocks();
-    a_checkpoint_has_its_blocks();
-    checkpoints_of_two_moments_share_no_block();
+    a_checkpoint_is_in_its_blocks();
     a_run_has_one_end_and_one_beginning();
     the_inode_at_a_moment();
     let place = put(table, object, inode, moment)?;
@@ -153,8 +148,7 @@ pub(crate) fn drop_named<B: Blocks>(table: &mut B, object: ObjectId, row: &Row)
     ensures named { (B.log table.new).named ≡ (B.log table.old).named }
     ensures takes { TakesPlaces 0 (B.log table.old) (B.log table.new) }
 {
-    a_checkpoint_rests_on_its_blocks();
-    a_checkpoint_has_its_blocks();
+    a_checkpoint_is_in_its_blocks();
     drop_checkpoint(table, object, row.checkpoint);
 }
 
@@ -166,9 +160,7 @@ fn drop_each<B: Blocks>(table: &mut B, object: ObjectId, row: &Row)
     ensures named { (B.log table.new).named ≡ (B.log table.old).named }
     ensures takes { TakesPlaces 0 (B.log table.old) (B.log table.new) }
 {
-    a_checkpoint_rests_on_its_blocks();
-    a_checkpoint_has_its_blocks();
-    checkpoints_of_two_moments_share_no_block();
+    a_checkpoint_is_in_its_blocks();
     let sides = row.sides.as_slice();
     for side in sides {
         drop_checkpoint(table, object, Some(side.place));
@@ -200,9 +192,7 @@ pub fn drop_sides<B: Blocks>(table: &mut B, object: ObjectId, row: &Row) -> Row
     ensures named { (B.log table.new).named ≡ (B.log table.old).named }
     ensures takes { TakesPlaces 0 (B.log table.old) (B.log table.new) }
 {
-    a_checkpoint_rests_on_its_blocks();
-    a_checkpoint_has_its_blocks();
-    checkpoints_of_two_moments_share_no_block();
+    a_checkpoint_is_in_its_blocks();
     drop_each(table, object, row);
     Row {
         sides: Sides::new(),

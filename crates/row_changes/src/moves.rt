@@ -20,7 +20,7 @@ ghost use Rattle.row_changes.specs.Moving.{first_with, moved_blocks, row_blocks}
 use crate::writing::write_row;
 use arrayvec::ArrayVec;
 use block_log::Blocks;
-use checkpoint::laws::{a_checkpoint_has_its_blocks, a_checkpoint_takes_its_blocks};
+use checkpoint::laws::a_checkpoint_is_in_its_blocks;
 use checkpoint::placed_blocks;
 use codec::{Entry, Inode};
 use journal_chain::Chain;
@@ -61,8 +61,7 @@ fn standing_blocks<B: Blocks>(table: &mut B, object: ObjectId, row: &Row) -> usi
     ensures few { result ≤ CHECKPOINT_BLOCKS }
     ensures same { B.log table.new ≡ B.log table.old }
 {
-    a_checkpoint_has_its_blocks();
-    a_checkpoint_takes_its_blocks();
+    a_checkpoint_is_in_its_blocks();
     match row.checkpoint {
         None => 0,
         Some(place) => placed_blocks(table, object, place),

@@ -29,7 +29,7 @@ ghost use Rattle.row_changes.specs.Moving.{kept_blocks, moved_blocks};
 use crate::checkpoints::{drop_named, put_ahead};
 use arrayvec::ArrayVec;
 use block_log::Blocks;
-use checkpoint::laws::{a_checkpoint_has_its_blocks, a_checkpoint_rests_on_its_blocks};
+use checkpoint::laws::a_checkpoint_is_in_its_blocks;
 use checkpoint::{checkpoint_blocks, drop_checkpoint};
 use codec::{Entry, Inode};
 use journal_chain::Chain;
@@ -104,8 +104,7 @@ fn put_anew<B: Blocks>(
     ensures takes { TakesPlaces (checkpoint_blocks inode.now) (B.log table.old) (B.log table.new) }
     ensures named { (B.log table.new).named ≡ (B.log table.old).named }
 {
-    a_checkpoint_rests_on_its_blocks();
-    a_checkpoint_has_its_blocks();
+    a_checkpoint_is_in_its_blocks();
     let place = put_ahead(table, object, inode, moment);
     drop_checkpoint(table, object, row.checkpoint);
     place

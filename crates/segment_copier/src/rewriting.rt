@@ -11,7 +11,7 @@ ghost use Rattle.segment_copier.specs.declared.rewriting.TheConstants.{MOST_IN_J
 ghost use Rattle.segment_copier.specs.declared.rewriting.TheConstants.{MOST_REWRITTEN};
 ghost use Rattle.segment_copier.specs.Gathering.{most_journal, most_rewritten};
 
-use checkpoint::laws::{a_checkpoint_has_its_blocks, a_checkpoint_takes_its_blocks};
+use checkpoint::laws::a_checkpoint_is_in_its_blocks;
 use codec::{FirstBlock, decode_first_block};
 use drive::Drive;
 use object_map::Row;
@@ -73,8 +73,7 @@ pub fn checkpoint_size<J: Naming>(drive: &mut Drive<J>, object: ObjectId, row: &
     ensures few { result ≤ CHECKPOINT_BLOCKS }
     ensures same { drive.new ≡ drive.old }
 {
-    a_checkpoint_has_its_blocks();
-    a_checkpoint_takes_its_blocks();
+    a_checkpoint_is_in_its_blocks();
     match row.checkpoint {
         None => 0,
         Some(place) => placed_blocks(drive, object, place),

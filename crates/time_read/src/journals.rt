@@ -7,7 +7,7 @@ ghost use Rattle.time_read.specs.Rows.{IsRow, checkpoint_of};
 
 use crate::inodes::entries;
 use block_log::Blocks;
-use checkpoint::laws::a_checkpoint_has_its_blocks;
+use checkpoint::laws::a_checkpoint_is_in_its_blocks;
 use checkpoint::read_checkpoint;
 use codec::{Entry, Inode};
 use object_map::Row;
@@ -31,7 +31,7 @@ fn checkpoint_inode<B: Blocks>(table: &mut B, object: ObjectId, row: &Row) -> Op
         (λ c. checkpoint_rules c ≡ true) }
     ensures same { B.log table.new ≡ B.log table.old }
 {
-    a_checkpoint_has_its_blocks();
+    a_checkpoint_is_in_its_blocks();
     let place = row.checkpoint?;
     let checkpoint = read_checkpoint(table, object, place)?;
     Some(*checkpoint.inode())

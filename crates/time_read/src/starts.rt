@@ -14,7 +14,7 @@ ghost use Rattle.time_read.specs.private.Nearest.{start_at, nearer, nearest_with
 
 use crate::inodes::entries;
 use block_log::Blocks;
-use checkpoint::laws::a_checkpoint_has_its_blocks;
+use checkpoint::laws::a_checkpoint_is_in_its_blocks;
 use checkpoint::{CacheKey, InodeCache, read_checkpoint};
 use codec::{Entry, Inode};
 use journal_chain::packing::laws::chains_are_short;
@@ -83,7 +83,7 @@ fn read_inode<B: Blocks>(table: &mut B, object: ObjectId, place: Ptr) -> Inode
         (λ c. result ≡ c.inode) }
     ensures same { B.log table.new ≡ B.log table.old }
 {
-    a_checkpoint_has_its_blocks();
+    a_checkpoint_is_in_its_blocks();
     let Some(checkpoint) = read_checkpoint(table, object, place) else {
         unreachable!()
     };

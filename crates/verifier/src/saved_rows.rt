@@ -10,7 +10,7 @@ ghost use Rattle.image_objects.specs.Saved.{saved_row};
 ghost use Rattle.verifier.specs.Rows.{SpellsRow};
 ghost use Rattle.verifier.specs.SavedRows.{AreSaved};
 
-use checkpoint::laws::a_checkpoint_has_its_blocks;
+use checkpoint::laws::a_checkpoint_is_in_its_blocks;
 use codec::encode_ptr;
 use drive::Drive;
 use image_parts::{RowPart, push_row, push_span};
@@ -54,7 +54,7 @@ pub(crate) fn rows_saved<J: Naming>(
     ensures few { IfOk result (λ parts. length parts.items ≤ 2 ^ 20) }
     ensures refusal { IfErr result (λ e. e ≡ NoMemory) }
 {
-    a_checkpoint_has_its_blocks();
+    a_checkpoint_is_in_its_blocks();
     drive.rules();
     let mut parts = Vec::new(alloc);
     let mut last = ObjectId::new(0);

@@ -10,7 +10,7 @@ ghost use Rattle.verifier.specs.Saved.{SpellsSaved};
 use crate::opening_laws::what_is_saved_goes_on;
 use crate::saved_frames::{frames_with_blocks, push_frames};
 use crate::saved_rows::{push_rows, push_spans, rows_saved};
-use checkpoint::laws::a_checkpoint_has_its_blocks;
+use checkpoint::laws::a_checkpoint_is_in_its_blocks;
 use drive::Drive;
 use image_objects::saving_laws::a_store_stands_in_its_image;
 use image_parts::{Header, image_length, push_digest, push_header};
@@ -76,7 +76,7 @@ pub fn save<J: Naming>(alloc: Global, drive: &mut Drive<J>) -> Result<Vec<u8>, R
     ensures same { drive.new ≡ drive.old }
 {
     a_store_stands_in_its_image();
-    a_checkpoint_has_its_blocks();
+    a_checkpoint_is_in_its_blocks();
     what_is_saved_goes_on();
     drive.rules();
     let rows = rows_saved(alloc, drive)?;

@@ -15,7 +15,7 @@ ghost use Rattle.version_store.specs.private.Recounting.{Uncounts};
 
 use crate::recounts::recount;
 use block_log::Blocks;
-use checkpoint::laws::a_checkpoint_has_its_blocks;
+use checkpoint::laws::a_checkpoint_is_in_its_blocks;
 use checkpoint::{drop_checkpoint, read_checkpoint};
 use codec::{Entry, Inode};
 use journal_chain::Chain;
@@ -62,7 +62,7 @@ fn pointers_kept<B: Blocks>(
     ensures refusal { IfErr result (λ e. e ≡ NoMemory) }
     ensures same { B.log table.new ≡ B.log table.old }
 {
-    a_checkpoint_has_its_blocks();
+    a_checkpoint_is_in_its_blocks();
     let mut kept = Vec::new(alloc);
     let Some(place) = row.checkpoint else {
         return Ok(kept);
@@ -165,7 +165,7 @@ pub(crate) fn drop_all<B: Blocks>(
     ensures takes { TakesPlaces 0 (B.log table.old) (B.log table.new) }
 {
     a_row_is_its_own_blocks();
-    a_checkpoint_has_its_blocks();
+    a_checkpoint_is_in_its_blocks();
     recount(table, object, &[], pointers);
     let bare = drop_sides(table, object, row);
     drop_journal(table, object, &bare);

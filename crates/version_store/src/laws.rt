@@ -13,10 +13,7 @@ ghost use Rattle.version_store.specs.Tallies.{CountsAreOfRows};
 ghost use Rattle.version_store.specs.private.Below.{ChangesStand};
 
 use block_log::laws::{one_place_has_one_name, places_taken_add_up};
-use checkpoint::laws::{
-    a_checkpoint_has_its_blocks, a_checkpoint_takes_its_blocks,
-    checkpoints_of_two_moments_share_no_block,
-};
+use checkpoint::laws::a_checkpoint_is_in_its_blocks;
 use inode::laws::{held_pointers_lead, only_its_blocks_matter};
 use journal_chain::packing::laws::{bytes_add_up, few_blocks_are_needed};
 use row_changes::laws::{
@@ -82,7 +79,7 @@ pub fn what_is_held_is_what_rows_name()
     ensures checkpoints { CheckpointsOfRowsAreHeld }
 {
     one_place_has_one_name();
-    a_checkpoint_has_its_blocks();
+    a_checkpoint_is_in_its_blocks();
 }
 
 /// Each data block that an inode of an object points to, at whatever moment, is one that the
@@ -106,8 +103,7 @@ pub fn counts_are_of_rows()
     ensures { CountsAreOfRows }
 {
     one_place_has_one_name();
-    a_checkpoint_has_its_blocks();
-    checkpoints_of_two_moments_share_no_block();
+    a_checkpoint_is_in_its_blocks();
 }
 
 /// A step of a store lowers no stamp, and where it leaves an object's stamp, it leaves all of the
@@ -162,5 +158,5 @@ pub(crate) fn what_changes_rest_on()
     groups_join_and_part();
     bytes_add_up();
     few_blocks_are_needed();
-    a_checkpoint_takes_its_blocks();
+    a_checkpoint_is_in_its_blocks();
 }

@@ -15,7 +15,7 @@ use crate::copies::CopiedBlock;
 use crate::names::{drop_kept, drop_names, hold_between, hold_copied, hold_names, hold_renamed};
 use block_log::Blocks;
 use chain_rewriting::Renaming;
-use checkpoint::laws::a_checkpoint_has_its_blocks;
+use checkpoint::laws::a_checkpoint_is_in_its_blocks;
 use checkpoint::read_checkpoint;
 use codec::Inode;
 use object_map::Row;
@@ -53,7 +53,7 @@ pub(crate) fn inode_gone<B: Blocks>(table: &mut B, object: ObjectId, row: &Row) 
         ≡ sides_named row.now }
     ensures same { B.log table.new ≡ B.log table.old }
 {
-    a_checkpoint_has_its_blocks();
+    a_checkpoint_is_in_its_blocks();
     let mut next = *row;
     let gone = next.set_aside()?;
     let checkpoint = read_checkpoint(table, object, gone.place)?;

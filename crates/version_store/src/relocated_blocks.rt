@@ -25,7 +25,7 @@ use chain_rewriting::renaming_laws::{
     a_renamed_run_is_a_run, a_test_tells_a_renaming_apart, renamed_entries_stay_in_order,
     renaming_commutes_with_undo_and_redo, what_a_chain_tells,
 };
-use checkpoint::laws::a_checkpoint_takes_its_blocks;
+use checkpoint::laws::a_checkpoint_is_in_its_blocks;
 use codec::Inode;
 use object_map::Row;
 use s4_types::{ObjectId, Ptr};
@@ -99,7 +99,7 @@ pub(crate) fn relocate_blocks<B: Blocks>(
     a_row_is_its_own_blocks();
     an_orderly_row_stays();
     a_run_has_one_end_and_one_beginning();
-    a_checkpoint_takes_its_blocks();
+    a_checkpoint_is_in_its_blocks();
     what_a_chain_tells();
     a_test_tells_a_renaming_apart();
     renaming_commutes_with_undo_and_redo();

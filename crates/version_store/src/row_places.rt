@@ -16,7 +16,7 @@ ghost use Rattle.version_store.specs.private.Tallying.{Grows};
 
 use crate::data_blocks::{pointers_by, pointers_of};
 use block_log::Blocks;
-use checkpoint::laws::a_checkpoint_has_its_blocks;
+use checkpoint::laws::a_checkpoint_is_in_its_blocks;
 use checkpoint::{add_places, read_checkpoint};
 use codec::Entry;
 use journal_chain::Chain;
@@ -150,7 +150,7 @@ fn add_data<B: Blocks>(
     ensures refusal { IfErr result (λ e. e ≡ NoMemory) }
     ensures same { B.log table.new ≡ B.log table.old }
 {
-    a_checkpoint_has_its_blocks();
+    a_checkpoint_is_in_its_blocks();
     let led = pointers_of(alloc, table, object, row)?;
     pointers.extend_from_slice(led.as_slice())?;
     add_aside(table, object, row.sides.as_slice(), pointers)?;
@@ -175,7 +175,7 @@ pub(crate) fn names_by<B: Blocks>(
     ensures refusal { IfErr result (λ e. e ≡ NoMemory) }
     ensures same { B.log table.new ≡ B.log table.old }
 {
-    a_checkpoint_has_its_blocks();
+    a_checkpoint_is_in_its_blocks();
     let mut names = pointers_by(alloc, table, object, row, entries)?;
     add_aside(table, object, row.sides.as_slice(), &mut names)?;
     Ok(names)
@@ -196,7 +196,7 @@ fn add_checkpoints<B: Blocks>(
     ensures refusal { IfErr result (λ e. e ≡ NoMemory) }
     ensures same { B.log table.new ≡ B.log table.old }
 {
-    a_checkpoint_has_its_blocks();
+    a_checkpoint_is_in_its_blocks();
     add_newest(table, object, row, pointers)?;
     add_older(table, object, row.sides.as_slice(), pointers)?;
     Ok(())

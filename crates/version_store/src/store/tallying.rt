@@ -12,7 +12,7 @@ use crate::row_places::{pointers_to, tally};
 use crate::store::Store;
 use block_log::Blocks;
 use block_log::laws::one_place_has_one_name;
-use checkpoint::laws::{a_checkpoint_has_its_blocks, checkpoints_of_two_moments_share_no_block};
+use checkpoint::laws::a_checkpoint_is_in_its_blocks;
 use s4_types::limits::PAYLOAD_BLOCKS;
 use s4_types::{ObjectId, Ptr, Refusal};
 use segment_table::OverFrames;
@@ -66,8 +66,7 @@ impl<J: Naming> Store<NamedTable<J>> {
         ensures same { fields_of log_of self.new ≡ fields_of log_of self.old }
     {
         one_place_has_one_name();
-        a_checkpoint_has_its_blocks();
-        checkpoints_of_two_moments_share_no_block();
+        a_checkpoint_is_in_its_blocks();
         self.frame_rules();
         let mut tallies = self.no_tallies()?;
         let mut last = ObjectId::new(0);

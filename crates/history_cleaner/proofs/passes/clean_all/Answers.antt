@@ -18,7 +18,7 @@ loop-next-preserved g c =
       ledger = c.clean_counted.ensures.ledger;
       needed = c.clean_counted.ensures.needed;
     } in
-    passed (leads c.a_checkpoint_has_its_blocks.ensures.held c.a_checkpoint_has_its_blocks.ensures.first) c.held_is_what_is_reached.ensures c.args.drive.now c.loop-next.drive c.clean_counted.new.drive c.loop-next.object c.in-Some.next c.loop-next.cleanings.rewritten c.loop-next.cleanings.removed
+    passed (leads c.a_checkpoint_is_in_its_blocks.ensures.held c.a_checkpoint_is_in_its_blocks.ensures.first) c.held_is_what_is_reached.ensures c.args.drive.now c.loop-next.drive c.clean_counted.new.drive c.loop-next.object c.in-Some.next c.loop-next.cleanings.rewritten c.loop-next.cleanings.removed
     c.clean_counted.new.cleanings.rewritten c.clean_counted.new.cleanings.removed c.rules.ensures.store c.loop-next.invariant c.in-Some.ensures.some c.clean_counted.ensures.places step
 
 pub returns-in_err-clean_counted-clause-refusal : goal.returns-in_err-clean_counted-clause-refusal

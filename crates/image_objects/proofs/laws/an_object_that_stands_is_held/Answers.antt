@@ -3,7 +3,7 @@ use Rattle.image_objects.proofs.laws.an_object_that_stands_is_held.Goals as goal
 
 pub returns : goal.returns
 returns c = held_as_used (record {
-  told = c.a_checkpoint_rests_on_its_blocks.ensures.told;
+  told = c.a_checkpoint_is_in_its_blocks.ensures.same;
   chain = c.a_chain_that_stands_is_held.ensures;
   entries = c.a_chain_has_its_entries.ensures;
   row = c.a_version_chain_that_stands_is_a_row.ensures.row;

@@ -19,7 +19,7 @@ returns-clause-only g c =
     let row = c.args.row.now in
     let before = c.args.places.now.items in
     let items = c.push_all.new.places.items in
-    IfOk-weaker c.push_all.result (λ _. items ≡ before ++ places_named used row) (λ _. (p : Place) → Contains items p → Contains before p ⊎ ((kind : BlockKind) × NamesUsed used row kind p)) (λ _ is. only_named c.a_checkpoint_has_its_blocks.ensures.held used row c.requires.stands.0 before items c.requires.stands.1 is) c.push_all.ensures.places
+    IfOk-weaker c.push_all.result (λ _. items ≡ before ++ places_named used row) (λ _. (p : Place) → Contains items p → Contains before p ⊎ ((kind : BlockKind) × NamesUsed used row kind p)) (λ _ is. only_named c.a_checkpoint_is_in_its_blocks.ensures.held used row c.requires.stands.0 before items c.requires.stands.1 is) c.push_all.ensures.places
 
 pub returns-clause-all : goal.returns-clause-all
 returns-clause-all g c =
@@ -45,7 +45,7 @@ returns-clause-used g c =
     let before = c.args.places.now.items in
     let items = c.push_all.new.places.items in
     IfOk-weaker c.push_all.result (λ _. items ≡ before ++ places_named used row) (λ _. (p : Place) → Contains items p → Contains before p ⊎ IsSome (used p))
-    (λ _ is. only_used c.one_place_has_one_name.ensures c.a_checkpoint_has_its_blocks.ensures.held used row c.requires.stands.0 before items c.requires.stands.1 is) c.push_all.ensures.places
+    (λ _ is. only_used c.one_place_has_one_name.ensures c.a_checkpoint_is_in_its_blocks.ensures.held used row c.requires.stands.0 before items c.requires.stands.1 is) c.push_all.ensures.places
 
 pub returns-clause-counted : goal.returns-clause-counted
 returns-clause-counted g c =
@@ -54,4 +54,4 @@ returns-clause-counted g c =
     let before = c.args.places.now.items in
     let items = c.push_all.new.places.items in
     IfOk-weaker c.push_all.result (λ _. items ≡ before ++ places_named used row) (λ _. (p : Place) → is_data (used p) ≡ true → times p items ≡ times p before + times_led p (pointers_used used row))
-    (λ _ is. data_counted c.one_place_has_one_name.ensures c.a_checkpoint_has_its_blocks.ensures.held used row c.requires.stands.0 before items c.requires.stands.1 is) c.push_all.ensures.places
+    (λ _ is. data_counted c.one_place_has_one_name.ensures c.a_checkpoint_is_in_its_blocks.ensures.held used row c.requires.stands.0 before items c.requires.stands.1 is) c.push_all.ensures.places

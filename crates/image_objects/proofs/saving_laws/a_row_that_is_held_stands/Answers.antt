@@ -4,9 +4,9 @@ use Rattle.image_objects.proofs.saving_laws.a_row_that_is_held_stands.Goals as g
 pub returns : goal.returns
 returns c = object_stands (record {
   checkpoints = record {
-    told = c.a_checkpoint_rests_on_its_blocks.ensures.told;
-    places = c.a_checkpoint_rests_on_its_blocks.ensures.places;
-    held = c.a_checkpoint_has_its_blocks.ensures.held;
+    told = c.a_checkpoint_is_in_its_blocks.ensures.same;
+    places = c.a_checkpoint_is_in_its_blocks.ensures.places;
+    held = c.a_checkpoint_is_in_its_blocks.ensures.held;
   };
   packing = c.packing_keeps_the_rule.ensures.packed;
   end = c.a_run_has_one_end_and_one_beginning.ensures.end;

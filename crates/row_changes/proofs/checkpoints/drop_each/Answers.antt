@@ -6,29 +6,29 @@ use Rattle.row_changes.proofs.checkpoints.drop_each.Goals as goal
 pub drop_checkpoint-requires : goal.drop_checkpoint-requires
 drop_checkpoint-requires g c =
     let laws : CheckpointLaws = record {
-      told = c.a_checkpoint_rests_on_its_blocks.ensures.told;
-      places = c.a_checkpoint_rests_on_its_blocks.ensures.places;
-      held = c.a_checkpoint_has_its_blocks.ensures.held;
+      told = c.a_checkpoint_is_in_its_blocks.ensures.same;
+      places = c.a_checkpoint_is_in_its_blocks.ensures.places;
+      held = c.a_checkpoint_is_in_its_blocks.ensures.held;
     } in
     let sides = c.as_slice-sides.result.now in
     let side = c.side-item.result in
-    let was = dropping laws c.checkpoints_of_two_moments_share_no_block.ensures (g.B.Blocks.log c.args.table.now).held (g.B.Blocks.log c.loop-side.table).held c.args.object c.args.row.now sides c.loop-side.side-index side side
+    let was = dropping laws c.a_checkpoint_is_in_its_blocks.ensures.apart (g.B.Blocks.log c.args.table.now).held (g.B.Blocks.log c.loop-side.table).held c.args.object c.args.row.now sides c.loop-side.side-index side side
     c.requires.row c.as_slice-sides.ensures.value c.loop-side-test.true c.side-item.is c.loop-side.invariant.dropped in
     record { held = was.there }
 
 pub loop-side-preserved : goal.loop-side-preserved
 loop-side-preserved g c =
     let laws : CheckpointLaws = record {
-      told = c.a_checkpoint_rests_on_its_blocks.ensures.told;
-      places = c.a_checkpoint_rests_on_its_blocks.ensures.places;
-      held = c.a_checkpoint_has_its_blocks.ensures.held;
+      told = c.a_checkpoint_is_in_its_blocks.ensures.same;
+      places = c.a_checkpoint_is_in_its_blocks.ensures.places;
+      held = c.a_checkpoint_is_in_its_blocks.ensures.held;
     } in
     let sides = c.as_slice-sides.result.now in
     let side = c.side-item.result in
     let first = (g.B.Blocks.log c.args.table.now) in
     let now = (g.B.Blocks.log c.loop-side.table) in
     let next = (g.B.Blocks.log c.drop_checkpoint.new.table) in
-    let was = dropping laws c.checkpoints_of_two_moments_share_no_block.ensures first.held now.held c.args.object c.args.row.now sides c.loop-side.side-index side side
+    let was = dropping laws c.a_checkpoint_is_in_its_blocks.ensures.apart first.held now.held c.args.object c.args.row.now sides c.loop-side.side-index side side
     c.requires.row c.as_slice-sides.ensures.value c.loop-side-test.true c.side-item.is c.loop-side.invariant.dropped in
     record {
       dropped = next_dropped first.held now.held next.held c.args.object sides c.loop-side.side-index side side c.loop-side-test.true c.side-item.is was c.drop_checkpoint.ensures.dropped;

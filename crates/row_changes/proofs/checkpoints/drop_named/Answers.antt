@@ -4,9 +4,9 @@ use Rattle.row_changes.proofs.checkpoints.drop_named.Goals as goal
 pub drop_checkpoint-requires : goal.drop_checkpoint-requires
 drop_checkpoint-requires g c =
     let known : CheckpointLaws = record {
-      told = c.a_checkpoint_rests_on_its_blocks.ensures.told;
-      places = c.a_checkpoint_rests_on_its_blocks.ensures.places;
-      held = c.a_checkpoint_has_its_blocks.ensures.held;
+      told = c.a_checkpoint_is_in_its_blocks.ensures.same;
+      places = c.a_checkpoint_is_in_its_blocks.ensures.places;
+      held = c.a_checkpoint_is_in_its_blocks.ensures.held;
     } in
     record { held = older_there known (g.B.Blocks.log c.args.table.now).held c.args.object c.args.row.now c.requires.row }
 

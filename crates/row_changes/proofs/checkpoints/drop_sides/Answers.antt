@@ -15,11 +15,11 @@ returns g c =
     let o = c.args.object in
     let row = c.args.row.now in
     let laws : CheckpointLaws = record {
-      told = c.a_checkpoint_rests_on_its_blocks.ensures.told;
-      places = c.a_checkpoint_rests_on_its_blocks.ensures.places;
-      held = c.a_checkpoint_has_its_blocks.ensures.held;
+      told = c.a_checkpoint_is_in_its_blocks.ensures.same;
+      places = c.a_checkpoint_is_in_its_blocks.ensures.places;
+      held = c.a_checkpoint_is_in_its_blocks.ensures.held;
     } in
-    let b : Bares held later o row = bares laws c.checkpoints_of_two_moments_share_no_block.ensures held later o row c.requires.row c.drop_each.ensures.dropped in
+    let b : Bares held later o row = bares laws c.a_checkpoint_is_in_its_blocks.ensures.apart held later o row c.requires.row c.drop_each.ensures.dropped in
     let is : record row { sides = c.new.result } ≡ bare row = ap (λ (sides : List Side). record row { sides = sides }) c.new.ensures in
     let gives = sym is in
     record {

@@ -31,9 +31,9 @@ returns g c =
       done = c.the_inode_at_a_moment.ensures.done;
     } in
     let known : CheckpointLaws = record {
-      told = c.a_checkpoint_rests_on_its_blocks.ensures.told;
-      places = c.a_checkpoint_rests_on_its_blocks.ensures.places;
-      held = c.a_checkpoint_has_its_blocks.ensures.held;
+      told = c.a_checkpoint_is_in_its_blocks.ensures.same;
+      places = c.a_checkpoint_is_in_its_blocks.ensures.places;
+      held = c.a_checkpoint_is_in_its_blocks.ensures.held;
     } in
     let parts : Parted log.held o row m gone kept =
     parted_aside log.held o row c.set_aside-gone.new.self m gone c.requires.row c.requires.latest.checkpoint c.requires.newer c.set_aside-gone.ensures.row c.set_aside-gone.ensures.all in
@@ -44,7 +44,7 @@ returns g c =
       journal = no_journal_yet o between.held;
     } in
     let dropped = c.drop_side.ensures.dropped in
-    let kept_all = keeps c.checkpoints_of_two_moments_share_no_block.ensures log.held between.held later.held o row place m gone kept c.requires.row parts put dropped in
+    let kept_all = keeps c.a_checkpoint_is_in_its_blocks.ensures.apart log.held between.held later.held o row place m gone kept c.requires.row parts put dropped in
     let w = written log.held between.held later.held o row place inode m (place_of gone) kept c.requires.row c.requires.latest c.requires.inode put dropped kept_all c.in_ok-place.ensures.told in
     let next = with_checkpoint row place m kept in
     let is : record (c.set_aside-gone.new.self) { checkpoint = Some place; checkpoint_moment = m } ≡ next = ap (λ (r : Row). record r { checkpoint = Some place; checkpoint_moment = m }) c.set_aside-gone.ensures.row in
@@ -76,9 +76,9 @@ drop_side-requires g c =
     let gone = c.set_aside-gone.result in
     let kept = sides_after row in
     let known : CheckpointLaws = record {
-      told = c.a_checkpoint_rests_on_its_blocks.ensures.told;
-      places = c.a_checkpoint_rests_on_its_blocks.ensures.places;
-      held = c.a_checkpoint_has_its_blocks.ensures.held;
+      told = c.a_checkpoint_is_in_its_blocks.ensures.same;
+      places = c.a_checkpoint_is_in_its_blocks.ensures.places;
+      held = c.a_checkpoint_is_in_its_blocks.ensures.held;
     } in
     let parts : Parted log.held o row m gone kept =
     parted_aside log.held o row c.set_aside-gone.new.self m gone c.requires.row c.requires.latest.checkpoint c.requires.newer c.set_aside-gone.ensures.row c.set_aside-gone.ensures.all in

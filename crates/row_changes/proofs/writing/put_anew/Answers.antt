@@ -11,9 +11,9 @@ drop_checkpoint-requires g c =
     let o = c.args.object in
     let row = c.args.row.now in
     let known : CheckpointLaws = record {
-      told = c.a_checkpoint_rests_on_its_blocks.ensures.told;
-      places = c.a_checkpoint_rests_on_its_blocks.ensures.places;
-      held = c.a_checkpoint_has_its_blocks.ensures.held;
+      told = c.a_checkpoint_is_in_its_blocks.ensures.same;
+      places = c.a_checkpoint_is_in_its_blocks.ensures.places;
+      held = c.a_checkpoint_is_in_its_blocks.ensures.held;
     } in
     let s : Put log.held between.held between.held o c.put_ahead-place.result row.checkpoint = record {
       laws = known;
@@ -33,9 +33,9 @@ returns g c =
     let place = c.put_ahead-place.result in
     let inode = c.args.inode.now in
     let known : CheckpointLaws = record {
-      told = c.a_checkpoint_rests_on_its_blocks.ensures.told;
-      places = c.a_checkpoint_rests_on_its_blocks.ensures.places;
-      held = c.a_checkpoint_has_its_blocks.ensures.held;
+      told = c.a_checkpoint_is_in_its_blocks.ensures.same;
+      places = c.a_checkpoint_is_in_its_blocks.ensures.places;
+      held = c.a_checkpoint_is_in_its_blocks.ensures.held;
     } in
     let s : Put log.held between.held between.held o place row.checkpoint = record {
       laws = known;

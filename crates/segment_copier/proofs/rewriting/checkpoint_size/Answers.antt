@@ -4,4 +4,4 @@ use Rattle.segment_copier.proofs.rewriting.checkpoint_size.Goals as goal
 
 pub returns-in-Some-clause-blocks : goal.returns-in-Some-clause-blocks
 returns-in-Some-clause-blocks g c =
-    kept_is c.a_checkpoint_takes_its_blocks.ensures.placed (held_at c.args.drive.now.store.table) c.args.object c.args.row.now c.in-Some.place c.placed_blocks.result c.in-Some.is c.requires c.placed_blocks.ensures.blocks
+    kept_is c.a_checkpoint_is_in_its_blocks.ensures.placed (held_at c.args.drive.now.store.table) c.args.object c.args.row.now c.in-Some.place c.placed_blocks.result c.in-Some.is c.requires c.placed_blocks.ensures.blocks

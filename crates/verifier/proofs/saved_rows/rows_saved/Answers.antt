@@ -24,5 +24,5 @@ returns-clause-saved g c = all_saved c.args.drive.now.store.rows c.loop-object.l
 
 pub returns-clause-few : goal.returns-clause-few
 returns-clause-few g c =
-    few_parts (record { held = c.a_checkpoint_has_its_blocks.ensures.held; first = c.a_checkpoint_has_its_blocks.ensures.first }) c.args.drive.now c.loop-object.parts.items c.rules.ensures.store
+    few_parts (record { held = c.a_checkpoint_is_in_its_blocks.ensures.held; first = c.a_checkpoint_is_in_its_blocks.ensures.first }) c.args.drive.now c.loop-object.parts.items c.rules.ensures.store
     (all_saved c.args.drive.now.store.rows c.loop-object.last c.loop-object.parts.items c.loop-object.invariant c.in_default.ensures.none)

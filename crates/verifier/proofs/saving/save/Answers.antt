@@ -46,7 +46,7 @@ returns-clause-saved g c =
     c.in_ok-push_spans.ensures.items ∙ ap (λ l. l ++ flat_map span_bytes c.as_slice-2.result.now) (c.in_ok-push_rows.ensures.items ∙ ap (λ r. c.push_frames.new.out.items ++ flat_map row_bytes r) c.as_slice.ensures.value)
     ∙ ap (λ r. (c.push_frames.new.out.items ++ flat_map row_bytes rows) ++ flat_map span_bytes r) c.as_slice-2.ensures.value in
     subst (SpellsSaved d) (sym c.in_ok-push_digest.ensures.items)
-    (saves d rows spans h c.push_frames.new.out.items c.push_spans.new.out.items (record { held = c.a_checkpoint_has_its_blocks.ensures.held; first = c.a_checkpoint_has_its_blocks.ensures.first }) c.a_store_stands_in_its_image.ensures.stand c.a_store_stands_in_its_image.ensures.ascend
+    (saves d rows spans h c.push_frames.new.out.items c.push_spans.new.out.items (record { held = c.a_checkpoint_is_in_its_blocks.ensures.held; first = c.a_checkpoint_is_in_its_blocks.ensures.first }) c.a_store_stands_in_its_image.ensures.stand c.a_store_stands_in_its_image.ensures.ascend
     shown c.in_ok-rows.ensures.saved seen written adds parts)
 
 pub returns-clause-promise : goal.returns-clause-promise

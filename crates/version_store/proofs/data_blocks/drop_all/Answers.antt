@@ -21,7 +21,7 @@ drop_sides-bare-requires g c =
 
 pub drop_checkpoint-requires : goal.drop_checkpoint-requires
 drop_checkpoint-requires g c = record {
-  held = checkpoint_stands c.a_checkpoint_has_its_blocks.ensures.held (g.B.Blocks.log c.drop_sides-bare.new.table).held (g.B.Blocks.log c.drop_journal.new.table).held c.args.object c.drop_sides-bare.result c.drop_sides-bare.ensures.row c.drop_journal.ensures.others;
+  held = checkpoint_stands c.a_checkpoint_is_in_its_blocks.ensures.held (g.B.Blocks.log c.drop_sides-bare.new.table).held (g.B.Blocks.log c.drop_journal.new.table).held c.args.object c.drop_sides-bare.result c.drop_sides-bare.ensures.row c.drop_journal.ensures.others;
 }
 
 pub returns-clause-nothing : goal.returns-clause-nothing

@@ -24,6 +24,6 @@ returns c = record {
   entry_moments = c.the_entries_between_two_inodes.ensures.moments;
   sizes_add_up = c.bytes_add_up.ensures.sizes;
   blocks_are_needed = c.few_blocks_are_needed.ensures.least;
-  checkpoint_blocks = c.a_checkpoint_takes_its_blocks.ensures.some;
+  checkpoint_blocks = c.a_checkpoint_is_in_its_blocks.ensures.some;
   groups_ascend = c.groups_join_and_part.ensures.ascend;
 }

@@ -126,7 +126,7 @@ returns-clause-moved g c =
       metadata = m.metadata;
       dropped = last_held before between o row copies r copied counted counts moved c.move_blocks-row.ensures.moved.metadata c.move_blocks-row.ensures.named c.names-2.ensures later c.drop_copied.ensures;
     } in
-    relocates laws c.renamed_entries_stay_in_order.ensures.order c.a_renamed_chain_takes_as_many_bytes.ensures.each c.a_checkpoint_takes_its_blocks.ensures.holes c.a_row_is_its_own_blocks.ensures.row c.a_row_is_its_own_blocks.ensures.inode c.an_orderly_row_stays.ensures.blocks g.met.B.Blocks.places_taken_add_up
+    relocates laws c.renamed_entries_stay_in_order.ensures.order c.a_renamed_chain_takes_as_many_bytes.ensures.each c.a_checkpoint_is_in_its_blocks.ensures.holes c.a_row_is_its_own_blocks.ensures.row c.a_row_is_its_own_blocks.ensures.inode c.an_orderly_row_stays.ensures.blocks g.met.B.Blocks.places_taken_add_up
     before between moved later o row next copies r c.requires.row m d c.drop_copied.ensures.takes
 
 pub count_renaming-requires : goal.count_renaming-requires
@@ -212,7 +212,7 @@ move_blocks-row-requires-clause-room g c =
     let entries : c.as_slice.result.now ≡ renamed_entries r (entries_of before.held o row) = c.as_slice.ensures.value ∙ c.rename.ensures.entries ∙ ap (renamed_entries r) c.requires.journal.entries in
     let same : n ≡ row_blocks before.held o row =
     ap (λ (i : Option Inode). moved_blocks i c.as_slice.result.now) kept ∙ ap (moved_blocks (kept_renamed r (checkpoint_of before.held o row))) entries
-    ∙ same_blocks c.a_renamed_chain_takes_as_many_bytes.ensures.each c.a_checkpoint_takes_its_blocks.ensures.holes r (checkpoint_of before.held o row) (entries_of before.held o row) in
+    ∙ same_blocks c.a_renamed_chain_takes_as_many_bytes.ensures.each c.a_checkpoint_is_in_its_blocks.ensures.holes r (checkpoint_of before.held o row) (entries_of before.held o row) in
     let takes : TakesPlaces count before between = c.append_copies-renaming.ensures.appending.takes in
     let room : count + row_blocks before.held o row ≤ length before.ahead = c.requires.room in
     let sum = sum_stays count before between takes (omega (arith, room)) in

@@ -11,13 +11,13 @@ use Rattle.version_store.proofs.Listing.{older_have, joined_twice}
 use Rattle.version_store.proofs.row_places.add_checkpoints.Goals as goal
 
 pub add_newest-requires : goal.add_newest-requires
-add_newest-requires g c = checkpoint_there c.a_checkpoint_has_its_blocks.ensures.held (g.B.Blocks.log c.args.table.now).held c.args.object c.args.row.now c.requires
+add_newest-requires g c = checkpoint_there c.a_checkpoint_is_in_its_blocks.ensures.held (g.B.Blocks.log c.args.table.now).held c.args.object c.args.row.now c.requires
 
 pub add_older-requires : goal.add_older-requires
 add_older-requires g c =
     subst (λ (l : Log). All (λ (side : Side). HasItsBlocks l.held c.args.object (Some side.place)) c.as_slice.result.now) (sym c.in_ok-add_newest.ensures.same)
     (subst (All (λ (side : Side). HasItsBlocks (g.B.Blocks.log c.args.table.now).held c.args.object (Some side.place))) (sym c.as_slice.ensures.value)
-    (older_have c.a_checkpoint_has_its_blocks.ensures.held (g.B.Blocks.log c.args.table.now).held c.args.object c.args.row.now c.requires))
+    (older_have c.a_checkpoint_is_in_its_blocks.ensures.held (g.B.Blocks.log c.args.table.now).held c.args.object c.args.row.now c.requires))
 
 pub returns-clause-added : goal.returns-clause-added
 returns-clause-added g c =

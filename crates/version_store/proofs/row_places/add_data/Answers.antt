@@ -12,7 +12,7 @@ pub add_aside-requires : goal.add_aside-requires
 add_aside-requires g c =
     subst (λ (l : Log). All (λ (side : Side). HasItsBlocks l.held c.args.object (Some side.place)) c.as_slice-2.result.now) (sym c.in_ok-led.ensures.same)
     (subst (All (λ (side : Side). HasItsBlocks (g.B.Blocks.log c.args.table.now).held c.args.object (Some side.place))) (sym c.as_slice-2.ensures.value)
-    (older_have c.a_checkpoint_has_its_blocks.ensures.held (g.B.Blocks.log c.args.table.now).held c.args.object c.args.row.now c.requires))
+    (older_have c.a_checkpoint_is_in_its_blocks.ensures.held (g.B.Blocks.log c.args.table.now).held c.args.object c.args.row.now c.requires))
 
 pub returns-clause-added : goal.returns-clause-added
 returns-clause-added g c =
