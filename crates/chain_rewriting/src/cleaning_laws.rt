@@ -20,9 +20,8 @@ ghost use Rattle.chain_rewriting.specs.private.Resting.{Facts};
 
 use codec::journal_laws::entry_bytes_add_up;
 use undo_redo::laws::{
-    a_blank_inode_has_holes_alone, a_link_is_an_entry_redone_or_undone,
-    a_run_has_one_end_and_one_beginning, groups_join_and_part, runs_join_and_part,
-    the_entries_between_two_inodes, the_inode_at_a_moment,
+    a_blank_inode_has_holes_alone, a_link_is_an_entry_redone_or_undone, entries_determine_a_run,
+    groups_part_at_a_moment, the_entries_between_two_inodes,
 };
 
 /// The laws of the layer below that the laws of kept chains rest on.
@@ -30,9 +29,8 @@ fn what_kept_chains_rest_on()
     ensures { Facts }
 {
     a_link_is_an_entry_redone_or_undone();
-    a_run_has_one_end_and_one_beginning();
-    groups_join_and_part();
-    the_inode_at_a_moment();
+    entries_determine_a_run();
+    groups_part_at_a_moment();
     the_entries_between_two_inodes();
 }
 
@@ -41,7 +39,7 @@ pub fn a_kept_chain_is_a_run()
     ensures { AKeptChainIsARun }
 {
     a_link_is_an_entry_redone_or_undone();
-    runs_join_and_part();
+    entries_determine_a_run();
     the_entries_between_two_inodes();
 }
 
@@ -88,7 +86,7 @@ pub fn a_kept_chain_is_grouped()
     ensures { AKeptChainIsGrouped }
 {
     a_link_is_an_entry_redone_or_undone();
-    groups_join_and_part();
+    groups_part_at_a_moment();
     the_entries_between_two_inodes();
 }
 
@@ -97,7 +95,7 @@ pub fn a_kept_chain_is_in_order()
     ensures { AKeptChainIsInOrder }
 {
     a_link_is_an_entry_redone_or_undone();
-    runs_join_and_part();
+    entries_determine_a_run();
     the_entries_between_two_inodes();
     a_kept_chain_has_old_moments();
 }
@@ -107,14 +105,14 @@ pub fn a_kept_chain_has_seen_inodes_alone()
     ensures { AKeptChainHasSeenInodesAlone }
 {
     the_entries_between_two_inodes();
-    groups_join_and_part();
+    groups_part_at_a_moment();
 }
 
 /// A kept chain is a chain, and so can be cleaned again.
 pub fn a_kept_chain_is_a_chain()
     ensures { AKeptChainIsAChain }
 {
-    a_run_has_one_end_and_one_beginning();
+    entries_determine_a_run();
     a_link_is_an_entry_redone_or_undone();
     the_entries_between_two_inodes();
     a_kept_chain_is_a_run();
@@ -127,8 +125,8 @@ pub fn cleaning_again_changes_nothing()
     ensures { CleaningAgainChangesNothing }
 {
     a_link_is_an_entry_redone_or_undone();
-    a_run_has_one_end_and_one_beginning();
-    groups_join_and_part();
+    entries_determine_a_run();
+    groups_part_at_a_moment();
     the_entries_between_two_inodes();
 }
 
@@ -171,7 +169,7 @@ pub fn a_kept_chain_tells_of_seen_places_alone()
 pub fn an_unchanged_chain_is_the_kept_one()
     ensures { AnUnchangedChainIsTheKeptOne }
 {
-    a_run_has_one_end_and_one_beginning();
+    entries_determine_a_run();
     a_kept_chain_is_a_run();
     a_kept_chain_has_seen_inodes_alone();
 }
@@ -181,7 +179,7 @@ pub fn a_creation_is_a_chain()
     ensures { ACreationIsAChain }
 {
     a_link_is_an_entry_redone_or_undone();
-    a_run_has_one_end_and_one_beginning();
+    entries_determine_a_run();
     the_entries_between_two_inodes();
 }
 
@@ -191,9 +189,8 @@ pub fn a_chain_goes_on()
     ensures { AChainGoesOn }
 {
     a_link_is_an_entry_redone_or_undone();
-    a_run_has_one_end_and_one_beginning();
-    runs_join_and_part();
-    groups_join_and_part();
+    entries_determine_a_run();
+    groups_part_at_a_moment();
     the_entries_between_two_inodes();
 }
 

@@ -4,7 +4,7 @@ ghost use Rattle.drive.specs.Opened.{ARowTellsItsVersions, ARowsVersionsAscend};
 ghost use Rattle.drive.specs.Opened.{ABaseTellsTheStoresVersions, ABaseListsEachObjectOnce};
 ghost use Rattle.drive.specs.Opened.{ABaseListsRowsInOrder, AnOpenedDriveBeginsAsItsParts};
 
-use undo_redo::laws::groups_join_and_part;
+use undo_redo::laws::groups_part_at_a_moment;
 use version_store::laws::the_present_stays;
 
 /// What an opened drive begins with is what its objects represent: at each moment the versions that
@@ -22,6 +22,6 @@ pub fn a_base_is_what_its_objects_stand_for()
     ensures in_order { ABaseListsRowsInOrder }
     ensures state { AnOpenedDriveBeginsAsItsParts }
 {
-    groups_join_and_part();
+    groups_part_at_a_moment();
     the_present_stays();
 }

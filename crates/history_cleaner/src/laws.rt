@@ -17,17 +17,14 @@ use chain_rewriting::cleaning_laws::{
     the_moments_of_a_kept_chain_are_old,
 };
 use row_changes::laws::a_row_keeps_the_making;
-use undo_redo::laws::{
-    a_run_has_one_end_and_one_beginning, groups_join_and_part, the_inode_at_a_moment,
-};
+use undo_redo::laws::{entries_determine_a_run, groups_part_at_a_moment};
 use version_store::laws::{inodes_point_to_what_rows_name, what_is_held_is_what_rows_name};
 
 /// The chain of a stored object is one that can be cleaned.
 pub fn a_stored_chain_is_a_chain()
     ensures { AStoredChainIsAChain }
 {
-    a_run_has_one_end_and_one_beginning();
-    the_inode_at_a_moment();
+    entries_determine_a_run();
     a_chain_is_one_later();
 }
 
@@ -36,9 +33,8 @@ pub fn what_is_left_can_stand()
     ensures stands { WhatIsLeftCanStand }
     ensures empty { AnEmptyJournalStaysEmpty }
 {
-    a_run_has_one_end_and_one_beginning();
-    groups_join_and_part();
-    the_inode_at_a_moment();
+    entries_determine_a_run();
+    groups_part_at_a_moment();
     a_kept_chain_is_a_run();
     a_kept_chain_is_grouped();
     a_kept_chain_has_old_moments();
@@ -61,8 +57,7 @@ pub fn what_is_left_shows_the_same()
     ensures seen { WhatIsLeftIsSeen }
     ensures throughout { WhatIsLeftIsSeenThroughout }
 {
-    a_run_has_one_end_and_one_beginning();
-    the_inode_at_a_moment();
+    entries_determine_a_run();
     a_chain_is_one_later();
     a_kept_chain_is_a_run();
     a_kept_chain_has_old_moments();
@@ -79,8 +74,7 @@ pub fn what_is_left_tells_of_seen_places()
     ensures points { WhatIsLeftPointsToSeenPlaces }
     ensures same { WhatIsLeftBeginsTheSame }
 {
-    a_run_has_one_end_and_one_beginning();
-    the_inode_at_a_moment();
+    entries_determine_a_run();
     a_chain_is_one_later();
     a_kept_chain_is_a_run();
     a_kept_chain_tells_of_seen_places_alone();

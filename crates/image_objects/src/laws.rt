@@ -34,7 +34,7 @@ use inode::laws::only_its_blocks_matter;
 use journal_chain::laws::a_chain_has_its_entries;
 use row_changes::laws::an_orderly_row_is_by_its_moment;
 use time_read::laws::the_last_inode_is_current;
-use undo_redo::laws::groups_join_and_part;
+use undo_redo::laws::groups_part_at_a_moment;
 use version_store::laws::{inodes_point_to_what_rows_name, places_have_few_names};
 
 /// Where just what rows name is held, these blocks are held of an object that has one of the rows,
@@ -128,7 +128,7 @@ pub fn moments_told_once_are_not_shared()
     ensures standing { (used : Place → Option Stored) (rows : List ImageRow) (clock : ℕ)
         → RowsStand used rows clock → StandOnce (moments_used used rows) }
 {
-    groups_join_and_part();
+    groups_part_at_a_moment();
 }
 
 /// The moments of a chain are told entry by entry: the moment of one more entry comes after them,

@@ -10,9 +10,7 @@ ghost use Rattle.image_objects.specs.private.Standing.{is_earlier};
 
 use codec::{Entry, Inode, Pair, Status, Triple};
 use s4_types::Ptr;
-use undo_redo::laws::{
-    a_link_is_an_entry_redone_or_undone, a_run_has_one_end_and_one_beginning, runs_join_and_part,
-};
+use undo_redo::laws::{a_link_is_an_entry_redone_or_undone, entries_determine_a_run};
 use undo_redo::redo;
 
 pub(crate) fn is_same_slot(one: Option<Ptr>, other: Option<Ptr>) -> bool
@@ -96,8 +94,7 @@ pub(crate) fn is_run(first: &Inode, entries: &[Entry]) -> bool
     ensures only { (last : InodeFields) → Run first.now entries.now last → result ≡ true }
 {
     a_link_is_an_entry_redone_or_undone();
-    a_run_has_one_end_and_one_beginning();
-    runs_join_and_part();
+    entries_determine_a_run();
     let mut inode = *first;
     for entry in entries {
         if !stands_before(&inode, entry) {

@@ -17,7 +17,7 @@ use inode::laws::only_its_blocks_matter;
 use journal_chain::packing::laws::packing_keeps_the_rule;
 use row_changes::laws::a_row_keeps_the_making;
 use time_read::laws::an_orderly_row_stays;
-use undo_redo::laws::a_run_has_one_end_and_one_beginning;
+use undo_redo::laws::entries_determine_a_run;
 use version_store::laws::what_is_held_is_what_rows_name;
 
 /// Where what is held is used, a row of a drive that is saved as an image's tells the same as
@@ -37,7 +37,7 @@ pub fn a_row_that_is_held_stands()
 {
     a_checkpoint_is_in_its_blocks();
     packing_keeps_the_rule();
-    a_run_has_one_end_and_one_beginning();
+    entries_determine_a_run();
     a_row_keeps_the_making();
     an_orderly_row_stays();
     only_its_blocks_matter();

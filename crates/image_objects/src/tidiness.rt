@@ -12,7 +12,7 @@ use crate::UsedBlocks;
 use codec::{Entry, Inode};
 use s4_types::limits::{BLOCK_BYTES, OBJECT_BLOCKS, OBJECT_BYTES};
 use s4_types::{Moment, Ptr};
-use undo_redo::laws::groups_join_and_part;
+use undo_redo::laws::groups_part_at_a_moment;
 use undo_redo::redo;
 
 /// Whether the bytes from an index on are zeros.
@@ -112,7 +112,7 @@ pub(crate) fn are_tidy<U: UsedBlocks>(used: &U, first: &Inode, entries: &[Entry]
         → Tidy (contents_of (U.used used.now)) (inode_after first.now entries.now t))
         → result ≡ true }
 {
-    groups_join_and_part();
+    groups_part_at_a_moment();
     let mut inode = *first;
     let mut since = Moment::new(0);
     // Each inode is looked at whole, its last block too where an entry left that: a chain has at

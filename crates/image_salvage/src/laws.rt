@@ -4,7 +4,7 @@ ghost use Rattle.image_salvage.specs.Laws.{AnUndamagedImageIsSalvagedWhole, What
 use codec::laws::{one_pointer_a_spelling, one_summary_a_spelling, rules_of_a_summary};
 use image_objects::laws::inodes_used_point_to_what_rows_lead_to;
 use inode::laws::only_its_blocks_matter;
-use undo_redo::laws::the_inode_at_a_moment;
+use undo_redo::laws::entries_determine_a_run;
 use verifier::laws::{what_has_a_fault_spells_nothing, what_has_no_fault_is_an_image};
 
 /// Of an image that isn't damaged no object is lost, and each represents the version that it has at
@@ -15,7 +15,7 @@ pub fn an_undamaged_image_is_salvaged_whole()
     rules_of_a_summary();
     one_summary_a_spelling();
     one_pointer_a_spelling();
-    the_inode_at_a_moment();
+    entries_determine_a_run();
     inodes_used_point_to_what_rows_lead_to();
     only_its_blocks_matter();
     what_has_a_fault_spells_nothing();

@@ -20,7 +20,7 @@ use checkpoint::{drop_checkpoint, write_checkpoint};
 use codec::{Checkpoint, Inode};
 use object_map::{Row, Side, Sides};
 use s4_types::{Moment, ObjectId, Ptr, Refusal};
-use undo_redo::laws::{a_run_has_one_end_and_one_beginning, the_inode_at_a_moment};
+use undo_redo::laws::entries_determine_a_run;
 
 /// Appends the checkpoint of an inode.
 pub(crate) fn put<B: Blocks>(
@@ -126,8 +126,7 @@ pub fn record_checkpoint<B: Blocks>(
     ensures unchanged { OnErr result (B.log table.new ≡ B.log table.old) }
 {
     a_checkpoint_is_in_its_blocks();
-    a_run_has_one_end_and_one_beginning();
-    the_inode_at_a_moment();
+    entries_determine_a_run();
     let place = put(table, object, inode, moment)?;
     let mut next = *row;
     let gone = next.set_aside();

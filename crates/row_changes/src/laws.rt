@@ -22,10 +22,7 @@ use chain_rewriting::mapping_laws::{
 };
 use journal_chain::laws::{a_chain_has_its_entries, an_empty_chain_is_held};
 use time_read::laws::a_row_tells_a_chain;
-use undo_redo::laws::{
-    a_run_has_one_end_and_one_beginning, a_run_keeps_the_making, groups_join_and_part,
-    runs_join_and_part, the_inode_at_a_moment, the_inode_at_a_moment_stands_in_the_run,
-};
+use undo_redo::laws::{entries_determine_a_run, groups_part_at_a_moment};
 
 /// The row of an object that was just made is where no journal block and no checkpoint of the
 /// object is held, tells of no moment yet, and the inode is blank at each.
@@ -47,7 +44,7 @@ pub fn what_a_row_tells_can_be_written()
     ensures mapped { AMappedChainCanBeWritten }
     ensures begins { ItsFirstInodeIsMapped }
 {
-    a_run_has_one_end_and_one_beginning();
+    entries_determine_a_run();
     mapping_commutes_with_undo_and_redo();
     a_mapped_run_is_a_run();
     mapped_entries_stay_in_order();
@@ -87,7 +84,7 @@ pub fn the_last_inode_stays()
     ensures { (held : Place → Option Stored) (o : ℕ) (row : Row) (a t : ℕ) → IsBy held o row a
         → a ≤ t → inode_of held o row t ≡ inode_of held o row a }
 {
-    the_inode_at_a_moment();
+    entries_determine_a_run();
 }
 
 /// At each moment the inode tells when the object was made.
@@ -95,9 +92,8 @@ pub fn a_row_keeps_the_making()
     ensures { (held : Place → Option Stored) (o : ℕ) (row : Row) (t : ℕ) → IsRow held o row
         → (inode_of held o row t).created ≡ row.created }
 {
-    a_run_keeps_the_making();
-    groups_join_and_part();
-    the_inode_at_a_moment_stands_in_the_run();
+    entries_determine_a_run();
+    groups_part_at_a_moment();
 }
 
 /// Entries of a later moment that come after those of a row make one run and one chain with them.
@@ -105,10 +101,8 @@ pub fn a_row_keeps_the_making()
 pub(crate) fn later_entries_join_a_row()
     ensures { LaterEntriesJoin }
 {
-    a_run_has_one_end_and_one_beginning();
-    groups_join_and_part();
-    runs_join_and_part();
-    the_inode_at_a_moment();
+    entries_determine_a_run();
+    groups_part_at_a_moment();
     a_chain_has_its_entries();
     a_row_tells_a_chain();
 }

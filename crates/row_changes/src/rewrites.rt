@@ -18,9 +18,7 @@ use checkpoint::checkpoint_blocks;
 use codec::{Entry, Inode};
 use object_map::Row;
 use s4_types::{Moment, ObjectId, Refusal};
-use undo_redo::laws::{
-    a_run_has_one_end_and_one_beginning, a_run_keeps_the_making, the_inode_at_a_moment,
-};
+use undo_redo::laws::entries_determine_a_run;
 
 /// How many places it takes to write an object's checkpoint of an inode and its whole journal anew
 /// with these entries, of at most `CHAIN_ENTRY_BYTES`: what `rewrite_row` counts before anything is
@@ -92,8 +90,6 @@ pub fn rewrite_row<B: Blocks>(
         × (length (B.log table.old).ahead < rewritten_blocks present.now entries.now)) }
     ensures unchanged { OnErr result (B.log table.new ≡ B.log table.old) }
 {
-    a_run_has_one_end_and_one_beginning();
-    a_run_keeps_the_making();
-    the_inode_at_a_moment();
+    entries_determine_a_run();
     write_row(table, object, row, Some(present), moment, entries)
 }

@@ -14,9 +14,7 @@ use journal_chain::{Chain, EntriesBack};
 use object_map::Row;
 use s4_types::{Moment, ObjectId, Refusal};
 use std::alloc::Global;
-use undo_redo::laws::{
-    a_run_has_one_end_and_one_beginning, groups_join_and_part, the_last_entry_is_undone_or_stays,
-};
+use undo_redo::laws::{entries_determine_a_run, groups_part_at_a_moment};
 use undo_redo::undo;
 
 /// All journal entries of an object, the oldest first.
@@ -54,8 +52,7 @@ fn next_past<B: Blocks>(back: &mut EntriesBack, table: &mut B, at: Moment) -> Op
     ensures there { IsSome (entries_left (B.log table.new).held back.new) }
     ensures same { B.log table.new ≡ B.log table.old }
 {
-    groups_join_and_part();
-    the_last_entry_is_undone_or_stays();
+    groups_part_at_a_moment();
     let entry = back.next(table)?;
     if entry.moment() <= at {
         return None;
@@ -73,8 +70,7 @@ fn undo_past<B: Blocks>(back: &mut EntriesBack, table: &mut B, at: Moment, inode
         → inode.new ≡ inode_after first (left (B.log table.old).held back.old) at }
     ensures same { B.log table.new ≡ B.log table.old }
 {
-    groups_join_and_part();
-    the_last_entry_is_undone_or_stays();
+    groups_part_at_a_moment();
     while let Some(entry) = next_past(back, table, at) {
         undo(&entry, inode);
     }
@@ -96,7 +92,7 @@ pub fn inode_before<B: Blocks>(
     ensures same { B.log table.new ≡ B.log table.old }
 {
     packing_keeps_the_rule();
-    a_run_has_one_end_and_one_beginning();
+    entries_determine_a_run();
     let chain = Chain::of(object, row.head, row.journal_bytes, row.head_bytes);
     let mut back = chain.entries_back();
     let mut inode = *present;

@@ -13,9 +13,7 @@ ghost use Rattle.time_read.specs.Rows.{IsRow, entries_of, first_of, inode_of, la
 ghost use Rattle.time_read.specs.Orderly.{inode_behind, IsFromTo, IsOrderly};
 
 use journal_chain::packing::laws::packing_keeps_the_rule;
-use undo_redo::laws::{
-    groups_join_and_part, the_inode_at_a_moment, the_inode_at_a_moment_stands_in_the_run,
-};
+use undo_redo::laws::{entries_determine_a_run, groups_part_at_a_moment};
 
 /// A row is a matter of its object's journal blocks and checkpoints alone: where those are the
 /// same, it is as before, and the inode at each moment is the same.
@@ -37,7 +35,7 @@ pub fn the_last_inode_is_current()
     ensures { (held : Place → Option Stored) (o t : ℕ) (row : Row)
         → AllBy t (entries_of held o row) → inode_of held o row t ≡ last_inode held o row }
 {
-    the_inode_at_a_moment();
+    entries_determine_a_run();
 }
 
 /// A row tells a journal that can be read: at most `CHAIN_ENTRY_BYTES` of entries, at most
@@ -82,7 +80,6 @@ pub fn each_inode_is_of_the_chain()
         → (inode_of held o row t).alive ≡ true
         → IsFromTo row.created latest (inode_of held o row t).changed }
 {
-    groups_join_and_part();
-    the_inode_at_a_moment();
-    the_inode_at_a_moment_stands_in_the_run();
+    groups_part_at_a_moment();
+    entries_determine_a_run();
 }

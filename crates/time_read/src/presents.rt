@@ -14,7 +14,7 @@ use s4_types::{Moment, ObjectId};
 use std::alloc::Global;
 use std::slice::from_ref;
 use undo_redo::EntriesBetween;
-use undo_redo::laws::a_run_has_one_end_and_one_beginning;
+use undo_redo::laws::entries_determine_a_run;
 
 /// An object's present inode, and an index of what undoes the entries of its journal. Where the
 /// index's growth was refused there is none, and the journal is walked.
@@ -43,7 +43,7 @@ impl Present {
         ensures inode { inode.new ≡ inode_of (B.log table.old).held object row.now at }
         ensures same { B.log table.new ≡ B.log table.old }
     {
-        a_run_has_one_end_and_one_beginning();
+        entries_determine_a_run();
         let Some(index) = &self.index else {
             *inode = inode_before(table, object, row, inode, at);
             return;

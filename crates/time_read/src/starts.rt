@@ -21,10 +21,7 @@ use journal_chain::packing::laws::chains_are_short;
 use object_map::{Row, Side};
 use s4_types::{Moment, ObjectId, Ptr, Refusal};
 use std::alloc::Global;
-use undo_redo::laws::{
-    a_run_has_one_end_and_one_beginning, groups_join_and_part, runs_join_and_part,
-    the_inode_at_a_moment_stands_in_the_run,
-};
+use undo_redo::laws::{entries_determine_a_run, groups_part_at_a_moment};
 use undo_redo::{blank, redo_all, undo_all};
 
 /// The place of a moment among the entries: how many are of the moment or earlier.
@@ -185,8 +182,7 @@ fn begin<B: Blocks>(
     ensures kept { AddsTrue (B.log table.old).held object row.now cache.old.pairs cache.new.pairs }
     ensures same { B.log table.new ≡ B.log table.old }
 {
-    groups_join_and_part();
-    the_inode_at_a_moment_stands_in_the_run();
+    groups_part_at_a_moment();
     let Some(place) = row.checkpoint else {
         return (blank(row.created), 0);
     };
@@ -206,8 +202,7 @@ fn lead(entries: &[Entry], from: usize, to: usize, inode: &mut Inode)
         → inode.old ≡ inode_behind first entries.now from
         → inode.new ≡ inode_behind first entries.now to }
 {
-    a_run_has_one_end_and_one_beginning();
-    runs_join_and_part();
+    entries_determine_a_run();
     if from <= to {
         redo_all(&entries[from..to], inode);
     } else {
@@ -242,8 +237,7 @@ fn led_from_nearest<B: Blocks>(
     ensures kept { AddsTrue (B.log table.old).held object row.now cache.old.pairs cache.new.pairs }
     ensures same { B.log table.new ≡ B.log table.old }
 {
-    groups_join_and_part();
-    the_inode_at_a_moment_stands_in_the_run();
+    groups_part_at_a_moment();
     chains_are_short();
     let to = place_of(entries, at);
     let (mut inode, from) = begin(table, cache, object, row, entries, to);

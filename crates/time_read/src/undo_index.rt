@@ -13,7 +13,7 @@ use codec::{Attribute, Entry, Inode};
 use s4_types::{Moment, Refusal};
 use std::alloc::Global;
 use std::marker::Model;
-use undo_redo::laws::{groups_join_and_part, the_last_entry_is_undone_or_stays};
+use undo_redo::laws::groups_part_at_a_moment;
 
 /// What undoes each entry of an object, oldest first. Contracts see the list of undoings.
 ///
@@ -99,8 +99,7 @@ fn undo_past(
     ensures { (first : InodeFields) (entries : List EntryFields) → map undoing_of entries ≡ map (undoing_in pointers.now attributes.now) records.now → grouped entries ≡ true → Run first entries inode.old
         → inode.new ≡ inode_after first entries at }
 {
-    groups_join_and_part();
-    the_last_entry_is_undone_or_stays();
+    groups_part_at_a_moment();
     if let Some(oldest) = records.get(count_up_to(records, at)) {
         undo_from(oldest, pointers, attributes, inode);
     }

@@ -29,73 +29,43 @@ pub fn a_link_is_an_entry_redone_or_undone()
     ensures previous { (i j k : Inode) (e : EntryFields) → Linked i e k → Linked j e k → i ≡ j }
 {}
 
-/// A run ends where redoing its entries ends, and begins where undoing them ends.
-pub fn a_run_has_one_end_and_one_beginning()
+/// The entries of a run determine it.
+///
+/// It ends where redoing its entries ends, and begins where undoing them ends. A run of joined lists
+/// is a run of each, with one inode between them, and its object has one moment of its making. The
+/// inode current at a moment: all entries done; later entries change nothing; from the last moment
+/// on nothing changes.
+pub fn entries_determine_a_run()
     ensures end { (i j : Inode) (entries : List EntryFields) → Run i entries j
         → j ≡ redone_all entries i }
     ensures beginning { (i j : Inode) (entries : List EntryFields) → Run i entries j
         → i ≡ undone_all entries j }
-{}
-
-/// A run of joined lists is a run of each, with one inode between them.
-pub fn runs_join_and_part()
     ensures join { (i j k : Inode) (front back : List EntryFields) → Run i front j → Run j back k
         → Run i (front ++ back) k }
     ensures part { (i k : Inode) (front back : List EntryFields) → Run i (front ++ back) k
         → Run i front (redone_all front i) × Run (redone_all front i) back k }
     ensures joined { (i : Inode) (front back : List EntryFields)
         → redone_all (front ++ back) i ≡ redone_all back (redone_all front i) }
-{}
-
-/// The object of a run has one moment of its making.
-pub fn a_run_keeps_the_making()
-    ensures { (i j : Inode) (entries : List EntryFields) → Run i entries j → i.created ≡ j.created }
-{}
-
-/// The inode current at a moment: all entries done; later entries change nothing; from the last
-/// moment on nothing changes.
-pub fn the_inode_at_a_moment()
+    ensures making { (i j : Inode) (entries : List EntryFields) → Run i entries j
+        → i.created ≡ j.created }
     ensures done { (i : Inode) (entries : List EntryFields) (t : ℕ) → AllBy t entries
         → inode_after i entries t ≡ redone_all entries i }
     ensures later { (i : Inode) (entries later : List EntryFields) (t : ℕ) → AllPast t later
         → inode_after i (entries ++ later) t ≡ inode_after i entries t }
     ensures since { (i : Inode) (entries : List EntryFields) (m t : ℕ) → AllBy m entries → m ≤ t
         → inode_after i entries t ≡ inode_after i entries m }
-    ensures joined { (i : Inode) (front back : List EntryFields) (t : ℕ)
+    ensures shown { (i : Inode) (front back : List EntryFields) (t : ℕ)
         → inode_after i (front ++ back) t ≡ inode_after (inode_after i front t) back t }
 {}
 
-/// Where moments don't descend, the inode current at a moment is the one of the run that comes
-/// after the last entry up to the moment.
-pub fn the_inode_at_a_moment_stands_in_the_run()
-    ensures parts { (entries : List EntryFields) (low t : ℕ)
-        → moments_ascend_from low entries ≡ true
-        → entries ≡ entries_by t entries ++ entries_past t entries }
-    ensures before { (i k : Inode) (entries : List EntryFields) (low t : ℕ)
-        → moments_ascend_from low entries ≡ true → Run i entries k
-        → Run i (entries_by t entries) (inode_after i entries t) }
-    ensures behind { (i k : Inode) (entries : List EntryFields) (low t : ℕ)
-        → moments_ascend_from low entries ≡ true → Run i entries k
-        → Run (inode_after i entries t) (entries_past t entries) k }
-{}
-
-/// Where the last entry of a run is later than a moment, the run without it ends with the entry
-/// undone, and the inode current at the moment is the same one. Where it isn't later and moments
-/// don't descend, the run's last inode is that one.
-pub fn the_last_entry_is_undone_or_stays()
-    ensures undone { ALaterEntryIsUndone }
-    ensures stays { ThePresentInodeIsLast }
-{}
-
-/// A blank inode has `OBJECT_BLOCKS` pointers, each a hole.
-pub fn a_blank_inode_has_holes_alone()
-    ensures count { (created : ℕ) → length (blank created).pointers ≡ OBJECT_BLOCKS }
-    ensures holes { (created n : ℕ) → pointer_at (blank created) n ≡ None }
-{}
-
-/// Groups stay groups where lists of entries are parted, and where the second list is later than
-/// the first.
-pub fn groups_join_and_part()
+/// Groups part at a moment.
+///
+/// Groups stay groups where lists of entries are parted, and where the second list is later than the
+/// first; and their moments don't descend. Where moments don't descend, the inode current at a
+/// moment is the one of the run that comes after the last entry up to the moment: the run's last one
+/// where no entry is later. Where the last entry is later, the run without it ends with the entry
+/// undone, and the inode current at the moment is the same one.
+pub fn groups_part_at_a_moment()
     ensures join { (m : ℕ) (front back : List EntryFields) → grouped front ≡ true
         → grouped back ≡ true → AllBy m front → AllPast m back → grouped (front ++ back) ≡ true }
     ensures front { (front back : List EntryFields)
@@ -104,6 +74,23 @@ pub fn groups_join_and_part()
         → grouped (front ++ back) ≡ true → grouped back ≡ true }
     ensures ascend { (entries : List EntryFields) → grouped entries ≡ true
         → moments_ascend_from 0 entries ≡ true }
+    ensures parts { (entries : List EntryFields) (low t : ℕ)
+        → moments_ascend_from low entries ≡ true
+        → entries ≡ entries_by t entries ++ entries_past t entries }
+    ensures before { (i k : Inode) (entries : List EntryFields) (low t : ℕ)
+        → moments_ascend_from low entries ≡ true → Run i entries k
+        → Run i (entries_by t entries) (inode_after i entries t) }
+    ensures after { (i k : Inode) (entries : List EntryFields) (low t : ℕ)
+        → moments_ascend_from low entries ≡ true → Run i entries k
+        → Run (inode_after i entries t) (entries_past t entries) k }
+    ensures undone { ALaterEntryIsUndone }
+    ensures stays { ThePresentInodeIsLast }
+{}
+
+/// A blank inode has `OBJECT_BLOCKS` pointers, each a hole.
+pub fn a_blank_inode_has_holes_alone()
+    ensures count { (created : ℕ) → length (blank created).pointers ≡ OBJECT_BLOCKS }
+    ensures holes { (created n : ℕ) → pointer_at (blank created) n ≡ None }
 {}
 
 /// The entries between two inodes lead from the one to the other and keep the rules of entries and

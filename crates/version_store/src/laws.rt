@@ -21,9 +21,8 @@ use row_changes::laws::{
 };
 use time_read::laws::{a_row_is_its_own_blocks, an_orderly_row_stays};
 use undo_redo::laws::{
-    a_blank_inode_has_holes_alone, a_run_has_one_end_and_one_beginning, groups_join_and_part,
-    runs_join_and_part, the_entries_between_two_inodes, the_inode_at_a_moment,
-    the_inode_at_a_moment_stands_in_the_run,
+    a_blank_inode_has_holes_alone, entries_determine_a_run, groups_part_at_a_moment,
+    the_entries_between_two_inodes,
 };
 
 /// What an object is at each moment rests on its own blocks alone: where its journal and its
@@ -117,11 +116,8 @@ pub fn a_step_that_leaves_a_stamp_leaves_the_blocks()
 pub fn a_journal_can_be_cut()
     ensures { AJournalCanBeCut }
 {
-    runs_join_and_part();
-    a_run_has_one_end_and_one_beginning();
-    the_inode_at_a_moment();
-    the_inode_at_a_moment_stands_in_the_run();
-    groups_join_and_part();
+    entries_determine_a_run();
+    groups_part_at_a_moment();
     a_row_keeps_the_making();
 }
 
@@ -130,11 +126,8 @@ pub fn a_journal_can_be_cut()
 pub fn a_cut_journal_shows_the_same()
     ensures { ACutJournalShowsTheSame }
 {
-    runs_join_and_part();
-    a_run_has_one_end_and_one_beginning();
-    the_inode_at_a_moment();
-    the_inode_at_a_moment_stands_in_the_run();
-    groups_join_and_part();
+    entries_determine_a_run();
+    groups_part_at_a_moment();
     a_row_keeps_the_making();
 }
 
@@ -155,7 +148,7 @@ pub(crate) fn what_changes_rest_on()
     a_fresh_row_stands();
     a_blank_inode_has_holes_alone();
     the_entries_between_two_inodes();
-    groups_join_and_part();
+    groups_part_at_a_moment();
     bytes_add_up();
     few_blocks_are_needed();
     a_checkpoint_is_in_its_blocks();

@@ -31,7 +31,7 @@ use object_map::Row;
 use s4_types::{ObjectId, Ptr};
 use time_read::ObjectJournal;
 use time_read::laws::{a_row_is_its_own_blocks, an_orderly_row_stays};
-use undo_redo::laws::a_run_has_one_end_and_one_beginning;
+use undo_redo::laws::entries_determine_a_run;
 
 /// Renames the pointers of an inode, if there is one.
 fn rename_checkpoint(checkpoint: &mut Option<Inode>, renaming: &Renaming)
@@ -98,7 +98,7 @@ pub(crate) fn relocate_blocks<B: Blocks>(
 {
     a_row_is_its_own_blocks();
     an_orderly_row_stays();
-    a_run_has_one_end_and_one_beginning();
+    entries_determine_a_run();
     a_checkpoint_is_in_its_blocks();
     what_a_chain_tells();
     a_test_tells_a_renaming_apart();

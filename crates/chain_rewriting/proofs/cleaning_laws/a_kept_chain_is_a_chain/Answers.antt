@@ -5,4 +5,4 @@ use Rattle.chain_rewriting.specs.private.Resting.{Redoes}
 pub returns : goal.returns
 returns c =
     let redoes : Redoes = λ i j e l. ((c.a_link_is_an_entry_redone_or_undone.ensures.forth i j e).0 l).1 in
-    cleaned_chain redoes c.the_entries_between_two_inodes.ensures.rules c.a_run_has_one_end_and_one_beginning.ensures.end c.a_kept_chain_is_a_run.ensures c.a_kept_chain_is_grouped.ensures c.a_kept_chain_is_in_order.ensures
+    cleaned_chain redoes c.the_entries_between_two_inodes.ensures.rules c.entries_determine_a_run.ensures.end c.a_kept_chain_is_a_run.ensures c.a_kept_chain_is_grouped.ensures c.a_kept_chain_is_in_order.ensures

@@ -5,4 +5,4 @@ use Rattle.chain_rewriting.specs.private.Resting.{Redoes}
 pub returns : goal.returns
 returns c =
     let redoes : Redoes = λ i j e l. ((c.a_link_is_an_entry_redone_or_undone.ensures.forth i j e).0 l).1 in
-    cleaned_run redoes c.the_entries_between_two_inodes.ensures.run c.runs_join_and_part.ensures.join
+    cleaned_run redoes c.the_entries_between_two_inodes.ensures.run c.entries_determine_a_run.ensures.join

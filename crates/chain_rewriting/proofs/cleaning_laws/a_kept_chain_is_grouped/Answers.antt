@@ -6,4 +6,4 @@ pub returns : goal.returns
 returns c =
     let redoes : Redoes = λ i j e l. ((c.a_link_is_an_entry_redone_or_undone.ensures.forth i j e).0 l).1 in
     let between = c.the_entries_between_two_inodes.ensures in
-    cleaned_grouped redoes between.moments between.group c.groups_join_and_part.ensures.join c.groups_join_and_part.ensures.ascend
+    cleaned_grouped redoes between.moments between.group c.groups_part_at_a_moment.ensures.join c.groups_part_at_a_moment.ensures.ascend

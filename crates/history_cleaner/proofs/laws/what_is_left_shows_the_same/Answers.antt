@@ -5,10 +5,10 @@ use Rattle.history_cleaner.proofs.laws.what_is_left_shows_the_same.Goals as goal
 pub returns : goal.returns
 returns c =
     let run : RunLaws = record {
-      ends = c.a_run_has_one_end_and_one_beginning.ensures.end;
-      begins = c.a_run_has_one_end_and_one_beginning.ensures.beginning;
-      done = c.the_inode_at_a_moment.ensures.done;
-      since = c.the_inode_at_a_moment.ensures.since;
+      ends = c.entries_determine_a_run.ensures.end;
+      begins = c.entries_determine_a_run.ensures.beginning;
+      done = c.entries_determine_a_run.ensures.done;
+      since = c.entries_determine_a_run.ensures.since;
     } in
     let laws : Laws = record {
       run = run;

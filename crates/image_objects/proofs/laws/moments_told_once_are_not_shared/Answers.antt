@@ -5,7 +5,7 @@ pub returns-clause-apart : goal.returns-clause-apart
 returns-clause-apart c = share_none
 
 pub returns-clause-once : goal.returns-clause-once
-returns-clause-once c = stand_once c.groups_join_and_part.ensures.ascend
+returns-clause-once c = stand_once c.groups_part_at_a_moment.ensures.ascend
 
 pub returns-clause-standing : goal.returns-clause-standing
-returns-clause-standing c = standing_once c.groups_join_and_part.ensures.ascend
+returns-clause-standing c = standing_once c.groups_part_at_a_moment.ensures.ascend

@@ -9,7 +9,7 @@ returns c = object_stands (record {
     held = c.a_checkpoint_is_in_its_blocks.ensures.held;
   };
   packing = c.packing_keeps_the_rule.ensures.packed;
-  end = c.a_run_has_one_end_and_one_beginning.ensures.end;
+  end = c.entries_determine_a_run.ensures.end;
   making = c.a_row_keeps_the_making.ensures;
   later = c.an_orderly_row_stays.ensures.later;
   matter = c.only_its_blocks_matter.ensures;

@@ -17,7 +17,7 @@ returns-then-not-stands_tidily-clause-only g c = λ h.
     let P = Tidy (contents_of (g.U.UsedBlocks.used c.args.used.now)) in
     sym c.if-not-stands_tidily.true
     ∙ c.stands_tidily.ensures.only (λ before.
-    next_holds P c.args.first.now c.args.entries.now l.entry-index l.since l.inode c.entry-item.result c.loop-entry-test.true c.entry-item.is (c.groups_join_and_part.ensures.ascend c.args.entries.now c.requires.groups) l.invariant.judged h
+    next_holds P c.args.first.now c.args.entries.now l.entry-index l.since l.inode c.entry-item.result c.loop-entry-test.true c.entry-item.is (c.groups_part_at_a_moment.ensures.ascend c.args.entries.now c.requires.groups) l.invariant.judged h
     (subst (λ (n : ℕ). l.since < n) c.moment.ensures before))
 
 pub loop-entry-preserved : goal.loop-entry-preserved
@@ -34,11 +34,11 @@ loop-entry-preserved g c =
 pub returns-clause-is : goal.returns-clause-is
 returns-clause-is g c = λ good.
     let l = c.loop-entry in
-    all_hold (Tidy (contents_of (g.U.UsedBlocks.used c.args.used.now))) c.args.first.now c.args.entries.now l.entry-index l.since l.inode c.loop-entry-test.false (c.groups_join_and_part.ensures.ascend c.args.entries.now c.requires.groups)
+    all_hold (Tidy (contents_of (g.U.UsedBlocks.used c.args.used.now))) c.args.first.now c.args.entries.now l.entry-index l.since l.inode c.loop-entry-test.false (c.groups_part_at_a_moment.ensures.ascend c.args.entries.now c.requires.groups)
     l.invariant.judged (c.is_tidy.ensures.is good)
 
 pub returns-clause-only : goal.returns-clause-only
 returns-clause-only g c = λ h.
     let l = c.loop-entry in
     c.is_tidy.ensures.only (last_holds (Tidy (contents_of (g.U.UsedBlocks.used c.args.used.now))) c.args.first.now c.args.entries.now l.entry-index l.since l.inode c.loop-entry-test.false
-    (c.groups_join_and_part.ensures.ascend c.args.entries.now c.requires.groups) l.invariant.judged h)
+    (c.groups_part_at_a_moment.ensures.ascend c.args.entries.now c.requires.groups) l.invariant.judged h)

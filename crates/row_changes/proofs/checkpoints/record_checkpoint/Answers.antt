@@ -26,9 +26,9 @@ returns g c =
     let gone = c.set_aside-gone.result in
     let kept = sides_after row in
     let laws : Laws = record {
-      end = c.a_run_has_one_end_and_one_beginning.ensures.end;
-      beginning = c.a_run_has_one_end_and_one_beginning.ensures.beginning;
-      done = c.the_inode_at_a_moment.ensures.done;
+      end = c.entries_determine_a_run.ensures.end;
+      beginning = c.entries_determine_a_run.ensures.beginning;
+      done = c.entries_determine_a_run.ensures.done;
     } in
     let known : CheckpointLaws = record {
       told = c.a_checkpoint_is_in_its_blocks.ensures.same;

@@ -13,7 +13,7 @@ returns c =
       rules = c.a_mapped_chain_takes_as_many_bytes.ensures.checkpoint;
     } in
     record {
-      row = row_can c.a_run_has_one_end_and_one_beginning.ensures.end;
+      row = row_can c.entries_determine_a_run.ensures.end;
       first = row_begins;
       mapped = mapped_can laws;
       begins = begins_mapped laws;

@@ -11,14 +11,14 @@ use Rattle.row_changes.proofs.rewrites.rewrite_row.Goals as goal
 pub write_row-requires : goal.write_row-requires
 write_row-requires g c =
     let laws : Laws = record {
-      end = c.a_run_has_one_end_and_one_beginning.ensures.end;
-      beginning = c.a_run_has_one_end_and_one_beginning.ensures.beginning;
-      done = c.the_inode_at_a_moment.ensures.done;
+      end = c.entries_determine_a_run.ensures.end;
+      beginning = c.entries_determine_a_run.ensures.beginning;
+      done = c.entries_determine_a_run.ensures.done;
     } in
     record {
       row = c.requires.row;
       sides = c.requires.sides;
-      tell = can_rewrite c.args.object c.args.row.now.created c.args.moment c.args.present.now c.args.entries.now laws c.a_run_keeps_the_making.ensures
+      tell = can_rewrite c.args.object c.args.row.now.created c.args.moment c.args.present.now c.args.entries.now laws c.entries_determine_a_run.ensures.making
           c.requires.rules c.requires.run c.requires.groups c.requires.latest c.requires.limit c.requires.created;
     }
 
@@ -43,9 +43,9 @@ pub returns-clause-last : goal.returns-clause-last
 returns-clause-last g c =
     let held = (g.B.Blocks.log c.write_row.new.table).held in
     let laws : Laws = record {
-      end = c.a_run_has_one_end_and_one_beginning.ensures.end;
-      beginning = c.a_run_has_one_end_and_one_beginning.ensures.beginning;
-      done = c.the_inode_at_a_moment.ensures.done;
+      end = c.entries_determine_a_run.ensures.end;
+      beginning = c.entries_determine_a_run.ensures.beginning;
+      done = c.entries_determine_a_run.ensures.done;
     } in
     let first = first_is c.args.object c.args.row.now.created c.args.moment c.args.present.now c.args.entries.now c.requires.latest in
     IfOk-weaker c.write_row.result _ _ (λ later h. rewritten_last held c.args.object later c.args.present.now c.args.entries.now laws h.0 (h.1 ∙ first) c.requires.run)

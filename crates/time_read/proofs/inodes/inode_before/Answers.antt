@@ -20,4 +20,4 @@ pub returns-clause-inode : goal.returns-clause-inode
 returns-clause-inode g c =
     let held = (g.B.Blocks.log c.args.table.now).held in
     let is = all_left held c.args.object c.args.row.now c.of-chain.result c.entries_back-back.result c.requires.row c.of-chain.ensures (c.entries_back-back.ensures held) in
-    undone_is c.a_run_has_one_end_and_one_beginning.ensures.end held c.args.object c.args.row.now (left held c.entries_back-back.result) c.args.at c.args.present.now c.undo_past.new.inode c.requires.row is c.requires.present c.undo_past.ensures.inode
+    undone_is c.entries_determine_a_run.ensures.end held c.args.object c.args.row.now (left held c.entries_back-back.result) c.args.at c.args.present.now c.undo_past.new.inode c.requires.row is c.requires.present c.undo_past.ensures.inode

@@ -14,10 +14,10 @@ loop-entry-preserved g c =
     let gives = c.in-Some.ensures.gives in
     record {
       there = c.next_past.ensures.there;
-      groups = c.groups_join_and_part.ensures.front rest (e ∷ []) (subst (λ (es : List EntryFields). grouped es ≡ true) gives.0 c.loop-entry.invariant.groups);
+      groups = c.groups_part_at_a_moment.ensures.front rest (e ∷ []) (subst (λ (es : List EntryFields). grouped es ≡ true) gives.0 c.loop-entry.invariant.groups);
       run = λ first r.
           (let was = c.loop-entry.invariant.run first r in
-          let undone = c.the_last_entry_is_undone_or_stays.ensures.undone first c.loop-entry.inode rest e at gives.1 (subst (λ (es : List EntryFields). Run first es c.loop-entry.inode) gives.0 was.0) in (
+          let undone = c.groups_part_at_a_moment.ensures.undone first c.loop-entry.inode rest e at gives.1 (subst (λ (es : List EntryFields). Run first es c.loop-entry.inode) gives.0 was.0) in (
             subst (λ (j : Inode). Run first rest j) (sym c.undo.ensures.exact) undone.0,
             was.1 ∙ ap (λ (es : List EntryFields). inode_after first es at) gives.0 ∙ undone.1,
           ));

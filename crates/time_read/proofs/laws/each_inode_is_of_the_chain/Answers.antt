@@ -6,9 +6,9 @@ use Rattle.time_read.proofs.laws.each_inode_is_of_the_chain.Goals as goal
 
 pub returns : goal.returns
 returns c =
-    let behind = is_behind c.groups_join_and_part.ensures.ascend c.the_inode_at_a_moment_stands_in_the_run.ensures.parts in
+    let behind = is_behind c.groups_part_at_a_moment.ensures.ascend c.groups_part_at_a_moment.ensures.parts in
     record {
       behind = behind;
-      current = is_current c.the_inode_at_a_moment.ensures.done c.the_inode_at_a_moment.ensures.later;
+      current = is_current c.entries_determine_a_run.ensures.done c.entries_determine_a_run.ensures.later;
       changed = λ held o row t latest r h alive. changed_in held o row t latest (length (entries_by t (entries_of held o row))) (behind held o row t r) h alive;
     }

@@ -29,7 +29,7 @@ returns-clause-inode g c =
     let es = c.args.entries.now in
     let start = c.nearest-start.result in
     let nearest = nearest_is row es c.args.to c.in-Some.place start c.start_at-newest.result c.as_slice.result.now c.nearest-start.ensures c.start_at-newest.ensures c.as_slice.ensures.value in
-    start_stands c.groups_join_and_part.ensures.ascend c.the_inode_at_a_moment_stands_in_the_run.ensures.parts held c.args.object row es start c.named_inode-inode.result c.requires.row c.requires.entries
+    start_stands c.groups_part_at_a_moment.ensures.ascend c.groups_part_at_a_moment.ensures.parts held c.args.object row es start c.named_inode-inode.result c.requires.row c.requires.entries
     (is_start held c.args.object row es c.args.to c.in-Some.place start c.requires.row c.in-Some.is nearest) c.named_inode-inode.ensures.inode
 
 pub returns-clause-few : goal.returns-clause-few

@@ -10,4 +10,4 @@ returns-else-from-to c = λ first last run was.
     let past = c.if-from-to.false in
     c.undo_all.ensures.only (inode_behind first c.args.entries.now c.args.to)
     (subst (λ (i : Inode). Run (inode_behind first c.args.entries.now c.args.to) (between c.args.entries.now c.args.to c.args.from) i) (sym was)
-    (run_between c.runs_join_and_part.ensures.part c.runs_join_and_part.ensures.joined c.args.entries.now c.args.to c.args.from first last (omega (arith, past)) run))
+    (run_between c.entries_determine_a_run.ensures.part c.entries_determine_a_run.ensures.joined c.args.entries.now c.args.to c.args.from first last (omega (arith, past)) run))

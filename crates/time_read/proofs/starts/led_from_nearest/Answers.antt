@@ -12,7 +12,7 @@ entries_between-requires g c =
 pub returns-clause-inode : goal.returns-clause-inode
 returns-clause-inode g c =
     let held = (g.B.Blocks.log c.args.table.now).held in
-    led_there c.groups_join_and_part.ensures.ascend c.the_inode_at_a_moment_stands_in_the_run.ensures.parts held c.args.object c.args.row.now c.args.entries.now c.args.at c.place_of-to.result c.begin-inode.result.1 c.begin-inode.result.0 c.lead.new.inode
+    led_there c.groups_part_at_a_moment.ensures.ascend c.groups_part_at_a_moment.ensures.parts held c.args.object c.args.row.now c.args.entries.now c.args.at c.place_of-to.result c.begin-inode.result.1 c.begin-inode.result.0 c.lead.new.inode
     c.requires.row c.requires.entries c.place_of-to.ensures.place c.begin-inode.ensures.inode c.lead.ensures
 
 pub returns-clause-count : goal.returns-clause-count

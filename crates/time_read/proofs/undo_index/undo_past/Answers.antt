@@ -12,11 +12,11 @@ pub returns-in-Some : goal.returns-in-Some
 returns-in-Some c = λ first entries told groups run.
     (let r = c.in-Some.oldest.now in
     let here = c.in-Some.ensures.lookup.3 in
-    let laws : Laws = record { front = c.groups_join_and_part.ensures.front; ascend = c.groups_join_and_part.ensures.ascend; undone = c.the_last_entry_is_undone_or_stays.ensures.undone; stays = c.the_last_entry_is_undone_or_stays.ensures.stays } in
+    let laws : Laws = record { front = c.groups_part_at_a_moment.ensures.front; ascend = c.groups_part_at_a_moment.ensures.ascend; undone = c.groups_part_at_a_moment.ensures.undone; stays = c.groups_part_at_a_moment.ensures.stays } in
     c.undo_from.ensures
     ∙ found laws c.args.pointers.now c.args.attributes.now c.args.records.now c.args.at c.count_up_to.result r first entries c.args.inode.now c.requires here.0 (here.1 r) c.count_up_to.ensures.point told groups run)
 
 pub returns-in_default : goal.returns-in_default
 returns-in_default c = λ first entries told groups run.
-    (let laws : Laws = record { front = c.groups_join_and_part.ensures.front; ascend = c.groups_join_and_part.ensures.ascend; undone = c.the_last_entry_is_undone_or_stays.ensures.undone; stays = c.the_last_entry_is_undone_or_stays.ensures.stays } in
+    (let laws : Laws = record { front = c.groups_part_at_a_moment.ensures.front; ascend = c.groups_part_at_a_moment.ensures.ascend; undone = c.groups_part_at_a_moment.ensures.undone; stays = c.groups_part_at_a_moment.ensures.stays } in
     none_found laws c.args.pointers.now c.args.attributes.now c.args.records.now c.args.at c.count_up_to.result first entries c.args.inode.now c.in_default.ensures.lookup.3 c.count_up_to.ensures.point told groups run)

@@ -4,15 +4,15 @@ use Rattle.version_store.proofs.laws.a_journal_can_be_cut.Goals as goal
 pub returns : goal.returns
 returns c =
     let laws : Laws = record {
-      done = c.the_inode_at_a_moment.ensures.done;
-      end = c.a_run_has_one_end_and_one_beginning.ensures.end;
-      begin = c.a_run_has_one_end_and_one_beginning.ensures.beginning;
-      redone_join = c.runs_join_and_part.ensures.joined;
-      inode_join = c.the_inode_at_a_moment.ensures.joined;
-      parts = c.the_inode_at_a_moment_stands_in_the_run.ensures.parts;
-      behind = c.the_inode_at_a_moment_stands_in_the_run.ensures.behind;
-      groups = c.groups_join_and_part.ensures.back;
-      ascend = c.groups_join_and_part.ensures.ascend;
+      done = c.entries_determine_a_run.ensures.done;
+      end = c.entries_determine_a_run.ensures.end;
+      begin = c.entries_determine_a_run.ensures.beginning;
+      redone_join = c.entries_determine_a_run.ensures.joined;
+      inode_join = c.entries_determine_a_run.ensures.shown;
+      parts = c.groups_part_at_a_moment.ensures.parts;
+      behind = c.groups_part_at_a_moment.ensures.after;
+      groups = c.groups_part_at_a_moment.ensures.back;
+      ascend = c.groups_part_at_a_moment.ensures.ascend;
       making = c.a_row_keeps_the_making.ensures;
     } in
     can_cut laws

@@ -25,5 +25,5 @@ returns c = record {
   sizes_add_up = c.bytes_add_up.ensures.sizes;
   blocks_are_needed = c.few_blocks_are_needed.ensures.least;
   checkpoint_blocks = c.a_checkpoint_is_in_its_blocks.ensures.some;
-  groups_ascend = c.groups_join_and_part.ensures.ascend;
+  groups_ascend = c.groups_part_at_a_moment.ensures.ascend;
 }

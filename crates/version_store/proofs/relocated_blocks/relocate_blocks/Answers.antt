@@ -70,7 +70,7 @@ move_blocks-row-requires-clause-tell g c =
       groups = c.renamed_entries_stay_in_order.ensures.groups;
       bytes = c.a_renamed_chain_takes_as_many_bytes.ensures.all;
       rules = c.a_renamed_checkpoint_keeps_the_rules.ensures;
-      end = c.a_run_has_one_end_and_one_beginning.ensures.end;
+      end = c.entries_determine_a_run.ensures.end;
     } in
     let kept : option_copied c.as_ref-checkpoint.result ≡ kept_renamed r (checkpoint_of held o row) = c.as_ref-checkpoint.ensures.value ∙ c.rename.ensures.checkpoint ∙ ap (option_map (renamed_inode r)) c.requires.journal.inode in
     let entries : c.as_slice.result.now ≡ renamed_entries r (entries_of held o row) = c.as_slice.ensures.value ∙ c.rename.ensures.entries ∙ ap (renamed_entries r) c.requires.journal.entries in
@@ -112,7 +112,7 @@ returns-clause-moved g c =
       groups = c.renamed_entries_stay_in_order.ensures.groups;
       bytes = c.a_renamed_chain_takes_as_many_bytes.ensures.all;
       rules = c.a_renamed_checkpoint_keeps_the_rules.ensures;
-      end = c.a_run_has_one_end_and_one_beginning.ensures.end;
+      end = c.entries_determine_a_run.ensures.end;
     } in
     let kept : option_copied c.as_ref-checkpoint.result ≡ kept_renamed r (checkpoint_of before.held o row) = c.as_ref-checkpoint.ensures.value ∙ c.rename.ensures.checkpoint ∙ ap (option_map (renamed_inode r)) c.requires.journal.inode in
     let entries : c.as_slice.result.now ≡ renamed_entries r (entries_of before.held o row) = c.as_slice.ensures.value ∙ c.rename.ensures.entries ∙ ap (renamed_entries r) c.requires.journal.entries in

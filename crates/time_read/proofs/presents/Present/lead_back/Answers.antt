@@ -9,4 +9,4 @@ pub returns-clause-inode : goal.returns-clause-inode
 returns-clause-inode g c =
     let held = (g.B.Blocks.log c.args.table.now).held in
     let told = subst (λ (x : Option (List Undoing)). IsIndexOf x (entries_of held c.args.object c.args.row.now)) c.in-Some.is c.requires.index in
-    undone_by_index c.a_run_has_one_end_and_one_beginning.ensures.end held c.args.object c.args.row.now c.args.at c.in-Some.index c.args.inode.now c.undo_past.new.inode c.requires.row c.requires.present told c.undo_past.ensures
+    undone_by_index c.entries_determine_a_run.ensures.end held c.args.object c.args.row.now c.args.at c.in-Some.index c.args.inode.now c.undo_past.new.inode c.requires.row c.requires.present told c.undo_past.ensures
