@@ -31,7 +31,7 @@ use crate::version_chain_laws::{
 use block_log::laws::one_place_has_one_name;
 use checkpoint::laws::a_checkpoint_is_in_its_blocks;
 use inode::laws::only_its_blocks_matter;
-use journal_chain::laws::a_chain_has_its_entries;
+use journal_chain::laws::a_chain_is_in_its_journal_blocks;
 use row_changes::laws::an_orderly_row_is_by_its_moment;
 use time_read::laws::the_last_inode_is_current;
 use undo_redo::laws::groups_part_at_a_moment;
@@ -84,7 +84,7 @@ pub fn an_object_that_stands_is_held()
 {
     a_checkpoint_is_in_its_blocks();
     a_chain_that_stands_is_held();
-    a_chain_has_its_entries();
+    a_chain_is_in_its_journal_blocks();
     a_version_chain_that_stands_is_a_row();
     an_orderly_row_is_by_its_moment();
     the_last_inode_is_current();

@@ -14,7 +14,7 @@ ghost use Rattle.image_objects.specs.declared.rows.ImageRow.{ImageRow};
 
 use block_log::laws::one_place_has_one_name;
 use checkpoint::laws::a_checkpoint_is_in_its_blocks;
-use journal_chain::laws::a_chain_has_its_entries;
+use journal_chain::laws::a_chain_is_in_its_journal_blocks;
 use journal_chain::packing::laws::one_packing_keeps_the_rule;
 
 /// A chain that is in an image is held, with its entries, wherever of the object's journal blocks
@@ -44,5 +44,5 @@ pub fn a_version_chain_that_stands_is_a_row()
     one_place_has_one_name();
     a_checkpoint_is_in_its_blocks();
     one_packing_keeps_the_rule();
-    a_chain_has_its_entries();
+    a_chain_is_in_its_journal_blocks();
 }

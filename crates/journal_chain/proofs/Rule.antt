@@ -8,7 +8,7 @@ use Rattle.s4_types.specs.declared.limits.TheConstants.{JOURNAL_ENTRY_BYTES, CHA
 use Rattle.codec.specs.Entry.{EntryFields, IsEntry, entry_length, entries_length}
 use Rattle.journal_chain.specs.Sizes.{fits}
 use Rattle.journal_chain.specs.Packing.{packed_with, added, packed, joined, first_length, IsBlock, IsBehind, KeepsTheRule, AllFit}
-use Rattle.journal_chain.proofs.Adding.{bytes-append, bytes-one, bytes-push, entry_fits, entry_begins, first_entry}
+use Rattle.journal_chain.proofs.Adding.{joined-packed, bytes-append, bytes-one, bytes-push, entry_fits, entry_begins, first_entry}
 
 -- ---- packed entries keep the rule
 
@@ -95,6 +95,9 @@ by_pairs (newer ∷ previous ∷ older) h =
 
 pub few_blocks : (blocks : List (List EntryFields)) → KeepsTheRule blocks → entries_length (joined blocks) ≤ CHAIN_ENTRY_BYTES → length blocks ≤ CHAIN_BLOCKS
 few_blocks blocks h le = let pairs = by_pairs blocks h in omega arith
+
+pub few_packed : (entries : List EntryFields) → AllFit entries → entries_length entries ≤ CHAIN_ENTRY_BYTES → length (packed entries) ≤ CHAIN_BLOCKS
+few_packed entries fit le = few_blocks (packed entries) (packed_keeps entries fit) (subst (λ all. entries_length all ≤ CHAIN_ENTRY_BYTES) (sym (joined-packed entries)) le)
 
 -- how many entries there are at most, where each has SHORTEST_ENTRY_BYTES at least
 pub few_entries : ((e : EntryFields) → SHORTEST_ENTRY_BYTES ≤ entry_length e) → (entries : List EntryFields) → SHORTEST_ENTRY_BYTES * length entries ≤ entries_length entries

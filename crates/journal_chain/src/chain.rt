@@ -18,8 +18,7 @@ ghost use Rattle.journal_chain.specs.Push.{HasRoom, pushed_blocks, rewrite_refus
 ghost use Rattle.journal_chain.specs.Writing.{Standing, Finished, InOrder, Unfinished, reopened};
 
 use crate::back::EntriesBack;
-use crate::laws::an_empty_chain_is_held;
-use crate::packing::laws::{blocks_have_the_entries, bytes_add_up, chains_are_short};
+use crate::packing::laws::chains_are_short;
 use crate::packing::{blocks_needed, fits};
 use crate::rewriting::{drop_all, places};
 use crate::table::{reopen, write};
@@ -189,9 +188,6 @@ impl Chain {
         ensures named { (B.log table.new).named ≡ (B.log table.old).named }
         ensures object { self.new.object ≡ self.old.object }
     {
-        blocks_have_the_entries();
-        bytes_add_up();
-        chains_are_short();
         let stale = self.reopened(first.byte_count());
         let mut block = self.begun(table, first);
         take_others(table, &mut block, later);
@@ -311,7 +307,6 @@ impl Chain {
             ++ (B.log table.now).ahead }
         ensures object { result.object ≡ object }
     {
-        an_empty_chain_is_held();
         Chain::empty(object)
     }
 
@@ -341,8 +336,6 @@ impl Chain {
         ensures named { (B.log table.new).named ≡ (B.log table.old).named }
         ensures object { result.object ≡ object }
     {
-        blocks_have_the_entries();
-        chains_are_short();
         Chain::afresh(object, table, first, later, bytes)
     }
 
@@ -388,8 +381,6 @@ impl Chain {
         ensures named { (B.log table.new).named ≡ (B.log table.old).named }
         ensures object { self.new.object ≡ self.old.object }
     {
-        blocks_have_the_entries();
-        chains_are_short();
         let stale = places(table, self.head());
         let chain = Chain::afresh(self.object(), table, first, later, bytes);
         drop_all(table, stale.as_slice());

@@ -6,18 +6,21 @@ ghost use Rattle.block_log.specs.Log.{Stored, of_kind};
 ghost use Rattle.codec.specs.Entry.{EntryFields};
 ghost use Rattle.journal_chain.specs.Chain.{ChainFields, Holds, OnlyJournalChanged, entries_held};
 
-/// A chain is a matter of its object's journal blocks alone: where those are the same, so is the
-/// chain.
-pub fn a_chain_is_its_journal_blocks()
-    ensures { (held later : Place → Option Stored) (chain : ChainFields) (entries : List EntryFields)
+/// A chain is in its object's journal blocks alone.
+///
+/// Where those are the same, so is the chain, and it has the entries that are found from its head
+/// on. What changes one object's journal alone twice does so as a whole.
+pub fn a_chain_is_in_its_journal_blocks()
+    ensures same { (held later : Place → Option Stored) (chain : ChainFields)
+        (entries : List EntryFields)
         → of_kind Journal chain.object later ≡ of_kind Journal chain.object held
         → Holds held chain entries → Holds later chain entries }
-{}
-
-/// A chain that is held has the entries that are found from its head on.
-pub fn a_chain_has_its_entries()
-    ensures { (held : Place → Option Stored) (chain : ChainFields) (entries : List EntryFields)
+    ensures entries { (held : Place → Option Stored) (chain : ChainFields)
+        (entries : List EntryFields)
         → Holds held chain entries → entries_held held chain ≡ entries }
+    ensures twice { (o : ℕ) (held between later : Place → Option Stored)
+        → OnlyJournalChanged o held between
+        → OnlyJournalChanged o between later → OnlyJournalChanged o held later }
 {}
 
 /// Where no journal block of an object is held, its empty chain is.
@@ -31,11 +34,4 @@ pub fn other_chains_stay()
     ensures { (o : ℕ) (held later : Place → Option Stored) (chain : ChainFields) (entries : List EntryFields)
         → OnlyJournalChanged o held later → (o == chain.object) ≡ false → Holds held chain entries
         → Holds later chain entries }
-{}
-
-/// What changes one object's journal alone twice does so as a whole.
-pub fn changes_add_up()
-    ensures { (o : ℕ) (held between later : Place → Option Stored)
-        → OnlyJournalChanged o held between
-        → OnlyJournalChanged o between later → OnlyJournalChanged o held later }
 {}

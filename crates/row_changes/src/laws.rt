@@ -20,7 +20,7 @@ use chain_rewriting::mapping_laws::{
     a_mapped_chain_shows_the_same, a_mapped_chain_takes_as_many_bytes, a_mapped_run_is_a_run,
     mapped_entries_stay_in_order, mapping_commutes_with_undo_and_redo,
 };
-use journal_chain::laws::{a_chain_has_its_entries, an_empty_chain_is_held};
+use journal_chain::laws::{a_chain_is_in_its_journal_blocks, an_empty_chain_is_held};
 use time_read::laws::a_row_tells_a_chain;
 use undo_redo::laws::{entries_determine_a_run, groups_part_at_a_moment};
 
@@ -103,6 +103,6 @@ pub(crate) fn later_entries_join_a_row()
 {
     entries_determine_a_run();
     groups_part_at_a_moment();
-    a_chain_has_its_entries();
+    a_chain_is_in_its_journal_blocks();
     a_row_tells_a_chain();
 }

@@ -33,7 +33,7 @@ use checkpoint::laws::a_checkpoint_is_in_its_blocks;
 use checkpoint::{checkpoint_blocks, drop_checkpoint};
 use codec::{Entry, Inode};
 use journal_chain::Chain;
-use journal_chain::laws::{a_chain_has_its_entries, a_chain_is_its_journal_blocks, changes_add_up};
+use journal_chain::laws::a_chain_is_in_its_journal_blocks;
 use journal_chain::packing::blocks_needed;
 use journal_chain::packing::laws::{chains_are_short, few_blocks_are_needed};
 use object_map::Row;
@@ -187,7 +187,7 @@ fn write_chain<B: Blocks>(table: &mut B, object: ObjectId, row: &Row, entries: &
     ensures takes { TakesPlaces (whole_blocks entries.now) (B.log table.old) (B.log table.new) }
     ensures named { (B.log table.new).named ≡ (B.log table.old).named }
 {
-    changes_add_up();
+    a_chain_is_in_its_journal_blocks();
     drop_chain(table, object, row);
     Chain::write_whole(object, table, entries)
 }
@@ -273,8 +273,7 @@ pub fn write_row<B: Blocks>(
         < moved_blocks (option_copied kept.entry) entries.now)) }
     ensures unchanged { OnErr result (B.log table.new ≡ B.log table.old) }
 {
-    a_chain_has_its_entries();
-    a_chain_is_its_journal_blocks();
+    a_chain_is_in_its_journal_blocks();
     a_row_tells_a_chain();
     if table.blocks_left() < kept_blocks(kept) + journal_blocks(entries) {
         return Err(Refusal::NoRoom);

@@ -5,7 +5,7 @@ pub returns : goal.returns
 returns c = held_as_used (record {
   told = c.a_checkpoint_is_in_its_blocks.ensures.same;
   chain = c.a_chain_that_stands_is_held.ensures;
-  entries = c.a_chain_has_its_entries.ensures;
+  entries = c.a_chain_is_in_its_journal_blocks.ensures.entries;
   row = c.a_version_chain_that_stands_is_a_row.ensures.row;
   orderly = c.a_version_chain_that_stands_is_a_row.ensures.order;
   by = c.an_orderly_row_is_by_its_moment.ensures;

@@ -9,6 +9,6 @@ returns c = record {
   since = c.entries_determine_a_run.ensures.since;
   joined = c.entries_determine_a_run.ensures.shown;
   groups = c.groups_part_at_a_moment.ensures.join;
-  chain = c.a_chain_has_its_entries.ensures;
+  chain = c.a_chain_is_in_its_journal_blocks.ensures.entries;
   newest = c.a_row_tells_a_chain.ensures.newest;
 }

@@ -19,7 +19,7 @@ write_chain-chain-requires-clause-held g c =
     let row = c.args.row.now in
     let same = c.put_kept-checkpoint.ensures.others Journal o refl in
     subst (λ (es : List EntryFields). Holds between (chain_of o row) es) (sym (same_entries held between o row same))
-    (c.a_chain_is_its_journal_blocks.ensures held between (chain_of o row) (entries_of held o row) same c.requires.row.chain)
+    (c.a_chain_is_in_its_journal_blocks.ensures.same held between (chain_of o row) (entries_of held o row) same c.requires.row.chain)
 
 pub returns : goal.returns
 returns g c =
@@ -48,7 +48,7 @@ returns g c =
       told = told_still between.held after.held o row m kept place head bytes filled same c.put_kept-checkpoint.ensures.told;
       only = λ q there. ap (λ (v : BlockView). is_one_of (places_named v place) q) same ∙ c.put_kept-checkpoint.ensures.only q (subst (λ (v : _). IsSome (v q)) same there);
       holds = holds;
-      found = c.a_chain_has_its_entries.ensures after.held (chain_of o (with_written row place m head bytes filled)) entries holds;
+      found = c.a_chain_is_in_its_journal_blocks.ensures.entries after.held (chain_of o (with_written row place m head bytes filled)) entries holds;
     } in
     record {
       row = written_row after.held o row m kept entries place head bytes filled s;

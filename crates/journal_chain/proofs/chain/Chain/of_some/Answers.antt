@@ -3,6 +3,8 @@ use Rattle.block_log.specs.declared.kinds.BlockKind.TheVariants.{Journal}
 use Rattle.block_log.specs.Log.{of_kind}
 use Rattle.journal_chain.specs.Chain.{chain_places}
 use Rattle.journal_chain.specs.Writing.{InOrder}
+use Rattle.journal_chain.proofs.Adding.{joined-packed}
+use Rattle.journal_chain.proofs.Rule.{few_packed}
 use Rattle.journal_chain.proofs.Afresh.{Replaced, replaced_holds, none_standing}
 use Rattle.journal_chain.proofs.Order.{chain_in_order}
 use Rattle.journal_chain.proofs.chain.Chain.of_some.Goals as goal
@@ -20,7 +22,7 @@ returns-clause-holds g c =
       others = c.afresh.ensures.others;
     } in
     replaced_holds log.held after.held o c.args.bytes c.afresh.result entries r c.afresh.ensures.object c.afresh.ensures.bytes c.requires.bytes c.requires.limit c.requires.fit
-    c.blocks_have_the_entries.ensures.packed c.chains_are_short.ensures.packed
+    joined-packed few_packed
 
 pub returns-clause-order : goal.returns-clause-order
 returns-clause-order g c =

@@ -1,6 +1,8 @@
 use Rattle.std.proofs.Common.{◌∙◌, ◌∷◌}
 use Rattle.journal_chain.specs.Chain.{entries_held}
 use Rattle.journal_chain.proofs.Afresh.{Replaced, replaced, replaced_names, replaced_holds, places_there}
+use Rattle.journal_chain.proofs.Adding.{joined-packed}
+use Rattle.journal_chain.proofs.Rule.{few_packed}
 use Rattle.journal_chain.proofs.chain.Chain.replace.Goals as goal
 
 pub places-stale-requires : goal.places-stale-requires
@@ -19,7 +21,7 @@ returns-clause-holds g c =
     c.places-stale.ensures.same c.requires.held c.object.ensures.object c.head.ensures (c.as_slice.ensures.value ∙ c.places-stale.ensures.places)
     c.afresh-chain.ensures.finished c.afresh-chain.ensures.filled c.afresh-chain.ensures.others c.drop_all.ensures.finished c.drop_all.ensures.others in
     replaced_holds log.held log3.held chain.object c.args.bytes c.afresh-chain.result entries r (c.afresh-chain.ensures.object ∙ c.object.ensures.object) c.afresh-chain.ensures.bytes c.requires.bytes c.requires.limit c.requires.fit
-    c.blocks_have_the_entries.ensures.packed c.chains_are_short.ensures.packed
+    joined-packed few_packed
 
 pub returns-clause-others : goal.returns-clause-others
 returns-clause-others g c =
