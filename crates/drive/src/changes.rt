@@ -19,7 +19,7 @@ use crate::judgements::{judge, object_of};
 use crate::session::Session;
 use codec::Inode;
 use inode::laws::bytes_are_the_blocks_joined;
-use s4_model::laws::{every_history_is_sound, the_state_goes_on_record_by_record};
+use s4_model::laws::histories_go_on_record_by_record;
 use s4_types::{Change, Moment, ObjectId, ObjectRequest, Refusal, Reply};
 use segment_word::Naming;
 use version_store::laws::the_present_stays;
@@ -92,8 +92,7 @@ impl<J: Naming> Drive<J> {
     {
         the_present_stays();
         bytes_are_the_blocks_joined();
-        every_history_is_sound();
-        the_state_goes_on_record_by_record();
+        histories_go_on_record_by_record();
         let object = object_of(self.next, &update);
         let found = self.store.present(object);
         let clock = self.window.clock();
@@ -115,7 +114,7 @@ impl<J: Naming> Drive<J> {
             session.old session.new (Update update) now result }
     {
         the_present_stays();
-        the_state_goes_on_record_by_record();
+        histories_go_on_record_by_record();
         let Judged { change, moment } = self.judge_object(update, now)?;
         self.store.take(&change, moment)?;
         self.window.stamp(now);

@@ -17,7 +17,7 @@ use crate::acceptance::accept;
 use crate::drive::Drive;
 use crate::judgements::check_clock;
 use crate::session::Session;
-use s4_model::laws::{every_history_is_sound, the_state_goes_on_record_by_record};
+use s4_model::laws::histories_go_on_record_by_record;
 use s4_types::{Change, Moment, ObjectId, Refusal, Reply, Span};
 use segment_word::Naming;
 use window::{FlushPlan, Window};
@@ -61,8 +61,7 @@ impl<J: Naming> Drive<J> {
         ensures { ComesTo (later_refusal (state_in self.old) (Control (SetWindow window))) self.old self.new
             session.old session.new (Control (SetWindow window)) now result }
     {
-        every_history_is_sound();
-        the_state_goes_on_record_by_record();
+        histories_go_on_record_by_record();
         check_clock(self.window.clock())?;
         let moment = self.window.set(window, now);
         accept(
@@ -85,8 +84,7 @@ impl<J: Naming> Drive<J> {
         ensures { ComesTo (later_refusal (state_in self.old) (Control (Flush first last))) self.old self.new
             session.old session.new (Control (Flush first last)) now result }
     {
-        every_history_is_sound();
-        the_state_goes_on_record_by_record();
+        histories_go_on_record_by_record();
         self.window.check_span(first, last)?;
         let span = Span {
             object: ObjectId::new(0),
@@ -116,8 +114,7 @@ impl<J: Naming> Drive<J> {
         ensures { ComesTo (later_refusal (state_in self.old) (Control (FlushO object first last))) self.old
             self.new session.old session.new (Control (FlushO object first last)) now result }
     {
-        every_history_is_sound();
-        the_state_goes_on_record_by_record();
+        histories_go_on_record_by_record();
         self.window.check_span(first, last)?;
         check_given(object, self.next)?;
         let span = Span {

@@ -11,7 +11,7 @@ ghost use Rattle.version_store.specs.Store.{fields_of, IsStore};
 
 use crate::drive::Drive;
 use checkpoint::CACHED_INODES;
-use s4_model::laws::every_history_is_sound;
+use s4_model::laws::histories_go_on_record_by_record;
 use s4_types::{ObjectId, Refusal};
 use segment_table::{OverFrames, SegmentTable};
 use segment_word::Naming;
@@ -84,7 +84,7 @@ impl NewDrive {
         ensures store { IfOk result (λ d. IsStore (fields_of log_of d.store)) }
         ensures refusal { IfErr result (λ e. (e ≡ NoMemory) ⊎ (e ≡ Busy)) }
     {
-        every_history_is_sound();
+        histories_go_on_record_by_record();
         let table = SegmentTable::new(alloc, frames)?;
         table.frame_rules();
         let store = Store::new(alloc, table, inodes)?;

@@ -14,7 +14,7 @@ ghost use Rattle.drive.specs.Answering.{told_after, owners_after};
 use crate::checks::{check_role, check_update};
 use crate::drive::Drive;
 use crate::session::Session;
-use s4_model::laws::{every_history_is_sound, the_state_goes_on_record_by_record};
+use s4_model::laws::histories_go_on_record_by_record;
 use s4_types::{AdminRequest, Moment, ObjectRequest, Question, Refusal, Reply, Request};
 use segment_word::Naming;
 
@@ -122,8 +122,7 @@ impl<J: Naming> Drive<J> {
         ensures before { FitsLedger self.old.ledger session.old.told }
         ensures after { FitsLedger self.new.ledger session.new.told }
     {
-        every_history_is_sound();
-        the_state_goes_on_record_by_record();
+        histories_go_on_record_by_record();
         self.window.observe(now);
         self.history.see(now);
         self.history.meet(&mut session.seat);

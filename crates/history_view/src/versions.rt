@@ -16,7 +16,7 @@ ghost use Rattle.drive.specs.Fields.{state_in, store_of};
 use crate::moments::is_visible;
 use codec::Inode;
 use drive::{Drive, Session};
-use s4_model::laws::the_state_goes_on_record_by_record;
+use s4_model::laws::histories_go_on_record_by_record;
 use s4_types::limits::READ_BYTES;
 use s4_types::{Bytes, Moment, ObjectId, Question, Refusal, Reply, Request, Version};
 use segment_word::Naming;
@@ -144,7 +144,7 @@ fn read_piece<J: Naming>(
     ensures store { store_of drive.new ≡ store_of drive.old }
 {
     drive.rules();
-    the_state_goes_on_record_by_record();
+    histories_go_on_record_by_record();
     let request = Request::Query(Question::Read {
         object,
         offset,

@@ -19,18 +19,16 @@ ghost use Rattle.s4_model.specs.Laws.{ClientsMoveTheFloorByTheWindow};
 ghost use Rattle.s4_model.specs.Laws.{AnAcceptedChangeKeepsTheLimits, ANewDriveKeepsTheRunLimits};
 ghost use Rattle.s4_model.specs.Laws.{EveryStepKeepsTheRunLimits, ExchangesKeepTheRunLimits};
 
-/// The state of a history goes on record by record: a moment seen moves clock and floor alone, an
-/// accepted change adds itself to the changes and moves the four numbers.
-pub fn the_state_goes_on_record_by_record()
+/// Histories go on record by record, and stay sound.
+///
+/// A moment seen moves the state's clock and floor alone, an accepted change adds itself to the
+/// changes and moves the four numbers. A new drive's history is sound, and every step leaves it so:
+/// the floor isn't above the clock, moments ascend, spans end before the clock.
+pub fn histories_go_on_record_by_record()
     ensures by_moments { (h : History) (now : ℕ)
         → state_of (grown h (Seen now)) ≡ seen (state_of h) now }
     ensures by_changes { (h : History) (a : Accepted)
         → state_of (grown h (Took a)) ≡ took (state_of h) a }
-{}
-
-/// A new drive's history is sound, and every step leaves it so: the floor isn't above the clock,
-/// moments ascend, spans end before the clock.
-pub fn every_history_is_sound()
     ensures new { ANewDriveIsSound }
     ensures steps { EveryStepKeepsSoundness }
     ensures exchanges { ExchangesKeepSoundness }

@@ -2,7 +2,7 @@
 ghost use Rattle.server.specs.Laws.{AWindowIsRefusedByRoleAndClockAlone, ARunAddsItsChangesAlone};
 ghost use Rattle.server.specs.Laws.{ARunsClockGoesByItsRequests};
 
-use s4_model::laws::the_state_goes_on_record_by_record;
+use s4_model::laws::histories_go_on_record_by_record;
 
 /// A session that shares its drive is refused a window only as a client, or where the clock is at
 /// its end.
@@ -18,5 +18,5 @@ pub fn a_run_is_what_was_asked()
     ensures changes { ARunAddsItsChangesAlone }
     ensures clock { ARunsClockGoesByItsRequests }
 {
-    the_state_goes_on_record_by_record();
+    histories_go_on_record_by_record();
 }

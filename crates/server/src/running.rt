@@ -12,7 +12,7 @@ use crate::pace::Pace;
 use crate::shared::SharedDrive;
 use drive::Session;
 use own_stacks::for_each_mut_with_stack;
-use s4_model::laws::the_state_goes_on_record_by_record;
+use s4_model::laws::histories_go_on_record_by_record;
 use s4_types::{Refusal, Role};
 use serving::{ServeEnd, Sink, Source, serve};
 use std::alloc::Global;
@@ -67,7 +67,7 @@ fn attend<J: Running, R: Wait, G: Gate, S: Source, W: Sink>(
     ensures attended { IsAttendedClient S.remaining W.passed S.failures W.failures J.base J.clock
         client.old client.new }
 {
-    the_state_goes_on_record_by_record();
+    histories_go_on_record_by_record();
     let session = match enter(rt, drive, pace, client.role) {
         Ok(session) => session,
         Err(refusal) => {

@@ -9,7 +9,7 @@ use Rattle.server.proofs.running.attend.Goals as goal
 
 pub returns : goal.returns
 returns g c =
-    let law = c.the_state_goes_on_record_by_record.ensures in
+    let law = c.histories_go_on_record_by_record.ensures in
     let base = g.J.Naming.base in
     let clock = g.J.Running.clock in
     let role = c.args.client.now.role in

@@ -37,7 +37,7 @@ invariant_of-self g c =
     let zero : c.new.result ≡ 0 = c.new.ensures in
     let given = flush_given s c.args.first c.args.last c.new.result c.in_ok-plan.plan.span c.self.invariant.1.sound zero c.in_ok-plan.ensures.planned.0 in (
       ap (λ (l : Ledger). l.history.base) c.accept.ensures.history ∙ c.self.invariant.0,
-      after_hidden c.every_history_is_sound.ensures.steps c.the_state_goes_on_record_by_record.ensures.by_changes c.self.inside.history c.accept.new.history c.session.inside.seat.seat (fields_of log_of c.self.inside.store) c.self.inside.window c.flush-moment.new.self c.self.inside.next (Control (Flush c.args.first c.args.last)) c.args.now c.flush-moment.result (change.Flush c.args.first c.args.last)
+      after_hidden c.histories_go_on_record_by_record.ensures.steps c.histories_go_on_record_by_record.ensures.by_changes c.self.inside.history c.accept.new.history c.session.inside.seat.seat (fields_of log_of c.self.inside.store) c.self.inside.window c.flush-moment.new.self c.self.inside.next (Control (Flush c.args.first c.args.last)) c.args.now c.flush-moment.result (change.Flush c.args.first c.args.last)
           c.self.invariant.1
           (flush_free s c.new.result c.args.first c.args.last zero (c.in_ok-check_span.ensures.of_all s c.self.invariant.1.window) (c.in_ok-plan.ensures.judged s c.self.invariant.1.window (let low = c.self.invariant.1.sound.numbered in omega (arith, zero))))
           refl refl at c.accept.ensures.history

@@ -42,7 +42,7 @@ invariant_of-self g c =
     let span : Span = span_at c.args.object c.args.first c.args.last in
     let is : c.in_ok-plan.plan.span ≡ span = c.in_ok-plan.ensures.planned.0 in (
       ap (λ (l : Ledger). l.history.base) c.accept.ensures.history ∙ c.self.invariant.0,
-      after_hidden c.every_history_is_sound.ensures.steps c.the_state_goes_on_record_by_record.ensures.by_changes c.self.inside.history c.accept.new.history c.session.inside.seat.seat (fields_of log_of c.self.inside.store) c.self.inside.window c.flush-moment.new.self c.self.inside.next (Control (FlushO c.args.object c.args.first c.args.last)) c.args.now c.flush-moment.result (change.FlushO c.args.object c.args.first c.args.last)
+      after_hidden c.histories_go_on_record_by_record.ensures.steps c.histories_go_on_record_by_record.ensures.by_changes c.self.inside.history c.accept.new.history c.session.inside.seat.seat (fields_of log_of c.self.inside.store) c.self.inside.window c.flush-moment.new.self c.self.inside.next (Control (FlushO c.args.object c.args.first c.args.last)) c.args.now c.flush-moment.result (change.FlushO c.args.object c.args.first c.args.last)
           c.self.invariant.1
           (object_later s span c.self.inside.next next (c.in_ok-check_span.ensures.of_one s c.args.object c.self.invariant.1.window ∙ c.in_ok-check_span.ensures.of_all s c.self.invariant.1.window) low lt
           ∙ c.in_ok-plan.ensures.judged s c.self.invariant.1.window (omega arith))

@@ -67,4 +67,4 @@ returns-clause-sound g c =
     let size : HasSize s c.args.update c.size_of.result = size_asked c.bytes_are_the_blocks_joined.ensures.count c.the_present_stays.ensures s store c.self.inside.window c.self.inside.next c.object_of-object.result store.latest (option_copied c.present-found.result) c.args.update c.size_of.result kept c.object_of-object.ensures refl c.present-found.ensures c.size_of.ensures in
     let judged = c.in_ok-change.ensures.judged s (sym (c.clock-clock.ensures ∙ kept.window.clock)) (sym kept.next) size in
     subst (λ (d : DriveFields). IsSound (took (state_in d) (accepted_record (state_in d) c.in_ok-change.change c.args.now))) c.self.view_is
-    (sound_took c.every_history_is_sound.ensures.steps c.the_state_goes_on_record_by_record.ensures.by_changes c.self.inside.history.history (Update c.args.update) c.args.now c.in_ok-change.change kept.sound (admin_is_later s c.args.update c.requires.within ∙ judged.0) judged.1)
+    (sound_took c.histories_go_on_record_by_record.ensures.steps c.histories_go_on_record_by_record.ensures.by_changes c.self.inside.history.history (Update c.args.update) c.args.now c.in_ok-change.change kept.sound (admin_is_later s c.args.update c.requires.within ∙ judged.0) judged.1)

@@ -27,7 +27,7 @@ invariant_of-self g c =
     let is : c.clock.result ≡ c.self.inside.window.clock = c.clock.ensures in
     let at : c.set-moment.result ≡ stamp s c.args.now = c.set-moment.ensures.moment ∙ ap (λ (t : ℕ). max c.args.now (t + 1)) clock in (
       ap (λ (l : Ledger). l.history.base) c.accept.ensures.history ∙ c.self.invariant.0,
-      after_hidden c.every_history_is_sound.ensures.steps c.the_state_goes_on_record_by_record.ensures.by_changes c.self.inside.history c.accept.new.history c.session.inside.seat.seat (fields_of log_of c.self.inside.store) c.self.inside.window c.set-moment.new.self c.self.inside.next (Control (SetWindow c.args.window)) c.args.now c.set-moment.result (change.SetWindow c.args.window)
+      after_hidden c.histories_go_on_record_by_record.ensures.steps c.histories_go_on_record_by_record.ensures.by_changes c.self.inside.history c.accept.new.history c.session.inside.seat.seat (fields_of log_of c.self.inside.store) c.self.inside.window c.set-moment.new.self c.self.inside.next (Control (SetWindow c.args.window)) c.args.now c.set-moment.result (change.SetWindow c.args.window)
           c.self.invariant.1
           (window_free c.self.inside.window.clock s.clock clock (omega arith))
           refl refl at c.accept.ensures.history
