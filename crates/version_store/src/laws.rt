@@ -10,9 +10,32 @@ ghost use Rattle.version_store.specs.Laws.{PlacesHaveFewNames};
 ghost use Rattle.version_store.specs.Replacing.{AJournalCanBeCut, ACutJournalShowsTheSame};
 ghost use Rattle.version_store.specs.Stamps.{EachStepTells};
 ghost use Rattle.version_store.specs.Tallies.{CountsAreOfRows};
-ghost use Rattle.version_store.specs.private.Below.{ChangesStand};
+ghost use Rattle.version_store.specs.private.Below.{ChangesStand, RowStays, RowInodeStays};
+ghost use Rattle.version_store.specs.private.Below.{OrderlyStays, RunsEnd, HolesTellBlocks};
+ghost use Rattle.chain_rewriting.specs.Places.{WhatIsToldIsListed, ATestTellsApart};
+ghost use Rattle.chain_rewriting.specs.Places.{ARenamedChainTellsInOrder};
+ghost use Rattle.chain_rewriting.specs.RenamingLaws.{RenamingCommutesWithRedoOfAll};
+ghost use Rattle.chain_rewriting.specs.RenamingLaws.{RenamingCommutesWithUndoOfAll};
+ghost use Rattle.chain_rewriting.specs.RenamingLaws.{ARenamedRunIsARun, ABlankInodeStays};
+ghost use Rattle.chain_rewriting.specs.RenamingLaws.{ARenamedChainShowsRenamedInodes};
+ghost use Rattle.chain_rewriting.specs.RenamingLaws.{APointerIsRenamed};
+ghost use Rattle.chain_rewriting.specs.RenamingLaws.{RenamedEntriesTakeAsManyBytes};
+ghost use Rattle.chain_rewriting.specs.RenamingLaws.{ARenamedChainTakesAsManyBytes};
+ghost use Rattle.chain_rewriting.specs.RenamingLaws.{ARenamedCheckpointKeepsTheRules};
+ghost use Rattle.chain_rewriting.specs.RenamingLaws.{RenamedEntriesStayInGroups};
+ghost use Rattle.chain_rewriting.specs.RenamingLaws.{RenamedEntriesStayInOrder};
+ghost use Rattle.chain_rewriting.specs.RenamingLaws.{RenamedEntriesUpToAMoment};
+ghost use Rattle.chain_rewriting.specs.RenamingLaws.{RenamedEntriesHaveOldMoments};
+ghost use Rattle.chain_rewriting.specs.RenamingLaws.{TheMomentsOfRenamedEntriesAreOld};
+ghost use Rattle.chain_rewriting.specs.RenamingLaws.{ARenamedInodeMeansTheSame};
 
 use block_log::laws::{one_place_has_one_name, places_taken_add_up};
+use chain_rewriting::renaming_laws::{
+    a_renamed_chain_takes_as_many_bytes, a_renamed_chain_tells_of_renamed_places,
+    a_renamed_checkpoint_keeps_the_rules, a_renamed_inode_means_the_same, a_renamed_run_is_a_run,
+    a_test_tells_a_renaming_apart, renamed_entries_keep_their_moments,
+    renamed_entries_stay_in_order, renaming_commutes_with_undo_and_redo, what_a_chain_tells,
+};
 use checkpoint::laws::a_checkpoint_is_in_its_blocks;
 use inode::laws::{held_pointers_lead, only_its_blocks_matter};
 use journal_chain::packing::laws::{bytes_add_up, few_blocks_are_needed};
@@ -152,4 +175,47 @@ pub(crate) fn what_changes_rest_on()
     bytes_add_up();
     few_blocks_are_needed();
     a_checkpoint_is_in_its_blocks();
+}
+
+// What the crates below say of rows and of renamed entries, for the functions that move an object's
+// blocks.
+pub(crate) fn what_relocations_rest_on()
+    ensures row { RowStays }
+    ensures inode { RowInodeStays }
+    ensures orderly { OrderlyStays }
+    ensures end { RunsEnd }
+    ensures holes { HolesTellBlocks }
+    ensures listed { WhatIsToldIsListed }
+    ensures test { ATestTellsApart }
+    ensures places { ARenamedChainTellsInOrder }
+    ensures redo_all { RenamingCommutesWithRedoOfAll }
+    ensures undo_all { RenamingCommutesWithUndoOfAll }
+    ensures run { ARenamedRunIsARun }
+    ensures shown { ARenamedChainShowsRenamedInodes }
+    ensures pointers { APointerIsRenamed }
+    ensures blank { ABlankInodeStays }
+    ensures each { RenamedEntriesTakeAsManyBytes }
+    ensures all { ARenamedChainTakesAsManyBytes }
+    ensures rules { ARenamedCheckpointKeepsTheRules }
+    ensures groups { RenamedEntriesStayInGroups }
+    ensures order { RenamedEntriesStayInOrder }
+    ensures by { RenamedEntriesUpToAMoment }
+    ensures within { RenamedEntriesHaveOldMoments }
+    ensures old { TheMomentsOfRenamedEntriesAreOld }
+    ensures means { ARenamedInodeMeansTheSame }
+{
+    a_row_is_its_own_blocks();
+    an_orderly_row_stays();
+    entries_determine_a_run();
+    a_checkpoint_is_in_its_blocks();
+    what_a_chain_tells();
+    a_test_tells_a_renaming_apart();
+    a_renamed_chain_tells_of_renamed_places();
+    renaming_commutes_with_undo_and_redo();
+    a_renamed_run_is_a_run();
+    a_renamed_chain_takes_as_many_bytes();
+    a_renamed_checkpoint_keeps_the_rules();
+    renamed_entries_stay_in_order();
+    renamed_entries_keep_their_moments();
+    a_renamed_inode_means_the_same();
 }

@@ -15,23 +15,16 @@ ghost use Rattle.version_store.specs.Relocating.{AreCopies, blocks_relocated};
 ghost use Rattle.version_store.specs.private.Relocating.{NamesMove, Relocates};
 
 use crate::copies::{CopiedBlock, append_copies};
+use crate::laws::what_relocations_rest_on;
 use crate::names::drop_copied;
 use crate::recounts::count_renaming;
 use crate::written_anew::move_blocks;
 use block_log::Blocks;
 use chain_rewriting::Renaming;
-use chain_rewriting::renaming_laws::{
-    a_renamed_chain_takes_as_many_bytes, a_renamed_checkpoint_keeps_the_rules,
-    a_renamed_run_is_a_run, a_test_tells_a_renaming_apart, renamed_entries_stay_in_order,
-    renaming_commutes_with_undo_and_redo, what_a_chain_tells,
-};
-use checkpoint::laws::a_checkpoint_is_in_its_blocks;
 use codec::Inode;
 use object_map::Row;
 use s4_types::{ObjectId, Ptr};
 use time_read::ObjectJournal;
-use time_read::laws::{a_row_is_its_own_blocks, an_orderly_row_stays};
-use undo_redo::laws::entries_determine_a_run;
 
 /// Renames the pointers of an inode, if there is one.
 fn rename_checkpoint(checkpoint: &mut Option<Inode>, renaming: &Renaming)
@@ -96,17 +89,7 @@ pub(crate) fn relocate_blocks<B: Blocks>(
     ensures entries { journal.new.entries.items
         ≡ renamed_entries result.renaming (entries_of (B.log table.old).held object row.now) }
 {
-    a_row_is_its_own_blocks();
-    an_orderly_row_stays();
-    entries_determine_a_run();
-    a_checkpoint_is_in_its_blocks();
-    what_a_chain_tells();
-    a_test_tells_a_renaming_apart();
-    renaming_commutes_with_undo_and_redo();
-    a_renamed_run_is_a_run();
-    a_renamed_chain_takes_as_many_bytes();
-    a_renamed_checkpoint_keeps_the_rules();
-    renamed_entries_stay_in_order();
+    what_relocations_rest_on();
     table.names();
     let renaming = append_copies(table, object, copies);
     count_renaming(table, object, &renaming, led, names, copies);

@@ -12,7 +12,7 @@ use Rattle.s4_types.specs.declared.limits.TheConstants.{OBJECT_BLOCKS, CHANGE_EN
 use Rattle.block_log.specs.Log.{Log, Stored, of_kind, same_place}
 use Rattle.block_log.specs.Taken.{TakesPlaces}
 use Rattle.block_log.specs.declared.kinds.BlockKind.TheVariants.{Journal}
-use Rattle.undo_redo.specs.Runs.{blank, moments_ascend_from, AllAt}
+use Rattle.undo_redo.specs.Runs.{Run, redone_all, blank, moments_ascend_from, AllAt}
 use Rattle.undo_redo.specs.Groups.{grouped}
 use Rattle.checkpoint.specs.Held.{checkpoint_held, checkpoint_blocks, HasItsBlocks, of_checkpoints}
 use Rattle.inode.specs.Laws.{OnlyItsBlocksMatter, HeldPointersLead}
@@ -85,6 +85,9 @@ GroupsAscend = (entries : List EntryFields) → grouped entries ≡ true → mom
 
 abbrev pub RowsKeepTheMaking : Type 0
 RowsKeepTheMaking = (held : Place → Option Stored) (o : ℕ) (row : Row) (t : ℕ) → IsRow held o row → (inode_of held o row t).created ≡ row.created
+
+abbrev pub RunsEnd : Type 0
+RunsEnd = (i j : Inode) (entries : List EntryFields) → Run i entries j → j ≡ redone_all entries i
 
 -- Rows in order rest on their own blocks and not on their stamps, and stay in order.
 pub record OrderlyStays : Type 0 where

@@ -14,15 +14,11 @@ ghost use Rattle.version_store.specs.private.Relocating.{RelocatesIn};
 
 use crate::copies::CopiedBlock;
 use crate::data_blocks::pointers_by;
-use crate::laws::what_changes_rest_on;
+use crate::laws::{what_changes_rest_on, what_relocations_rest_on};
 use crate::relocated_blocks::relocate_blocks;
 use crate::row_places::names_by;
 use crate::store::Store;
 use block_log::Blocks;
-use chain_rewriting::renaming_laws::{
-    a_renamed_chain_tells_of_renamed_places, a_renamed_inode_means_the_same,
-    a_renamed_run_is_a_run, renamed_entries_keep_their_moments,
-};
 use object_map::Row;
 use row_changes::moved_blocks;
 use s4_types::{ObjectId, Ptr, Refusal};
@@ -52,10 +48,7 @@ impl<B: Blocks> Store<B> {
             (fields_of B.log self.new) }
     {
         what_changes_rest_on();
-        a_renamed_inode_means_the_same();
-        a_renamed_run_is_a_run();
-        a_renamed_chain_tells_of_renamed_places();
-        renamed_entries_keep_their_moments();
+        what_relocations_rest_on();
         let Some(mut inode) = self.present(object).copied() else {
             unreachable!()
         };

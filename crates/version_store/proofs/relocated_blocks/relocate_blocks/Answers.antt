@@ -29,7 +29,7 @@ rename-requires-clause-apart g c =
     let held = (g.B.Blocks.log c.args.table.now).held in
     let r = c.append_copies-renaming.result in
     let a = c.append_copies-renaming.ensures.appending in
-    let apart = told_apart c.what_a_chain_tells.ensures.listed c.a_test_tells_a_renaming_apart.ensures.test held c.args.object c.args.row.now r a.distinct a.fresh c.requires.led in
+    let apart = told_apart c.what_relocations_rest_on.ensures.listed c.what_relocations_rest_on.ensures.test held c.args.object c.args.row.now r a.distinct a.fresh c.requires.led in
     subst (λ (es : List EntryFields). AllByRecursion (TellsWithin (IsNotNew r)) es) (sym c.requires.journal.entries) apart.told.sides
 
 pub move_blocks-row-requires-clause-row : goal.move_blocks-row-requires-clause-row
@@ -52,7 +52,7 @@ move_blocks-row-requires-clause-row g c =
     (subst (λ (xs : List (Option Place)). Recounts c.args.object between (places_copied c.args.copies.now ++ map (renamed_slot c.append_copies-renaming.result) c.args.led.now) (xs ++ c.append_copies-renaming.result.moves) counted) c.requires.names c.count_renaming.ensures) in
     let held = counted_held before between c.args.object c.args.row.now c.args.copies.now c.append_copies-renaming.result copied counted counts in
     subst (λ (view : Place → Option Stored). IsRow view c.args.object c.args.row.now) (sym held)
-    (c.a_row_is_its_own_blocks.ensures.row before.held between.held c.args.object c.args.row.now (a.others Journal c.args.object refl) (same_checkpoints c.args.object before.held between.held (a.others Checkpoint c.args.object refl) (a.others Pointers c.args.object refl)) c.requires.row)
+    (c.what_relocations_rest_on.ensures.row before.held between.held c.args.object c.args.row.now (a.others Journal c.args.object refl) (same_checkpoints c.args.object before.held between.held (a.others Checkpoint c.args.object refl) (a.others Pointers c.args.object refl)) c.requires.row)
 
 pub move_blocks-row-requires-clause-tell : goal.move_blocks-row-requires-clause-tell
 move_blocks-row-requires-clause-tell g c =
@@ -61,16 +61,16 @@ move_blocks-row-requires-clause-tell g c =
     let row = c.args.row.now in
     let r = c.append_copies-renaming.result in
     let laws : RenamingStands = record {
-      blank = c.a_renamed_run_is_a_run.ensures.blank;
-      undo = c.renaming_commutes_with_undo_and_redo.ensures.undo_all;
-      redo = c.renaming_commutes_with_undo_and_redo.ensures.redo_all;
-      by = c.renamed_entries_stay_in_order.ensures.by;
-      shown = c.a_renamed_run_is_a_run.ensures.shown;
-      run = c.a_renamed_run_is_a_run.ensures.run;
-      groups = c.renamed_entries_stay_in_order.ensures.groups;
-      bytes = c.a_renamed_chain_takes_as_many_bytes.ensures.all;
-      rules = c.a_renamed_checkpoint_keeps_the_rules.ensures;
-      end = c.entries_determine_a_run.ensures.end;
+      blank = c.what_relocations_rest_on.ensures.blank;
+      undo = c.what_relocations_rest_on.ensures.undo_all;
+      redo = c.what_relocations_rest_on.ensures.redo_all;
+      by = c.what_relocations_rest_on.ensures.by;
+      shown = c.what_relocations_rest_on.ensures.shown;
+      run = c.what_relocations_rest_on.ensures.run;
+      groups = c.what_relocations_rest_on.ensures.groups;
+      bytes = c.what_relocations_rest_on.ensures.all;
+      rules = c.what_relocations_rest_on.ensures.rules;
+      end = c.what_relocations_rest_on.ensures.end;
     } in
     let kept : option_copied c.as_ref-checkpoint.result ≡ kept_renamed r (checkpoint_of held o row) = c.as_ref-checkpoint.ensures.value ∙ c.rename.ensures.checkpoint ∙ ap (option_map (renamed_inode r)) c.requires.journal.inode in
     let entries : c.as_slice.result.now ≡ renamed_entries r (entries_of held o row) = c.as_slice.ensures.value ∙ c.rename.ensures.entries ∙ ap (renamed_entries r) c.requires.journal.entries in
@@ -103,16 +103,16 @@ returns-clause-moved g c =
     let copies = c.args.copies.now in
     let r = c.append_copies-renaming.result in
     let laws : RenamingStands = record {
-      blank = c.a_renamed_run_is_a_run.ensures.blank;
-      undo = c.renaming_commutes_with_undo_and_redo.ensures.undo_all;
-      redo = c.renaming_commutes_with_undo_and_redo.ensures.redo_all;
-      by = c.renamed_entries_stay_in_order.ensures.by;
-      shown = c.a_renamed_run_is_a_run.ensures.shown;
-      run = c.a_renamed_run_is_a_run.ensures.run;
-      groups = c.renamed_entries_stay_in_order.ensures.groups;
-      bytes = c.a_renamed_chain_takes_as_many_bytes.ensures.all;
-      rules = c.a_renamed_checkpoint_keeps_the_rules.ensures;
-      end = c.entries_determine_a_run.ensures.end;
+      blank = c.what_relocations_rest_on.ensures.blank;
+      undo = c.what_relocations_rest_on.ensures.undo_all;
+      redo = c.what_relocations_rest_on.ensures.redo_all;
+      by = c.what_relocations_rest_on.ensures.by;
+      shown = c.what_relocations_rest_on.ensures.shown;
+      run = c.what_relocations_rest_on.ensures.run;
+      groups = c.what_relocations_rest_on.ensures.groups;
+      bytes = c.what_relocations_rest_on.ensures.all;
+      rules = c.what_relocations_rest_on.ensures.rules;
+      end = c.what_relocations_rest_on.ensures.end;
     } in
     let kept : option_copied c.as_ref-checkpoint.result ≡ kept_renamed r (checkpoint_of before.held o row) = c.as_ref-checkpoint.ensures.value ∙ c.rename.ensures.checkpoint ∙ ap (option_map (renamed_inode r)) c.requires.journal.inode in
     let entries : c.as_slice.result.now ≡ renamed_entries r (entries_of before.held o row) = c.as_slice.ensures.value ∙ c.rename.ensures.entries ∙ ap (renamed_entries r) c.requires.journal.entries in
@@ -126,7 +126,7 @@ returns-clause-moved g c =
       metadata = m.metadata;
       dropped = last_held before between o row copies r copied counted counts moved c.move_blocks-row.ensures.moved.metadata c.move_blocks-row.ensures.named c.names-2.ensures later c.drop_copied.ensures;
     } in
-    relocates laws c.renamed_entries_stay_in_order.ensures.order c.a_renamed_chain_takes_as_many_bytes.ensures.each c.a_checkpoint_is_in_its_blocks.ensures.holes c.a_row_is_its_own_blocks.ensures.row c.a_row_is_its_own_blocks.ensures.inode c.an_orderly_row_stays.ensures.blocks g.met.B.Blocks.places_taken_add_up
+    relocates laws c.what_relocations_rest_on.ensures.order c.what_relocations_rest_on.ensures.each c.what_relocations_rest_on.ensures.holes c.what_relocations_rest_on.ensures.row c.what_relocations_rest_on.ensures.inode c.what_relocations_rest_on.ensures.orderly.blocks g.met.B.Blocks.places_taken_add_up
     before between moved later o row next copies r c.requires.row m d c.drop_copied.ensures.takes
 
 pub count_renaming-requires : goal.count_renaming-requires
@@ -212,7 +212,7 @@ move_blocks-row-requires-clause-room g c =
     let entries : c.as_slice.result.now ≡ renamed_entries r (entries_of before.held o row) = c.as_slice.ensures.value ∙ c.rename.ensures.entries ∙ ap (renamed_entries r) c.requires.journal.entries in
     let same : n ≡ row_blocks before.held o row =
     ap (λ (i : Option Inode). moved_blocks i c.as_slice.result.now) kept ∙ ap (moved_blocks (kept_renamed r (checkpoint_of before.held o row))) entries
-    ∙ same_blocks c.a_renamed_chain_takes_as_many_bytes.ensures.each c.a_checkpoint_is_in_its_blocks.ensures.holes r (checkpoint_of before.held o row) (entries_of before.held o row) in
+    ∙ same_blocks c.what_relocations_rest_on.ensures.each c.what_relocations_rest_on.ensures.holes r (checkpoint_of before.held o row) (entries_of before.held o row) in
     let takes : TakesPlaces count before between = c.append_copies-renaming.ensures.appending.takes in
     let room : count + row_blocks before.held o row ≤ length before.ahead = c.requires.room in
     let sum = sum_stays count before between takes (omega (arith, room)) in

@@ -58,11 +58,11 @@ returns g c =
     let rest = c.what_changes_rest_on.ensures in
     let laws : Laws = record {
       rest = rest;
-      means = c.a_renamed_inode_means_the_same.ensures;
-      points = c.a_renamed_run_is_a_run.ensures.pointers;
-      tells = c.a_renamed_chain_tells_of_renamed_places.ensures.order;
-      within = c.renamed_entries_keep_their_moments.ensures.within;
-      old = c.renamed_entries_keep_their_moments.ensures.old;
+      means = c.what_relocations_rest_on.ensures.means;
+      points = c.what_relocations_rest_on.ensures.pointers;
+      tells = c.what_relocations_rest_on.ensures.places;
+      within = c.what_relocations_rest_on.ensures.within;
+      old = c.what_relocations_rest_on.ensures.old;
     } in
     let made = relocated laws s c.change.new.self.rows log o row next copies r store there c.relocate_blocks-moved.ensures.moved room put.rows c.relocate_blocks-moved.ensures.named in
     subst (λ (v : StoreOf _). RelocatesIn (fields_of g.B.Blocks.log v) o row copies (next_store s c.change.new.self.rows log)) c.self.view_is made
@@ -84,11 +84,11 @@ invariant_of-self g c =
     let rest = c.what_changes_rest_on.ensures in
     let laws : Laws = record {
       rest = rest;
-      means = c.a_renamed_inode_means_the_same.ensures;
-      points = c.a_renamed_run_is_a_run.ensures.pointers;
-      tells = c.a_renamed_chain_tells_of_renamed_places.ensures.order;
-      within = c.renamed_entries_keep_their_moments.ensures.within;
-      old = c.renamed_entries_keep_their_moments.ensures.old;
+      means = c.what_relocations_rest_on.ensures.means;
+      points = c.what_relocations_rest_on.ensures.pointers;
+      tells = c.what_relocations_rest_on.ensures.places;
+      within = c.what_relocations_rest_on.ensures.within;
+      old = c.what_relocations_rest_on.ensures.old;
     } in
     let made = relocated laws s c.change.new.self.rows log o row next copies r store there c.relocate_blocks-moved.ensures.moved room put.rows c.relocate_blocks-moved.ensures.named in
     let by = renaming_by copies s.log.ahead in
