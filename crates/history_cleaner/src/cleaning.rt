@@ -10,20 +10,15 @@ ghost use Rattle.history_cleaner.specs.Reaching.{HoldsWhatIsReached};
 ghost use Rattle.history_cleaner.specs.private.Reading.{IsLeft};
 
 use crate::entries::{are_same, each_is_an_entry};
-use crate::laws::{
-    a_stored_chain_is_a_chain, held_is_what_is_reached, what_is_left_can_stand,
-    what_is_left_shows_the_same, what_is_left_tells_of_seen_places,
-};
+use crate::laws::{a_stored_chain_is_a_chain, held_is_what_is_reached, what_is_left_can_be_put};
 use crate::sight::Sight;
 use chain_rewriting::{Cleaned, clean};
 use codec::{Entry, Inode};
 use drive::Drive;
-use s4_model::laws::clock_and_floor_never_fall;
 use s4_types::{ObjectId, Refusal};
 use segment_word::Naming;
 use std::alloc::Global;
 use undo_redo::undo_all;
-use version_store::laws::{inodes_point_to_what_rows_name, what_is_held_is_what_rows_name};
 
 /// What is left of an object that has this present inode and these entries.
 fn what_is_left<J: Naming>(
@@ -74,13 +69,7 @@ fn put<J: Naming>(
     ensures ledger { drive.new.ledger ≡ drive.old.ledger }
     ensures needed { KeepsVersions (state_in drive.old) (store_of drive.old) (store_of drive.new) }
 {
-    what_is_left_can_stand();
-    what_is_left_shows_the_same();
-    what_is_left_tells_of_seen_places();
-    held_is_what_is_reached();
-    what_is_held_is_what_rows_name();
-    inodes_point_to_what_rows_name();
-    clock_and_floor_never_fall();
+    what_is_left_can_be_put();
     drive.rules();
     let Some(chain) = left else {
         return drive.remove(object, entries);

@@ -7,6 +7,8 @@ ghost use Rattle.history_cleaner.specs.Laws.{WhatIsLeftIsSeenThroughout};
 ghost use Rattle.history_cleaner.specs.Reaching.{HeldIsWhatIsReached, WhatIsLeftTellsOfSeenPlaces};
 ghost use Rattle.history_cleaner.specs.Reaching.{WhatIsLeftPointsToSeenPlaces};
 ghost use Rattle.history_cleaner.specs.Reaching.{WhatIsLeftBeginsTheSame};
+ghost use Rattle.s4_model.specs.Laws.{ThePresentClockIsVisible};
+ghost use Rattle.version_store.specs.Laws.{HeldIsWhatRowsName, InodesPointToWhatRowsName};
 
 use chain_rewriting::cleaning_laws::{
     a_chain_is_one_later, a_kept_chain_has_old_moments, a_kept_chain_has_seen_inodes_alone,
@@ -17,6 +19,7 @@ use chain_rewriting::cleaning_laws::{
     the_moments_of_a_kept_chain_are_old,
 };
 use row_changes::laws::a_row_keeps_the_making;
+use s4_model::laws::clock_and_floor_never_fall;
 use undo_redo::laws::{entries_determine_a_run, groups_part_at_a_moment};
 use version_store::laws::{inodes_point_to_what_rows_name, what_is_held_is_what_rows_name};
 
@@ -88,4 +91,29 @@ pub fn held_is_what_is_reached()
 {
     what_is_held_is_what_rows_name();
     inodes_point_to_what_rows_name();
+}
+
+// All that the putting of what is left rests on.
+pub(crate) fn what_is_left_can_be_put()
+    ensures stands { WhatIsLeftCanStand }
+    ensures empty { AnEmptyJournalStaysEmpty }
+    ensures same { WhatIsLeftShowsTheSame }
+    ensures none { NothingIsLeftOfTheAbsent }
+    ensures seen { WhatIsLeftIsSeen }
+    ensures throughout { WhatIsLeftIsSeenThroughout }
+    ensures tells { WhatIsLeftTellsOfSeenPlaces }
+    ensures points { WhatIsLeftPointsToSeenPlaces }
+    ensures begins { WhatIsLeftBeginsTheSame }
+    ensures reached { HeldIsWhatIsReached }
+    ensures exact { HeldIsWhatRowsName }
+    ensures named { InodesPointToWhatRowsName }
+    ensures present { ThePresentClockIsVisible }
+{
+    what_is_left_can_stand();
+    what_is_left_shows_the_same();
+    what_is_left_tells_of_seen_places();
+    held_is_what_is_reached();
+    what_is_held_is_what_rows_name();
+    inodes_point_to_what_rows_name();
+    clock_and_floor_never_fall();
 }

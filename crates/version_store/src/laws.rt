@@ -171,6 +171,7 @@ pub(crate) fn what_changes_rest_on()
     a_fresh_row_stands();
     a_blank_inode_has_holes_alone();
     the_entries_between_two_inodes();
+    entries_determine_a_run();
     groups_part_at_a_moment();
     bytes_add_up();
     few_blocks_are_needed();

@@ -12,7 +12,7 @@ use Rattle.s4_types.specs.declared.limits.TheConstants.{OBJECT_BLOCKS, CHANGE_EN
 use Rattle.block_log.specs.Log.{Log, Stored, of_kind, same_place}
 use Rattle.block_log.specs.Taken.{TakesPlaces}
 use Rattle.block_log.specs.declared.kinds.BlockKind.TheVariants.{Journal}
-use Rattle.undo_redo.specs.Runs.{Run, redone_all, blank, moments_ascend_from, AllAt}
+use Rattle.undo_redo.specs.Runs.{Run, redone_all, inode_after, blank, moments_ascend_from, AllBy, AllAt}
 use Rattle.undo_redo.specs.Groups.{grouped}
 use Rattle.checkpoint.specs.Held.{checkpoint_held, checkpoint_blocks, HasItsBlocks, of_checkpoints}
 use Rattle.inode.specs.Laws.{OnlyItsBlocksMatter, HeldPointersLead}
@@ -89,6 +89,9 @@ RowsKeepTheMaking = (held : Place → Option Stored) (o : ℕ) (row : Row) (t : 
 abbrev pub RunsEnd : Type 0
 RunsEnd = (i j : Inode) (entries : List EntryFields) → Run i entries j → j ≡ redone_all entries i
 
+abbrev pub AllIsDone : Type 0
+AllIsDone = (i : Inode) (entries : List EntryFields) (t : ℕ) → AllBy t entries → inode_after i entries t ≡ redone_all entries i
+
 -- Rows in order rest on their own blocks and not on their stamps, and stay in order.
 pub record OrderlyStays : Type 0 where
   pub blocks : (held later : Place → Option Stored) (o latest : ℕ) (row : Row) → of_kind Journal o later ≡ of_kind Journal o held → of_checkpoints o later ≡ of_checkpoints o held → IsOrderly held o row latest → IsOrderly later o row latest
@@ -106,7 +109,7 @@ HolesTellBlocks = (i j : Inode) → map is_some i.pointers ≡ map is_some j.poi
 
 -- All that a change or a checkpoint of a whole store rests on: rows and inodes rest on their own blocks, and stay from their last
 -- entry on; a fresh row and a blank inode; the entries between two inodes, their sizes and the blocks that they need; the places
--- that two changes in turn take, and those of a checkpoint.
+-- that two changes in turn take, and those of a checkpoint; and where a run ends.
 pub record ChangesStand : Type 0 where
   pub row : RowStays
   pub inode : RowInodeStays
@@ -131,4 +134,6 @@ pub record ChangesStand : Type 0 where
   pub sizes_add_up : SizesAddUp
   pub blocks_are_needed : SomeBlocksAreNeeded
   pub groups_ascend : GroupsAscend
+  pub end : RunsEnd
+  pub done : AllIsDone
   pub checkpoint_blocks : CheckpointsTakeBlocks

@@ -35,7 +35,6 @@ use row_changes::record_change;
 use s4_types::limits::{BLOCK_BYTES, OBJECT_BLOCKS};
 use s4_types::{Change, Moment, ObjectId, Ptr, Refusal};
 use time_read::{Present, UndoIndex, turn_beside};
-use undo_redo::laws::a_blank_inode_has_holes_alone;
 use undo_redo::{EntriesBetween, blank};
 
 /// An attribute of at most `ATTRIBUTE_BYTES`.
@@ -105,8 +104,7 @@ impl<B: Blocks> Store<B> {
         ensures answer { MatchResult result (λ _. change_refusal (fields_of B.log self.now) change.now moment ≡ None)
             (λ e. change_refusal (fields_of B.log self.now) change.now moment ≡ Some e) }
     {
-        a_fresh_row_stands();
-        a_blank_inode_has_holes_alone();
+        what_changes_rest_on();
         bytes_of_entries(self.room(), change, row, inode)
     }
 

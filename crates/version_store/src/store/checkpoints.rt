@@ -18,11 +18,9 @@ use checkpoint::checkpoint_blocks;
 use codec::Inode;
 use journal_chain::Chain;
 use object_map::Row;
-use row_changes::laws::the_last_inode_stays;
 use row_changes::record_checkpoint;
 use s4_types::{Moment, ObjectId, Refusal};
 use time_read::laws::a_row_tells_a_chain;
-use undo_redo::laws::groups_part_at_a_moment;
 
 /// The moment of an object's last journal entry, and 0 where it has none. It reads one block at
 /// most.
@@ -106,8 +104,7 @@ impl<B: Blocks> Store<B> {
             (λ e. checkpoint_refusal (fields_of B.log self.old) object ≡ Some e) }
         ensures unchanged { OnErr result (fields_of B.log self.new ≡ fields_of B.log self.old) }
     {
-        groups_part_at_a_moment();
-        the_last_inode_stays();
+        what_changes_rest_on();
         let Some(row) = self.row(object) else {
             return Err(Refusal::NoObject);
         };

@@ -26,7 +26,6 @@ use object_map::Row;
 use row_changes::rewritten_blocks;
 use s4_types::{ObjectId, Ptr, Refusal};
 use time_read::{Present, index_of};
-use undo_redo::laws::entries_determine_a_run;
 
 impl<B: Blocks> Store<B> {
     /// All pointers by which an object's row names data, by these entries, which are those of its
@@ -121,7 +120,6 @@ impl<B: Blocks> Store<B> {
             (fields_of B.log self.new) }
     {
         what_changes_rest_on();
-        entries_determine_a_run();
         let moment = last_entry(&mut self.table, object, row);
         recount(&mut self.table, object, told, pointers);
         let next = rewrite_blocks(&mut self.table, object, row, present, moment, entries);

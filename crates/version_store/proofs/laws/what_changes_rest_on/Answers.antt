@@ -26,4 +26,6 @@ returns c = record {
   blocks_are_needed = c.few_blocks_are_needed.ensures.least;
   checkpoint_blocks = c.a_checkpoint_is_in_its_blocks.ensures.some;
   groups_ascend = c.groups_part_at_a_moment.ensures.ascend;
+  end = c.entries_determine_a_run.ensures.end;
+  done = c.entries_determine_a_run.ensures.done;
 }

@@ -43,7 +43,7 @@ recount-requires g c =
     let store = subst (λ (v : StoreOf _). IsStore (fields_of g.B.Blocks.log v)) (sym c.self.view_is) c.requires.store in
     let there = subst (λ (v : StoreOf _). row_of v.rows o ≡ Some row) (sym c.self.view_is) c.requires.row in
     let can = subst (λ (v : StoreOf _). CanReplace (fields_of g.B.Blocks.log v) o row present entries) (sym c.self.view_is) c.requires.can in
-    let know = known c.entries_determine_a_run.ensures.done c.entries_determine_a_run.ensures.end s o row present entries m store there can c.last_entry-moment.ensures.moment in
+    let know = known c.what_changes_rest_on.ensures.done c.what_changes_rest_on.ensures.end s o row present entries m store there can c.last_entry-moment.ensures.moment in
     let pointers_are = subst (λ (v : StoreOf _). c.args.pointers.now ≡ pointers_named (g.B.Blocks.log v.table).held o row) (sym c.self.view_is) c.requires.pointers in
     let same = sym c.last_entry-moment.ensures.same in
     record {
@@ -72,7 +72,7 @@ rewrite_blocks-next-requires-clause-row g c =
     let store = subst (λ (v : StoreOf _). IsStore (fields_of g.B.Blocks.log v)) (sym c.self.view_is) c.requires.store in
     let there = subst (λ (v : StoreOf _). row_of v.rows o ≡ Some row) (sym c.self.view_is) c.requires.row in
     let can = subst (λ (v : StoreOf _). CanReplace (fields_of g.B.Blocks.log v) o row present entries) (sym c.self.view_is) c.requires.can in
-    let know = known c.entries_determine_a_run.ensures.done c.entries_determine_a_run.ensures.end s o row present entries m store there can c.last_entry-moment.ensures.moment in
+    let know = known c.what_changes_rest_on.ensures.done c.what_changes_rest_on.ensures.end s o row present entries m store there can c.last_entry-moment.ensures.moment in
     let pointers_are = subst (λ (v : StoreOf _). c.args.pointers.now ≡ pointers_named (g.B.Blocks.log v.table).held o row) (sym c.self.view_is) c.requires.pointers in
     let between = g.B.Blocks.log c.recount.new.table in
     let fewer : List (Option Place) = pointers_named s.log.held o row in
@@ -95,7 +95,7 @@ rewrite_blocks-next-requires-clause-rules g c =
     let store = subst (λ (v : StoreOf _). IsStore (fields_of g.B.Blocks.log v)) (sym c.self.view_is) c.requires.store in
     let there = subst (λ (v : StoreOf _). row_of v.rows o ≡ Some row) (sym c.self.view_is) c.requires.row in
     let can = subst (λ (v : StoreOf _). CanReplace (fields_of g.B.Blocks.log v) o row present entries) (sym c.self.view_is) c.requires.can in
-    let know = known c.entries_determine_a_run.ensures.done c.entries_determine_a_run.ensures.end s o row present entries m store there can c.last_entry-moment.ensures.moment in
+    let know = known c.what_changes_rest_on.ensures.done c.what_changes_rest_on.ensures.end s o row present entries m store there can c.last_entry-moment.ensures.moment in
     let pointers_are = subst (λ (v : StoreOf _). c.args.pointers.now ≡ pointers_named (g.B.Blocks.log v.table).held o row) (sym c.self.view_is) c.requires.pointers in
     know.rules
 
@@ -111,7 +111,7 @@ returns g c =
     let store = subst (λ (v : StoreOf _). IsStore (fields_of g.B.Blocks.log v)) (sym c.self.view_is) c.requires.store in
     let there = subst (λ (v : StoreOf _). row_of v.rows o ≡ Some row) (sym c.self.view_is) c.requires.row in
     let can = subst (λ (v : StoreOf _). CanReplace (fields_of g.B.Blocks.log v) o row present entries) (sym c.self.view_is) c.requires.can in
-    let know = known c.entries_determine_a_run.ensures.done c.entries_determine_a_run.ensures.end s o row present entries m store there can c.last_entry-moment.ensures.moment in
+    let know = known c.what_changes_rest_on.ensures.done c.what_changes_rest_on.ensures.end s o row present entries m store there can c.last_entry-moment.ensures.moment in
     let pointers_are = subst (λ (v : StoreOf _). c.args.pointers.now ≡ pointers_named (g.B.Blocks.log v.table).held o row) (sym c.self.view_is) c.requires.pointers in
     let between = g.B.Blocks.log c.recount.new.table in
     let fewer : List (Option Place) = pointers_named s.log.held o row in
@@ -144,7 +144,7 @@ invariant_of-self g c =
     let store = subst (λ (v : StoreOf _). IsStore (fields_of g.B.Blocks.log v)) (sym c.self.view_is) c.requires.store in
     let there = subst (λ (v : StoreOf _). row_of v.rows o ≡ Some row) (sym c.self.view_is) c.requires.row in
     let can = subst (λ (v : StoreOf _). CanReplace (fields_of g.B.Blocks.log v) o row present entries) (sym c.self.view_is) c.requires.can in
-    let know = known c.entries_determine_a_run.ensures.done c.entries_determine_a_run.ensures.end s o row present entries m store there can c.last_entry-moment.ensures.moment in
+    let know = known c.what_changes_rest_on.ensures.done c.what_changes_rest_on.ensures.end s o row present entries m store there can c.last_entry-moment.ensures.moment in
     let pointers_are = subst (λ (v : StoreOf _). c.args.pointers.now ≡ pointers_named (g.B.Blocks.log v.table).held o row) (sym c.self.view_is) c.requires.pointers in
     let between = g.B.Blocks.log c.recount.new.table in
     let fewer : List (Option Place) = pointers_named s.log.held o row in
@@ -165,7 +165,7 @@ invariant_of-self g c =
     (replaced_counts s.log between log o row c.rewrite_blocks-next.result present entries m (store.counted o row there) counts c.rewrite_blocks-next.ensures.others c.rewrite_blocks-next.ensures.named c.names.ensures writes know.last) in
     record {
       inodes = kept_beside o (inode_beside c.self.inside.objects.values) (inode_beside c.change.new.self.values) present c.self.inside.latest s (next_store s c.change.new.self.rows log) (λ t. inode_led present entries t)
-          (led_later c.entries_determine_a_run.ensures.done c.entries_determine_a_run.ensures.end s o row present entries m know can)
+          (led_later c.what_changes_rest_on.ensures.done c.what_changes_rest_on.ensures.end s o row present entries m know can)
           (inode_put c.self.inside.objects.values c.change.new.self.values o beside put.values) c.self.invariant.inodes made.inodes;
       indexes = replaced_indexed s (next_store s c.change.new.self.rows log) o (record c.rewrite_blocks-next.result { stamp = row.stamp + 1 }) entries beside c.self.inside.objects.values c.change.new.self.values
           put.rows made.replaced.others c.rewrite_blocks-next.ensures.rewritten.entries_are c.index_of.ensures put.values c.self.invariant.indexes;
