@@ -12,8 +12,8 @@ ghost use Rattle.s4_types.specs.declared.limits.TheConstants.{CHECKPOINT_BLOCKS,
 ghost use Rattle.s4_types.specs.declared.refusals.Refusal.TheVariants.{NoMemory, NoSpace};
 
 use block_log::{Block, BlockKind, Blocks};
-use codec::laws::a_checkpoint_is_read;
-use codec::part_laws::{a_block_begins_with_its_kind, a_checkpoint_is_its_blocks};
+use codec::laws::a_checkpoint_is_its_blocks;
+use codec::part_laws::{a_checkpoint_is_its_blocks, blocks_have_their_parts};
 use codec::{
     Checkpoint, FirstBlock, Inode, PartPointers, are_holes, decode_first_block, encode_first_block,
     encode_pointer_block, part_of,
@@ -87,9 +87,8 @@ pub fn write_checkpoint<B: Blocks>(table: &mut B, checkpoint: &Checkpoint) -> Re
         × (length (B.log table.old).ahead < checkpoint_blocks checkpoint.now.inode)) }
     ensures unchanged { OnErr result (B.log table.new ≡ B.log table.old) }
 {
-    a_checkpoint_is_read();
     a_checkpoint_is_its_blocks();
-    a_block_begins_with_its_kind();
+    blocks_have_their_parts();
     if table.blocks_left() < checkpoint_blocks(checkpoint.inode()) {
         return Err(Refusal::NoSpace);
     }

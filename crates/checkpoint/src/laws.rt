@@ -11,10 +11,7 @@ ghost use Rattle.checkpoint.specs.Held.{checkpoint_held, checkpoint_places, chec
 ghost use Rattle.checkpoint.specs.Held.{of_checkpoints, is_one_of, HasItsBlocks, IsInBoth};
 
 use block_log::laws::one_place_has_one_name;
-use codec::part_laws::{
-    a_block_begins_with_its_kind, a_first_block_has_all_pointers, a_part_is_in_its_block,
-    blocks_tell_their_checkpoint,
-};
+use codec::part_laws::blocks_have_their_parts;
 
 /// A checkpoint is in its own blocks.
 ///
@@ -56,8 +53,5 @@ pub fn a_checkpoint_is_in_its_blocks()
         → IsInBoth held o p r q → c.moment ≡ d.moment }
 {
     one_place_has_one_name();
-    a_block_begins_with_its_kind();
-    a_part_is_in_its_block();
-    a_first_block_has_all_pointers();
-    blocks_tell_their_checkpoint();
+    blocks_have_their_parts();
 }

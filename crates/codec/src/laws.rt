@@ -6,9 +6,9 @@ ghost use Rattle.s4_types.specs.declared.limits.TheConstants.{JOURNAL_ENTRY_BYTE
 ghost use Rattle.s4_types.specs.declared.limits.TheConstants.{SHORTEST_ENTRY_BYTES};
 ghost use Rattle.s4_types.specs.declared.limits.TheConstants.{LONGEST_ENTRY_BYTES};
 ghost use Rattle.s4_types.specs.Pointer.{Place};
-ghost use Rattle.codec.specs.Fields.{SpellsSlot, all_of};
-ghost use Rattle.codec.specs.FirstBlock.{SpellsFirst, first_at};
-ghost use Rattle.codec.specs.PointerBlock.{SpellsPointers, pointers_at};
+ghost use Rattle.codec.specs.Fields.{SpellsSlot};
+ghost use Rattle.codec.specs.FirstBlock.{SpellsFirst};
+ghost use Rattle.codec.specs.PointerBlock.{SpellsPointers};
 ghost use Rattle.codec.specs.declared.first_blocks.FirstBlock.{FirstBlock};
 ghost use Rattle.codec.specs.declared.pointer_blocks.PointerBlock.{PointerBlock};
 ghost use Rattle.codec.specs.Entry.{EntryFields, IsEntry, BeginsWithEntry, entry_spelling};
@@ -37,14 +37,6 @@ pub fn one_pointer_block_a_spelling()
         → SpellsPointers block b → a ≡ b }
 {}
 
-/// What the encoding of a block of a checkpoint is read as, is the block.
-pub fn a_checkpoint_is_read()
-    ensures first { (block : List ℕ) (f : FirstBlock) → SpellsFirst block f
-        → all_of first_at block ≡ Some f }
-    ensures pointers { (block : List ℕ) (b : PointerBlock) → SpellsPointers block b
-        → all_of pointers_at block ≡ Some b }
-{}
-
 /// No two entries share an encoding, and none is the beginning of another's.
 pub fn one_entry_a_spelling()
     ensures entry { (bytes rest behind : List ℕ) (e f : EntryFields) → BeginsWithEntry bytes e rest
@@ -67,21 +59,16 @@ pub fn fourteen_entries_fit()
         → entries_length entries ≤ JOURNAL_ENTRY_BYTES → length entries ≤ JOURNAL_ENTRIES }
 {}
 
-/// The rules of a summary are these: its generation is 1 to 2^32 - 2, one to 15 blocks are used,
-/// and each has an object.
-pub fn rules_of_a_summary()
-    ensures { (s : SummaryFields) → (summary_rules s ≡ true) ↔ KeepsSummaryRules s }
-{}
-
-/// No two summaries share an encoding in front of the same payload blocks.
-pub fn one_summary_a_spelling()
-    ensures { (payload : List (List ℕ)) (block : List ℕ) (s t : SummaryFields)
+/// A summary has one encoding.
+///
+/// Its rules are these: its generation is 1 to 2^32 - 2, one to 15 blocks are used, and each has an
+/// object. No two summaries share an encoding in front of the same payload blocks, and each encoding
+/// has 512 bytes.
+pub fn a_summary_has_one_encoding()
+    ensures rules { (s : SummaryFields) → (summary_rules s ≡ true) ↔ KeepsSummaryRules s }
+    ensures one { (payload : List (List ℕ)) (block : List ℕ) (s t : SummaryFields)
         → SpellsSummary payload block s → SpellsSummary payload block t → s ≡ t }
-{}
-
-/// The encoding of a summary has 512 bytes.
-pub fn summary_is_a_block()
-    ensures { (s : SummaryFields) (payload : List (List ℕ)) → length s.roles ≤ 15
+    ensures bytes { (s : SummaryFields) (payload : List (List ℕ)) → length s.roles ≤ 15
         → length (summary_spelling s payload) ≡ 512 }
 {}
 

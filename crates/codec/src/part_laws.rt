@@ -8,38 +8,20 @@ ghost use Rattle.s4_types.specs.declared.limits.TheConstants.{CHECKPOINT_POINTER
 ghost use Rattle.codec.specs.Fields.{all_of};
 ghost use Rattle.codec.specs.Checkpoint.{CheckpointFields, CheckpointNumbers, checkpoint_rules};
 ghost use Rattle.codec.specs.Checkpoint.{holes};
-ghost use Rattle.codec.specs.FirstBlock.{FirstNumbers, first_at};
+ghost use Rattle.codec.specs.FirstBlock.{FirstNumbers, SpellsFirst, first_at};
 ghost use Rattle.codec.specs.PointerBlock.{SpellsPointers, pointers_at};
 ghost use Rattle.codec.specs.Parts.{part_of, first_of, pointers_of, told_in, whole, joined};
 ghost use Rattle.codec.specs.Parts.{ArePart, TellsPart};
 ghost use Rattle.codec.specs.declared.first_blocks.FirstBlock.{FirstBlock};
 ghost use Rattle.codec.specs.declared.pointer_blocks.PointerBlock.{PointerBlock};
 
-/// Each block of a checkpoint begins with the number of its kind.
-pub fn a_block_begins_with_its_kind()
-    ensures first { (block : List ℕ) (f : FirstBlock) → all_of first_at block ≡ Some f
-        → slice_index block 0 ≡ 2 }
-    ensures pointers { (block : List ℕ) (b : PointerBlock) → all_of pointers_at block ≡ Some b
-        → slice_index block 0 ≡ 4 }
-{}
-
-/// A first block has as many pointers as it has room for, and one for each part.
-pub fn a_first_block_has_all_pointers()
-    ensures pointers { (block : List ℕ) (f : FirstBlock) → all_of first_at block ≡ Some f
-        → length f.pointers ≡ CHECKPOINT_POINTERS }
-    ensures parts { (block : List ℕ) (f : FirstBlock) → all_of first_at block ≡ Some f
-        → length f.parts ≡ CHECKPOINT_PARTS }
-{}
-
-/// What a block tells of a part is in a pointer block of that part.
-pub fn a_part_is_in_its_block()
-    ensures { (f : FirstBlock) (part : ℕ) (block : List ℕ) (pointers : List (Option Place))
-        → told_in f part block ≡ Some pointers → TellsPart f part block pointers }
-{}
-
-/// A checkpoint is what its blocks tell: the first block, and for each part the block with its
-/// pointers, or holes where there is none.
+/// A checkpoint is what its blocks say: the first block, and for each part the block with its
+/// pointers, or holes where there is none. What the encoding of a block is read as, is the block.
 pub fn a_checkpoint_is_its_blocks()
+    ensures first { (block : List ℕ) (f : FirstBlock) → SpellsFirst block f
+        → all_of first_at block ≡ Some f }
+    ensures pointers { (block : List ℕ) (b : PointerBlock) → SpellsPointers block b
+        → all_of pointers_at block ≡ Some b }
     ensures whole { (c : CheckpointFields) (parts : List (Option Place))
         → checkpoint_rules c ≡ true
         → length c.inode.pointers ≡ OBJECT_BLOCKS
@@ -55,8 +37,22 @@ pub fn a_checkpoint_is_its_blocks()
         → part_of part c.inode.pointers ≡ holes CHECKPOINT_POINTERS }
 {}
 
-/// Where blocks tell a checkpoint, its fields are theirs, and its parts are those that they tell.
-pub fn blocks_tell_their_checkpoint()
+/// Each block of a checkpoint has its part.
+///
+/// It begins with the number of its kind, a first block has as many pointers as it has room for, and
+/// one for each part, and what a block says of a part is in a pointer block of that part. Where
+/// blocks say what a checkpoint is, its fields are theirs, and so are its parts.
+pub fn blocks_have_their_parts()
+    ensures first_begins { (block : List ℕ) (f : FirstBlock) → all_of first_at block ≡ Some f
+        → slice_index block 0 ≡ 2 }
+    ensures part_begins { (block : List ℕ) (b : PointerBlock)
+        → all_of pointers_at block ≡ Some b → slice_index block 0 ≡ 4 }
+    ensures pointers { (block : List ℕ) (f : FirstBlock) → all_of first_at block ≡ Some f
+        → length f.pointers ≡ CHECKPOINT_POINTERS }
+    ensures parts { (block : List ℕ) (f : FirstBlock) → all_of first_at block ≡ Some f
+        → length f.parts ≡ CHECKPOINT_PARTS }
+    ensures part { (f : FirstBlock) (part : ℕ) (block : List ℕ) (pointers : List (Option Place))
+        → told_in f part block ≡ Some pointers → TellsPart f part block pointers }
     ensures whole { (f : FirstBlock) (one two three : List (Option Place)) (c : CheckpointFields)
         → joined f one two three ≡ Some c
         → whole f (f.pointers ++ (one ++ (two ++ three))) ≡ c }

@@ -9,9 +9,7 @@ ghost use Rattle.checkpoint.specs.Held.{of_checkpoints, checkpoint_held, first_i
 
 use crate::used_blocks::{UsedBlocks, bytes_at};
 use block_log::BlockKind;
-use codec::part_laws::{
-    a_block_begins_with_its_kind, a_part_is_in_its_block, blocks_tell_their_checkpoint,
-};
+use codec::part_laws::blocks_have_their_parts;
 use codec::{Checkpoint, FirstBlock, PartPointers, decode_first_block};
 use s4_types::limits::CHECKPOINT_POINTERS;
 use s4_types::{ObjectId, Ptr};
@@ -27,7 +25,7 @@ pub(crate) fn read_first<U: UsedBlocks>(
         (first_in (of_checkpoints object (U.used used.now)) place) }
     ensures numbers { IfSome result FirstNumbers }
 {
-    a_block_begins_with_its_kind();
+    blocks_have_their_parts();
     let bytes = bytes_at(used, BlockKind::Checkpoint, object, place)?;
     decode_first_block(&bytes)
 }
@@ -46,9 +44,7 @@ fn read_part<U: UsedBlocks>(
         (part_in (of_checkpoints object (U.used used.now)) first.now part place) }
     ensures numbers { IfSome result ArePart }
 {
-    a_block_begins_with_its_kind();
-    a_part_is_in_its_block();
-    blocks_tell_their_checkpoint();
+    blocks_have_their_parts();
     let Some(place) = place else {
         return Some([None; CHECKPOINT_POINTERS]);
     };
@@ -71,7 +67,7 @@ pub fn read_checkpoint<U: UsedBlocks>(used: &U, object: ObjectId, place: Ptr) ->
     ensures exact { result ≡ checkpoint_held (U.used used.now) object place }
     ensures numbers { IfSome result CheckpointNumbers }
 {
-    blocks_tell_their_checkpoint();
+    blocks_have_their_parts();
     let first = read_first(used, object, place)?;
     let one = read_part(used, object, &first, 1, place_of(&first, 0))?;
     let two = read_part(used, object, &first, 2, place_of(&first, 1))?;

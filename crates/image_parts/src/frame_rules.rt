@@ -7,7 +7,7 @@ ghost use Rattle.image_parts.specs.Frames.{HasNoParts, IsReadOf};
 
 use crate::frames::FramePart;
 use block_log::Block;
-use codec::laws::one_summary_a_spelling;
+use codec::laws::a_summary_has_one_encoding;
 use codec::{ImageVersion, Summary, decode_summary, has_no_parts};
 use s4_types::limits::PAYLOAD_BLOCKS;
 
@@ -115,7 +115,7 @@ fn is_without_parts(frame: &FramePart<'_>, read: &FrameRead) -> bool
     requires { IsReadOf frame.now read.now }
     ensures { MatchBool result (HasNoParts frame.now) (HasNoParts frame.now → ⊥) }
 {
-    one_summary_a_spelling();
+    a_summary_has_one_encoding();
     match read {
         FrameRead::Free => true,
         FrameRead::Used(summary) => has_no_parts(summary),

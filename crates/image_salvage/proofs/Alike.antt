@@ -21,7 +21,7 @@ use Rattle.verifier.specs.Tables.{no_part, IsFrameOf, IsTableOf}
 use Rattle.image_salvage.specs.Frames.{IsWhole, HasBlocksOf, IsSeen, Sees, AreLostOf}
 use Rattle.image_salvage.proofs.Seeing.{OneSummaryASpelling}
 
--- what rules_of_a_summary tells
+-- what the rules of a summary are
 abbrev pub RulesOfASummary : Type 0
 RulesOfASummary = (s : SummaryFields) → (summary_rules s ≡ true) ↔ KeepsSummaryRules s
 

@@ -13,7 +13,7 @@ use Rattle.segment_table.specs.declared.slots.Slot.{Slot}
 use Rattle.segment_table.specs.Table.{Table, slots_at}
 use Rattle.image_salvage.specs.Searching.{IsFrameAt, IsWithin, AreFound, AreFoundTo, HasBlocksAt, IsTaken, IsMissing, Finds, FindsTo}
 
--- what one_summary_a_spelling tells
+-- no two summaries share an encoding
 abbrev pub OneSummaryASpelling : Type 0
 OneSummaryASpelling = (payload : List (List ℕ)) (block : List ℕ) (s t : SummaryFields) → SpellsSummary payload block s → SpellsSummary payload block t → s ≡ t
 

@@ -14,7 +14,7 @@ use Rattle.segment_table.specs.Table.{Table, slots_at}
 use Rattle.verifier.specs.Tables.{no_part}
 use Rattle.image_salvage.specs.Frames.{IsWhole, IsSeen, Sees, IsLostFrame, AreLostOf, ChangesAlone, NotesLost}
 
--- what one_summary_a_spelling tells
+-- no two summaries share an encoding
 abbrev pub OneSummaryASpelling : Type 0
 OneSummaryASpelling = (payload : List (List ℕ)) (block : List ℕ) (s t : SummaryFields) → SpellsSummary payload block s → SpellsSummary payload block t → s ≡ t
 

@@ -1,7 +1,7 @@
 //! Laws of salvage, for the layers above: each function does nothing, and its contract is the law.
 ghost use Rattle.image_salvage.specs.Laws.{AnUndamagedImageIsSalvagedWhole, WhatIsWholeIsAll};
 
-use codec::laws::{one_pointer_a_spelling, one_summary_a_spelling, rules_of_a_summary};
+use codec::laws::{a_summary_has_one_encoding, one_pointer_a_spelling};
 use image_objects::laws::inodes_used_point_to_what_rows_lead_to;
 use inode::laws::only_its_blocks_matter;
 use undo_redo::laws::entries_determine_a_run;
@@ -12,8 +12,7 @@ use verifier::laws::{what_has_a_fault_spells_nothing, what_has_no_fault_is_an_im
 pub fn an_undamaged_image_is_salvaged_whole()
     ensures { AnUndamagedImageIsSalvagedWhole }
 {
-    rules_of_a_summary();
-    one_summary_a_spelling();
+    a_summary_has_one_encoding();
     one_pointer_a_spelling();
     entries_determine_a_run();
     inodes_used_point_to_what_rows_lead_to();

@@ -28,17 +28,13 @@ pub fn touched_blocks_have_a_byte()
 {}
 
 /// Ranges of bytes, told by their places: two in a row are one, a part of one is one, and a list is
-/// the range that has its length and its elements.
-#[tactic(auto, using(crate::proofs::Ranges::ranges_join, crate::proofs::Ranges::parts, crate::proofs::Ranges::list_is, crate::proofs::Ranges::equal_ranges))]
+/// the range that has its length and its elements. The bytes of an inode from an offset on are a
+/// range of those that its blocks say.
+#[tactic(auto, using(crate::proofs::Ranges::ranges_join, crate::proofs::Ranges::parts, crate::proofs::Ranges::list_is, crate::proofs::Ranges::equal_ranges, crate::proofs::Ranges::from_an_offset))]
 pub fn ranges_join_and_part()
     ensures join { RangesJoin }
     ensures part { ARangeHasParts }
     ensures list { AListIsARange }
     ensures equal { EqualRanges }
-{}
-
-/// The bytes of an inode from an offset on are a range of those that its blocks tell.
-#[tactic(auto, using(crate::proofs::Ranges::from_an_offset))]
-pub fn bytes_from_an_offset()
-    ensures { BytesFromAnOffset }
+    ensures offset { BytesFromAnOffset }
 {}

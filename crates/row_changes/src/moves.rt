@@ -25,7 +25,7 @@ use checkpoint::placed_blocks;
 use codec::{Entry, Inode};
 use journal_chain::Chain;
 use journal_chain::packing::blocks_needed;
-use journal_chain::packing::laws::{chains_are_short, few_blocks_are_needed};
+use journal_chain::packing::laws::chains_are_short;
 use object_map::Row;
 use s4_types::limits::CHAIN_ENTRIES;
 use s4_types::{ObjectId, Refusal};
@@ -75,7 +75,7 @@ pub fn moved_blocks<B: Blocks>(table: &mut B, object: ObjectId, row: &Row) -> us
     ensures blocks { result ≡ row_blocks (B.log table.old).held object row.now }
     ensures same { B.log table.new ≡ B.log table.old }
 {
-    few_blocks_are_needed();
+    chains_are_short();
     let sizes = sizes_told(table, object, row);
     standing_blocks(table, object, row) + blocks_needed(0, sizes.as_slice())
 }

@@ -35,7 +35,7 @@ use codec::{Entry, Inode};
 use journal_chain::Chain;
 use journal_chain::laws::a_chain_is_in_its_journal_blocks;
 use journal_chain::packing::blocks_needed;
-use journal_chain::packing::laws::{chains_are_short, few_blocks_are_needed};
+use journal_chain::packing::laws::chains_are_short;
 use object_map::Row;
 use s4_types::limits::CHAIN_ENTRIES;
 use s4_types::{Moment, ObjectId, Ptr, Refusal};
@@ -61,7 +61,6 @@ pub fn journal_blocks(entries: &[Entry]) -> usize
     ensures few { result ≤ CHAIN_ENTRIES }
 {
     chains_are_short();
-    few_blocks_are_needed();
     let sizes = sizes_of(entries);
     blocks_needed(0, sizes.as_slice())
 }

@@ -25,7 +25,7 @@ ghost use Rattle.segment_table.specs.private.Storing.{AreStored};
 use crate::segments::Segments;
 use crate::slots::{Slots, no_slots};
 use block_log::Block;
-use codec::laws::rules_of_a_summary;
+use codec::laws::a_summary_has_one_encoding;
 use codec::{BlockRole, Summary};
 use s4_types::limits::FRAME_BLOCKS;
 use s4_types::{Ptr, Refusal};
@@ -194,7 +194,7 @@ impl TableBuilder {
         ensures slots { self.new.slots ≡ slice_set self.old.slots frame (unheld summary.now.roles) }
         ensures held { (q : Place) → held_at self.new q ≡ held_at self.old q }
     {
-        rules_of_a_summary();
+        a_summary_has_one_encoding();
         let number = frame as usize;
         store_all(&mut self.words, number, blocks);
         self.words.set_state(number, state, summary.generation());

@@ -21,7 +21,7 @@ ghost use Rattle.time_read.specs.private.Planning.{CountsOn, Locates, AddsPiece}
 
 use block_log::{Block, Blocks};
 use codec::Inode;
-use inode::laws::{bytes_from_an_offset, ranges_join_and_part};
+use inode::laws::ranges_join_and_part;
 use inode::zero_block;
 use s4_types::limits::BLOCK_BYTES;
 use s4_types::{Ptr, Refusal};
@@ -370,7 +370,6 @@ pub fn plan(
     ensures same { table.new ≡ table.old }
 {
     ranges_join_and_part();
-    bytes_from_an_offset();
     let left = (inode.size as u64).saturating_sub(offset);
     let count = wanted.min(left) as usize;
     let start = offset as usize;

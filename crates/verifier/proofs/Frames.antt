@@ -18,7 +18,7 @@ use Rattle.segment_table.specs.Room.{is_filling, numbers}
 use Rattle.segment_table.specs.Sealing.{summary_of}
 use Rattle.verifier.specs.Tables.{no_part, IsFrameOf, IsTableOf}
 
--- what one_summary_a_spelling tells
+-- no two summaries share an encoding
 abbrev pub OneSummaryASpelling : Type 0
 OneSummaryASpelling = (payload : List (List ℕ)) (block : List ℕ) (s t : SummaryFields) → SpellsSummary payload block s → SpellsSummary payload block t → s ≡ t
 

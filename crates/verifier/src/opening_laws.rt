@@ -16,7 +16,7 @@ ghost use Rattle.verifier.specs.Saved.{SpellsSaved};
 ghost use Rattle.verifier.specs.Opened.{IsOpenedOf, IsToldBy, IsNamedOf, TellsBase};
 
 use crate::laws::{one_image_a_drive, what_has_no_fault_is_an_image};
-use codec::laws::{one_pointer_a_spelling, one_summary_a_spelling};
+use codec::laws::{a_summary_has_one_encoding, one_pointer_a_spelling};
 use drive::laws::a_base_is_what_its_objects_stand_for;
 use image_objects::laws::an_object_that_stands_is_held;
 use image_objects::saving_laws::a_saved_row_tells_the_same;
@@ -31,7 +31,7 @@ pub fn an_opened_drive_begins_as_its_image_tells()
 {
     a_base_is_what_its_objects_stand_for();
     an_object_that_stands_is_held();
-    one_summary_a_spelling();
+    a_summary_has_one_encoding();
     one_pointer_a_spelling();
 }
 
@@ -60,7 +60,7 @@ pub fn what_is_saved_goes_on()
         → GoesOn (history_of d) (beginning base) }
 {
     what_has_no_fault_is_an_image();
-    one_summary_a_spelling();
+    a_summary_has_one_encoding();
     one_pointer_a_spelling();
     a_saved_row_tells_the_same();
     only_its_blocks_matter();

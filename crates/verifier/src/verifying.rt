@@ -19,7 +19,7 @@ ghost use Rattle.verifier.specs.private.Rest.{FirstRestCause};
 use crate::images::Image;
 use crate::objects::{Read, read_objects};
 use crate::tables::read_frames;
-use codec::laws::one_summary_a_spelling;
+use codec::laws::a_summary_has_one_encoding;
 use image_objects::laws::{
     an_object_that_stands_is_held, kept_rows_are_listed, rows_that_stand_make_a_store,
     rows_that_stand_tell_few,
@@ -61,7 +61,7 @@ fn read_chains(
     ensures none { IfOk result (λ found. IfNone found (ChainsStand parts.now → ⊥)) }
     ensures refusal { IfErr result (λ e. e ≡ NoMemory) }
 {
-    one_summary_a_spelling();
+    a_summary_has_one_encoding();
     let Some(read) = read_objects(alloc, table, parts, parts.header().clock)? else {
         return Ok(None);
     };

@@ -17,7 +17,7 @@ ghost use Rattle.s4_model.specs.Effect.{object_of};
 use codec::Inode;
 use inode::{blocks_of_truncate, blocks_of_write};
 use journal_chain::packing::blocks_needed;
-use journal_chain::packing::laws::few_blocks_are_needed;
+use journal_chain::packing::laws::chains_are_short;
 use object_map::Row;
 use s4_types::limits::{BLOCK_BYTES, CHAIN_ENTRY_BYTES, OBJECT_BLOCKS};
 use s4_types::{Change, ObjectId, Refusal};
@@ -165,7 +165,7 @@ pub(crate) fn bytes_of_entries(
     ensures answer { MatchResult result (λ _. refusal_by space change.now row.now inode.now ≡ None)
         (λ e. refusal_by space change.now row.now inode.now ≡ Some e) }
 {
-    few_blocks_are_needed();
+    chains_are_short();
     let sizes = sizes_of(change, inode);
     let bytes = total(sizes.as_slice());
     if row.journal_bytes as usize + bytes > CHAIN_ENTRY_BYTES {

@@ -38,7 +38,7 @@ use chain_rewriting::renaming_laws::{
 };
 use checkpoint::laws::a_checkpoint_is_in_its_blocks;
 use inode::laws::{held_pointers_lead, only_its_blocks_matter};
-use journal_chain::packing::laws::{bytes_add_up, few_blocks_are_needed};
+use journal_chain::packing::laws::{bytes_add_up, chains_are_short};
 use row_changes::laws::{
     a_fresh_row_stands, a_row_is_by_later_moments, a_row_keeps_the_making, the_last_inode_stays,
 };
@@ -174,7 +174,7 @@ pub(crate) fn what_changes_rest_on()
     entries_determine_a_run();
     groups_part_at_a_moment();
     bytes_add_up();
-    few_blocks_are_needed();
+    chains_are_short();
     a_checkpoint_is_in_its_blocks();
 }
 

@@ -79,7 +79,8 @@ pub fn bytes_add_up()
 
 /// A chain is short: two neighbouring blocks have more than `JOURNAL_ENTRY_BYTES` of entries
 /// together, so entries of at most `CHAIN_ENTRY_BYTES` are packed in at most `CHAIN_BLOCKS` blocks;
-/// and they are at most `CHAIN_ENTRIES`.
+/// and they are at most `CHAIN_ENTRIES`. A push of entries appends a block at least, and at most one
+/// an entry.
 pub fn chains_are_short()
     ensures neighbours { (newer previous : List EntryFields) (older : List (List EntryFields)) → KeepsTheRule (newer ∷ previous ∷ older)
         → JOURNAL_ENTRY_BYTES < entries_length newer + entries_length previous }
@@ -89,6 +90,9 @@ pub fn chains_are_short()
         → entries_length entries ≤ CHAIN_ENTRY_BYTES → length (packed entries) ≤ CHAIN_BLOCKS }
     ensures entries { (entries : List EntryFields)
         → entries_length entries ≤ CHAIN_ENTRY_BYTES → length entries ≤ CHAIN_ENTRIES }
+    ensures least { (filled : ℕ) (sizes : List ℕ) → 0 < length sizes
+        → 0 < blocks_needed filled sizes }
+    ensures most { (filled : ℕ) (sizes : List ℕ) → blocks_needed filled sizes ≤ length sizes }
 {
     entry_is_so_long();
 }
@@ -119,11 +123,4 @@ pub fn filled_bytes_after()
     ensures { (blocks : List (List EntryFields)) (entries : List EntryFields)
         → filled_bytes (added blocks entries)
         ≡ filled_after (filled_bytes blocks) (map entry_length entries) }
-{}
-
-/// A push of entries appends a block at least, and at most one an entry.
-pub fn few_blocks_are_needed()
-    ensures least { (filled : ℕ) (sizes : List ℕ) → 0 < length sizes
-        → 0 < blocks_needed filled sizes }
-    ensures most { (filled : ℕ) (sizes : List ℕ) → blocks_needed filled sizes ≤ length sizes }
 {}

@@ -38,7 +38,7 @@ returns-clause-written g c =
       third = c.write_part-three.ensures.wrote;
       spells = subst (SpellsFirst c.encode_first_block-bytes.result) c.first_block-first.ensures.first c.encode_first_block-bytes.ensures;
     } in
-    let read : ReadLaws = record { first = c.a_checkpoint_is_read.ensures.first; part = c.a_checkpoint_is_read.ensures.pointers; first_begins = c.a_block_begins_with_its_kind.ensures.first; part_begins = c.a_block_begins_with_its_kind.ensures.pointers } in
+    let read : ReadLaws = record { first = c.a_checkpoint_is_its_blocks.ensures.first; part = c.a_checkpoint_is_its_blocks.ensures.pointers; first_begins = c.blocks_have_their_parts.ensures.first_begins; part_begins = c.blocks_have_their_parts.ensures.part_begins } in
     let whole : WholeLaws = record { whole = c.a_checkpoint_is_its_blocks.ensures.whole; told = c.a_checkpoint_is_its_blocks.ensures.told; holes = c.a_checkpoint_is_its_blocks.ensures.holes } in
     let all = ok_written read whole g.met.B.Blocks.one_place_has_one_name g.met.B.Blocks.an_append_puts_one_block c.args.checkpoint.now (g.B.Blocks.log c.args.table.now) (g.B.Blocks.log c.write_part-one.new.table) (g.B.Blocks.log c.write_part-two.new.table) (g.B.Blocks.log c.write_part-three.new.table) (g.B.Blocks.log c.append.new.self) c.write_part-one.result c.write_part-two.result c.write_part-three.result c.encode_first_block-bytes.result c.object.result c.object.ensures.object parts c.append.result c.append.ensures.appended c.append.ensures.fresh in
     ok_told c.args.checkpoint.now (g.B.Blocks.log c.args.table.now) (g.B.Blocks.log c.append.new.self) c.append.result all
@@ -53,7 +53,7 @@ returns-clause-growth g c =
       third = c.write_part-three.ensures.wrote;
       spells = subst (SpellsFirst c.encode_first_block-bytes.result) c.first_block-first.ensures.first c.encode_first_block-bytes.ensures;
     } in
-    let read : ReadLaws = record { first = c.a_checkpoint_is_read.ensures.first; part = c.a_checkpoint_is_read.ensures.pointers; first_begins = c.a_block_begins_with_its_kind.ensures.first; part_begins = c.a_block_begins_with_its_kind.ensures.pointers } in
+    let read : ReadLaws = record { first = c.a_checkpoint_is_its_blocks.ensures.first; part = c.a_checkpoint_is_its_blocks.ensures.pointers; first_begins = c.blocks_have_their_parts.ensures.first_begins; part_begins = c.blocks_have_their_parts.ensures.part_begins } in
     let whole : WholeLaws = record { whole = c.a_checkpoint_is_its_blocks.ensures.whole; told = c.a_checkpoint_is_its_blocks.ensures.told; holes = c.a_checkpoint_is_its_blocks.ensures.holes } in
     let all = ok_written read whole g.met.B.Blocks.one_place_has_one_name g.met.B.Blocks.an_append_puts_one_block c.args.checkpoint.now (g.B.Blocks.log c.args.table.now) (g.B.Blocks.log c.write_part-one.new.table) (g.B.Blocks.log c.write_part-two.new.table) (g.B.Blocks.log c.write_part-three.new.table) (g.B.Blocks.log c.append.new.self) c.write_part-one.result c.write_part-two.result c.write_part-three.result c.encode_first_block-bytes.result c.object.result c.object.ensures.object parts c.append.result c.append.ensures.appended c.append.ensures.fresh in
     ok_puts c.args.checkpoint.now (g.B.Blocks.log c.args.table.now) (g.B.Blocks.log c.append.new.self) c.append.result all
@@ -68,7 +68,7 @@ returns-clause-order g c =
       third = c.write_part-three.ensures.wrote;
       spells = subst (SpellsFirst c.encode_first_block-bytes.result) c.first_block-first.ensures.first c.encode_first_block-bytes.ensures;
     } in
-    let read : ReadLaws = record { first = c.a_checkpoint_is_read.ensures.first; part = c.a_checkpoint_is_read.ensures.pointers; first_begins = c.a_block_begins_with_its_kind.ensures.first; part_begins = c.a_block_begins_with_its_kind.ensures.pointers } in
+    let read : ReadLaws = record { first = c.a_checkpoint_is_its_blocks.ensures.first; part = c.a_checkpoint_is_its_blocks.ensures.pointers; first_begins = c.blocks_have_their_parts.ensures.first_begins; part_begins = c.blocks_have_their_parts.ensures.part_begins } in
     let whole : WholeLaws = record { whole = c.a_checkpoint_is_its_blocks.ensures.whole; told = c.a_checkpoint_is_its_blocks.ensures.told; holes = c.a_checkpoint_is_its_blocks.ensures.holes } in
     let all = ok_written read whole g.met.B.Blocks.one_place_has_one_name g.met.B.Blocks.an_append_puts_one_block c.args.checkpoint.now (g.B.Blocks.log c.args.table.now) (g.B.Blocks.log c.write_part-one.new.table) (g.B.Blocks.log c.write_part-two.new.table) (g.B.Blocks.log c.write_part-three.new.table) (g.B.Blocks.log c.append.new.self) c.write_part-one.result c.write_part-two.result c.write_part-three.result c.encode_first_block-bytes.result c.object.result c.object.ensures.object parts c.append.result c.append.ensures.appended c.append.ensures.fresh in
     ok_order c.args.checkpoint.now (g.B.Blocks.log c.args.table.now) (g.B.Blocks.log c.append.new.self) c.append.result all

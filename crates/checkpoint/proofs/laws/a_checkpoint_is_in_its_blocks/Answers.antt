@@ -6,16 +6,16 @@ use Rattle.checkpoint.proofs.laws.a_checkpoint_is_in_its_blocks.Goals as goal
 pub returns : goal.returns
 returns c =
     let blocks : BlockLaws = record {
-      first_begins = c.a_block_begins_with_its_kind.ensures.first;
-      part_begins = c.a_block_begins_with_its_kind.ensures.pointers;
-      part = c.a_part_is_in_its_block.ensures;
+      first_begins = c.blocks_have_their_parts.ensures.first_begins;
+      part_begins = c.blocks_have_their_parts.ensures.part_begins;
+      part = c.blocks_have_their_parts.ensures.part;
     } in
     let pointers : PointerLaws = record {
-      first = c.a_first_block_has_all_pointers.ensures.pointers;
-      one = c.blocks_tell_their_checkpoint.ensures.one;
-      two = c.blocks_tell_their_checkpoint.ensures.two;
-      three = c.blocks_tell_their_checkpoint.ensures.three;
-      holes = c.blocks_tell_their_checkpoint.ensures.holes;
+      first = c.blocks_have_their_parts.ensures.pointers;
+      one = c.blocks_have_their_parts.ensures.one;
+      two = c.blocks_have_their_parts.ensures.two;
+      three = c.blocks_have_their_parts.ensures.three;
+      holes = c.blocks_have_their_parts.ensures.holes;
     } in
     record {
       same = λ held later o p same. told_same (of_checkpoints o held) (of_checkpoints o later) p same;
@@ -23,9 +23,9 @@ returns c =
       held = blocks_there blocks c.one_place_has_one_name.ensures;
       first = λ held o p. first_place (of_checkpoints o held) p;
       once = once blocks c.one_place_has_one_name.ensures;
-      placed = placed blocks pointers c.blocks_tell_their_checkpoint.ensures.whole;
+      placed = placed blocks pointers c.blocks_have_their_parts.ensures.whole;
       some = some_block;
       few = few_blocks;
       holes = as_many_blocks;
-      apart = one_moment blocks c.blocks_tell_their_checkpoint.ensures.whole c.one_place_has_one_name.ensures;
+      apart = one_moment blocks c.blocks_have_their_parts.ensures.whole c.one_place_has_one_name.ensures;
     }

@@ -56,6 +56,6 @@ returns-clause-bytes c =
     let count_is : c.min-count.result ≡ min c.args.wanted (c.args.inode.now.size - c.args.offset) = c.min-count.ensures ∙ ap (min c.args.wanted) c.saturating_sub-left.ensures in
     let behind : c.block_behind-end.result ≡ c.args.offset / 512 + touched_count c.args.offset (min c.args.wanted (c.args.inode.now.size - c.args.offset)) =
     c.block_behind-end.ensures ∙ ap (λ (n : ℕ). c.args.offset / 512 + touched_count c.args.offset n) count_is in
-    planned_bytes c.ranges_join_and_part.ensures.equal c.bytes_from_an_offset.ensures c.args.table.now c.args.inode.now c.args.offset c.args.wanted (c.loop-index.index - c.args.offset / 512) c.loop-index.plan c.loop-index.invariant.planned
+    planned_bytes c.ranges_join_and_part.ensures.equal c.ranges_join_and_part.ensures.offset c.args.table.now c.args.inode.now c.args.offset c.args.wanted (c.loop-index.index - c.args.offset / 512) c.loop-index.plan c.loop-index.invariant.planned
     (passed (touched_count c.args.offset (min c.args.wanted (c.args.inode.now.size - c.args.offset))) (c.args.offset / 512) c.block_behind-end.result c.loop-index.index behind c.loop-index-test.false (c.loop-index.auto.index-end (omega (arith, behind))))
     c.loop-index.invariant.skip (c.loop-index.invariant.length ∙ count_is)

@@ -21,7 +21,7 @@ invariant_of-self c =
     let are : AreUsed c.self.inside.words c.set_state.new.self c.self.inside.slots.items f (phase_in c.args.state) c.self.inside.current c.args.summary.now.roles =
     used_builder c.self.inside.words c.store_all.new.words c.set_state.new.self c.self.inside.slots.items f c.generation.result (phase_in c.args.state) c.self.inside.current c.args.summary.now c.args.blocks.now c.self.invariant
     (subst I (sym c.self.view_is) c.requires.inside) (subst F (sym c.self.view_is) c.requires.free) c.store_all.ensures c.set_state.ensures c.generation.ensures.generation
-    ((c.rules_of_a_summary.ensures c.args.summary.now).0 c.roles.ensures.rules) c.requires.number c.requires.spelled c.told-blocks c.requires.state c.requires.room (subst N (sym c.self.view_is) c.requires.one_open) in
+    ((c.a_summary_has_one_encoding.ensures.rules c.args.summary.now).0 c.roles.ensures.rules) c.requires.number c.requires.spelled c.told-blocks c.requires.state c.requires.room (subst N (sym c.self.view_is) c.requires.one_open) in
     let S : List Slot → Type 0 = λ l. IsSoundToBuild (unnamed c.set_state.new.self (set c.self.inside.slots.items f l)) c.open_after-self-inside.result in
     let O : Option ℕ → Type 0 = λ o. IsSoundToBuild (unnamed c.set_state.new.self (set c.self.inside.slots.items f (unheld c.args.summary.now.roles))) o in
     subst S (sym (c.unheld.ensures ∙ ap unheld c.roles.ensures.roles)) (subst O (sym c.open_after-self-inside.ensures) are.sound)
@@ -37,7 +37,7 @@ returns-clause-alone c =
     let are : AreUsed c.self.inside.words c.set_state.new.self c.self.inside.slots.items f (phase_in c.args.state) c.self.inside.current c.args.summary.now.roles =
     used_builder c.self.inside.words c.store_all.new.words c.set_state.new.self c.self.inside.slots.items f c.generation.result (phase_in c.args.state) c.self.inside.current c.args.summary.now c.args.blocks.now c.self.invariant
     (subst I (sym c.self.view_is) c.requires.inside) (subst F (sym c.self.view_is) c.requires.free) c.store_all.ensures c.set_state.ensures c.generation.ensures.generation
-    ((c.rules_of_a_summary.ensures c.args.summary.now).0 c.roles.ensures.rules) c.requires.number c.requires.spelled c.told-blocks c.requires.state c.requires.room (subst N (sym c.self.view_is) c.requires.one_open) in
+    ((c.a_summary_has_one_encoding.ensures.rules c.args.summary.now).0 c.roles.ensures.rules) c.requires.number c.requires.spelled c.told-blocks c.requires.state c.requires.room (subst N (sym c.self.view_is) c.requires.one_open) in
     subst A c.self.view_is are.alone
 
 pub returns-clause-held : goal.returns-clause-held
@@ -50,7 +50,7 @@ returns-clause-held c =
     let are : AreUsed c.self.inside.words c.set_state.new.self c.self.inside.slots.items f (phase_in c.args.state) c.self.inside.current c.args.summary.now.roles =
     used_builder c.self.inside.words c.store_all.new.words c.set_state.new.self c.self.inside.slots.items f c.generation.result (phase_in c.args.state) c.self.inside.current c.args.summary.now c.args.blocks.now c.self.invariant
     (subst I (sym c.self.view_is) c.requires.inside) (subst F (sym c.self.view_is) c.requires.free) c.store_all.ensures c.set_state.ensures c.generation.ensures.generation
-    ((c.rules_of_a_summary.ensures c.args.summary.now).0 c.roles.ensures.rules) c.requires.number c.requires.spelled c.told-blocks c.requires.state c.requires.room (subst N (sym c.self.view_is) c.requires.one_open) in
+    ((c.a_summary_has_one_encoding.ensures.rules c.args.summary.now).0 c.roles.ensures.rules) c.requires.number c.requires.spelled c.told-blocks c.requires.state c.requires.room (subst N (sym c.self.view_is) c.requires.one_open) in
     let S : List Slot → Type 0 = λ l. (q : Place) → held_at (unnamed c.set_state.new.self (set c.self.inside.slots.items f l)) q ≡ held_at old q in
     let T : Table → Type 0 = λ t. (q : Place) → held_at (unnamed c.set_state.new.self (set c.self.inside.slots.items f c.unheld.result)) q ≡ held_at t q in
     subst T c.self.view_is (subst S (sym (c.unheld.ensures ∙ ap unheld c.roles.ensures.roles)) are.held)
