@@ -12,7 +12,6 @@ ghost use Rattle.s4_types.specs.declared.limits.TheConstants.{CHECKPOINT_BLOCKS,
 ghost use Rattle.s4_types.specs.declared.refusals.Refusal.TheVariants.{NoMemory, NoSpace};
 
 use block_log::{Block, BlockKind, Blocks};
-use codec::laws::a_checkpoint_is_its_blocks;
 use codec::part_laws::{a_checkpoint_is_its_blocks, blocks_have_their_parts};
 use codec::{
     Checkpoint, FirstBlock, Inode, PartPointers, are_holes, decode_first_block, encode_first_block,

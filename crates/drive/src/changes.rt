@@ -16,13 +16,11 @@ ghost use Rattle.drive.specs.Answering.{ComesTo, size_by};
 use crate::acceptance::accept;
 use crate::drive::Drive;
 use crate::judgements::{judge, object_of};
+use crate::laws::what_changes_of_objects_rest_on;
 use crate::session::Session;
 use codec::Inode;
-use inode::laws::bytes_are_the_blocks_joined;
-use s4_model::laws::histories_go_on_record_by_record;
 use s4_types::{Change, Moment, ObjectId, ObjectRequest, Refusal, Reply};
 use segment_word::Naming;
-use version_store::laws::the_present_stays;
 
 /// The moment of a change that is asked for at a moment: the greater of that and the clock plus
 /// one.
@@ -90,9 +88,7 @@ impl<J: Naming> Drive<J> {
         ensures refused { IfErr result
             (λ e. later_refusal (state_in self.now) (Update update) ≡ Some e) }
     {
-        the_present_stays();
-        bytes_are_the_blocks_joined();
-        histories_go_on_record_by_record();
+        what_changes_of_objects_rest_on();
         let object = object_of(self.next, &update);
         let found = self.store.present(object);
         let clock = self.window.clock();
@@ -113,8 +109,7 @@ impl<J: Naming> Drive<J> {
         ensures { ComesTo (later_refusal (state_in self.old) (Update update)) self.old self.new
             session.old session.new (Update update) now result }
     {
-        the_present_stays();
-        histories_go_on_record_by_record();
+        what_changes_of_objects_rest_on();
         let Judged { change, moment } = self.judge_object(update, now)?;
         self.store.take(&change, moment)?;
         self.window.stamp(now);

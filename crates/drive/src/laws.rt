@@ -3,7 +3,16 @@
 ghost use Rattle.drive.specs.Opened.{ARowTellsItsVersions, ARowsVersionsAscend};
 ghost use Rattle.drive.specs.Opened.{ABaseTellsTheStoresVersions, ABaseListsEachObjectOnce};
 ghost use Rattle.drive.specs.Opened.{ABaseListsRowsInOrder, AnOpenedDriveBeginsAsItsParts};
+ghost use Rattle.std.specs.Prelude.{◌≡◌};
+ghost use Rattle.s4_types.specs.History.{History, Took};
+ghost use Rattle.s4_types.specs.declared.changes.Accepted.{Accepted};
+ghost use Rattle.s4_model.specs.State.{state_of, grown, took};
+ghost use Rattle.s4_model.specs.Laws.{EveryStepKeepsSoundness};
+ghost use Rattle.inode.specs.Laws.{TheSizeCountsTheBytes};
+ghost use Rattle.version_store.specs.Laws.{ThePresentStays};
 
+use inode::laws::bytes_are_the_blocks_joined;
+use s4_model::laws::histories_go_on_record_by_record;
 use undo_redo::laws::groups_part_at_a_moment;
 use version_store::laws::the_present_stays;
 
@@ -24,4 +33,18 @@ pub fn a_base_is_what_its_objects_stand_for()
 {
     groups_part_at_a_moment();
     the_present_stays();
+}
+
+// What the crates below say of the present and of histories, for the functions that change an
+// object.
+pub(crate) fn what_changes_of_objects_rest_on()
+    ensures present { ThePresentStays }
+    ensures count { TheSizeCountsTheBytes }
+    ensures by_changes { (h : History) (a : Accepted)
+        → state_of (grown h (Took a)) ≡ took (state_of h) a }
+    ensures steps { EveryStepKeepsSoundness }
+{
+    the_present_stays();
+    bytes_are_the_blocks_joined();
+    histories_go_on_record_by_record();
 }

@@ -8,8 +8,8 @@ ghost use Rattle.history_restore.specs.Asking.{Grants, IsGiven, IsFullFor, IsWit
 ghost use Rattle.history_restore.specs.Asking.{StoresAsked};
 ghost use Rattle.history_restore.specs.Keeping.{LeavesPast, LeavesOthers};
 
+use crate::laws::what_requests_come_to;
 use drive::{Drive, Session};
-use s4_model::laws::{a_change_acts_at_its_moment, histories_go_on_record_by_record};
 use s4_types::{Moment, ObjectRequest, Refusal, Reply, Request};
 use segment_word::Naming;
 
@@ -35,8 +35,7 @@ pub(crate) fn ask<J: Naming>(
         (state_in drive.old) (state_in drive.new) }
     ensures past { LeavesPast (state_in drive.old) (state_in drive.new) }
 {
-    histories_go_on_record_by_record();
-    a_change_acts_at_its_moment();
+    what_requests_come_to();
     drive.rules();
     let request = Request::Update(update);
     if let Reply::Refused(refusal) = drive.request(session, request, now) {

@@ -7,10 +7,10 @@ ghost use Rattle.history_cleaner.specs.Cleaning.{IsClean};
 ghost use Rattle.history_restore.specs.Asking.{IsWithinChanges};
 ghost use Rattle.history_restore.specs.Room.{LeavesObjects, HidesBetween, IsOfNewest, begun_after};
 
+use crate::laws::what_requests_come_to;
 use codec::Entry;
 use drive::{Drive, Session};
 use history_cleaner::clean_object;
-use s4_model::laws::{a_flush_hides_exactly_its_span, histories_go_on_record_by_record};
 use s4_types::{AdminRequest, Moment, ObjectId, Refusal, Reply, Request, Span};
 use segment_word::Naming;
 use std::alloc::Global;
@@ -30,8 +30,7 @@ fn flush<J: Naming>(
     ensures objects { LeavesObjects (state_in drive.old) object (state_in drive.new) }
     ensures clock { IsWithinChanges (state_in drive.old) now 1 (state_in drive.new) }
 {
-    histories_go_on_record_by_record();
-    a_flush_hides_exactly_its_span();
+    what_requests_come_to();
     drive.rules();
     let request = Request::Control(AdminRequest::FlushO {
         object,

@@ -8,8 +8,8 @@ ghost use Rattle.history_restore.specs.Asking.{IsGiven};
 ghost use Rattle.history_restore.specs.Keeping.{LeavesPast};
 ghost use Rattle.history_restore.specs.Widening.{Widens, IsWidened, window_for};
 
+use crate::laws::what_requests_come_to;
 use drive::{Drive, Session};
-use s4_model::laws::{a_change_acts_at_its_moment, histories_go_on_record_by_record};
 use s4_types::{AdminRequest, Moment, Refusal, Reply, Request};
 use segment_word::Naming;
 
@@ -35,8 +35,7 @@ fn set_window<J: Naming>(
     ensures store { store_of drive.new ≡ store_of drive.old }
     ensures past { OnErr result (LeavesPast (state_in drive.old) (state_in drive.new)) }
 {
-    histories_go_on_record_by_record();
-    a_change_acts_at_its_moment();
+    what_requests_come_to();
     drive.rules();
     let request = Request::Control(AdminRequest::SetWindow { window });
     if let Reply::Refused(refusal) = drive.request(session, request, now) {

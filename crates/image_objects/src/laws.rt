@@ -52,22 +52,6 @@ pub fn what_is_named_is_held_of_each()
         × Contains (pointers_used used row) (Some p)) }
 {}
 
-/// The rows that a drive keeps of an image's are found by their objects: each row of the image, and
-/// no other; so none of an object above all of them.
-pub fn kept_rows_are_listed()
-    ensures listed { (used : Place → Option Stored) (rows : List ImageRow) (clock : ℕ)
-        (row : ImageRow) → RowsAscend clock 0 0 rows → Contains rows row
-        → row_of (kept_rows used rows) row.object ≡ Some (kept_row used row 0) }
-    ensures only { (used : Place → Option Stored) (rows : List ImageRow) (o : ℕ) (found : Row) → row_of (kept_rows used rows) o ≡ Some found
-        → (row : ImageRow) × Contains rows row × (row.object ≡ o) × (found ≡ kept_row used row 0) }
-    ensures none { (used : Place → Option Stored) (rows : List ImageRow) (o : ℕ)
-        → ((row : ImageRow) → Contains rows row → row.object ≡ o → ⊥)
-        → row_of (kept_rows used rows) o ≡ None }
-    ensures above { (used : Place → Option Stored) (rows : List ImageRow) (next o : ℕ)
-        → AllByRecursion (λ row. row.object < next) rows → next ≤ o
-        → row_of (kept_rows used rows) o ≡ None }
-{}
-
 /// Each data block that an inode of an image's row points to, at whatever moment, is one that the
 /// row refers to.
 pub fn inodes_used_point_to_what_rows_lead_to()
@@ -76,12 +60,43 @@ pub fn inodes_used_point_to_what_rows_lead_to()
     inodes_point_to_what_rows_name();
 }
 
-/// Where all rows of an image stand and just what they name is held, each of their objects is held
-/// as it is in the image.
-pub fn an_object_that_stands_is_held()
-    ensures { (used held : Place → Option Stored) (rows : List ImageRow) (row : ImageRow) (clock stamp : ℕ) → RowsAscend clock 0 0 rows → RowsStand used rows clock → HoldsWhatIsNamed used held rows → Contains rows row
+/// Rows that stand make a store.
+///
+/// `listed`, `only`, `none` and `above`: the rows that a drive keeps of an image's are found by their
+/// objects: each row of the image, and no other; so none of an object above all of them.
+///
+/// Where all rows of an image stand and just what they name is held: `object`: each of their objects
+/// is held as it is in the image. `few`: no place is in their pointers more than `ROW_POINTERS`
+/// times. `store`: where each data block also has as many names as their pointers refer to it, they
+/// make a store of a drive, whose last change was at the clock: of places that are fewer than 2^46,
+/// counted with those ahead.
+pub fn rows_that_stand_make_a_store()
+    ensures listed { (used : Place → Option Stored) (rows : List ImageRow) (clock : ℕ)
+        (row : ImageRow) → RowsAscend clock 0 0 rows → Contains rows row
+        → row_of (kept_rows used rows) row.object ≡ Some (kept_row used row 0) }
+    ensures only { (used : Place → Option Stored) (rows : List ImageRow) (o : ℕ) (found : Row)
+        → row_of (kept_rows used rows) o ≡ Some found
+        → (row : ImageRow) × Contains rows row × (row.object ≡ o) × (found ≡ kept_row used row 0) }
+    ensures none { (used : Place → Option Stored) (rows : List ImageRow) (o : ℕ)
+        → ((row : ImageRow) → Contains rows row → row.object ≡ o → ⊥)
+        → row_of (kept_rows used rows) o ≡ None }
+    ensures above { (used : Place → Option Stored) (rows : List ImageRow) (next o : ℕ)
+        → AllByRecursion (λ row. row.object < next) rows → next ≤ o
+        → row_of (kept_rows used rows) o ≡ None }
+    ensures object { (used held : Place → Option Stored) (rows : List ImageRow) (row : ImageRow)
+        (clock stamp : ℕ) → RowsAscend clock 0 0 rows → RowsStand used rows clock
+        → HoldsWhatIsNamed used held rows → Contains rows row
         → IsHeldAsUsed used held row clock stamp }
+    ensures few { (used held : Place → Option Stored) (rows : List ImageRow) (clock : ℕ) (p : Place)
+        → RowsAscend clock 0 0 rows → RowsStand used rows clock → HoldsWhatIsNamed used held rows
+        → times_told used rows p ≤ ROW_POINTERS }
+    ensures store { (used held : Place → Option Stored) (rows : List ImageRow) (clock : ℕ)
+        (log : Log) → RowsAscend clock 0 0 rows → RowsStand used rows clock
+        → HoldsWhatIsNamed used held rows → log.held ≡ held → NamesAreOfData log
+        → NamesAreCounted used log.named rows → log.spent + length log.ahead < 2 ^ 46
+        → IsStore (record { rows = kept_rows used rows; log = log; latest = clock }) }
 {
+    one_place_has_one_name();
     a_checkpoint_is_in_its_blocks();
     a_chain_that_stands_is_held();
     a_chain_is_in_its_journal_blocks();
@@ -90,30 +105,7 @@ pub fn an_object_that_stands_is_held()
     the_last_inode_is_current();
     only_its_blocks_matter();
     inodes_used_point_to_what_rows_lead_to();
-}
-
-/// Where all rows of an image stand and just what they name is held, no place is told by their
-/// pointers more than `ROW_POINTERS` times.
-pub fn rows_that_stand_tell_few()
-    ensures { (used held : Place → Option Stored) (rows : List ImageRow) (clock : ℕ) (p : Place) → RowsAscend clock 0 0 rows → RowsStand used rows clock → HoldsWhatIsNamed used held rows
-        → times_told used rows p ≤ ROW_POINTERS }
-{
-    one_place_has_one_name();
-    a_checkpoint_is_in_its_blocks();
-    an_object_that_stands_is_held();
     places_have_few_names();
-}
-
-/// Where all rows of an image stand and just what they name is held, and each data block has as
-/// many names as their pointers lead to it, they make a store of a drive, whose last change was at
-/// the clock: of places that are fewer than 2^46, counted with those ahead.
-pub fn rows_that_stand_make_a_store()
-    ensures { (used held : Place → Option Stored) (rows : List ImageRow) (clock : ℕ) (log : Log) → RowsAscend clock 0 0 rows → RowsStand used rows clock → HoldsWhatIsNamed used held rows
-        → log.held ≡ held → NamesAreOfData log → NamesAreCounted used log.named rows → log.spent + length log.ahead < 2 ^ 46 → IsStore (record { rows = kept_rows used rows; log = log; latest = clock }) }
-{
-    one_place_has_one_name();
-    a_checkpoint_is_in_its_blocks();
-    an_object_that_stands_is_held();
 }
 
 /// Where the moments of all chains, those of each chain told once, have no number twice, no moment

@@ -18,7 +18,7 @@ ghost use Rattle.verifier.specs.Opened.{IsOpenedOf, IsToldBy, IsNamedOf, TellsBa
 use crate::laws::{one_image_a_drive, what_has_no_fault_is_an_image};
 use codec::laws::{a_summary_has_one_encoding, one_pointer_a_spelling};
 use drive::laws::a_base_is_what_its_objects_stand_for;
-use image_objects::laws::an_object_that_stands_is_held;
+use image_objects::laws::rows_that_stand_make_a_store;
 use image_objects::saving_laws::a_saved_row_tells_the_same;
 use inode::laws::only_its_blocks_matter;
 
@@ -30,7 +30,7 @@ pub fn an_opened_drive_begins_as_its_image_tells()
         → IsToldBy parts (base_of (fields_of log_of opened.store) opened.timeline opened.next) }
 {
     a_base_is_what_its_objects_stand_for();
-    an_object_that_stands_is_held();
+    rows_that_stand_make_a_store();
     a_summary_has_one_encoding();
     one_pointer_a_spelling();
 }

@@ -20,10 +20,7 @@ use crate::images::Image;
 use crate::objects::{Read, read_objects};
 use crate::tables::read_frames;
 use codec::laws::a_summary_has_one_encoding;
-use image_objects::laws::{
-    an_object_that_stands_is_held, kept_rows_are_listed, rows_that_stand_make_a_store,
-    rows_that_stand_tell_few,
-};
+use image_objects::laws::rows_that_stand_make_a_store;
 use image_parts::laws::{a_list_has_few_spans, what_no_test_refuses_is_an_image};
 use image_parts::{ImageParts, has_digest, rows_keep_rules, spans_keep_rules, split_parts};
 use s4_types::{Cause, Refusal, Span};
@@ -79,9 +76,6 @@ fn image_of(parts: &ImageParts<'_>, read: Read, spans: Vec<Span>) -> Image
     ensures { IsImageOf parts.now result }
 {
     rows_that_stand_make_a_store();
-    rows_that_stand_tell_few();
-    an_object_that_stands_is_held();
-    kept_rows_are_listed();
     a_list_has_few_spans();
     let Read { table, objects } = read;
     table.rules();

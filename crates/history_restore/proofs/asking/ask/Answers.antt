@@ -11,13 +11,13 @@ returns-in-Refused g c =
     let after = history_of c.request.new.self in
     let role = c.args.session.now.role in
     let leaves = refused_leaves h after role (Update c.args.update) c.args.now c.request.result c.in-Refused.refusal
-    c.histories_go_on_record_by_record.ensures.by_moments c.rules.ensures.sound tt c.in-Refused.is c.request.ensures.step in
+    c.what_requests_come_to.ensures.by_moments c.rules.ensures.sound tt c.in-Refused.is c.request.ensures.step in
     record {
       granted = tt;
       refused = is_given h after role (Update c.args.update) c.args.now c.request.result c.in-Refused.refusal tt c.in-Refused.is c.request.ensures.step;
       stored = tt;
       full = full_refused c.args.drive.now c.request.new.self role (Update c.args.update) c.args.now c.request.result c.in-Refused.refusal tt c.in-Refused.is c.request.ensures.refused;
-      clock = clock_refused h after role (Update c.args.update) c.args.now c.request.result c.in-Refused.refusal c.histories_go_on_record_by_record.ensures.by_moments (no_read (Update c.args.update) tt) c.in-Refused.is c.request.ensures.step;
+      clock = clock_refused h after role (Update c.args.update) c.args.now c.request.result c.in-Refused.refusal c.what_requests_come_to.ensures.by_moments (no_read (Update c.args.update) tt) c.in-Refused.is c.request.ensures.step;
       others = leaves.others;
       past = leaves.past;
     }
@@ -28,13 +28,13 @@ returns g c =
     let after = history_of c.request.new.self in
     let role = c.args.session.now.role in
     let leaves = granted_leaves h after role (Update c.args.update) c.args.now c.request.result
-    c.histories_go_on_record_by_record.ensures.by_changes c.a_change_acts_at_its_moment.ensures.acts c.rules.ensures.sound tt c.in_default.not-Refused c.request.ensures.step in
+    c.what_requests_come_to.ensures.by_changes c.what_requests_come_to.ensures.acts c.rules.ensures.sound tt c.in_default.not-Refused c.request.ensures.step in
     record {
       granted = leaves.granted;
       refused = tt;
       stored = stored_granted c.args.drive.now c.request.new.self role (Update c.args.update) c.args.now c.request.result tt c.in_default.not-Refused c.request.ensures.step c.request.ensures.stored;
       full = tt;
-      clock = clock_granted h after role (Update c.args.update) c.args.now c.request.result c.histories_go_on_record_by_record.ensures.by_changes (no_read (Update c.args.update) tt) c.in_default.not-Refused c.request.ensures.step;
+      clock = clock_granted h after role (Update c.args.update) c.args.now c.request.result c.what_requests_come_to.ensures.by_changes (no_read (Update c.args.update) tt) c.in_default.not-Refused c.request.ensures.step;
       others = leaves.others;
       past = leaves.past;
     }

@@ -10,15 +10,15 @@ pub returns-in-Refused : goal.returns-in-Refused
 returns-in-Refused g c = record {
   hides = tt;
   objects = refused_flush (history_of c.args.drive.now) (history_of c.request.new.self) c.args.session.now.role c.args.object c.args.first c.args.last c.args.now c.request.result c.in-Refused.refusal
-      c.histories_go_on_record_by_record.ensures.by_moments c.rules.ensures.sound c.in-Refused.is c.request.ensures.step;
+      c.what_requests_come_to.ensures.by_moments c.rules.ensures.sound c.in-Refused.is c.request.ensures.step;
   clock = clock_refused (history_of c.args.drive.now) (history_of c.request.new.self) c.args.session.now.role (Control (FlushO c.args.object c.args.first c.args.last)) c.args.now c.request.result c.in-Refused.refusal
-      c.histories_go_on_record_by_record.ensures.by_moments (λ s r is. none-some r is) c.in-Refused.is c.request.ensures.step;
+      c.what_requests_come_to.ensures.by_moments (λ s r is. none-some r is) c.in-Refused.is c.request.ensures.step;
 }
 
 pub returns : goal.returns
 returns g c =
     let leaves = granted_flush (history_of c.args.drive.now) (history_of c.request.new.self) c.args.session.now.role c.args.object c.args.first c.args.last c.args.now c.request.result
-    c.histories_go_on_record_by_record.ensures.by_changes c.a_flush_hides_exactly_its_span.ensures.of_one c.rules.ensures.sound c.in_default.not-Refused c.request.ensures.step in
+    c.what_requests_come_to.ensures.by_changes c.what_requests_come_to.ensures.of_one c.rules.ensures.sound c.in_default.not-Refused c.request.ensures.step in
     let clock = clock_granted (history_of c.args.drive.now) (history_of c.request.new.self) c.args.session.now.role (Control (FlushO c.args.object c.args.first c.args.last)) c.args.now c.request.result
-    c.histories_go_on_record_by_record.ensures.by_changes (λ s r is. none-some r is) c.in_default.not-Refused c.request.ensures.step in
+    c.what_requests_come_to.ensures.by_changes (λ s r is. none-some r is) c.in_default.not-Refused c.request.ensures.step in
     record { hides = leaves.hides; objects = leaves.objects; clock = clock }

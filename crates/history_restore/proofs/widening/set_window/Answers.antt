@@ -11,12 +11,12 @@ returns-in-Refused-clause-refused g c =
 pub returns-in-Refused-clause-past : goal.returns-in-Refused-clause-past
 returns-in-Refused-clause-past g c =
     refused_window (history_of c.args.drive.now) (history_of c.request.new.self) c.args.session.now.role c.args.window c.args.now c.request.result c.in-Refused.refusal
-    c.histories_go_on_record_by_record.ensures.by_moments c.in-Refused.is c.request.ensures.step
+    c.what_requests_come_to.ensures.by_moments c.in-Refused.is c.request.ensures.step
 
 pub returns-clause-widened : goal.returns-clause-widened
 returns-clause-widened g c =
     granted_window (history_of c.args.drive.now) (history_of c.request.new.self) c.args.session.now.role c.args.window c.args.now c.request.result
-    c.histories_go_on_record_by_record.ensures.by_changes c.a_change_acts_at_its_moment.ensures.acts c.rules.ensures.sound c.in_default.not-Refused c.request.ensures.step
+    c.what_requests_come_to.ensures.by_changes c.what_requests_come_to.ensures.acts c.rules.ensures.sound c.in_default.not-Refused c.request.ensures.step
 
 pub returns-clause-store : goal.returns-clause-store
 returns-clause-store g c =

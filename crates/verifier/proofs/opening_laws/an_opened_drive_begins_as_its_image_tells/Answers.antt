@@ -4,4 +4,4 @@ use Rattle.verifier.proofs.opening_laws.an_opened_drive_begins_as_its_image_tell
 pub returns : goal.returns
 returns c =
     begins_as_told c.a_base_is_what_its_objects_stand_for.ensures.versions c.a_base_is_what_its_objects_stand_for.ensures.listed
-    c.an_object_that_stands_is_held.ensures c.a_summary_has_one_encoding.ensures.one c.one_pointer_a_spelling.ensures
+    c.rows_that_stand_make_a_store.ensures.object c.a_summary_has_one_encoding.ensures.one c.one_pointer_a_spelling.ensures

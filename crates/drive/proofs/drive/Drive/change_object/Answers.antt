@@ -35,7 +35,7 @@ invariant_of-self-2 g c =
     let stamped : c.stamp.result ≡ stamp s c.args.now = c.stamp.ensures.moment ∙ ap (λ (t : ℕ). max c.args.now (t + 1)) c.self.invariant.1.window.clock in (
       ap (λ (l : Ledger). l.history.base) c.accept.ensures.history ∙ c.self.invariant.0,
       subst (λ (n : ℕ). IsKeptDrive (state_of c.accept.new.history.history) (fields_of log_of c.take.new.self) c.stamp.new.self n) (sym c.next_after-self-inside.ensures)
-          (after_stored c.the_present_stays.ensures c.histories_go_on_record_by_record.ensures.by_changes c.self.inside.history c.accept.new.history c.session.inside.seat.seat store (fields_of log_of c.take.new.self) c.self.inside.window c.stamp.new.self c.self.inside.next c.args.now c.in_ok-change.field-0.moment change
+          (after_stored c.what_changes_of_objects_rest_on.ensures.present c.what_changes_of_objects_rest_on.ensures.by_changes c.self.inside.history c.accept.new.history c.session.inside.seat.seat store (fields_of log_of c.take.new.self) c.self.inside.window c.stamp.new.self c.self.inside.next c.args.now c.in_ok-change.field-0.moment change
           c.self.invariant.1 takes.ready
           (subst (λ (l : Ledger). HasNext (state_of l.history).next change) (sym ledger) c.in_ok-change.ensures.next)
           at c.accept.ensures.history

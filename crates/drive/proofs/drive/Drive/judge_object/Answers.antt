@@ -21,7 +21,7 @@ returns-in_err-change-clause-refused g c =
     let s : State = state_of c.self.inside.history.history in
     let store : StoreFields = fields_of log_of c.self.inside.store in
     let kept = c.self.invariant.1 in
-    let size : HasSize s c.args.update c.size_of.result = size_asked c.bytes_are_the_blocks_joined.ensures.count c.the_present_stays.ensures s store c.self.inside.window c.self.inside.next c.object_of-object.result store.latest (option_copied c.present-found.result) c.args.update c.size_of.result kept c.object_of-object.ensures refl c.present-found.ensures c.size_of.ensures in
+    let size : HasSize s c.args.update c.size_of.result = size_asked c.what_changes_of_objects_rest_on.ensures.count c.what_changes_of_objects_rest_on.ensures.present s store c.self.inside.window c.self.inside.next c.object_of-object.result store.latest (option_copied c.present-found.result) c.args.update c.size_of.result kept c.object_of-object.ensures refl c.present-found.ensures c.size_of.ensures in
     let judged = c.in_err-change.ensures.judged s (sym (c.clock-clock.ensures ∙ kept.window.clock)) (sym kept.next) size in
     let p = err_from_is_err_and c.from_residual.result c.from_residual.ensures.1 in
     rw (p.1, p.2) (subst (λ (d : DriveFields). later_refusal (state_in d) (Update c.args.update) ≡ Some c.in_err-change.field-0.0) c.self.view_is judged)
@@ -31,7 +31,7 @@ returns-clause-free g c =
     let s : State = state_of c.self.inside.history.history in
     let store : StoreFields = fields_of log_of c.self.inside.store in
     let kept = c.self.invariant.1 in
-    let size : HasSize s c.args.update c.size_of.result = size_asked c.bytes_are_the_blocks_joined.ensures.count c.the_present_stays.ensures s store c.self.inside.window c.self.inside.next c.object_of-object.result store.latest (option_copied c.present-found.result) c.args.update c.size_of.result kept c.object_of-object.ensures refl c.present-found.ensures c.size_of.ensures in
+    let size : HasSize s c.args.update c.size_of.result = size_asked c.what_changes_of_objects_rest_on.ensures.count c.what_changes_of_objects_rest_on.ensures.present s store c.self.inside.window c.self.inside.next c.object_of-object.result store.latest (option_copied c.present-found.result) c.args.update c.size_of.result kept c.object_of-object.ensures refl c.present-found.ensures c.size_of.ensures in
     let judged = c.in_ok-change.ensures.judged s (sym (c.clock-clock.ensures ∙ kept.window.clock)) (sym kept.next) size in
     subst (λ (d : DriveFields). later_refusal (state_in d) (Update c.args.update) ≡ None) c.self.view_is judged.0
 
@@ -40,7 +40,7 @@ returns-clause-asked g c =
     let s : State = state_of c.self.inside.history.history in
     let store : StoreFields = fields_of log_of c.self.inside.store in
     let kept = c.self.invariant.1 in
-    let size : HasSize s c.args.update c.size_of.result = size_asked c.bytes_are_the_blocks_joined.ensures.count c.the_present_stays.ensures s store c.self.inside.window c.self.inside.next c.object_of-object.result store.latest (option_copied c.present-found.result) c.args.update c.size_of.result kept c.object_of-object.ensures refl c.present-found.ensures c.size_of.ensures in
+    let size : HasSize s c.args.update c.size_of.result = size_asked c.what_changes_of_objects_rest_on.ensures.count c.what_changes_of_objects_rest_on.ensures.present s store c.self.inside.window c.self.inside.next c.object_of-object.result store.latest (option_copied c.present-found.result) c.args.update c.size_of.result kept c.object_of-object.ensures refl c.present-found.ensures c.size_of.ensures in
     let judged = c.in_ok-change.ensures.judged s (sym (c.clock-clock.ensures ∙ kept.window.clock)) (sym kept.next) size in
     subst (λ (d : DriveFields). change_of (state_in d) (Update c.args.update) ≡ Some c.in_ok-change.change) c.self.view_is judged.1
 
@@ -51,7 +51,7 @@ returns-clause-takes g c =
     let found : (option_copied c.present-found.result) ≡ inode_in store c.object_of-object.result store.latest = c.present-found.ensures in
     let allowed : IsAllowed c.self.inside.next (size_by (option_copied c.present-found.result)) c.in_ok-change.change = subst (λ size. IsAllowed c.self.inside.next size c.in_ok-change.change) c.size_of.ensures c.in_ok-change.ensures.allowed in
     subst (λ (d : DriveFields). Takes (store_of d) c.in_ok-change.change) c.self.view_is
-    (can_take c.the_present_stays.ensures s store c.self.inside.window c.self.inside.next c.object_of-object.result (option_copied c.present-found.result) c.in_ok-change.change c.self.invariant.1 found
+    (can_take c.what_changes_of_objects_rest_on.ensures.present s store c.self.inside.window c.self.inside.next c.object_of-object.result (option_copied c.present-found.result) c.in_ok-change.change c.self.invariant.1 found
     (c.in_ok-change.ensures.object ∙ sym c.object_of-object.ensures) c.in_ok-change.ensures.fits allowed)
 
 pub returns-clause-moment : goal.returns-clause-moment
@@ -64,7 +64,7 @@ returns-clause-sound g c =
     let s : State = state_of c.self.inside.history.history in
     let store : StoreFields = fields_of log_of c.self.inside.store in
     let kept = c.self.invariant.1 in
-    let size : HasSize s c.args.update c.size_of.result = size_asked c.bytes_are_the_blocks_joined.ensures.count c.the_present_stays.ensures s store c.self.inside.window c.self.inside.next c.object_of-object.result store.latest (option_copied c.present-found.result) c.args.update c.size_of.result kept c.object_of-object.ensures refl c.present-found.ensures c.size_of.ensures in
+    let size : HasSize s c.args.update c.size_of.result = size_asked c.what_changes_of_objects_rest_on.ensures.count c.what_changes_of_objects_rest_on.ensures.present s store c.self.inside.window c.self.inside.next c.object_of-object.result store.latest (option_copied c.present-found.result) c.args.update c.size_of.result kept c.object_of-object.ensures refl c.present-found.ensures c.size_of.ensures in
     let judged = c.in_ok-change.ensures.judged s (sym (c.clock-clock.ensures ∙ kept.window.clock)) (sym kept.next) size in
     subst (λ (d : DriveFields). IsSound (took (state_in d) (accepted_record (state_in d) c.in_ok-change.change c.args.now))) c.self.view_is
-    (sound_took c.histories_go_on_record_by_record.ensures.steps c.histories_go_on_record_by_record.ensures.by_changes c.self.inside.history.history (Update c.args.update) c.args.now c.in_ok-change.change kept.sound (admin_is_later s c.args.update c.requires.within ∙ judged.0) judged.1)
+    (sound_took c.what_changes_of_objects_rest_on.ensures.steps c.what_changes_of_objects_rest_on.ensures.by_changes c.self.inside.history.history (Update c.args.update) c.args.now c.in_ok-change.change kept.sound (admin_is_later s c.args.update c.requires.within ∙ judged.0) judged.1)
