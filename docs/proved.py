@@ -27,6 +27,7 @@ HISTORY = {"ledger", "state"}
 FUNCTION = re.compile(r"\s*(?:(pub) |pub\([^)]*\) )?(?:const |unsafe |final )*fn (\w+)(.*)")
 OWNER = re.compile(r"(?:pub )?(?:unsafe )?(impl|trait)\b(.*)")
 CLAUSE = re.compile(r"\s*ensures\s*(\w*)\s*\{")
+GHOST = re.compile(r"    ghost (\w+):")
 
 
 def without_parameters(text):
@@ -78,6 +79,14 @@ def functions(path):
             yield owner, bool(public) or all_public, name, contract(lines, at), rest.strip() in ("()", "() {}")
 
 
+def laws_of_traits(path):
+    """Yields of a file's traits: the trait, and each of its laws: the ghost members below its last function."""
+    for name, body in re.findall(r"^pub trait (\w+)[^\n]*\{\n(.*?)^\}", path.read_text(encoding="utf-8"), re.M | re.S):
+        lines = body.splitlines()
+        last = max((at for at, line in enumerate(lines) if FUNCTION.match(line)), default=len(lines))
+        yield from ((name, found.group(1)) for found in map(GHOST.match, lines[last + 1:]) if found)
+
+
 def exported(root):
     """The names that a crate hands out, and its public modules."""
     text = root.read_text(encoding="utf-8")
@@ -110,6 +119,9 @@ def calls_of(source):
                 said = ", ".join(filter(None, clauses) if law else shown(clauses))
                 row = f"`{name}`" + (f" ({said})" if said else "")
                 calls.setdefault("Laws" if law else owner, []).append(row)
+        for trait, law in laws_of_traits(path):
+            if trait in names:
+                calls.setdefault(trait, []).append(f"law `{law}`")
     return calls
 
 

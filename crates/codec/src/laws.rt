@@ -1,7 +1,7 @@
 //! Laws of the spellings, for the layers above: each function does nothing, and its contract is the
 //! law.
 
-ghost use Rattle.std.specs.Prelude.{◌≡◌, ◌↔◌, ℕ, ◌*◌, ◌≤◌, ◌++◌, true, List, length, Option, Some};
+ghost use Rattle.std.specs.Prelude.{◌≡◌, ◌↔◌, ℕ, ◌*◌, ◌≤◌, ◌++◌, true, List, length, Option};
 ghost use Rattle.s4_types.specs.declared.limits.TheConstants.{JOURNAL_ENTRY_BYTES, JOURNAL_ENTRIES};
 ghost use Rattle.s4_types.specs.declared.limits.TheConstants.{SHORTEST_ENTRY_BYTES};
 ghost use Rattle.s4_types.specs.declared.limits.TheConstants.{LONGEST_ENTRY_BYTES};
