@@ -62,8 +62,8 @@ pub fn fourteen_entries_fit()
 /// A summary has one encoding.
 ///
 /// Its rules are these: its generation is 1 to 2^32 - 2, one to 15 blocks are used, and each has an
-/// object. No two summaries share an encoding in front of the same payload blocks, and each encoding
-/// has 512 bytes.
+/// object. No two summaries share an encoding in front of the same payload blocks, and each
+/// encoding has 512 bytes.
 pub fn a_summary_has_one_encoding()
     ensures rules { (s : SummaryFields) → (summary_rules s ≡ true) ↔ KeepsSummaryRules s }
     ensures one { (payload : List (List ℕ)) (block : List ℕ) (s t : SummaryFields)

@@ -39,8 +39,8 @@ pub fn a_checkpoint_is_its_blocks()
 
 /// Each block of a checkpoint has its part.
 ///
-/// It begins with the number of its kind, a first block has as many pointers as it has room for, and
-/// one for each part, and what a block says of a part is in a pointer block of that part. Where
+/// It begins with the number of its kind, a first block has as many pointers as it has room for,
+/// and one for each part, and what a block says of a part is in a pointer block of that part. Where
 /// blocks say what a checkpoint is, its fields are theirs, and so are its parts.
 pub fn blocks_have_their_parts()
     ensures first_begins { (block : List ℕ) (f : FirstBlock) → all_of first_at block ≡ Some f

@@ -31,10 +31,10 @@ pub fn a_link_is_an_entry_redone_or_undone()
 
 /// The entries of a run determine it.
 ///
-/// It ends where redoing its entries ends, and begins where undoing them ends. A run of joined lists
-/// is a run of each, with one inode between them, and its object has one moment of its making. The
-/// inode current at a moment: all entries done; later entries change nothing; from the last moment
-/// on nothing changes.
+/// It ends where redoing its entries ends, and begins where undoing them ends. A run of joined
+/// lists is a run of each, with one inode between them, and its object has one moment of its
+/// making. The inode current at a moment: all entries done; later entries change nothing; from the
+/// last moment on nothing changes.
 pub fn entries_determine_a_run()
     ensures end { (i j : Inode) (entries : List EntryFields) → Run i entries j
         → j ≡ redone_all entries i }
@@ -60,11 +60,11 @@ pub fn entries_determine_a_run()
 
 /// Groups part at a moment.
 ///
-/// Groups stay groups where lists of entries are parted, and where the second list is later than the
-/// first; and their moments don't descend. Where moments don't descend, the inode current at a
-/// moment is the one of the run that comes after the last entry up to the moment: the run's last one
-/// where no entry is later. Where the last entry is later, the run without it ends with the entry
-/// undone, and the inode current at the moment is the same one.
+/// Groups stay groups where lists of entries are parted, and where the second list is later than
+/// the first; and their moments don't descend. Where moments don't descend, the inode current at a
+/// moment is the one of the run that comes after the last entry up to the moment: the run's last
+/// one where no entry is later. Where the last entry is later, the run without it ends with the
+/// entry undone, and the inode current at the moment is the same one.
 pub fn groups_part_at_a_moment()
     ensures join { (m : ℕ) (front back : List EntryFields) → grouped front ≡ true
         → grouped back ≡ true → AllBy m front → AllPast m back → grouped (front ++ back) ≡ true }

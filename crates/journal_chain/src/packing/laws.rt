@@ -79,8 +79,8 @@ pub fn bytes_add_up()
 
 /// A chain is short: two neighbouring blocks have more than `JOURNAL_ENTRY_BYTES` of entries
 /// together, so entries of at most `CHAIN_ENTRY_BYTES` are packed in at most `CHAIN_BLOCKS` blocks;
-/// and they are at most `CHAIN_ENTRIES`. A push of entries appends a block at least, and at most one
-/// an entry.
+/// and they are at most `CHAIN_ENTRIES`. A push of entries appends a block at least, and at most
+/// one an entry.
 pub fn chains_are_short()
     ensures neighbours { (newer previous : List EntryFields) (older : List (List EntryFields)) → KeepsTheRule (newer ∷ previous ∷ older)
         → JOURNAL_ENTRY_BYTES < entries_length newer + entries_length previous }
