@@ -79,12 +79,23 @@ pub trait Blocks {
     fn blocks_left(&self) -> usize
         ensures { result ≡ length (log self.now).ahead };
 
-    // Laws of logs, for the functions that change a table.
+    // Laws of logs, for the functions over any table. Places that the test finds to be one are equal.
     ghost one_place_has_one_name: { OnePlaceHasOneName };
+
+    // An append to a place that isn't held puts one block there and leaves all else.
     ghost an_append_puts_one_block: { AnAppendPutsOneBlock };
+
+    // Dropping a held block that is not of data takes it alone.
     ghost a_drop_takes_one_block: { ADropTakesOneBlock };
+
+    // An append takes the first place ahead, and a drop takes none, whatever is held there.
     ghost an_append_takes_one_place: { AnAppendTakesOnePlace };
+
     ghost a_drop_takes_no_place: { ADropTakesNoPlace };
+
+    // Where nothing changes, no place is taken, and two changes in turn take as many as both
+    // together.
     ghost no_change_takes_no_place: { NoChangeTakesNoPlace };
+
     ghost places_taken_add_up: { PlacesTakenAddUp };
 }

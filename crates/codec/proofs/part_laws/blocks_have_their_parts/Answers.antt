@@ -9,7 +9,9 @@ returns c = record {
   parts = λ block f e. (first_has block f e).1;
   part = tells;
   whole = joined_is;
-  one = part_one; two = part_two; three = part_three;
+  one = part_one;
+  two = part_two;
+  three = part_three;
   numbers = numbers_of;
   holes = holes_are;
 }

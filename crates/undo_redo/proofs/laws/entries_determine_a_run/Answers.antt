@@ -3,8 +3,14 @@ use Rattle.undo_redo.proofs.laws.entries_determine_a_run.Goals as goal
 
 pub returns : goal.returns
 returns c = record {
-  end = run_end; beginning = run_beginning;
-  join = run_join; part = run_part; joined = redone_all-append;
+  end = run_end;
+  beginning = run_beginning;
+  join = run_join;
+  part = run_part;
+  joined = redone_all-append;
   making = run_created;
-  done = all_done; later = later_nothing; since = since_last; shown = after-append;
+  done = all_done;
+  later = later_nothing;
+  since = since_last;
+  shown = after-append;
 }

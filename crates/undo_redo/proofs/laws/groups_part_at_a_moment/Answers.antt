@@ -4,9 +4,13 @@ use Rattle.undo_redo.proofs.laws.groups_part_at_a_moment.Goals as goal
 
 pub returns : goal.returns
 returns c = record {
-  join = grouped_join; front = grouped_front; back = grouped_back; ascend = grouped_ascends;
+  join = grouped_join;
+  front = grouped_front;
+  back = grouped_back;
+  ascend = grouped_ascends;
   parts = by_and_past;
   before = λ i k entries low t h r. (run_at i k entries low t h r).0;
   after = λ i k entries low t h r. (run_at i k entries low t h r).1;
-  undone = last_undone; stays = last_stays;
+  undone = last_undone;
+  stays = last_stays;
 }
