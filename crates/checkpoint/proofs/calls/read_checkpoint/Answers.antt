@@ -1,6 +1,11 @@
 use Rattle.std.proofs.Common.{◌∙◌}
+use Rattle.checkpoint.proofs.Dropping.{owns}
 use Rattle.checkpoint.proofs.Reading.{parts_there, still_there}
 use Rattle.checkpoint.proofs.calls.read_checkpoint.Goals as goal
+
+pub read_first-requires : goal.read_first-requires
+read_first-requires g c =
+    record { held = (owns (g.B.Blocks.log c.args.table.now).held c.args.object c.args.place c.requires.held).seen }
 
 pub read_part-requires : goal.read_part-requires
 read_part-requires g c =
