@@ -7,7 +7,7 @@ use Rattle.image_parts.specs.declared.frame_rules.FrameRead.TheVariants.{Free, U
 use Rattle.earlier_images.specs.declared.frames.EarlierFrame.{EarlierFrame}
 use Rattle.earlier_images.specs.Used.{AreFramesOf}
 
--- what one_summary_a_spelling says
+-- what a_summary_has_one_encoding says of two summaries
 abbrev pub OneSummaryASpelling : Type 0
 OneSummaryASpelling = (payload : List (List ℕ)) (block : List ℕ) (s t : SummaryFields) → SpellsSummary payload block s → SpellsSummary payload block t → s ≡ t
 

@@ -14,7 +14,7 @@ ghost use Rattle.earlier_images.specs.Used.{AreFramesOf, used_in};
 ghost use Rattle.earlier_images.specs.Images.{EarlierFields, IsEarlierOf};
 ghost use Rattle.earlier_images.specs.Grammar.{SpellsEarlier, FirstEarlierFault};
 
-use codec::laws::{one_pointer_a_spelling, one_summary_a_spelling};
+use codec::laws::{a_summary_has_one_encoding, one_pointer_a_spelling};
 use image_parts::laws::images_of_a_version;
 
 /// Frames are read in one way, and so is what pointers name in them.
@@ -22,7 +22,7 @@ pub fn an_image_has_its_frames_once()
     ensures { (parts : List FrameFields) (frames others : List Frame) → AreFramesOf parts frames
         → AreFramesOf parts others → frames ≡ others }
 {
-    one_summary_a_spelling();
+    a_summary_has_one_encoding();
 }
 
 /// A pointer names in the frames of an image what it names in a table of these frames.
@@ -30,7 +30,7 @@ pub fn a_table_names_the_same()
     ensures { (parts : List FrameFields) (frames : List Frame) (t : Table) (p : Place)
         → AreFramesOf parts frames → IsTableOf parts t → used_in frames p ≡ used_at t p }
 {
-    one_summary_a_spelling();
+    a_summary_has_one_encoding();
 }
 
 /// What is read of the parts of an image is one image.

@@ -9,10 +9,6 @@ ghost use Rattle.block_log.specs.declared.kinds.BlockKind.TheVariants.{Data};
 ghost use Rattle.migration.specs.private.Copying.{Copying, IsUsedData};
 
 use crate::moves::{Move, Moves};
-use block_log::laws::{
-    an_append_puts_one_block, an_append_takes_one_place, no_change_takes_no_place,
-    one_place_has_one_name, places_taken_add_up,
-};
 use block_log::{BlockKind, Blocks};
 use image_objects::{UsedBlocks, bytes_at};
 use s4_types::{ObjectId, Ptr, Refusal};
@@ -38,10 +34,6 @@ fn copy_block<B: Blocks, U: UsedBlocks>(
         moves.new.items) }
     ensures refusal { IfErr result (λ e. e ≡ NoMemory) }
 {
-    one_place_has_one_name();
-    an_append_puts_one_block();
-    an_append_takes_one_place();
-    places_taken_add_up();
     let Some(bytes) = bytes_at(used, BlockKind::Data, object, place) else {
         unreachable!()
     };
@@ -70,7 +62,6 @@ pub(crate) fn copy_data<B: Blocks, U: UsedBlocks>(
         (B.log table.old) (B.log table.new) moves.list.items) }
     ensures refusal { IfErr result (λ e. e ≡ NoMemory) }
 {
-    no_change_takes_no_place();
     let mut moves = Vec::new(alloc);
     for place in places {
         copy_block(table, used, object, *place, &mut moves)?;

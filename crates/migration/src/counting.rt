@@ -15,7 +15,7 @@ ghost use Rattle.migration.specs.declared.counting.TheConstants.{MOST_COPIED};
 use crate::objects::inode_kept;
 use crate::places::data_places;
 use checkpoint::checkpoint_blocks;
-use checkpoint::laws::a_checkpoint_takes_its_blocks;
+use checkpoint::laws::a_checkpoint_is_in_its_blocks;
 use codec::{ImageVersion, Inode};
 use image_objects::writing_laws::an_object_of_a_version_can_be_written;
 use image_objects::{ImageRow, UsedBlocks, read_object_by};
@@ -32,7 +32,7 @@ fn kept_blocks(kept: Option<&Inode>) -> usize
     ensures blocks { result ≡ kept_blocks (option_copied kept.entry) }
     ensures few { result ≤ CHECKPOINT_BLOCKS }
 {
-    a_checkpoint_takes_its_blocks();
+    a_checkpoint_is_in_its_blocks();
     match kept {
         None => 0,
         Some(inode) => checkpoint_blocks(inode),

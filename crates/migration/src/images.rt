@@ -13,7 +13,6 @@ ghost use Rattle.migration.specs.Rows.{AscendAbove, CopyRows, blocks_of_rows};
 use crate::counting::{count_blocks, frames_filled, frames_needed};
 use crate::objects::copy_objects;
 use crate::tables::NewTable;
-use block_log::laws::{no_change_takes_no_place, places_taken_add_up};
 use image_objects::{ImageRow, UsedBlocks};
 use object_map::Row;
 use s4_types::{Moment, Refusal};
@@ -54,8 +53,6 @@ pub(crate) fn copy_image<U: UsedBlocks>(
         ⊎ ((e ≡ NoRoom)
         × (MOST_FRAMES < frames_needed old (blocks_of_rows (U.used used.now) rows.now)))) }
 {
-    places_taken_add_up();
-    no_change_takes_no_place();
     let Some(blocks) = count_blocks(alloc, used, rows, clock)? else {
         return Err(Refusal::NoRoom);
     };

@@ -10,14 +10,13 @@ use crate::copies::copy_data;
 use crate::moves::Moves;
 use crate::places::data_places;
 use block_log::Blocks;
-use block_log::laws::{one_place_has_one_name, places_taken_add_up};
 use chain_rewriting::mapping_laws::{
     a_mapped_chain_shows_the_same, a_mapped_chain_takes_as_many_bytes,
     a_mapped_chain_tells_of_mapped_places, a_mapped_run_is_a_run, mapped_entries_stay_in_order,
 };
 use chain_rewriting::renaming_laws::what_a_chain_tells;
 use chain_rewriting::{map_entries, map_inode};
-use checkpoint::laws::a_checkpoint_takes_its_blocks;
+use checkpoint::laws::a_checkpoint_is_in_its_blocks;
 use codec::{Entry, Inode};
 use image_objects::{ImageRow, UsedBlocks};
 use object_map::Row;
@@ -58,10 +57,8 @@ pub(crate) fn copy_row<B: Blocks, U: UsedBlocks>(
     ensures copied { IfOk result (λ later. CopiesRow (U.used used.now) row.now kept entries.old (B.log table.old) (B.log table.new) later) }
     ensures refusal { IfErr result (λ e. e ≡ NoMemory) }
 {
-    a_checkpoint_takes_its_blocks();
+    a_checkpoint_is_in_its_blocks();
     a_fresh_row_stands();
-    one_place_has_one_name();
-    places_taken_add_up();
     what_a_chain_tells();
     what_a_row_tells_can_be_written();
     mapped_entries_stay_in_order();

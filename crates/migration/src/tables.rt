@@ -5,7 +5,6 @@ ghost use Rattle.s4_types.specs.declared.refusals.Refusal.TheVariants.{NoMemory}
 ghost use Rattle.segment_table.specs.Room.{log_of};
 ghost use Rattle.migration.specs.Frames.{IsFilled, fresh_log};
 
-use block_log::laws::an_append_takes_one_place;
 use block_log::{Block, BlockKind, Blocks};
 use s4_types::{ObjectId, Ptr, Refusal};
 use segment_table::SegmentTable;
@@ -55,12 +54,21 @@ impl NewTable {
 }
 
 impl Blocks for NewTable {
+    ghost use Rattle.block_log.proofs.Places.{one_place, puts, takes};
+    ghost use Rattle.block_log.proofs.Taking.{append_takes, drop_takes, none_taken, adds_up};
     ghost use Rattle.segment_table.specs.Room.{log_of};
 
     ghost log = { log_of };
 
+    ghost one_place_has_one_name = { one_place };
+    ghost an_append_puts_one_block = { puts };
+    ghost a_drop_takes_one_block = { takes };
+    ghost an_append_takes_one_place = { append_takes };
+    ghost a_drop_takes_no_place = { drop_takes };
+    ghost no_change_takes_no_place = { none_taken };
+    ghost places_taken_add_up = { adds_up };
+
     fn append(&mut self, kind: BlockKind, object: ObjectId, block: &Block) -> Result<Ptr, Refusal> {
-        an_append_takes_one_place();
         self.table.append(kind, object, block)
     }
 

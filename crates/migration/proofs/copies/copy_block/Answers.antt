@@ -13,7 +13,7 @@ returns-clause-copying g c places rest count before copying =
     let now = log c.args.table.now in
     let after = log c.append.new.self in
     let bytes = c.in-Some.bytes in
-    let puts = c.an_append_puts_one_block.ensures now after (data_block o bytes) c.in-Ok.to c.in-Ok.ensures.appended c.in-Ok.ensures.fresh in
-    let takes = c.an_append_takes_one_place.ensures now after (data_block o bytes) c.in-Ok.to c.in-Ok.ensures.appended in
-    let more = one_copied c.one_place_has_one_name.ensures c.places_taken_add_up.ensures used o places rest count before now after c.args.place c.in-Ok.to c.args.moves.now.items bytes puts takes (eq-eqb o o refl) (sym c.bytes_at.ensures ∙ c.in-Some.is) copying in
+    let puts = g.met.B.Blocks.an_append_puts_one_block now after (data_block o bytes) c.in-Ok.to c.in-Ok.ensures.appended c.in-Ok.ensures.fresh in
+    let takes = g.met.B.Blocks.an_append_takes_one_place now after (data_block o bytes) c.in-Ok.to c.in-Ok.ensures.appended in
+    let more = one_copied g.met.B.Blocks.one_place_has_one_name g.met.B.Blocks.places_taken_add_up used o places rest count before now after c.args.place c.in-Ok.to c.args.moves.now.items bytes puts takes (eq-eqb o o refl) (sym c.bytes_at.ensures ∙ c.in-Some.is) copying in
     subst (λ (moves : List Move). Copying used o places rest (count + 1) before after moves) (sym c.in_ok-push.ensures.items) more

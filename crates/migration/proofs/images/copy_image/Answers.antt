@@ -1,4 +1,5 @@
 use Rattle.std.proofs.Common.{◌≡◌, ◌*◌, ◌≤◌, ℕ, length, sym, ap, subst, ◌∙◌}
+use Rattle.block_log.proofs.Taking.{adds_up, none_taken}
 use Rattle.block_log.specs.Log.{Log}
 use Rattle.block_log.specs.Taken.{TakesPlaces}
 use Rattle.segment_table.specs.Room.{log_of}
@@ -30,6 +31,6 @@ returns-clause-frames g c =
     let counted : c.in-Some.blocks ≡ blocks = counted_is c.in_ok-blocks.field-0 c.in-Some.blocks blocks MOST_COPIED c.in-Some.is c.in_ok-blocks.ensures.blocks in
     let frames : c.frames_needed-frames.result ≡ frames_needed c.args.old blocks = c.frames_needed-frames.ensures.needed ∙ ap (frames_needed c.args.old) counted in
     let start : log_of c.in_ok-table.table ≡ fresh_log (frames_needed c.args.old blocks) = c.in_ok-table.ensures.log ∙ ap fresh_log frames in
-    let taken = takes_all c.places_taken_add_up.ensures c.no_change_takes_no_place.ensures used rows c.in_ok-laters.laters.items (log_of c.in_ok-table.table) (log_of c.into_table-table.result)
+    let taken = takes_all adds_up none_taken used rows c.in_ok-laters.laters.items (log_of c.in_ok-table.table) (log_of c.into_table-table.result)
     (subst (λ (t : Table). CopyRows used rows c.in_ok-laters.laters.items (log_of c.in_ok-table.table) (log_of t)) (sym c.into_table-table.ensures.same) c.in_ok-laters.ensures.copied) in
     fills (frames_needed c.args.old blocks) blocks c.into_table-table.result (subst (λ (l : Log). TakesPlaces blocks l (log_of c.into_table-table.result)) start taken) (has_room c.args.old blocks) c.into_table-table.ensures.filled

@@ -38,7 +38,7 @@ copy_data-requires-clause-used g c =
     subst (λ (ps : List Place). AllByRecursion (IsUsedData used c.args.row.now.object) ps) (sym are) (all_used used c.args.row.now.object c.args.kept entries c.requires.can.led)
 
 pub map_entries-requires-clause-one : goal.map_entries-requires-clause-one
-map_entries-requires-clause-one g c = one_to_one c.one_place_has_one_name.ensures c.in_ok-moves.moves.list.items c.in_ok-moves.ensures.copied.apart
+map_entries-requires-clause-one g c = one_to_one g.met.B.Blocks.one_place_has_one_name c.in_ok-moves.moves.list.items c.in_ok-moves.ensures.copied.apart
 
 pub map_entries-requires-clause-told : goal.map_entries-requires-clause-told
 map_entries-requires-clause-told g c =
@@ -69,8 +69,8 @@ returns-clause-copied g c =
     let fits : length c.as_slice.result.now ≤ length before.ahead = enough (moved_blocks kept entries) (ap length are) c.requires.room in
     let copying : Copying used o (data_places kept entries) [] (length (data_places kept entries)) before middle moves = subst (λ (ps : List Place). Copying used o ps [] (length ps) before middle moves) are c.in_ok-moves.ensures.copied in
     let laws : Laws moves = record {
-      one = c.one_place_has_one_name.ensures;
-      add_up = c.places_taken_add_up.ensures;
+      one = g.met.B.Blocks.one_place_has_one_name;
+      add_up = g.met.B.Blocks.places_taken_add_up;
       listed = c.what_a_chain_tells.ensures.listed;
       points = c.what_a_chain_tells.ensures.points;
       begins = c.what_a_row_tells_can_be_written.ensures.begins;
@@ -81,7 +81,7 @@ returns-clause-copied g c =
       same = c.a_mapped_chain_shows_the_same.ensures.chain (is_moved moves) (moved_by moves);
       bytes = c.a_mapped_chain_takes_as_many_bytes.ensures.all (moved_by moves);
       each = c.a_mapped_chain_takes_as_many_bytes.ensures.each (moved_by moves);
-      holes = c.a_checkpoint_takes_its_blocks.ensures.holes;
+      holes = c.a_checkpoint_is_in_its_blocks.ensures.holes;
       by = c.an_orderly_row_is_by_its_moment.ensures;
     } in
     let raw : Wrote o c.fresh-fresh.result row.checkpoint_moment (option_copied c.as_ref-2.result) c.map_entries.new.entries middle after later = record {
@@ -121,6 +121,6 @@ unreachable-requires g c =
     let as_many : moved_blocks (option_copied c.as_ref-2.result) c.map_entries.new.entries ≡ moved_blocks kept entries =
     ap (λ (k : Option Inode). moved_blocks k c.map_entries.new.entries) (c.as_ref-2.ensures.value ∙ c.map_kept-kept.ensures)
     ∙ ap (λ (es : List EntryFields). moved_blocks (kept_then moves kept) es) c.map_entries.ensures
-    ∙ same_blocks c.a_checkpoint_takes_its_blocks.ensures.holes (moved_by moves) (c.a_mapped_chain_takes_as_many_bytes.ensures.each (moved_by moves)) kept entries in
+    ∙ same_blocks c.a_checkpoint_is_in_its_blocks.ensures.holes (moved_by moves) (c.a_mapped_chain_takes_as_many_bytes.ensures.each (moved_by moves)) kept entries in
     no_less (log c.args.table.now).ahead (log c.copy_data.new.table).ahead (length c.as_slice.result.now) (length (data_places kept entries)) (moved_blocks (option_copied c.as_ref-2.result) c.map_entries.new.entries) (moved_blocks kept entries)
     c.in_ok-moves.ensures.copied.takes.ahead (ap length are) as_many c.requires.room c.in_default.ensures.answer.1
