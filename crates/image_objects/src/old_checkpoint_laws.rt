@@ -2,16 +2,12 @@
 //! is the law.
 ghost use Rattle.image_objects.specs.OldCheckpoints.{AnOldCheckpointIsOneBlock};
 
-use codec::part_laws::{
-    a_block_begins_with_its_kind, a_first_block_has_all_pointers, a_part_is_in_its_block,
-};
+use codec::part_laws::blocks_have_their_parts;
 
 /// Where no block is used for more pointers of a checkpoint, a checkpoint of an object that the
 /// first version may have is what its one block encodes in that version.
 pub fn an_old_checkpoint_is_one_block()
     ensures { AnOldCheckpointIsOneBlock }
 {
-    a_block_begins_with_its_kind();
-    a_first_block_has_all_pointers();
-    a_part_is_in_its_block();
+    blocks_have_their_parts();
 }

@@ -3,8 +3,8 @@ use Rattle.image_objects.proofs.old_checkpoint_laws.an_old_checkpoint_is_one_blo
 
 pub returns : goal.returns
 returns c = one_block (record {
-  first_begins = c.a_block_begins_with_its_kind.ensures.first;
-  part_begins = c.a_block_begins_with_its_kind.ensures.pointers;
-  part = c.a_part_is_in_its_block.ensures;
-  parts = c.a_first_block_has_all_pointers.ensures.parts;
+  first_begins = c.blocks_have_their_parts.ensures.first_begins;
+  part_begins = c.blocks_have_their_parts.ensures.part_begins;
+  part = c.blocks_have_their_parts.ensures.part;
+  parts = c.blocks_have_their_parts.ensures.parts;
 })
