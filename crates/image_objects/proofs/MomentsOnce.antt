@@ -1,4 +1,4 @@
--- No moment is in two chains, exactly where the moments of all chains, each told once, have none twice.
+-- No moment is in two chains, exactly where the moments of all chains, each of them once, have none twice.
 use Rattle.std.proofs.Common.{◌≡◌, inl, inr, ℕ, ◌<◌, ◌≤◌, true, false, leb, List, [], ◌∷◌, ◌++◌, get_or, map, Option, refl, sym, ap, ◌∙◌, subst, arith}
 use Rattle.std.specs.Prelude.{nat_eq}
 use Rattle.std.specs.List.{AllByRecursion, Contains, IsDistinct, dedup_from}
@@ -9,14 +9,17 @@ use Rattle.std.proofs.lemmas.Map.Keys.{IsDistinct-head, IsDistinct-tail, IsDisti
 use Rattle.s4_types.specs.Pointer.{Place}
 use Rattle.block_log.specs.Log.{Stored}
 use Rattle.codec.specs.Entry.{EntryFields}
+use Rattle.codec.specs.declared.versions.ImageVersion.{ImageVersion}
 use Rattle.undo_redo.specs.Groups.{grouped}
 use Rattle.undo_redo.specs.Runs.{moments_ascend_from}
 use Rattle.version_store.specs.Across.{ShareNoMoment}
 use Rattle.image_objects.specs.declared.rows.ImageRow.{ImageRow}
 use Rattle.image_objects.specs.Chains.{entries_used}
 use Rattle.image_objects.specs.Objects.{ObjectStands}
-use Rattle.image_objects.specs.Rows.{RowsShareNoMoment, RowsStand}
-use Rattle.image_objects.specs.Moments.{moments_of_chain, moments_used, StandOnce}
+use Rattle.image_objects.specs.Rows.{RowsStand}
+use Rattle.image_objects.specs.Moments.{moments_of_chain, moments_of, moments_used, ChainsShareNoMoment, StandOnce}
+use Rattle.image_objects.specs.Versions.{entries_used_by, moments_used_by, ObjectStandsBy, RowsStandBy}
+use Rattle.image_objects.proofs.Grouping.{groups_of_a_version}
 use Rattle.image_objects.proofs.Listed.{none_listed, listed_cases}
 
 -- ---- elements of lists that are made of others
@@ -62,24 +65,24 @@ unfolding moments
 of_moment entries m there = mapped_from entries m (Contains-from_dedup nat_eq (moments entries) m there)
 
 -- a moment of one of the rows is told
-moment_told : (used : Place → Option Stored) (rows : List ImageRow) (row : ImageRow) (m : ℕ) → Contains rows row → Contains (moments_of_chain (entries_used used row)) m → Contains (moments_used used rows) m
-moment_told used [] row m there at = absurd (none_listed row there)
-moment_told used (x ∷ rows) row m there at = elim (listed_cases x rows row there) [
+moment_told : (chain : ImageRow → List EntryFields) (rows : List ImageRow) (row : ImageRow) (m : ℕ) → Contains rows row → Contains (moments_of_chain (chain row)) m → Contains (moments_of chain rows) m
+moment_told chain [] row m there at = absurd (none_listed row there)
+moment_told chain (x ∷ rows) row m there at = elim (listed_cases x rows row there) [
   | inl is ↦
-      Contains-append_left (moments_of_chain (entries_used used x)) (moments_used used rows) m (subst (λ (r : ImageRow). Contains (moments_of_chain (entries_used used r)) m) (sym is) at)
-  | inr behind ↦ Contains-append_right (moments_of_chain (entries_used used x)) (moments_used used rows) m (moment_told used rows row m behind at)
+      Contains-append_left (moments_of_chain (chain x)) (moments_of chain rows) m (subst (λ (r : ImageRow). Contains (moments_of_chain (chain r)) m) (sym is) at)
+  | inr behind ↦ Contains-append_right (moments_of_chain (chain x)) (moments_of chain rows) m (moment_told chain rows row m behind at)
 ]
 
-record OfARow (used : Place → Option Stored) (rows : List ImageRow) (m : ℕ) : Type 0 where
+record OfARow (chain : ImageRow → List EntryFields) (rows : List ImageRow) (m : ℕ) : Type 0 where
   row : ImageRow
   listed : Contains rows row
-  found : OfMoment (entries_used used row) m
+  found : OfMoment (chain row) m
 
-of_a_row : (used : Place → Option Stored) (rows : List ImageRow) (m : ℕ) → Contains (moments_used used rows) m → OfARow used rows m
-of_a_row used [] m there = absurd (none_listed m there)
-of_a_row used (x ∷ rows) m there = elim (Contains-append_cases (moments_of_chain (entries_used used x)) (moments_used used rows) m there) [
-  | inl here ↦ record { row = x; listed = first_listed x rows; found = of_moment (entries_used used x) m here }
-  | inr behind ↦ (let r : OfARow used rows m = of_a_row used rows m behind in record { row = r.row; listed = behind_listed x rows r.row r.listed; found = r.found })
+of_a_row : (chain : ImageRow → List EntryFields) (rows : List ImageRow) (m : ℕ) → Contains (moments_of chain rows) m → OfARow chain rows m
+of_a_row chain [] m there = absurd (none_listed m there)
+of_a_row chain (x ∷ rows) m there = elim (Contains-append_cases (moments_of_chain (chain x)) (moments_of chain rows) m there) [
+  | inl here ↦ record { row = x; listed = first_listed x rows; found = of_moment (chain x) m here }
+  | inr behind ↦ (let r : OfARow chain rows m = of_a_row chain rows m behind in record { row = r.row; listed = behind_listed x rows r.row r.listed; found = r.found })
 ]
 
 -- ---- numbers that are once in joined lists
@@ -158,31 +161,40 @@ once_in_chain ascend (e ∷ entries) h = once_from e.moment entries (ascend_part
 
 -- ---- the moments of all chains
 
-pub share_none : (used : Place → Option Stored) (rows : List ImageRow) → StandOnce (moments_used used rows) → RowsShareNoMoment used rows
-share_none used [] once = tt
-share_none used (x ∷ rows) once =
-    let P : ImageRow → Type 0 = λ other. ShareNoMoment (entries_used used x) (entries_used used other) in
+pub share_none : (chain : ImageRow → List EntryFields) (rows : List ImageRow) → StandOnce (moments_of chain rows) → ChainsShareNoMoment chain rows
+share_none chain [] once = tt
+share_none chain (x ∷ rows) once =
+    let P : ImageRow → Type 0 = λ other. ShareNoMoment (chain x) (chain other) in
     let here : (other : ImageRow) → Contains rows other → P other = λ other there e f first second same.
-    once_apart (moments_of_chain (entries_used used x)) (moments_used used rows) e.moment once (told (entries_used used x) e first)
-    (moment_told used rows other e.moment there (subst (λ m. Contains (moments_of_chain (entries_used used other)) m) (sym same) (told (entries_used used other) f second))) in (
+    once_apart (moments_of_chain (chain x)) (moments_of chain rows) e.moment once (told (chain x) e first)
+    (moment_told chain rows other e.moment there (subst (λ m. Contains (moments_of_chain (chain other)) m) (sym same) (told (chain other) f second))) in (
       recursion_from_All P rows (λ k d below. here (get_or rows k d) (Contains-get_or rows k d below)),
-      share_none used rows (once_behind (moments_of_chain (entries_used used x)) (moments_used used rows) once),
+      share_none chain rows (once_behind (moments_of_chain (chain x)) (moments_of chain rows) once),
     )
 
-pub stand_once : GroupsAscend → (used : Place → Option Stored) (rows : List ImageRow) → AllByRecursion (λ row. grouped (entries_used used row) ≡ true) rows → RowsShareNoMoment used rows → StandOnce (moments_used used rows)
-stand_once ascend used [] groups share = none_twice
-stand_once ascend used (x ∷ rows) groups share =
-    let P : ImageRow → Type 0 = λ other. ShareNoMoment (entries_used used x) (entries_used used other) in
-    once_joined (moments_of_chain (entries_used used x)) (moments_used used rows) (once_in_chain ascend (entries_used used x) groups.0) (stand_once ascend used rows groups.1 share.1)
+pub stand_once : GroupsAscend → (chain : ImageRow → List EntryFields) (rows : List ImageRow) → AllByRecursion (λ row. grouped (chain row) ≡ true) rows → ChainsShareNoMoment chain rows → StandOnce (moments_of chain rows)
+stand_once ascend chain [] groups share = none_twice
+stand_once ascend chain (x ∷ rows) groups share =
+    let P : ImageRow → Type 0 = λ other. ShareNoMoment (chain x) (chain other) in
+    once_joined (moments_of_chain (chain x)) (moments_of chain rows) (once_in_chain ascend (chain x) groups.0) (stand_once ascend chain rows groups.1 share.1)
     (λ m first second.
-    let e : OfMoment (entries_used used x) m = of_moment (entries_used used x) m first in
-    let r : OfARow used rows m = of_a_row used rows m second in
+    let e : OfMoment (chain x) m = of_moment (chain x) m first in
+    let r : OfARow chain rows m = of_a_row chain rows m second in
     let apart : P r.row = All-contains P rows r.row (All-from_recursion P rows share.0) r.listed in
     apart e.entry r.found.entry e.listed r.found.listed (e.moment ∙ sym r.found.moment))
+
+-- ---- the moments of rows that keep the rules
 
 groups_of : (used : Place → Option Stored) (rows : List ImageRow) (clock : ℕ) → AllByRecursion (λ row. ObjectStands used row clock) rows → AllByRecursion (λ row. grouped (entries_used used row) ≡ true) rows
 groups_of used [] clock stand = tt
 groups_of used (x ∷ rows) clock stand = (stand.0.versions.chain.groups, groups_of used rows clock stand.1)
 
 pub standing_once : GroupsAscend → (used : Place → Option Stored) (rows : List ImageRow) (clock : ℕ) → RowsStand used rows clock → StandOnce (moments_used used rows)
-standing_once ascend used rows clock stand = stand_once ascend used rows (groups_of used rows clock stand.objects) stand.apart
+standing_once ascend used rows clock stand = stand_once ascend (entries_used used) rows (groups_of used rows clock stand.objects) stand.apart
+
+groups_of_by : (version : ImageVersion) (used : Place → Option Stored) (rows : List ImageRow) (clock : ℕ) → AllByRecursion (λ row. ObjectStandsBy version used row clock) rows → AllByRecursion (λ row. grouped (entries_used_by version used row) ≡ true) rows
+groups_of_by version used [] clock stand = tt
+groups_of_by version used (x ∷ rows) clock stand = (groups_of_a_version version (entries_used_by version used x) stand.0.versions.chain.groups, groups_of_by version used rows clock stand.1)
+
+pub standing_once_by : GroupsAscend → (version : ImageVersion) (used : Place → Option Stored) (rows : List ImageRow) (clock : ℕ) → RowsStandBy version used rows clock → StandOnce (moments_used_by version used rows)
+standing_once_by ascend version used rows clock stand = stand_once ascend (entries_used_by version used) rows (groups_of_by version used rows clock stand.objects) stand.apart

@@ -4,10 +4,10 @@ use Rattle.std.specs.List.{AllByRecursion}
 use Rattle.s4_types.specs.Pointer.{Place}
 use Rattle.block_log.specs.Log.{Stored}
 use Rattle.object_map.specs.declared.map.Row.{Row}
-use Rattle.version_store.specs.Across.{ShareNoMoment}
 use Rattle.image_objects.specs.declared.rows.ImageRow.{ImageRow}
 use Rattle.image_objects.specs.Chains.{entries_used}
 use Rattle.image_objects.specs.VersionChain.{kept_row}
+use Rattle.image_objects.specs.Moments.{ChainsShareNoMoment}
 use Rattle.image_objects.specs.Objects.{ObjectStands}
 
 -- objects and their makings ascend strictly, from above these two numbers, and each object was made by the clock
@@ -18,9 +18,7 @@ RowsAscend clock object created (row ∷ rows) =
 
 -- no moment is in the chains of two of these rows
 abbrev pub RowsShareNoMoment : (Place → Option Stored) → List ImageRow → Type 0
-RowsShareNoMoment used [] = Unit {0}
-RowsShareNoMoment used (row ∷ rows) =
-    AllByRecursion (λ other. ShareNoMoment (entries_used used row) (entries_used used other)) rows × RowsShareNoMoment used rows
+RowsShareNoMoment used rows = ChainsShareNoMoment (entries_used used) rows
 
 -- All rows are in an image up to its clock: each object is, and no moment is in the chains of two.
 pub record RowsStand (used : Place → Option Stored) (rows : List ImageRow) (clock : ℕ) : Type 0 where

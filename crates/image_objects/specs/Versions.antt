@@ -25,6 +25,7 @@ use Rattle.journal_chain.specs.Chain.{Link, links_from, blocks_of}
 use Rattle.time_read.specs.Orderly.{IsFromTo, IsOrderlyChain}
 use Rattle.image_objects.specs.declared.rows.ImageRow.{ImageRow}
 use Rattle.image_objects.specs.Inodes.{BeginningStands, checkpoint_used, first_before}
+use Rattle.image_objects.specs.Moments.{moments_of, ChainsShareNoMoment}
 
 -- the fields that bytes encode in an image of a version, if they are a journal block of the object
 unfoldable pub journal_of_by : ImageVersion → ℕ → List ℕ → Option JournalFields
@@ -146,3 +147,18 @@ pub record ObjectStandsBy (version : ImageVersion) (used : Place → Option Stor
   pub versions : VersionChainStandsBy version used row clock
   pub led : All (IsLed used row.object) (pointers_used_by version used row)
   pub tidy : (t : ℕ) → Tidy (contents_of used) (inode_used_by version used row t)
+
+-- ---- the rows
+
+-- no moment is in the chains of two of these rows
+abbrev pub RowsShareNoMomentBy : ImageVersion → (Place → Option Stored) → List ImageRow → Type 0
+RowsShareNoMomentBy version used rows = ChainsShareNoMoment (entries_used_by version used) rows
+
+-- All rows are in an image of a version up to its clock: each object is, and no moment is in the chains of two.
+pub record RowsStandBy (version : ImageVersion) (used : Place → Option Stored) (rows : List ImageRow) (clock : ℕ) : Type 0 where
+  pub objects : AllByRecursion (λ row. ObjectStandsBy version used row clock) rows
+  pub apart : RowsShareNoMomentBy version used rows
+
+-- the moments of the chains of rows, those of the first row first, and of each chain once
+abbrev pub moments_used_by : ImageVersion → (Place → Option Stored) → List ImageRow → List ℕ
+moments_used_by version used rows = moments_of (entries_used_by version used) rows

@@ -11,6 +11,7 @@ ghost use Rattle.block_log.specs.Log.{Log, Stored, of_kind, NamesAreOfData};
 ghost use Rattle.block_log.specs.declared.kinds.BlockKind.TheVariants.{Journal, Data};
 ghost use Rattle.checkpoint.specs.Held.{of_checkpoints};
 ghost use Rattle.codec.specs.Entry.{EntryFields};
+ghost use Rattle.codec.specs.declared.versions.ImageVersion.{ImageVersion as Version};
 ghost use Rattle.undo_redo.specs.Groups.{grouped};
 ghost use Rattle.undo_redo.specs.Runs.{last_moment};
 ghost use Rattle.object_map.specs.declared.map.Row.{Row};
@@ -21,8 +22,10 @@ ghost use Rattle.image_objects.specs.Chains.{chain_view, entries_used};
 ghost use Rattle.image_objects.specs.VersionChain.{checkpoint_view, kept_row};
 ghost use Rattle.image_objects.specs.Objects.{pointers_used};
 ghost use Rattle.image_objects.specs.Naming.{HoldsWhatIsNamed, NamesAreCounted, times_told};
-ghost use Rattle.image_objects.specs.Rows.{RowsAscend, RowsShareNoMoment, RowsStand, kept_rows};
-ghost use Rattle.image_objects.specs.Moments.{moments_of_chain, moments_used, StandOnce};
+ghost use Rattle.image_objects.specs.Rows.{RowsAscend, RowsStand, kept_rows};
+ghost use Rattle.image_objects.specs.Moments.{moments_of_chain, moments_of, moments_used};
+ghost use Rattle.image_objects.specs.Moments.{ChainsShareNoMoment, StandOnce};
+ghost use Rattle.image_objects.specs.Versions.{RowsStandBy, moments_used_by};
 ghost use Rattle.image_objects.specs.Laws.{IsHeldAsUsed, InodesUsedPointToWhatRowsLeadTo};
 
 use crate::version_chain_laws::{
@@ -108,17 +111,20 @@ pub fn rows_that_stand_make_a_store()
     places_have_few_names();
 }
 
-/// Where the moments of all chains, those of each chain told once, have no number twice, no moment
-/// is in the chains of two rows; and the other way round where the entries of each chain are
-/// grouped, as those of rows that stand are.
+/// Where the moments of all chains, those of each chain once, have no number twice, no moment is in
+/// the chains of two rows, whatever chain each row has; and the other way round where the entries
+/// of each chain are grouped, as those of rows that keep the rules are, in an image of each version.
 pub fn moments_told_once_are_not_shared()
-    ensures apart { (used : Place → Option Stored) (rows : List ImageRow)
-        → StandOnce (moments_used used rows) → RowsShareNoMoment used rows }
-    ensures once { (used : Place → Option Stored) (rows : List ImageRow)
-        → AllByRecursion (λ row. grouped (entries_used used row) ≡ true) rows
-        → RowsShareNoMoment used rows → StandOnce (moments_used used rows) }
+    ensures apart { (chain : ImageRow → List EntryFields) (rows : List ImageRow)
+        → StandOnce (moments_of chain rows) → ChainsShareNoMoment chain rows }
+    ensures once { (chain : ImageRow → List EntryFields) (rows : List ImageRow)
+        → AllByRecursion (λ row. grouped (chain row) ≡ true) rows
+        → ChainsShareNoMoment chain rows → StandOnce (moments_of chain rows) }
     ensures standing { (used : Place → Option Stored) (rows : List ImageRow) (clock : ℕ)
         → RowsStand used rows clock → StandOnce (moments_used used rows) }
+    ensures standing_by { (version : Version) (used : Place → Option Stored)
+        (rows : List ImageRow) (clock : ℕ) → RowsStandBy version used rows clock
+        → StandOnce (moments_used_by version used rows) }
 {
     groups_part_at_a_moment();
 }

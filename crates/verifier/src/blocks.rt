@@ -1,4 +1,4 @@
-//! The used blocks of an image, as its table tells them.
+//! The used blocks of an image, by its table.
 ghost use Rattle.std.specs.Prelude.{◌≡◌, ℕ, ◌+◌, true, IsSome};
 ghost use Rattle.std.specs.List.{All};
 ghost use Rattle.s4_types.specs.Pointer.{Place};
@@ -16,8 +16,9 @@ use segment_table::TableBuilder;
 
 /// The used blocks of the frames of an image, whether they are held or not.
 #[derive(Clone, Copy)]
-pub(crate) struct TableBlocks<'a> {
-    pub(crate) table: &'a TableBuilder,
+pub struct TableBlocks<'a> {
+    /// The table.
+    pub table: &'a TableBuilder,
 }
 
 impl UsedBlocks for TableBlocks<'_> {

@@ -23,12 +23,13 @@ mod saving;
 mod tables;
 mod verifying;
 
+pub use blocks::TableBlocks;
 pub use images::Image;
 pub use moments::{are_apart, push_moments};
 pub use opening::open;
 pub use round_trips::round_trip;
 pub use rows::row_of;
 pub use saved_frames::push_frames;
-pub use saved_rows::{push_rows, push_spans};
+pub use saved_rows::{part_of, push_rows, push_spans};
 pub use saving::save;
 pub use verifying::verify;

@@ -27,7 +27,7 @@ fn slot_number(ptr: Option<Ptr>) -> u64
 }
 
 /// An object's row as it is saved.
-fn part_of(object: ObjectId, row: &Row) -> RowPart
+pub fn part_of(object: ObjectId, row: &Row) -> RowPart
     ensures spelled { SpellsRow result (saved_row object row.now) }
     ensures is { IsRow result }
 {

@@ -1,5 +1,6 @@
 use Rattle.std.proofs.Common.{◌≡◌, List, ◌++◌, ◌∙◌, sym, ap, map}
 use Rattle.std.proofs.lemmas.Option.{IfSome_then}
+use Rattle.image_objects.specs.Chains.{entries_used}
 use Rattle.image_objects.specs.Moments.{StandOnce}
 use Rattle.segment_table.specs.Table.{Table, slots_at}
 use Rattle.segment_table.specs.Used.{used_at}
@@ -41,7 +42,7 @@ returns-clause-found c =
     IfSome_then c.finish.result
     (all_of c.finish.result (λ (read : Read). read.table ≡ reading.table) (λ (read : Read). read.objects.items ≡ reading.objects.items) (λ (read : Read). StandOnce reading.moments.items)
     c.finish.ensures.table c.finish.ensures.objects c.finish.ensures.once)
-    (λ (read : Read) found. all_read c.args.table c.args.clock c.args.parts.now.rows reading read.table read.objects.items (all c) c.moments_told_once_are_not_shared.ensures.apart found)
+    (λ (read : Read) found. all_read c.args.table c.args.clock c.args.parts.now.rows reading read.table read.objects.items (all c) (λ used. c.moments_told_once_are_not_shared.ensures.apart (entries_used used)) found)
 
 pub returns-clause-none : goal.returns-clause-none
 returns-clause-none c = none_then c.finish.result _ _ c.finish.ensures.none
