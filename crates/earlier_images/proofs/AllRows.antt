@@ -2,7 +2,7 @@
 use Rattle.std.proofs.Common.{◌≡◌, ℕ, List, [], ◌∷◌, ◌++◌, Bool, true, false, MatchBool, Option, None, Some, IfSome, IfNone, refl, sym, ap, ◌∙◌, subst, append_assoc}
 use Rattle.std.specs.List.{AllByRecursion, Contains}
 use Rattle.std.proofs.lemmas.List.{append-nil}
-use Rattle.std.proofs.lemmas.List.Elements.{All-contains, All-from_recursion, recursion_from_All, All-push, Contains-append_left, Contains-push}
+use Rattle.std.proofs.lemmas.List.Elements.{All-contains, All-from_recursion, recursion_from_All, All-push}
 use Rattle.std.proofs.lemmas.Grind.{flat_map-append}
 use Rattle.s4_types.specs.Pointer.{Place}
 use Rattle.block_log.specs.Log.{Stored}
@@ -10,20 +10,25 @@ use Rattle.codec.specs.declared.versions.ImageVersion.TheVariants.{First}
 use Rattle.image_parts.specs.declared.rows.RowPart.{RowPart}
 use Rattle.image_objects.specs.declared.rows.ImageRow.{ImageRow}
 use Rattle.image_objects.specs.Moments.{moments_of_chain, StandOnce}
-use Rattle.image_objects.specs.Versions.{entries_used_by, ObjectStandsBy}
+use Rattle.image_objects.specs.Versions.{entries_used_by, moments_used_by, ObjectStandsBy, RowsShareNoMomentBy, RowsStandBy}
 use Rattle.verifier.specs.Rows.{SpellsRow, SpellRows}
 use Rattle.earlier_images.specs.declared.rows.ReadRows.{ReadRows}
-use Rattle.earlier_images.specs.Rows.{RowsStandBy, moments_used_by}
 use Rattle.earlier_images.specs.private.OneRow.{IsRowRead, PartStands}
-use Rattle.earlier_images.proofs.MomentsOnce.{share_none, standing_once}
 
 -- ---- one row more
 
-spell_more : (parts : List RowPart) (rows : List ImageRow) (part : RowPart) (row : ImageRow) → SpellRows parts rows → SpellsRow part row → SpellRows (parts ++ part ∷ []) (rows ++ row ∷ [])
-spell_more [] [] part row front last = (last, tt)
-spell_more [] (r ∷ rows) part row front last = absurd front
-spell_more (x ∷ parts) [] part row front last = absurd front
-spell_more (x ∷ parts) (r ∷ rows) part row front last = (front.0, spell_more parts rows part row front.1 last)
+-- what a part more encodes comes after what the parts before it do
+abbrev pub Next : Type 0
+Next = (parts : List RowPart) (rows : List ImageRow) (part : RowPart) (row : ImageRow) → SpellRows parts rows → SpellsRow part row → SpellRows (parts ++ part ∷ []) (rows ++ row ∷ [])
+
+-- where the parts encode nothing else, and that one neither, the parts together don't
+abbrev pub Only : Type 0
+Only = (parts : List RowPart) (part : RowPart) (rows : List ImageRow) (row : ImageRow) → ((others : List ImageRow) → SpellRows parts others → others ≡ rows) → ((other : ImageRow) → SpellsRow part other → other ≡ row)
+    → (others : List ImageRow) → SpellRows (parts ++ part ∷ []) others → others ≡ rows ++ row ∷ []
+
+-- a part among others encodes one of the rows
+abbrev pub Listed : Type 0
+Listed = (done : List RowPart) (part : RowPart) (rest : List RowPart) (rows : List ImageRow) → SpellRows (done ++ part ∷ rest) rows → (row : ImageRow) × SpellsRow part row × Contains rows row
 
 objects_more : (used : Place → Option Stored) (clock : ℕ) (rows : List ImageRow) (row : ImageRow) → AllByRecursion (λ r. ObjectStandsBy First used r clock) rows → ObjectStandsBy First used row clock
     → AllByRecursion (λ r. ObjectStandsBy First used r clock) (rows ++ row ∷ [])
@@ -36,35 +41,9 @@ moments_more used rows row =
     let f : ImageRow → List ℕ = λ r. moments_of_chain (entries_used_by First used r) in
     flat_map-append f rows (row ∷ []) ∙ ap (λ (l : List ℕ). moments_used_by First used rows ++ l) (append-nil (f row))
 
--- ---- rows that parts encode, one of which is looked at
-
-record SpelledAt (done : List RowPart) (part : RowPart) (rest : List RowPart) (rows : List ImageRow) : Type 0 where
-  front : List ImageRow
-  row : ImageRow
-  behind : List ImageRow
-  before : SpellRows done front
-  here : SpellsRow part row
-  after : SpellRows rest behind
-  is : rows ≡ front ++ row ∷ behind
-
-spelled_at : (done : List RowPart) (part : RowPart) (rest : List RowPart) (rows : List ImageRow) → SpellRows (done ++ part ∷ rest) rows → SpelledAt done part rest rows
-spelled_at [] part rest [] spelled = absurd spelled
-spelled_at [] part rest (r ∷ rows) spelled = record { front = []; row = r; behind = rows; before = tt; here = spelled.0; after = spelled.1; is = refl }
-spelled_at (x ∷ done) part rest [] spelled = absurd spelled
-spelled_at (x ∷ done) part rest (r ∷ rows) spelled =
-    let s : SpelledAt done part rest rows = spelled_at done part rest rows spelled.1 in
-    record { front = r ∷ s.front; row = s.row; behind = s.behind; before = (spelled.0, s.before); here = s.here; after = s.after; is = ap (λ (l : List ImageRow). r ∷ l) s.is }
-
 none_spelled : (rows : List ImageRow) → SpellRows [] rows → rows ≡ []
 none_spelled [] spelled = refl
 none_spelled (r ∷ rows) spelled = absurd spelled
-
-only_more : (done : List RowPart) (part : RowPart) (rows : List ImageRow) (row : ImageRow) → ((others : List ImageRow) → SpellRows done others → others ≡ rows) → ((other : ImageRow) → SpellsRow part other → other ≡ row)
-    → (others : List ImageRow) → SpellRows (done ++ part ∷ []) others → others ≡ rows ++ row ∷ []
-only_more done part rows row front last others spelled =
-    let s : SpelledAt done part [] others = spelled_at done part [] others spelled in
-    s.is ∙ ap (λ (l : List ImageRow). s.front ++ s.row ∷ l) (none_spelled s.behind s.after)
-    ∙ ap (λ (l : List ImageRow). l ++ s.row ∷ []) (front s.front s.before) ∙ ap (λ (r : ImageRow). rows ++ r ∷ []) (last s.row s.here)
 
 -- ---- what was read
 
@@ -84,12 +63,12 @@ none_read used clock now rows moments =
     let R : List ImageRow → Type 0 = λ l. AreRowsOf used clock [] l now.moments.items in
     subst R (sym rows) (record { spelled = tt; only = none_spelled; stand = tt; moments_are = moments })
 
-pub one_read : (used : Place → Option Stored) (clock : ℕ) (done : List RowPart) (part : RowPart) (old new : ReadRows) → HaveRead used clock done old → IsRowRead used part clock old new → HaveRead used clock (done ++ part ∷ []) new
-one_read used clock done part old new h r =
+pub one_read : Next → Only → (used : Place → Option Stored) (clock : ℕ) (done : List RowPart) (part : RowPart) (old new : ReadRows) → HaveRead used clock done old → IsRowRead used part clock old new → HaveRead used clock (done ++ part ∷ []) new
+one_read next only used clock done part old new h r =
     let R : List ImageRow → Type 0 = λ l. AreRowsOf used clock (done ++ part ∷ []) l new.moments.items in
     subst R (sym r.rows) (record {
-      spelled = spell_more done old.rows.items part r.row h.spelled r.spelled;
-      only = only_more done part old.rows.items r.row h.only r.only;
+      spelled = next done old.rows.items part r.row h.spelled r.spelled;
+      only = only done part old.rows.items r.row h.only r.only;
       stand = objects_more used clock old.rows.items r.row h.stand r.stands;
       moments_are = r.moments ∙ ap (λ (l : List ℕ). l ++ moments_of_chain (entries_used_by First used r.row)) h.moments_are ∙ sym (moments_more used old.rows.items r.row);
     })
@@ -97,26 +76,26 @@ one_read used clock done part old new h r =
 -- ---- what that says of an image
 
 -- a row that keeps no rules
-pub one_falls : (used : Place → Option Stored) (clock : ℕ) (done : List RowPart) (part : RowPart) (rest all : List RowPart) → (PartStands used part clock → ⊥) → all ≡ done ++ part ∷ rest
+pub one_falls : Listed → (used : Place → Option Stored) (clock : ℕ) (done : List RowPart) (part : RowPart) (rest all : List RowPart) → (PartStands used part clock → ⊥) → all ≡ done ++ part ∷ rest
     → (rows : List ImageRow) → SpellRows all rows → RowsStandBy First used rows clock → ⊥
-one_falls used clock done part rest all falls whole rows spelled stand =
-    let s : SpelledAt done part rest rows = spelled_at done part rest rows (subst (λ (l : List RowPart). SpellRows l rows) whole spelled) in
+one_falls listed used clock done part rest all falls whole rows spelled stand =
+    let (row, spells, there) = listed done part rest rows (subst (λ (l : List RowPart). SpellRows l rows) whole spelled) in
     let P : ImageRow → Type 0 = λ r. ObjectStandsBy First used r clock in
-    let there : Contains rows s.row = subst (λ (l : List ImageRow). Contains l s.row) (sym s.is)
-    (subst (λ (l : List ImageRow). Contains l s.row) (append_assoc s.front (s.row ∷ []) s.behind) (Contains-append_left (s.front ++ s.row ∷ []) s.behind s.row (Contains-push s.front s.row))) in
-    falls (record { row = s.row; spelled = s.here; stands = All-contains P rows s.row (All-from_recursion P rows stand.objects) there })
+    falls (record { row = row; spelled = spells; stands = All-contains P rows row (All-from_recursion P rows stand.objects) there })
 
 -- all rows, where no two chains share a moment
-pub all_stand : (used : Place → Option Stored) (clock : ℕ) (all : List RowPart) (now : ReadRows) (rows : List ImageRow) → HaveRead used clock all now → rows ≡ now.rows.items → StandOnce now.moments.items → RowsStandBy First used rows clock
-all_stand used clock all now rows h is once =
+pub all_stand : (used : Place → Option Stored) (clock : ℕ) (all : List RowPart) (now : ReadRows) (rows : List ImageRow) → HaveRead used clock all now
+    → ((rows : List ImageRow) → StandOnce (moments_used_by First used rows) → RowsShareNoMomentBy First used rows) → rows ≡ now.rows.items → StandOnce now.moments.items → RowsStandBy First used rows clock
+all_stand used clock all now rows h apart is once =
     let R : List ImageRow → Type 0 = λ l. RowsStandBy First used l clock in
-    subst R (sym is) (record { objects = h.stand; apart = share_none First used now.rows.items (subst StandOnce h.moments_are once) })
+    subst R (sym is) (record { objects = h.stand; apart = apart now.rows.items (subst StandOnce h.moments_are once) })
 
 -- all rows, where two chains share one
-pub moments_fall : (used : Place → Option Stored) (clock : ℕ) (all : List RowPart) (now : ReadRows) → HaveRead used clock all now → (StandOnce now.moments.items → ⊥)
+pub moments_fall : (used : Place → Option Stored) (clock : ℕ) (all : List RowPart) (now : ReadRows) → HaveRead used clock all now
+    → ((rows : List ImageRow) (at : ℕ) → RowsStandBy First used rows at → StandOnce (moments_used_by First used rows)) → (StandOnce now.moments.items → ⊥)
     → (rows : List ImageRow) → SpellRows all rows → RowsStandBy First used rows clock → ⊥
-moments_fall used clock all now h falls rows spelled stand =
-    falls (subst StandOnce (ap (moments_used_by First used) (h.only rows spelled) ∙ sym h.moments_are) (standing_once First used rows clock stand))
+moments_fall used clock all now h standing falls rows spelled stand =
+    falls (subst StandOnce (ap (moments_used_by First used) (h.only rows spelled) ∙ sym h.moments_are) (standing rows clock stand))
 
 -- ---- the loop over the rows
 

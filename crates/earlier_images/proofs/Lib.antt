@@ -1,7 +1,6 @@
 mod FramesRead
 mod OneFrames
 mod TableNames
-mod MomentsOnce
 mod AllRows
 mod Faults
 mod OneImage

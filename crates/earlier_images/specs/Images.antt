@@ -4,10 +4,10 @@ use Rattle.s4_types.specs.declared.spans.Span.{Span}
 use Rattle.codec.specs.declared.versions.ImageVersion.TheVariants.{First}
 use Rattle.image_parts.specs.Image.{Image}
 use Rattle.image_objects.specs.declared.rows.ImageRow.{ImageRow}
+use Rattle.image_objects.specs.Versions.{RowsStandBy}
 use Rattle.verifier.specs.Rows.{SpellRows}
 use Rattle.earlier_images.specs.declared.frames.EarlierFrame.{EarlierFrame}
 use Rattle.earlier_images.specs.Used.{AreFramesOf, used_in}
-use Rattle.earlier_images.specs.Rows.{RowsStandBy}
 
 -- an image: the numbers of its drive, its frames with what was read of each, its rows and its spans
 pub record EarlierFields : Type 0 where

@@ -5,9 +5,10 @@ ghost use Rattle.s4_types.specs.declared.refusals.Refusal.TheVariants.{NoMemory,
 ghost use Rattle.codec.specs.declared.versions.ImageVersion.TheVariants.{First};
 ghost use Rattle.image_parts.specs.Header.{KeepsHeaderRulesBy};
 ghost use Rattle.image_parts.specs.Image.{header_of, image_in};
+ghost use Rattle.image_objects.specs.Versions.{RowsStandBy};
 ghost use Rattle.verifier.specs.Rows.{SpellRows};
 ghost use Rattle.earlier_images.specs.Used.{AreFramesOf, used_in};
-ghost use Rattle.earlier_images.specs.Rows.{EarlierChainsStand, RowsStandBy};
+ghost use Rattle.earlier_images.specs.Rows.{EarlierChainsStand};
 ghost use Rattle.earlier_images.specs.Images.{IsEarlierOf};
 ghost use Rattle.earlier_images.specs.Grammar.{SpellsEarlier, FirstEarlierFault};
 ghost use Rattle.earlier_images.specs.private.Rest.{FirstEarlierRest};

@@ -4,17 +4,19 @@ ghost use Rattle.s4_types.specs.declared.refusals.Refusal.TheVariants.{NoMemory}
 ghost use Rattle.codec.specs.declared.versions.ImageVersion.TheVariants.{First};
 ghost use Rattle.image_objects.specs.declared.rows.ImageRow.{ImageRow as RowFields};
 ghost use Rattle.image_objects.specs.Moments.{StandOnce};
+ghost use Rattle.image_objects.specs.Versions.{RowsStandBy};
 ghost use Rattle.verifier.specs.Rows.{SpellRows};
 ghost use Rattle.earlier_images.specs.Used.{used_in};
-ghost use Rattle.earlier_images.specs.Rows.{RowsStandBy};
 ghost use Rattle.earlier_images.specs.private.OneRow.{IsRowRead, PartStands};
 
 use crate::frames::EarlierFrames;
 use codec::ImageVersion;
+use image_objects::laws::moments_told_once_are_not_shared;
 use image_objects::{ImageRow, read_object_by};
 use image_parts::{ImageParts, RowPart};
 use s4_types::{Moment, Refusal};
 use std::alloc::Global;
+use verifier::laws::rows_are_read_in_order;
 use verifier::{are_apart, push_moments, row_of};
 
 /// What was read of the rows so far.
@@ -97,6 +99,8 @@ pub(crate) fn read_rows(
         → RowsStandBy First (used_in frames.now) rows clock → ⊥)) }
     ensures refusal { IfErr result (λ e. e ≡ NoMemory) }
 {
+    moments_told_once_are_not_shared();
+    rows_are_read_in_order();
     let mut reading = ReadRows::new(alloc);
     for part in parts.rows() {
         if !reading.read_row(alloc, frames, &part, clock)? {

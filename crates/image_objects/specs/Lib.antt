@@ -9,5 +9,6 @@ pub mod Chains
 pub mod Inodes
 pub mod VersionChain
 pub mod Versions
+pub mod Read
 pub mod Writing
 pub mod OldCheckpoints

@@ -1,14 +1,15 @@
 //! A row's whole version chain.
-ghost use Rattle.std.specs.Prelude.{◌≡◌, ◌≤◌, length, IfSome, IfNone, IfOk, IfErr};
+ghost use Rattle.std.specs.Prelude.{◌≡◌, ◌≤◌, length, Option, IfSome, IfNone, IfOk, IfErr};
+ghost use Rattle.s4_types.specs.Pointer.{Place};
 ghost use Rattle.s4_types.specs.declared.limits.TheConstants.{OBJECT_BLOCKS, CHAIN_ENTRY_BYTES};
 ghost use Rattle.s4_types.specs.declared.refusals.Refusal.TheVariants.{NoMemory};
-ghost use Rattle.codec.specs.Entry.{entries_length, entries_length_by};
-ghost use Rattle.journal_chain.specs.Packing.{packed, filled_bytes};
-ghost use Rattle.image_objects.specs.Chains.{entries_used};
-ghost use Rattle.image_objects.specs.Inodes.{first_used};
-ghost use Rattle.image_objects.specs.VersionChain.{VersionChainStands, present_used};
+ghost use Rattle.block_log.specs.Log.{Stored};
+ghost use Rattle.codec.specs.declared.versions.ImageVersion.TheVariants.{Second};
+ghost use Rattle.image_objects.specs.declared.rows.ImageRow.{ImageRow as RowFields};
+ghost use Rattle.image_objects.specs.VersionChain.{VersionChainStands};
 ghost use Rattle.image_objects.specs.Versions.{ChainStandsBy, entries_used_by, first_used_by};
-ghost use Rattle.image_objects.specs.Versions.{VersionChainStandsBy, present_used_by};
+ghost use Rattle.image_objects.specs.Versions.{VersionChainStandsBy};
+ghost use Rattle.image_objects.specs.Read.{IsRead, IsReadBy};
 
 use crate::chains::{ChainRead, ImageChain, read_chain_by, with_head_bytes};
 use crate::inodes::first_inode_by;
@@ -91,24 +92,8 @@ pub fn read_version_chain_by<U: UsedBlocks>(
     ensures only { IfOk result
         (λ found. IfNone found
         (VersionChainStandsBy version (U.used used.now) row.now clock → ⊥)) }
-    ensures entries { IfOk result
-        (λ found. IfSome found
-        (λ versions. versions.chain.entries.items
-        ≡ entries_used_by version (U.used used.now) row.now)) }
-    ensures bytes { IfOk result
-        (λ found. IfSome found
-        (λ versions. versions.chain.bytes
-        ≡ entries_length_by version (entries_used_by version (U.used used.now) row.now))) }
-    ensures most { IfOk result
-        (λ found. IfSome found (λ versions. versions.chain.bytes ≤ CHAIN_ENTRY_BYTES)) }
-    ensures first { IfOk result
-        (λ found. IfSome found
-        (λ versions. versions.first ≡ first_used_by version (U.used used.now) row.now)) }
-    ensures count { IfOk result
-        (λ found. IfSome found (λ versions. length versions.first.pointers ≡ OBJECT_BLOCKS)) }
-    ensures present { IfOk result
-        (λ found. IfSome found
-        (λ versions. versions.present ≡ present_used_by version (U.used used.now) row.now)) }
+    ensures read { IfOk result
+        (λ found. IfSome found (IsReadBy version (U.used used.now) row.now)) }
     ensures refusal { IfErr result (λ e. e ≡ NoMemory) }
 {
     let Some(chain) = read_chain_by(alloc, version, used, row, clock)? else {
@@ -130,14 +115,12 @@ pub fn read_version_chain_by<U: UsedBlocks>(
 /// A version chain of the present version, with the bytes of the entries in its newest block.
 pub(crate) fn with_chain_bytes(versions: VersionsRead) -> VersionChain
     requires { versions.chain.bytes ≤ CHAIN_ENTRY_BYTES }
-    ensures entries { result.chain.entries.items ≡ versions.chain.entries.items }
-    ensures bytes { result.chain.journal_bytes ≡ versions.chain.bytes }
-    ensures head { result.chain.head_bytes ≡ filled_bytes (packed versions.chain.entries.items) }
-    ensures first { result.first ≡ versions.first }
-    ensures present { result.present ≡ versions.present }
+    ensures { (used : Place → Option Stored) (row : RowFields)
+        → IsReadBy Second used row versions → IsRead used row result }
 {
+    let chain = with_head_bytes(versions.chain);
     VersionChain {
-        chain: with_head_bytes(versions.chain),
+        chain,
         first: versions.first,
         present: versions.present,
     }
@@ -156,25 +139,7 @@ pub fn read_version_chain<U: UsedBlocks>(
         (λ found. IfSome found (λ versions. VersionChainStands (U.used used.now) row.now clock)) }
     ensures only { IfOk result
         (λ found. IfNone found (VersionChainStands (U.used used.now) row.now clock → ⊥)) }
-    ensures entries { IfOk result
-        (λ found. IfSome found
-        (λ versions. versions.chain.entries.items ≡ entries_used (U.used used.now) row.now)) }
-    ensures bytes { IfOk result
-        (λ found. IfSome found
-        (λ versions. versions.chain.journal_bytes
-        ≡ entries_length (entries_used (U.used used.now) row.now))) }
-    ensures head { IfOk result
-        (λ found. IfSome found
-        (λ versions. versions.chain.head_bytes
-        ≡ filled_bytes (packed (entries_used (U.used used.now) row.now)))) }
-    ensures first { IfOk result
-        (λ found. IfSome found
-        (λ versions. versions.first ≡ first_used (U.used used.now) row.now)) }
-    ensures count { IfOk result
-        (λ found. IfSome found (λ versions. length versions.first.pointers ≡ OBJECT_BLOCKS)) }
-    ensures present { IfOk result
-        (λ found. IfSome found
-        (λ versions. versions.present ≡ present_used (U.used used.now) row.now)) }
+    ensures read { IfOk result (λ found. IfSome found (IsRead (U.used used.now) row.now)) }
     ensures refusal { IfErr result (λ e. e ≡ NoMemory) }
 {
     let Some(versions) = read_version_chain_by(alloc, ImageVersion::Second, used, row, clock)?

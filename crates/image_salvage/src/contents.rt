@@ -7,7 +7,6 @@ ghost use Rattle.segment_table.specs.Used.{used_at};
 ghost use Rattle.image_salvage.specs.Contents.{data_of, salvaged_bytes, leads_nowhere, is_gone};
 ghost use Rattle.image_salvage.specs.Contents.{blocks_gone};
 
-use crate::used::TableBlocks;
 use block_log::BlockKind;
 use codec::Inode;
 use image_objects::bytes_at;
@@ -15,6 +14,7 @@ use s4_types::limits::{BLOCK_BYTES, OBJECT_BLOCKS};
 use s4_types::{ObjectId, Ptr, Refusal};
 use segment_table::TableBuilder;
 use std::alloc::Global;
+use verifier::TableBlocks;
 
 /// The slot of an index, or none after the last.
 fn slot_at(slots: &[Option<Ptr>], index: usize) -> Option<Ptr>

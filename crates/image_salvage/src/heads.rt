@@ -14,7 +14,6 @@ ghost use Rattle.image_salvage.specs.Heads.{last_of, row_alone, row_from, step_b
 
 use crate::contents::count_gone;
 use crate::newest::{Note, offer, place_at};
-use crate::used::TableBlocks;
 use codec::{Checkpoint, Entry, EntryReader};
 use image_objects::{ImageRow, read_checkpoint, read_journal, read_version_chain};
 use s4_types::limits::{FRAME_BLOCKS, MOST_FRAMES, OBJECT_BLOCKS};
@@ -22,6 +21,7 @@ use s4_types::{Moment, ObjectId, Ptr, Refusal};
 use segment_table::TableBuilder;
 use std::alloc::Global;
 use std::collections::BTreeMap;
+use verifier::TableBlocks;
 
 /// Blocks of all frames that a drive can have, their summaries among them.
 const PLACES: usize = MOST_FRAMES * FRAME_BLOCKS;

@@ -34,7 +34,6 @@ mod rows;
 mod salvaging;
 mod searching;
 mod unlisted;
-mod used;
 
 pub use counts::given_json;
 pub use giving::{GivenOut, give_out};

@@ -14,7 +14,6 @@ ghost use Rattle.image_salvage.specs.private.Passing.{Believes};
 use crate::heads::{newest_entry, step_of};
 use crate::newest::Note;
 use crate::unlisted::push;
-use crate::used::TableBlocks;
 use codec::EntryReader;
 use image_objects::read_journal;
 use image_parts::RowPart;
@@ -23,6 +22,7 @@ use s4_types::{Moment, ObjectId, Ptr, Refusal};
 use segment_table::TableBuilder;
 use std::alloc::Global;
 use std::collections::BTreeMap;
+use verifier::TableBlocks;
 
 /// Whether a moment, and how far an entry is in the change of it, come before those of a note.
 fn is_before(moment: Moment, step: usize, note: &Note) -> bool

@@ -2,17 +2,15 @@
 ghost use Rattle.std.specs.Prelude.{◌≡◌, IfSome, IfOk, IfErr, MatchBool, MatchOption};
 ghost use Rattle.s4_types.specs.declared.refusals.Refusal.TheVariants.{NoMemory};
 ghost use Rattle.segment_table.specs.Used.{used_at};
-ghost use Rattle.image_objects.specs.declared.rows.ImageRow.{ImageRow as RowFields};
-ghost use Rattle.verifier.specs.Rows.{SpellsRow};
 ghost use Rattle.image_salvage.specs.Rows.{IsLost, IsPresentOf, IsSalvagedBy, IsThere};
 
-use crate::used::TableBlocks;
 use codec::Inode;
-use image_objects::{ImageRow, read_version_chain};
+use image_objects::read_version_chain;
 use image_parts::RowPart;
 use s4_types::{Moment, ObjectId, Refusal};
 use segment_table::TableBuilder;
 use std::alloc::Global;
+use verifier::{TableBlocks, row_of};
 
 /// What a row gives.
 #[derive(Clone, Copy)]
@@ -20,23 +18,6 @@ pub struct Salvaged {
     pub object: ObjectId,
     /// The object's present inode, which may be dead; none where the object is lost.
     pub present: Option<Inode>,
-}
-
-/// A row of an image, with the pointers that its bytes encode. None where they encode neither a
-/// pointer nor a hole.
-fn row_of(part: &RowPart) -> Option<ImageRow>
-    ensures found { IfSome result (λ row. SpellsRow part.now row) }
-    ensures only { (row : RowFields) → SpellsRow part.now row → result ≡ Some row }
-{
-    let checkpoint = part.checkpoint_slot()?;
-    let head = part.head_slot()?;
-    Some(ImageRow {
-        object: part.object,
-        created: part.created,
-        checkpoint,
-        checkpoint_moment: part.checkpoint_moment,
-        head,
-    })
 }
 
 /// The present inode of the object of a row. None exactly where it is lost. NoMemory alone.

@@ -18,7 +18,6 @@ use crate::left_out::{cut_moment, inode_before};
 use crate::newest::Note;
 use crate::outdated::believed_rows;
 use crate::rows::leads;
-use crate::used::TableBlocks;
 use codec::{Entry, Inode};
 use image_objects::{ImageRow, VersionChain, read_version_chain};
 use image_parts::RowPart;
@@ -27,6 +26,7 @@ use segment_table::TableBuilder;
 use std::alloc::Global;
 use std::collections::BTreeMap;
 use std::ops::Bound;
+use verifier::TableBlocks;
 
 /// A live object that no row gives, as it is after the last change that its newest block has whole.
 /// It may have been deleted or hidden since.

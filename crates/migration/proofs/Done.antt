@@ -20,7 +20,7 @@ use Rattle.earlier_images.specs.Used.{AreFramesOf, used_in}
 use Rattle.migration.specs.Frames.{FillsFrames, frames_needed, fresh_log}
 use Rattle.migration.specs.Rows.{AscendAbove, CopyRows, blocks_of_rows}
 use Rattle.migration.specs.Migrated.{IsTooMuch, LaysOut, Migrates, frames_then, rows_then}
-use Rattle.migration.specs.private.Written.{AreBytesOf}
+use Rattle.migration.specs.private.Written.{AreBytesOf, IsWritten}
 use Rattle.migration.proofs.Then.{AreThen, Laws, all_then, rows_stand, same_versions}
 use Rattle.migration.proofs.Whole.{image_written, rows_ascend, spells}
 
@@ -40,26 +40,16 @@ old_rows bytes was earlier read of =
     let both = rows_ascend (header_of was) 0 0 0 0 was.rows earlier.rows refl refl read.parts.rules.rows of.spelled in
     (both.0, subst (λ k. AllByRecursion (λ row. IsFromTo 1 k row.created) earlier.rows) (sym of.clock) both.1)
 
--- what was copied and written of an old image
-pub record Done (bytes new : List ℕ) (was : Image) (earlier : EarlierFields) (t : Table) (laters : List Row) : Type 0 where
-  pub read : SpellsEarlier bytes was
-  pub of : IsEarlierOf was earlier
-  pub copied : CopyRows (used_in earlier.frames) earlier.rows laters (fresh_log (frames_then earlier)) (log_of t)
-  pub filled : FillsFrames (blocks_of_rows (used_in earlier.frames) earlier.rows) (frames_then earlier) t
-  pub count : IsFrameCount (length t.seat.frames)
-  pub used : HoldsUsedBlocks t
-  pub parts : AreBytesOf earlier t laters new
-
-are_then : Laws → (bytes new : List ℕ) (was : Image) (earlier : EarlierFields) (t : Table) (laters : List Row) → Done bytes new was earlier t laters → AreThen (used_in earlier.frames) (used_at t) earlier.rows laters earlier.clock
+are_then : Laws → (bytes new : List ℕ) (was : Image) (earlier : EarlierFields) (t : Table) (laters : List Row) → IsWritten bytes new was earlier t laters → AreThen (used_in earlier.frames) (used_at t) earlier.rows laters earlier.clock
 are_then laws bytes new was earlier t laters d =
     all_then laws (used_in earlier.frames) (used_at t) earlier.rows laters (fresh_log (frames_then earlier)) (log_of t) earlier.clock d.of.stand.objects (old_rows bytes was earlier d.read d.of).1 d.used d.copied
 
-written : Laws → (bytes new : List ℕ) (was : Image) (earlier : EarlierFields) (t : Table) (laters : List Row) → (d : Done bytes new was earlier t laters) → SpellsDrive new (image_written earlier d.parts.frames d.parts.parts)
+written : Laws → (bytes new : List ℕ) (was : Image) (earlier : EarlierFields) (t : Table) (laters : List Row) → (d : IsWritten bytes new was earlier t laters) → SpellsDrive new (image_written earlier d.parts.frames d.parts.parts)
 written laws bytes new was earlier t laters d =
     let are = are_then laws bytes new was earlier t laters d in
     spells bytes new was earlier t laters d.read.parts d.of d.count are (rows_stand laws (used_in earlier.frames) (used_at t) earlier.rows laters earlier.clock are d.of.stand.apart) d.parts
 
-pub migrates : Laws → (bytes new : List ℕ) (was : Image) (earlier : EarlierFields) (t : Table) (laters : List Row) → Done bytes new was earlier t laters → Migrates bytes new
+pub migrates : Laws → (bytes new : List ℕ) (was : Image) (earlier : EarlierFields) (t : Table) (laters : List Row) → IsWritten bytes new was earlier t laters → Migrates bytes new
 migrates laws bytes new was earlier t laters d = record {
   was = was;
   read = d.read;
@@ -79,7 +69,7 @@ migrates laws bytes new was earlier t laters d = record {
   versions = λ o time. same_versions (used_in earlier.frames) (used_at t) earlier.rows laters earlier.clock o time (are_then laws bytes new was earlier t laters d);
 }
 
-pub lays_out : Laws → (bytes new : List ℕ) (was : Image) (earlier : EarlierFields) (t : Table) (laters : List Row) → Done bytes new was earlier t laters → LaysOut bytes new
+pub lays_out : Laws → (bytes new : List ℕ) (was : Image) (earlier : EarlierFields) (t : Table) (laters : List Row) → IsWritten bytes new was earlier t laters → LaysOut bytes new
 lays_out laws bytes new was earlier t laters d = record {
   was = was;
   read = d.read;
@@ -122,14 +112,17 @@ told_of earlier frames rows count t laters same_frames same_rows same_count told
     (subst (λ (rs : List ImageRow). Told frames rs (length earlier.frames) t laters) same_rows
     (subst (λ n. Told frames rows n t laters) (same_count ∙ ap (λ (fs : List EarlierFrame). length fs) same_frames) told))
 
-pub done : (bytes new : List ℕ) (was : Image) (earlier : EarlierFields) (t : Table) (laters slice : List Row) → SpellsEarlier bytes was → IsEarlierOf was earlier → Told earlier.frames earlier.rows (length earlier.frames) t laters
-    → IsFrameCount (length t.seat.frames) → HoldsUsedBlocks t → slice ≡ laters → AreBytesOf earlier t slice new → Done bytes new was earlier t laters
-done bytes new was earlier t laters slice read of told count used same parts = record {
-  read = read;
-  of = of;
-  copied = told.copied;
-  filled = told.filled;
-  count = count;
-  used = used;
-  parts = subst (λ (ls : List Row). AreBytesOf earlier t ls new) same parts;
-}
+pub done : (bytes new : List ℕ) (was : Image) (earlier : EarlierFields) (frames : List EarlierFrame) (rows : List ImageRow) (count : ℕ) (t : Table) (laters slice : List Row) → SpellsEarlier bytes was → IsEarlierOf was earlier
+    → frames ≡ earlier.frames → rows ≡ earlier.rows → count ≡ length frames → Told frames rows count t laters → IsFrameCount (length t.seat.frames) → HoldsUsedBlocks t → slice ≡ laters → AreBytesOf earlier t slice new
+    → IsWritten bytes new was earlier t laters
+done bytes new was earlier frames rows count t laters slice read of same_frames same_rows same_count copied frame_count used same parts =
+    let told : Told earlier.frames earlier.rows (length earlier.frames) t laters = told_of earlier frames rows count t laters same_frames same_rows same_count copied in
+    record {
+      read = read;
+      of = of;
+      copied = told.copied;
+      filled = told.filled;
+      count = frame_count;
+      used = used;
+      parts = subst (λ (ls : List Row). AreBytesOf earlier t ls new) same parts;
+    }

@@ -9,7 +9,6 @@ mod CanCopy
 mod Then
 mod Whole
 mod Parts
-mod Slots
 mod Fronts
 mod Filled
 mod Done

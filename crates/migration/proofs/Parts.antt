@@ -6,14 +6,7 @@ use Rattle.image_parts.specs.Rows.{IsRow}
 use Rattle.image_parts.specs.declared.rows.RowPart.{RowPart}
 use Rattle.image_objects.specs.declared.rows.ImageRow.{ImageRow}
 use Rattle.image_objects.specs.Saved.{saved_row}
-use Rattle.verifier.specs.Rows.{SpellRows, SpellsRow}
 use Rattle.migration.specs.Migrated.{rows_then}
-
-pub spelled_push : (parts : List RowPart) (rows : List ImageRow) (part : RowPart) (row : ImageRow) → SpellRows parts rows → SpellsRow part row → SpellRows (parts ++ part ∷ []) (rows ++ row ∷ [])
-spelled_push [] [] part row spelled one = (one, tt)
-spelled_push [] (r ∷ rows) part row spelled one = absurd spelled
-spelled_push (p ∷ parts) [] part row spelled one = absurd spelled
-spelled_push (p ∷ parts) (r ∷ rows) part row spelled one = (spelled.0, spelled_push parts rows part row spelled.1 one)
 
 pub are_push : (parts : List RowPart) (part : RowPart) → AllByRecursion IsRow parts → IsRow part → AllByRecursion IsRow (parts ++ part ∷ [])
 are_push [] part are one = (one, tt)

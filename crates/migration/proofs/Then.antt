@@ -25,10 +25,9 @@ use Rattle.image_objects.specs.Chains.{entries_used}
 use Rattle.image_objects.specs.Objects.{ObjectStands, inode_used}
 use Rattle.image_objects.specs.Rows.{RowsShareNoMoment, RowsStand}
 use Rattle.image_objects.specs.Saved.{HoldsUsed, IsSavedAsHeld, saved_row}
-use Rattle.image_objects.specs.Versions.{ObjectStandsBy, entries_used_by, inode_used_by}
+use Rattle.image_objects.specs.Versions.{ObjectStandsBy, entries_used_by, inode_used_by, RowsShareNoMomentBy}
 use Rattle.image_objects.specs.Writing.{AnObjectOfAVersionCanBeWritten, inode_kept_in}
 use Rattle.verifier.specs.Opened.{inode_of_rows, version_of_rows}
-use Rattle.earlier_images.specs.Rows.{RowsShareNoMomentBy}
 use Rattle.migration.specs.Copied.{data_moves}
 use Rattle.migration.specs.Moves.{moved_by}
 use Rattle.migration.specs.Rows.{CopiesObject, CopyRows}

@@ -36,6 +36,7 @@ use Rattle.migration.specs.declared.moves.Move.{Move}
 use Rattle.migration.specs.Places.{pointers_in, data_pointers, data_places}
 use Rattle.migration.specs.Moves.{moved_by, is_moved, new_places}
 use Rattle.migration.specs.Copied.{CanCopy, CopiesBy, IsInOrder, entries_then, first_inode, inode_at, kept_then, data_moves}
+use Rattle.migration.specs.private.CopyLaws.{CopyLaws}
 use Rattle.migration.specs.private.Copying.{Copying, AreApart, IsUsedData}
 use Rattle.migration.proofs.Ascending.{apart, ascend_with}
 use Rattle.migration.proofs.Appending.{PlacesAddUp}
@@ -55,23 +56,6 @@ pub record Wrote (o : ℕ) (start : Row) (m : ℕ) (kept : Option Inode) (entrie
   pub takes : TakesPlaces (moved_blocks kept entries) middle after
   pub order : middle.ahead ≡ checkpoint_places_of after.held o later ++ (reverse (chain_places (of_kind Journal o after.held) o later.head) ++ after.ahead)
 
--- The laws that a copied row rests on, for this map.
-pub record Laws (moves : List Move) : Type 0 where
-  pub one : OnePlace
-  pub add_up : PlacesAddUp
-  pub listed : WhatIsToldIsListed
-  pub points : AChainPointsToWhatItTells
-  pub begins : ItsFirstInodeIsMapped
-  pub shown : AMappedChainShowsMappedInodes (moved_by moves)
-  pub pointers : APointerIsMapped (moved_by moves)
-  pub in_order : MappedEntriesStayInOrder (moved_by moves)
-  pub tells : AMappedChainTellsInOrder (moved_by moves)
-  pub same : AMappedChainShowsTheSame (Passes (is_moved moves)) (moved_by moves)
-  pub bytes : AMappedChainTakesAsManyBytes (moved_by moves)
-  pub each : MappedEntriesTakeAsManyBytes (moved_by moves)
-  pub holes : HolesTellBlocks
-  pub by : (held : Place → Option Stored) (o : ℕ) (row : Row) (latest : ℕ) → IsRow held o row → IsOrderly held o row latest → IsBy held o row latest
-
 -- ---- before
 
 pub no_checkpoints : (o : ℕ) (x : Option Stored) → seen_as Checkpoint o x ≡ None → seen_as Pointers o x ≡ None → seen_of o x ≡ None
@@ -82,18 +66,18 @@ no_checkpoints o x first parts =
 -- ---- after
 
 -- the first inode is the mapped one
-pub first_is : (moves : List Move) → Laws moves → (row : ImageRow) (kept : Option Inode) (entries : List EntryFields)
+pub first_is : (moves : List Move) → CopyLaws moves → (row : ImageRow) (kept : Option Inode) (entries : List EntryFields)
     → first_kept row.object row.created row.checkpoint_moment (kept_then moves kept) (entries_then moves entries) ≡ mapped_inode (moved_by moves) (first_inode row kept entries)
 first_is moves laws row kept entries = laws.begins (moved_by moves) row.object row.created row.checkpoint_moment kept entries
 
 -- so it is at each moment
-then_is : (moves : List Move) → Laws moves → (row : ImageRow) (kept : Option Inode) (entries : List EntryFields) (t : ℕ)
+then_is : (moves : List Move) → CopyLaws moves → (row : ImageRow) (kept : Option Inode) (entries : List EntryFields) (t : ℕ)
     → inode_after (first_kept row.object row.created row.checkpoint_moment (kept_then moves kept) (entries_then moves entries)) (entries_then moves entries) t ≡ mapped_inode (moved_by moves) (inode_at row kept entries t)
 then_is moves laws row kept entries t =
     ap (λ (i : Inode). inode_after i (entries_then moves entries) t) (first_is moves laws row kept entries) ∙ laws.shown (first_inode row kept entries) entries t
 
 -- the pointers of the row are the mapped ones
-led_is : (moves : List Move) → Laws moves → (held : Place → Option Stored) (row : ImageRow) (kept : Option Inode) (entries : List EntryFields) (later : Row)
+led_is : (moves : List Move) → CopyLaws moves → (held : Place → Option Stored) (row : ImageRow) (kept : Option Inode) (entries : List EntryFields) (later : Row)
     → entries_of held row.object later ≡ entries_then moves entries → checkpoint_of held row.object later ≡ checkpoint_kept row.object row.checkpoint_moment (kept_then moves kept)
     → pointers_of held row.object later ≡ map (mapped_slot (moved_by moves)) (data_pointers kept entries)
 led_is moves laws held row kept entries later told kept_is =
@@ -128,7 +112,7 @@ led_then used o moves after is (Some p) goes = let at = is.copied p goes in subs
 pointed_then : (used : Place → Option Stored) (o : ℕ) (moves : List Move) (after : Log) → Data_is used o moves after → (slot : Option Place) (p : Place) → GoesSomewhere moves slot → mapped_slot (moved_by moves) slot ≡ Some p → IsSome (of_kind Data o after.held p)
 pointed_then used o moves after is slot p goes at = subst (λ (x : Option Place). IsLed after.held o x) at (led_then used o moves after is slot goes)
 
-pub copied_row : (moves : List Move) → Laws moves → (used : Place → Option Stored) (row : ImageRow) (kept : Option Inode) (entries : List EntryFields) (before middle after : Log) (later : Row)
+pub copied_row : (moves : List Move) → CopyLaws moves → (used : Place → Option Stored) (row : ImageRow) (kept : Option Inode) (entries : List EntryFields) (before middle after : Log) (later : Row)
     → CanCopy used row kept entries → HasNothing before.held row.object → length (data_places kept entries) ≤ length before.ahead
     → Copying used row.object (data_places kept entries) [] (length (data_places kept entries)) before middle moves
     → Wrote row.object (fresh_row row.created) row.checkpoint_moment (kept_then moves kept) (entries_then moves entries) middle after later

@@ -1,4 +1,5 @@
 pub mod Copying
+pub mod CopyLaws
 pub mod Ranks
 pub mod Copied
 pub mod Written

@@ -6,6 +6,7 @@
 #![tactic(auto)]
 
 mod copies;
+mod copy_laws;
 mod counting;
 mod images;
 pub mod laws;

@@ -7,15 +7,10 @@ ghost use Rattle.verifier.specs.Opened.{IsReadOf};
 ghost use Rattle.earlier_images.specs.Grammar.{FirstEarlierFault};
 ghost use Rattle.migration.specs.Migrated.{IsTooMuch, LaysOut, Migrates};
 
+use crate::copy_laws::what_was_written_is_migrated;
 use crate::images::copy_image;
 use crate::writing::write_image;
-use chain_rewriting::mapping_laws::mapped_entries_stay_in_order;
-use earlier_images::laws::one_image_is_read;
 use earlier_images::read_earlier;
-use image_objects::saving_laws::{a_row_that_is_held_stands, a_saved_row_tells_the_same};
-use image_objects::writing_laws::an_object_of_a_version_can_be_written;
-use image_parts::laws::images_of_a_version;
-use inode::laws::only_its_blocks_matter;
 use s4_types::Refusal;
 use segment_table::OverFrames;
 use std::alloc::Global;
@@ -40,13 +35,7 @@ pub fn migrated(alloc: Global, bytes: &[u8]) -> Result<Vec<u8>, Refusal>
         ⊎ (((e ≡ NoRoom) × IsTooMuch bytes.now)
         ⊎ ((cause : Found) × (e ≡ Damaged cause) × FirstEarlierFault bytes.now (Some cause)))) }
 {
-    a_saved_row_tells_the_same();
-    a_row_that_is_held_stands();
-    an_object_of_a_version_can_be_written();
-    only_its_blocks_matter();
-    mapped_entries_stay_in_order();
-    images_of_a_version();
-    one_image_is_read();
+    what_was_written_is_migrated();
     let old = read_earlier(alloc, bytes)?;
     let used = old.frames();
     let copied = copy_image(alloc, used, old.rows(), old.clock(), used.len())?;

@@ -7,22 +7,14 @@ ghost use Rattle.migration.specs.Moves.{moved_by};
 ghost use Rattle.migration.specs.Copied.{CanCopy, CopiesRow, object_blocks};
 
 use crate::copies::copy_data;
+use crate::copy_laws::a_copied_object_keeps_its_history;
 use crate::moves::Moves;
 use crate::places::data_places;
 use block_log::Blocks;
-use chain_rewriting::mapping_laws::{
-    a_mapped_chain_shows_the_same, a_mapped_chain_takes_as_many_bytes,
-    a_mapped_chain_tells_of_mapped_places, a_mapped_run_is_a_run, mapped_entries_stay_in_order,
-};
-use chain_rewriting::renaming_laws::what_a_chain_tells;
 use chain_rewriting::{map_entries, map_inode};
-use checkpoint::laws::a_checkpoint_is_in_its_blocks;
 use codec::{Entry, Inode};
 use image_objects::{ImageRow, UsedBlocks};
 use object_map::Row;
-use row_changes::laws::{
-    a_fresh_row_stands, an_orderly_row_is_by_its_moment, what_a_row_tells_can_be_written,
-};
 use row_changes::write_row;
 use s4_types::Refusal;
 use std::alloc::Global;
@@ -57,16 +49,7 @@ pub(crate) fn copy_row<B: Blocks, U: UsedBlocks>(
     ensures copied { IfOk result (λ later. CopiesRow (U.used used.now) row.now kept entries.old (B.log table.old) (B.log table.new) later) }
     ensures refusal { IfErr result (λ e. e ≡ NoMemory) }
 {
-    a_checkpoint_is_in_its_blocks();
-    a_fresh_row_stands();
-    what_a_chain_tells();
-    what_a_row_tells_can_be_written();
-    mapped_entries_stay_in_order();
-    a_mapped_run_is_a_run();
-    a_mapped_chain_shows_the_same();
-    a_mapped_chain_takes_as_many_bytes();
-    a_mapped_chain_tells_of_mapped_places();
-    an_orderly_row_is_by_its_moment();
+    a_copied_object_keeps_its_history();
     let places = data_places(alloc, kept.as_ref(), entries)?;
     let moves = copy_data(alloc, table, used, row.object, places.as_slice())?;
     let kept = map_kept(&moves, kept);

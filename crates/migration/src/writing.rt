@@ -1,47 +1,17 @@
 //! The new image, written.
 ghost use Rattle.std.specs.Prelude.{◌≡◌, ◌<◌, ◌^◌, length, IfOk, IfErr};
-ghost use Rattle.std.specs.Int.{w64};
 ghost use Rattle.s4_types.specs.declared.refusals.Refusal.TheVariants.{NoMemory};
-ghost use Rattle.codec.specs.Fields.{number, SpellsSlot};
-ghost use Rattle.image_parts.specs.Rows.{IsRow};
-ghost use Rattle.image_objects.specs.Saved.{saved_row};
-ghost use Rattle.verifier.specs.Rows.{SpellsRow};
 ghost use Rattle.migration.specs.private.Written.{ArePartsOf, AreBytesOf, header_with};
 
-use codec::encode_ptr;
 use earlier_images::EarlierImage;
 use image_objects::ImageRow;
 use image_parts::{Header, RowPart, image_length, push_digest, push_header};
 use object_map::Row;
-use s4_types::{ObjectId, Ptr, Refusal};
+use s4_types::Refusal;
 use segment_table::{OverFrames, SegmentTable};
 use std::alloc::Global;
-use verifier::{push_frames, push_rows, push_spans};
-
-/// The number that a pointer's bytes, or those of a hole, represent.
-fn slot_number(ptr: Option<Ptr>) -> u64
-    ensures { SpellsSlot (number w64 result) ptr }
-{
-    u64::from_be_bytes(encode_ptr(ptr))
-}
-
-/// An object's row as the image has it.
-fn part_of(object: ObjectId, row: &Row) -> RowPart
-    ensures spelled { SpellsRow result (saved_row object row.now) }
-    ensures is { IsRow result }
-{
-    // numbers that are read have 64 bits
-    let _ = object.number();
-    let _ = row.created.number();
-    let _ = row.checkpoint_moment.number();
-    RowPart {
-        object,
-        created: row.created,
-        checkpoint: slot_number(row.checkpoint),
-        checkpoint_moment: row.checkpoint_moment,
-        head: slot_number(row.head),
-    }
-}
+use verifier::laws::rows_are_read_in_order;
+use verifier::{part_of, push_frames, push_rows, push_spans};
 
 /// The rows of all objects as the image has them. NoMemory alone.
 fn parts_of(alloc: Global, rows: &[ImageRow], laters: &[Row]) -> Result<Vec<RowPart>, Refusal>
@@ -50,6 +20,7 @@ fn parts_of(alloc: Global, rows: &[ImageRow], laters: &[Row]) -> Result<Vec<RowP
     ensures count { IfOk result (λ parts. length parts.items ≡ length rows.now) }
     ensures refusal { IfErr result (λ e. e ≡ NoMemory) }
 {
+    rows_are_read_in_order();
     let mut parts = Vec::new(alloc);
     for index in 0..rows.len() {
         parts.push(part_of(rows[index].object, &laters[index]))?;

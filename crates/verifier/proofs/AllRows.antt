@@ -24,14 +24,9 @@ use Rattle.verifier.specs.private.Holding.{IsUsedAlike}
 use Rattle.verifier.specs.private.OneRow.{IsRowRead, PartStands}
 use Rattle.verifier.proofs.Holding.{alike_itself, alike_on, same_used, holds_none}
 use Rattle.verifier.proofs.Counting.{names_none}
+use Rattle.verifier.proofs.SpelledRows.{spell_more, IsListed, listed, none_spelled, only_more}
 
 -- ---- one row more
-
-spell_more : (parts : List RowPart) (rows : List ImageRow) (part : RowPart) (row : ImageRow) → SpellRows parts rows → SpellsRow part row → SpellRows (parts ++ part ∷ []) (rows ++ row ∷ [])
-spell_more [] [] part row front last = (last, tt)
-spell_more [] (r ∷ rows) part row front last = absurd front
-spell_more (x ∷ parts) [] part row front last = absurd front
-spell_more (x ∷ parts) (r ∷ rows) part row front last = (front.0, spell_more parts rows part row front.1 last)
 
 kept_more : (used : Place → Option Stored) (rows : List ImageRow) (objects : List OpenedFields) (row : ImageRow) (x : OpenedFields) → AreKept used rows objects → IsKept used row x → AreKept used (rows ++ row ∷ []) (objects ++ x ∷ [])
 kept_more used [] [] row x front last = (last, tt)
@@ -48,36 +43,6 @@ moments_more : (used : Place → Option Stored) (rows : List ImageRow) (row : Im
 moments_more used rows row =
     let f : ImageRow → List ℕ = λ r. moments_of_chain (entries_used used r) in
     flat_map-append f rows (row ∷ []) ∙ ap (λ (l : List ℕ). moments_used used rows ++ l) (append-nil (f row))
-
--- ---- rows that parts encode, one of which is looked at
-
-record SpelledAt (done : List RowPart) (part : RowPart) (rest : List RowPart) (rows : List ImageRow) : Type 0 where
-  front : List ImageRow
-  row : ImageRow
-  behind : List ImageRow
-  before : SpellRows done front
-  here : SpellsRow part row
-  after : SpellRows rest behind
-  is : rows ≡ front ++ row ∷ behind
-
-spelled_at : (done : List RowPart) (part : RowPart) (rest : List RowPart) (rows : List ImageRow) → SpellRows (done ++ part ∷ rest) rows → SpelledAt done part rest rows
-spelled_at [] part rest [] spelled = absurd spelled
-spelled_at [] part rest (r ∷ rows) spelled = record { front = []; row = r; behind = rows; before = tt; here = spelled.0; after = spelled.1; is = refl }
-spelled_at (x ∷ done) part rest [] spelled = absurd spelled
-spelled_at (x ∷ done) part rest (r ∷ rows) spelled =
-    let s : SpelledAt done part rest rows = spelled_at done part rest rows spelled.1 in
-    record { front = r ∷ s.front; row = s.row; behind = s.behind; before = (spelled.0, s.before); here = s.here; after = s.after; is = ap (λ (l : List ImageRow). r ∷ l) s.is }
-
-none_spelled : (rows : List ImageRow) → SpellRows [] rows → rows ≡ []
-none_spelled [] spelled = refl
-none_spelled (r ∷ rows) spelled = absurd spelled
-
-only_more : (done : List RowPart) (part : RowPart) (rows : List ImageRow) (row : ImageRow) → ((others : List ImageRow) → SpellRows done others → others ≡ rows) → ((other : ImageRow) → SpellsRow part other → other ≡ row)
-    → (others : List ImageRow) → SpellRows (done ++ part ∷ []) others → others ≡ rows ++ row ∷ []
-only_more done part rows row front last others spelled =
-    let s : SpelledAt done part [] others = spelled_at done part [] others spelled in
-    s.is ∙ ap (λ (l : List ImageRow). s.front ++ s.row ∷ l) (none_spelled s.behind s.after)
-    ∙ ap (λ (l : List ImageRow). l ++ s.row ∷ []) (front s.front s.before) ∙ ap (λ (r : ImageRow). rows ++ r ∷ []) (last s.row s.here)
 
 -- ---- what was read
 
@@ -128,12 +93,10 @@ one_read start clock done part old new h read =
 pub one_falls : (start : Table) (clock : ℕ) (done : List RowPart) (part : RowPart) (rest all : List RowPart) (now : ReadRows) → HaveRead start clock done now → (PartStands (used_at now.table) part clock → ⊥) → all ≡ done ++ part ∷ rest
     → (rows : List ImageRow) → SpellRows all rows → RowsStand (used_at start) rows clock → ⊥
 one_falls start clock done part rest all now h falls whole rows spelled stand =
-    let s : SpelledAt done part rest rows = spelled_at done part rest rows (subst (λ (l : List RowPart). SpellRows l rows) whole spelled) in
+    let s : IsListed part rows = listed done part rest rows (subst (λ (l : List RowPart). SpellRows l rows) whole spelled) in
     let P : ImageRow → Type 0 = λ r. ObjectStands (used_at start) r clock in
-    let there : Contains rows s.row = subst (λ (l : List ImageRow). Contains l s.row) (sym s.is)
-    (subst (λ (l : List ImageRow). Contains l s.row) (append_assoc s.front (s.row ∷ []) s.behind) (Contains-append_left (s.front ++ s.row ∷ []) s.behind s.row (Contains-push s.front s.row))) in
-    let stands : ObjectStands (used_at start) s.row clock = All-contains P rows s.row (All-from_recursion P rows stand.objects) there in
-    falls (record { row = s.row; spelled = s.here; stands = subst (λ (u : Place → Option Stored). ObjectStands u s.row clock) (sym (same_used start now.table h.alike)) stands })
+    let stands : ObjectStands (used_at start) s.0 clock = All-contains P rows s.0 (All-from_recursion P rows stand.objects) s.2 in
+    falls (record { row = s.0; spelled = s.1; stands = subst (λ (u : Place → Option Stored). ObjectStands u s.0 clock) (sym (same_used start now.table h.alike)) stands })
 
 -- all rows, where no two chains share a moment
 pub all_read : (start : Table) (clock : ℕ) (all : List RowPart) (now : ReadRows) (after : Table) (objects : List OpenedFields) → HaveRead start clock all now

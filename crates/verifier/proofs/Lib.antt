@@ -1,4 +1,5 @@
 mod AllRows
+mod SpelledRows
 mod Holding
 mod Counting
 mod Telling

@@ -1,15 +1,19 @@
 //! Laws of the images of drives, for the layers above: each function does nothing, and its contract
 //! is the law.
-ghost use Rattle.std.specs.Prelude.{◌≡◌, ◌↔◌, ℕ, List, Option, Some, None};
+ghost use Rattle.std.specs.Prelude.{◌≡◌, ◌↔◌, ℕ, List, [], ◌∷◌, ◌++◌, Option, Some, None};
+ghost use Rattle.std.specs.List.{Contains};
 ghost use Rattle.s4_types.specs.declared.refusals.Cause.{Cause as Found};
 ghost use Rattle.s4_types.specs.declared.spans.Span.{Span as Hidden};
 ghost use Rattle.image_parts.specs.Header.{AreBytes};
 ghost use Rattle.image_parts.specs.Image.{Image as ImageParts, image_in};
+ghost use Rattle.image_parts.specs.declared.rows.RowPart.{RowPart};
+ghost use Rattle.image_objects.specs.declared.rows.ImageRow.{ImageRow};
 ghost use Rattle.window.specs.Runs.{Ascend, AllBeginFrom};
 ghost use Rattle.window.specs.Timeline.{CoverAlike};
 ghost use Rattle.drive.specs.Fields.{DriveFields};
 ghost use Rattle.verifier.specs.Grammar.{SpellsDrive, FirstFault};
 ghost use Rattle.verifier.specs.Saved.{SpellsSaved};
+ghost use Rattle.verifier.specs.Rows.{SpellsRow, SpellRows};
 
 use image_parts::laws::{an_image_is_read, what_no_test_refuses_is_an_image};
 
@@ -37,6 +41,25 @@ pub fn what_has_no_fault_is_an_image()
 pub fn one_first_fault()
     ensures { (bytes : List ℕ) (found other : Option Found) → FirstFault bytes found
         → FirstFault bytes other → found ≡ other }
+{}
+
+/// Rows are read one after the other.
+///
+/// `next`: what one part more encodes comes after what the parts before it do. `only`: where those
+/// encode nothing else, and that one neither, the parts together don't. `listed`: a part among
+/// others encodes one of the rows.
+pub fn rows_are_read_in_order()
+    ensures next { (parts : List RowPart) (rows : List ImageRow) (part : RowPart) (row : ImageRow)
+        → SpellRows parts rows → SpellsRow part row
+        → SpellRows (parts ++ part ∷ []) (rows ++ row ∷ []) }
+    ensures only { (parts : List RowPart) (part : RowPart) (rows : List ImageRow) (row : ImageRow)
+        → ((others : List ImageRow) → SpellRows parts others → others ≡ rows)
+        → ((other : ImageRow) → SpellsRow part other → other ≡ row)
+        → (others : List ImageRow) → SpellRows (parts ++ part ∷ []) others
+        → others ≡ rows ++ row ∷ [] }
+    ensures listed { (done : List RowPart) (part : RowPart) (rest : List RowPart)
+        (rows : List ImageRow) → SpellRows (done ++ part ∷ rest) rows
+        → (row : ImageRow) × SpellsRow part row × Contains rows row }
 {}
 
 /// Spans in order, from a floor on, are told by what they hide: two such lists that cover the same

@@ -8,10 +8,11 @@ ghost use Rattle.segment_table.specs.Table.{slots_at, held_at};
 ghost use Rattle.segment_table.specs.Used.{used_at};
 ghost use Rattle.image_objects.specs.declared.rows.ImageRow.{ImageRow as RowFields};
 ghost use Rattle.image_objects.specs.Moments.{StandOnce};
+ghost use Rattle.image_objects.specs.Read.{IsRead};
 ghost use Rattle.image_objects.specs.Rows.{RowsStand};
 ghost use Rattle.verifier.specs.Rows.{SpellRows};
 ghost use Rattle.verifier.specs.Reading.{IsKept, AreRead};
-ghost use Rattle.verifier.specs.private.OneRow.{TellsOfRow, IsRowRead, PartStands};
+ghost use Rattle.verifier.specs.private.OneRow.{IsRowRead, PartStands};
 
 use crate::blocks::{TableBlocks, hold_all};
 use crate::moments::{are_apart, push_moments};
@@ -47,7 +48,7 @@ struct ReadRows {
 /// What a drive keeps of an object of an image. Where memory for its index is refused it has none.
 fn kept_of(alloc: Global, row: &ImageRow, versions: &VersionChain) -> OpenedObject
     ensures { (used : Place → Option Stored)
-        → TellsOfRow used row.now versions.now → IsKept used row.now result }
+        → IsRead used row.now versions.now → IsKept used row.now result }
 {
     let kept = Row {
         created: row.created,

@@ -2,15 +2,11 @@
 use Rattle.std.specs.Prelude.{◌≡◌, ℕ, List, [], ◌∷◌, ◌++◌, Option}
 use Rattle.s4_types.specs.Pointer.{Place}
 use Rattle.block_log.specs.Log.{Stored}
-use Rattle.codec.specs.Entry.{entries_length}
-use Rattle.journal_chain.specs.Packing.{packed, filled_bytes}
 use Rattle.segment_table.specs.Table.{held_at, named_at}
 use Rattle.version_store.specs.Opening.{OpenedFields}
 use Rattle.image_parts.specs.declared.rows.RowPart.{RowPart}
 use Rattle.image_objects.specs.declared.rows.ImageRow.{ImageRow}
-use Rattle.image_objects.specs.declared.version_chains.VersionChain.{VersionChain}
 use Rattle.image_objects.specs.Chains.{entries_used}
-use Rattle.image_objects.specs.VersionChain.{present_used}
 use Rattle.image_objects.specs.Objects.{ObjectStands}
 use Rattle.image_objects.specs.Naming.{HoldsWhatIsNamed}
 use Rattle.image_objects.specs.Moments.{moments_of_chain}
@@ -18,13 +14,6 @@ use Rattle.verifier.specs.declared.objects.ReadRows.{ReadRows}
 use Rattle.verifier.specs.Rows.{SpellsRow}
 use Rattle.verifier.specs.Reading.{IsKept, NamesAreCapped}
 use Rattle.verifier.specs.private.Holding.{IsUsedAlike}
-
--- a version chain has what is kept of a row: its entries, the two counts of their bytes, and the inode after them all
-pub record TellsOfRow (used : Place → Option Stored) (row : ImageRow) (versions : VersionChain) : Type 0 where
-  pub entries : versions.chain.entries.items ≡ entries_used used row
-  pub bytes : versions.chain.journal_bytes ≡ entries_length (entries_used used row)
-  pub head : versions.chain.head_bytes ≡ filled_bytes (packed (entries_used used row))
-  pub present : versions.present ≡ present_used used row
 
 -- The row of this part of an image was read: its bytes encode one row alone, its object stands, it is kept after the objects
 -- that were read before, its moments come after theirs, and what it names is held beside what they name, data by one name more for

@@ -1,5 +1,7 @@
 use Rattle.std.proofs.Common.{◌++◌, List, ◌∙◌, sym, ap}
+use Rattle.codec.specs.declared.versions.ImageVersion.TheVariants.{First}
 use Rattle.image_parts.specs.declared.rows.RowPart.{RowPart}
+use Rattle.image_objects.specs.Versions.{entries_used_by}
 use Rattle.earlier_images.specs.Used.{used_in}
 use Rattle.earlier_images.proofs.AllRows.{HaveRead, none_read, one_read, row_read, row_falls, one_on, one_falls, have_all, all_stand, moments_fall, both_some, none_then}
 use Rattle.earlier_images.proofs.rows.read_rows.Goals.{After-finish}
@@ -17,7 +19,7 @@ loop-part-preserved c =
     let old = c.loop-part.reading in
     let new = c.read_row.new.self in
     record {
-      read = one_read used c.args.clock c.loop-part.yielded c.in-Some.part old new c.loop-part.invariant.read
+      read = one_read c.rows_are_read_in_order.ensures.next c.rows_are_read_in_order.ensures.only used c.args.clock c.loop-part.yielded c.in-Some.part old new c.loop-part.invariant.read
           (row_read c.in_ok-read_row.field-0 used c.in-Some.part c.args.clock old new c.if-not-branch.false c.in_ok-read_row.ensures.read);
       whole = one_on c.args.parts.now.rows c.loop-part.yielded c.in-Some.part c.loop-part.part-iterator c.next.new.self c.loop-part.invariant.whole c.in-Some.ensures.steps;
     }
@@ -25,7 +27,7 @@ loop-part-preserved c =
 pub returns-then-not-branch-clause-none : goal.returns-then-not-branch-clause-none
 returns-then-not-branch-clause-none c =
     let used = used_in c.args.frames.now in
-    one_falls used c.args.clock c.loop-part.yielded c.in-Some.part c.next.new.self c.args.parts.now.rows
+    one_falls c.rows_are_read_in_order.ensures.listed used c.args.clock c.loop-part.yielded c.in-Some.part c.next.new.self c.args.parts.now.rows
     (row_falls c.in_ok-read_row.field-0 used c.in-Some.part c.args.clock c.loop-part.reading c.read_row.new.self c.if-not-branch.true c.in_ok-read_row.ensures.read)
     (c.loop-part.invariant.whole ∙ ap (λ (l : List RowPart). c.loop-part.yielded ++ l) c.in-Some.ensures.steps)
 
@@ -35,7 +37,10 @@ all c = have_all (used_in c.args.frames.now) c.args.clock c.args.parts.now.rows 
 
 pub returns-clause-stand : goal.returns-clause-stand
 returns-clause-stand c =
-    both_some c.finish.result _ _ _ (λ rows is once. all_stand (used_in c.args.frames.now) c.args.clock c.args.parts.now.rows c.loop-part.reading rows.items (all c) is once) c.finish.ensures.rows c.finish.ensures.once
+    let used = used_in c.args.frames.now in
+    both_some c.finish.result _ _ _ (λ rows is once. all_stand used c.args.clock c.args.parts.now.rows c.loop-part.reading rows.items (all c) (c.moments_told_once_are_not_shared.ensures.apart (entries_used_by First used)) is once) c.finish.ensures.rows c.finish.ensures.once
 
 pub returns-clause-none : goal.returns-clause-none
-returns-clause-none c = none_then c.finish.result _ _ c.finish.ensures.none (moments_fall (used_in c.args.frames.now) c.args.clock c.args.parts.now.rows c.loop-part.reading (all c))
+returns-clause-none c =
+    let used = used_in c.args.frames.now in
+    none_then c.finish.result _ _ c.finish.ensures.none (moments_fall used c.args.clock c.args.parts.now.rows c.loop-part.reading (all c) (c.moments_told_once_are_not_shared.ensures.standing_by First used))

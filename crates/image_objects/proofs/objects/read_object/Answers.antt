@@ -1,13 +1,13 @@
-use Rattle.std.proofs.Common.{◌≡◌, length, List, Option, None, sym, ap, ◌∙◌, subst, rules}
+use Rattle.std.proofs.Common.{◌≡◌, Option, None, subst, rules}
 use Rattle.std.specs.Prelude.{IfSome, IfNone}
-use Rattle.s4_types.specs.declared.limits.TheConstants.{OBJECT_BLOCKS}
-use Rattle.codec.specs.declared.inodes.Inode.{Inode}
 use Rattle.codec.specs.declared.versions.ImageVersion.TheVariants.{Second}
-use Rattle.codec.specs.Entry.{EntryFields, entries_length}
-use Rattle.journal_chain.specs.Packing.{packed, filled_bytes}
-use Rattle.image_objects.specs.Versions.{entries_used_by, first_used_by, present_used_by, ObjectStandsBy}
-use Rattle.image_objects.proofs.Seconds.{same_entries, same_first, same_present, object_is, object_again}
+use Rattle.image_objects.specs.Read.{IsReadBy}
+use Rattle.image_objects.specs.Versions.{ObjectStandsBy}
+use Rattle.image_objects.proofs.Seconds.{object_is, object_again}
 use Rattle.image_objects.proofs.objects.read_object.Goals as goal
+
+pub with_chain_bytes-versions-requires : goal.with_chain_bytes-versions-requires
+with_chain_bytes-versions-requires g c = (subst (λ (o : Option _). IfSome o (IsReadBy Second (g.U.UsedBlocks.used c.args.used.now) c.args.row.now)) c.in-Some.is c.in_ok-versions.ensures.read).most
 
 pub returns-in_default-clause-only : goal.returns-in_default-clause-only
 returns-in_default-clause-only g c = λ s.
@@ -23,37 +23,8 @@ returns-clause-stands g c =
     let row = c.args.row.now in
     object_is used row c.args.clock (subst (λ (o : Option _). IfSome o (λ _. ObjectStandsBy Second used row c.args.clock)) c.in-Some.is c.in_ok-versions.ensures.stands)
 
-pub returns-clause-entries : goal.returns-clause-entries
-returns-clause-entries g c =
+pub returns-clause-read : goal.returns-clause-read
+returns-clause-read g c =
     let used = g.U.UsedBlocks.used c.args.used.now in
     let row = c.args.row.now in
-    c.with_chain_bytes-versions.ensures.entries ∙ subst (λ (o : Option _). IfSome o (λ versions. versions.chain.entries.items ≡ entries_used_by Second used row)) c.in-Some.is c.in_ok-versions.ensures.entries ∙ same_entries used row
-
-pub returns-clause-bytes : goal.returns-clause-bytes
-returns-clause-bytes g c =
-    let used = g.U.UsedBlocks.used c.args.used.now in
-    let row = c.args.row.now in
-    c.with_chain_bytes-versions.ensures.bytes ∙ subst (λ (o : Option _). IfSome o (λ versions. versions.chain.bytes ≡ entries_length (entries_used_by Second used row))) c.in-Some.is c.in_ok-versions.ensures.bytes ∙ ap entries_length (same_entries used row)
-
-pub returns-clause-head : goal.returns-clause-head
-returns-clause-head g c =
-    let used = g.U.UsedBlocks.used c.args.used.now in
-    let row = c.args.row.now in
-    let items = subst (λ (o : Option _). IfSome o (λ versions. versions.chain.entries.items ≡ entries_used_by Second used row)) c.in-Some.is c.in_ok-versions.ensures.entries ∙ same_entries used row in
-    c.with_chain_bytes-versions.ensures.head ∙ ap (λ (es : List EntryFields). filled_bytes (packed es)) items
-
-pub returns-clause-first : goal.returns-clause-first
-returns-clause-first g c =
-    let used = g.U.UsedBlocks.used c.args.used.now in
-    let row = c.args.row.now in
-    c.with_chain_bytes-versions.ensures.first ∙ subst (λ (o : Option _). IfSome o (λ versions. versions.first ≡ first_used_by Second used row)) c.in-Some.is c.in_ok-versions.ensures.first ∙ same_first used row
-
-pub returns-clause-count : goal.returns-clause-count
-returns-clause-count g c =
-    subst (λ (i : Inode). length i.pointers ≡ OBJECT_BLOCKS) (sym c.with_chain_bytes-versions.ensures.first) (subst (λ (o : Option _). IfSome o (λ versions. length versions.first.pointers ≡ OBJECT_BLOCKS)) c.in-Some.is c.in_ok-versions.ensures.count)
-
-pub returns-clause-present : goal.returns-clause-present
-returns-clause-present g c =
-    let used = g.U.UsedBlocks.used c.args.used.now in
-    let row = c.args.row.now in
-    c.with_chain_bytes-versions.ensures.present ∙ subst (λ (o : Option _). IfSome o (λ versions. versions.present ≡ present_used_by Second used row)) c.in-Some.is c.in_ok-versions.ensures.present ∙ same_present used row
+    c.with_chain_bytes-versions.ensures used row (subst (λ (o : Option _). IfSome o (IsReadBy Second used row)) c.in-Some.is c.in_ok-versions.ensures.read)

@@ -14,8 +14,8 @@ use Rattle.earlier_images.specs.Used.{used_in}
 use Rattle.migration.specs.Frames.{fresh_log}
 use Rattle.migration.specs.Rows.{AscendAbove}
 use Rattle.migration.specs.Migrated.{frames_then}
-use Rattle.migration.proofs.Then.{Laws, as_many}
-use Rattle.migration.proofs.Done.{Done, Told, done, told_of, old_frames, old_rows, migrates, lays_out, no_more}
+use Rattle.migration.proofs.Then.{as_many}
+use Rattle.migration.proofs.Done.{Told, done, told_of, old_frames, old_rows}
 use Rattle.migration.proofs.Whole.{as_many_rows}
 use Rattle.migration.proofs.migrating.migrated.Goals as goal
 
@@ -57,40 +57,26 @@ write_image-requires-clause-rows c =
 pub returns-clause-migrates : goal.returns-clause-migrates
 returns-clause-migrates c =
     let old : EarlierFields = c.in_ok-old.old in
-    let laters : List Row = c.in_ok-copied.copied.rows.items in
-    let t : Table = c.in_ok-copied.copied.table in
-    let told : Told old.frames old.rows (length old.frames) t laters = told_of old c.frames-used.result.now c.rows.result.now c.len.result t laters c.frames-used.ensures c.rows.ensures c.len.ensures
-    (record { copied = c.in_ok-copied.ensures.copied; filled = c.in_ok-copied.ensures.frames; few = c.in_ok-copied.ensures.fits }) in
-    let laws : Laws = record {
-      saved = c.a_saved_row_tells_the_same.ensures;
-      stands = c.a_row_that_is_held_stands.ensures;
-      written = c.an_object_of_a_version_can_be_written.ensures;
-      matter = c.only_its_blocks_matter.ensures;
-      moments = c.mapped_entries_stay_in_order.ensures.old;
-    } in
+    let copied = c.in_ok-copied in
+    let t : Table = copied.copied.table in
     let bytes = c.args.bytes.now in
     let new = c.in_ok-new.new.items in
-    let all : Done bytes new (image_in bytes) old t laters = done bytes new (image_in bytes) old t laters c.as_slice.result.now c.in_ok-old.ensures.whole c.in_ok-old.ensures.read told c.frame_rules.ensures.count c.frame_rules.ensures.used c.as_slice.ensures.value c.in_ok-new.ensures.written in
-    migrates laws bytes new (image_in bytes) old t laters all
+    let told : Told c.frames-used.result.now c.rows.result.now c.len.result t copied.copied.rows.items = record { copied = copied.ensures.copied; filled = copied.ensures.frames; few = copied.ensures.fits } in
+    c.what_was_written_is_migrated.ensures.migrates bytes new (image_in bytes) old t copied.copied.rows.items
+    (done bytes new (image_in bytes) old c.frames-used.result.now c.rows.result.now c.len.result t copied.copied.rows.items c.as_slice.result.now c.in_ok-old.ensures.whole c.in_ok-old.ensures.read
+    c.frames-used.ensures c.rows.ensures c.len.ensures told c.frame_rules.ensures.count c.frame_rules.ensures.used c.as_slice.ensures.value c.in_ok-new.ensures.written)
 
 pub returns-clause-layout : goal.returns-clause-layout
 returns-clause-layout c =
     let old : EarlierFields = c.in_ok-old.old in
-    let laters : List Row = c.in_ok-copied.copied.rows.items in
-    let t : Table = c.in_ok-copied.copied.table in
-    let told : Told old.frames old.rows (length old.frames) t laters = told_of old c.frames-used.result.now c.rows.result.now c.len.result t laters c.frames-used.ensures c.rows.ensures c.len.ensures
-    (record { copied = c.in_ok-copied.ensures.copied; filled = c.in_ok-copied.ensures.frames; few = c.in_ok-copied.ensures.fits }) in
-    let laws : Laws = record {
-      saved = c.a_saved_row_tells_the_same.ensures;
-      stands = c.a_row_that_is_held_stands.ensures;
-      written = c.an_object_of_a_version_can_be_written.ensures;
-      matter = c.only_its_blocks_matter.ensures;
-      moments = c.mapped_entries_stay_in_order.ensures.old;
-    } in
+    let copied = c.in_ok-copied in
+    let t : Table = copied.copied.table in
     let bytes = c.args.bytes.now in
     let new = c.in_ok-new.new.items in
-    let all : Done bytes new (image_in bytes) old t laters = done bytes new (image_in bytes) old t laters c.as_slice.result.now c.in_ok-old.ensures.whole c.in_ok-old.ensures.read told c.frame_rules.ensures.count c.frame_rules.ensures.used c.as_slice.ensures.value c.in_ok-new.ensures.written in
-    lays_out laws bytes new (image_in bytes) old t laters all
+    let told : Told c.frames-used.result.now c.rows.result.now c.len.result t copied.copied.rows.items = record { copied = copied.ensures.copied; filled = copied.ensures.frames; few = copied.ensures.fits } in
+    c.what_was_written_is_migrated.ensures.layout bytes new (image_in bytes) old t copied.copied.rows.items
+    (done bytes new (image_in bytes) old c.frames-used.result.now c.rows.result.now c.len.result t copied.copied.rows.items c.as_slice.result.now c.in_ok-old.ensures.whole c.in_ok-old.ensures.read
+    c.frames-used.ensures c.rows.ensures c.len.ensures told c.frame_rules.ensures.count c.frame_rules.ensures.used c.as_slice.ensures.value c.in_ok-new.ensures.written)
 
 pub returns-clause-fits : goal.returns-clause-fits
 returns-clause-fits c =
@@ -99,4 +85,4 @@ returns-clause-fits c =
     let t : Table = c.in_ok-copied.copied.table in
     let told : Told old.frames old.rows (length old.frames) t laters = told_of old c.frames-used.result.now c.rows.result.now c.len.result t laters c.frames-used.ensures c.rows.ensures c.len.ensures
     (record { copied = c.in_ok-copied.ensures.copied; filled = c.in_ok-copied.ensures.frames; few = c.in_ok-copied.ensures.fits }) in
-    no_more (c.images_of_a_version.ensures.read First) c.one_image_is_read.ensures c.args.bytes.now (image_in c.args.bytes.now) old c.in_ok-old.ensures.whole c.in_ok-old.ensures.read told.few
+    c.what_was_written_is_migrated.ensures.fits c.args.bytes.now (image_in c.args.bytes.now) old c.in_ok-old.ensures.whole c.in_ok-old.ensures.read told.few

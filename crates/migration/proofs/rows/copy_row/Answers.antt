@@ -10,13 +10,13 @@ use Rattle.object_map.specs.declared.map.Row.{Row}
 use Rattle.object_map.specs.Rows.{fresh_row}
 use Rattle.row_changes.specs.Moving.{moved_blocks}
 use Rattle.migration.specs.declared.moves.Move.{Move}
-use Rattle.migration.specs.Moves.{moved_by, is_moved}
+use Rattle.migration.specs.Moves.{moved_by}
 use Rattle.migration.specs.Places.{data_places, data_pointers}
 use Rattle.migration.specs.Copied.{CopiesBy, entries_then, kept_then}
 use Rattle.migration.specs.private.Copying.{Copying, IsUsedData}
 use Rattle.migration.proofs.Moving.{old_places, from_places, one_to_one}
 use Rattle.migration.proofs.Mapping.{all_used, each_goes, same_blocks, sides_within}
-use Rattle.migration.proofs.Written.{Laws, Wrote, copied_row}
+use Rattle.migration.proofs.Written.{Wrote, copied_row}
 use Rattle.migration.proofs.rows.copy_row.Goals as goal
 
 -- where there is room for all there is for the data
@@ -50,7 +50,7 @@ map_entries-requires-clause-told g c =
     let are : c.as_slice.result.now ≡ data_places kept entries = c.as_slice.ensures.value ∙ c.in_ok-places.ensures.places ∙ ap (λ (k : Option Inode). data_places k entries) c.as_ref.ensures.value in
     let fits : length c.as_slice.result.now ≤ length ahead = enough (moved_blocks kept entries) (ap length are) c.requires.room in
     let from : old_places moves ≡ data_places kept entries = ap old_places (sym (append-nil moves) ∙ c.in_ok-moves.ensures.copied.exact) ∙ from_places c.as_slice.result.now ahead fits ∙ are in
-    sides_within c.what_a_chain_tells.ensures.listed moves kept entries (each_goes moves (data_pointers kept entries) from)
+    sides_within (c.a_copied_object_keeps_its_history.ensures.moved moves).listed moves kept entries (each_goes moves (data_pointers kept entries) from)
 
 pub returns-clause-copied : goal.returns-clause-copied
 returns-clause-copied g c =
@@ -68,22 +68,7 @@ returns-clause-copied g c =
     let are : c.as_slice.result.now ≡ data_places kept entries = c.as_slice.ensures.value ∙ c.in_ok-places.ensures.places ∙ ap (λ (k : Option Inode). data_places k entries) c.as_ref.ensures.value in
     let fits : length c.as_slice.result.now ≤ length before.ahead = enough (moved_blocks kept entries) (ap length are) c.requires.room in
     let copying : Copying used o (data_places kept entries) [] (length (data_places kept entries)) before middle moves = subst (λ (ps : List Place). Copying used o ps [] (length ps) before middle moves) are c.in_ok-moves.ensures.copied in
-    let laws : Laws moves = record {
-      one = g.met.B.Blocks.one_place_has_one_name;
-      add_up = g.met.B.Blocks.places_taken_add_up;
-      listed = c.what_a_chain_tells.ensures.listed;
-      points = c.what_a_chain_tells.ensures.points;
-      begins = c.what_a_row_tells_can_be_written.ensures.begins;
-      shown = c.a_mapped_run_is_a_run.ensures.shown (moved_by moves);
-      pointers = c.a_mapped_run_is_a_run.ensures.pointers (moved_by moves);
-      in_order = c.mapped_entries_stay_in_order.ensures.order (moved_by moves);
-      tells = c.a_mapped_chain_tells_of_mapped_places.ensures.order (moved_by moves);
-      same = c.a_mapped_chain_shows_the_same.ensures.chain (is_moved moves) (moved_by moves);
-      bytes = c.a_mapped_chain_takes_as_many_bytes.ensures.all (moved_by moves);
-      each = c.a_mapped_chain_takes_as_many_bytes.ensures.each (moved_by moves);
-      holes = c.a_checkpoint_is_in_its_blocks.ensures.holes;
-      by = c.an_orderly_row_is_by_its_moment.ensures;
-    } in
+    let laws = c.a_copied_object_keeps_its_history.ensures.moved moves in
     let raw : Wrote o c.fresh-fresh.result row.checkpoint_moment (option_copied c.as_ref-2.result) c.map_entries.new.entries middle after later = record {
       row = c.in-Ok.ensures.row;
       journal = c.in-Ok.ensures.entries;
@@ -118,9 +103,10 @@ unreachable-requires g c =
     let entries = c.args.entries.now in
     let moves : List Move = c.in_ok-moves.moves.list.items in
     let are : c.as_slice.result.now ≡ data_places kept entries = c.as_slice.ensures.value ∙ c.in_ok-places.ensures.places ∙ ap (λ (k : Option Inode). data_places k entries) c.as_ref.ensures.value in
+    let laws = c.a_copied_object_keeps_its_history.ensures.moved moves in
     let as_many : moved_blocks (option_copied c.as_ref-2.result) c.map_entries.new.entries ≡ moved_blocks kept entries =
     ap (λ (k : Option Inode). moved_blocks k c.map_entries.new.entries) (c.as_ref-2.ensures.value ∙ c.map_kept-kept.ensures)
     ∙ ap (λ (es : List EntryFields). moved_blocks (kept_then moves kept) es) c.map_entries.ensures
-    ∙ same_blocks c.a_checkpoint_is_in_its_blocks.ensures.holes (moved_by moves) (c.a_mapped_chain_takes_as_many_bytes.ensures.each (moved_by moves)) kept entries in
+    ∙ same_blocks laws.holes (moved_by moves) laws.each kept entries in
     no_less (log c.args.table.now).ahead (log c.copy_data.new.table).ahead (length c.as_slice.result.now) (length (data_places kept entries)) (moved_blocks (option_copied c.as_ref-2.result) c.map_entries.new.entries) (moved_blocks kept entries)
     c.in_ok-moves.ensures.copied.takes.ahead (ap length are) as_many c.requires.room c.in_default.ensures.answer.1

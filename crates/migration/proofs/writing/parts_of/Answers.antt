@@ -8,7 +8,7 @@ use Rattle.image_objects.specs.declared.rows.ImageRow.{ImageRow}
 use Rattle.image_objects.specs.Saved.{saved_row}
 use Rattle.verifier.specs.Rows.{SpellRows, SpellsRow}
 use Rattle.migration.specs.Migrated.{rows_then}
-use Rattle.migration.proofs.Parts.{spelled_push, are_push, then_more}
+use Rattle.migration.proofs.Parts.{are_push, then_more}
 use Rattle.migration.proofs.writing.parts_of.Goals as goal
 
 pub loop-index-preserved : goal.loop-index-preserved
@@ -30,7 +30,7 @@ loop-index-preserved c =
     record {
       spelled = subst (λ (ps : List RowPart). SpellRows ps (rows_then (take (i + 1) rows) (take (i + 1) laters))) (sym items)
           (subst (λ (rs : List ImageRow). SpellRows (c.loop-index.parts.items ++ c.part_of.result ∷ []) rs) (sym more)
-          (spelled_push c.loop-index.parts.items front c.part_of.result (saved_row row.object later) c.loop-index.invariant.spelled
+          (c.rows_are_read_in_order.ensures.next c.loop-index.parts.items front c.part_of.result (saved_row row.object later) c.loop-index.invariant.spelled
           (subst (λ (r : ImageRow). SpellsRow c.part_of.result (saved_row r.object later)) (sym c.index-rows-index.is) c.part_of.ensures.spelled)));
       are = subst (λ (ps : List RowPart). AllByRecursion IsRow ps) (sym items) (are_push c.loop-index.parts.items c.part_of.result c.loop-index.invariant.are c.part_of.ensures.is);
       count = ap length items ∙ length-append c.loop-index.parts.items (c.part_of.result ∷ []) ∙ ap (λ n. n + 1) c.loop-index.invariant.count;
