@@ -21,20 +21,9 @@ use codec::ImageVersion;
 use image_objects::ImageRow;
 use image_parts::laws::images_of_a_version;
 use image_parts::{ImageParts, has_digest, rows_keep_rules, spans_keep_rules, split_parts_by};
-use s4_types::{Cause, Refusal, Span};
+use s4_types::{Cause, Refusal};
 use std::alloc::Global;
-
-/// The spans of an image, in their order. NoMemory alone.
-fn spans_of(alloc: Global, parts: &ImageParts<'_>) -> Result<Vec<Span>, Refusal>
-    ensures spans { IfOk result (λ spans. spans.items ≡ parts.now.spans) }
-    ensures refusal { IfErr result (λ e. e ≡ NoMemory) }
-{
-    let mut spans = Vec::new(alloc);
-    for span in parts.spans() {
-        spans.push(span)?;
-    }
-    Ok(spans)
-}
+use verifier::spans_of;
 
 /// The rows of an image over its frames. None where its chains don't keep the rules. NoMemory
 /// alone.

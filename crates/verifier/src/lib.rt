@@ -32,4 +32,4 @@ pub use rows::row_of;
 pub use saved_frames::push_frames;
 pub use saved_rows::{part_of, push_rows, push_spans};
 pub use saving::save;
-pub use verifying::verify;
+pub use verifying::{spans_of, verify};

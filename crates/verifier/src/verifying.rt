@@ -29,7 +29,7 @@ use std::alloc::Global;
 use std::thread::{Threads, join};
 
 /// The spans of an image, in their order. NoMemory alone.
-fn spans_of(alloc: Global, parts: &ImageParts<'_>) -> Result<Vec<Span>, Refusal>
+pub fn spans_of(alloc: Global, parts: &ImageParts<'_>) -> Result<Vec<Span>, Refusal>
     ensures spans { IfOk result (λ spans. spans.items ≡ parts.now.spans) }
     ensures refusal { IfErr result (λ e. e ≡ NoMemory) }
 {
