@@ -61,11 +61,17 @@ impl Blocks for NewTable {
     ghost log = { log_of };
 
     ghost one_place_has_one_name = { one_place };
+
     ghost an_append_puts_one_block = { puts };
+
     ghost a_drop_takes_one_block = { takes };
+
     ghost an_append_takes_one_place = { append_takes };
+
     ghost a_drop_takes_no_place = { drop_takes };
+
     ghost no_change_takes_no_place = { none_taken };
+
     ghost places_taken_add_up = { adds_up };
 
     fn append(&mut self, kind: BlockKind, object: ObjectId, block: &Block) -> Result<Ptr, Refusal> {

@@ -48,6 +48,9 @@ IsListed part rows = (row : ImageRow) × SpellsRow part row × Contains rows row
 
 pub listed : (done : List RowPart) (part : RowPart) (rest : List RowPart) (rows : List ImageRow) → SpellRows (done ++ part ∷ rest) rows → IsListed part rows
 listed done part rest rows spelled =
-    let s : SpelledAt done part rest rows = spelled_at done part rest rows spelled in
-    (s.row, s.here, subst (λ (l : List ImageRow). Contains l s.row) (sym s.is)
-    (subst (λ (l : List ImageRow). Contains l s.row) (append_assoc s.front (s.row ∷ []) s.behind) (Contains-append_left (s.front ++ s.row ∷ []) s.behind s.row (Contains-push s.front s.row))))
+    let s : SpelledAt done part rest rows = spelled_at done part rest rows spelled in (
+      s.row,
+      s.here,
+      subst (λ (l : List ImageRow). Contains l s.row) (sym s.is)
+          (subst (λ (l : List ImageRow). Contains l s.row) (append_assoc s.front (s.row ∷ []) s.behind) (Contains-append_left (s.front ++ s.row ∷ []) s.behind s.row (Contains-push s.front s.row))),
+    )
