@@ -99,24 +99,24 @@ no_more again one bytes was earlier read of few too =
     let many : MOST_FRAMES < frames_then earlier = subst (λ (e : EarlierFields). MOST_FRAMES < frames_then e) image too.many in
     omega (arith, many, few)
 
--- the same, told of what was read of the image
-pub record Told (frames : List EarlierFrame) (rows : List ImageRow) (count : ℕ) (t : Table) (laters : List Row) : Type 0 where
+-- the same, of what was read of the image
+pub record IsCopied (frames : List EarlierFrame) (rows : List ImageRow) (count : ℕ) (t : Table) (laters : List Row) : Type 0 where
   pub copied : CopyRows (used_in frames) rows laters (fresh_log (frames_needed count (blocks_of_rows (used_in frames) rows))) (log_of t)
   pub filled : FillsFrames (blocks_of_rows (used_in frames) rows) (frames_needed count (blocks_of_rows (used_in frames) rows)) t
   pub few : frames_needed count (blocks_of_rows (used_in frames) rows) ≤ MOST_FRAMES
 
-pub told_of : (earlier : EarlierFields) (frames : List EarlierFrame) (rows : List ImageRow) (count : ℕ) (t : Table) (laters : List Row) → frames ≡ earlier.frames → rows ≡ earlier.rows → count ≡ length frames → Told frames rows count t laters
-    → Told earlier.frames earlier.rows (length earlier.frames) t laters
-told_of earlier frames rows count t laters same_frames same_rows same_count told =
-    subst (λ (fs : List EarlierFrame). Told fs earlier.rows (length earlier.frames) t laters) same_frames
-    (subst (λ (rs : List ImageRow). Told frames rs (length earlier.frames) t laters) same_rows
-    (subst (λ n. Told frames rows n t laters) (same_count ∙ ap (λ (fs : List EarlierFrame). length fs) same_frames) told))
+pub copied_of : (earlier : EarlierFields) (frames : List EarlierFrame) (rows : List ImageRow) (count : ℕ) (t : Table) (laters : List Row) → frames ≡ earlier.frames → rows ≡ earlier.rows → count ≡ length frames → IsCopied frames rows count t laters
+    → IsCopied earlier.frames earlier.rows (length earlier.frames) t laters
+copied_of earlier frames rows count t laters same_frames same_rows same_count told =
+    subst (λ (fs : List EarlierFrame). IsCopied fs earlier.rows (length earlier.frames) t laters) same_frames
+    (subst (λ (rs : List ImageRow). IsCopied frames rs (length earlier.frames) t laters) same_rows
+    (subst (λ n. IsCopied frames rows n t laters) (same_count ∙ ap (λ (fs : List EarlierFrame). length fs) same_frames) told))
 
 pub done : (bytes new : List ℕ) (was : Image) (earlier : EarlierFields) (frames : List EarlierFrame) (rows : List ImageRow) (count : ℕ) (t : Table) (laters slice : List Row) → SpellsEarlier bytes was → IsEarlierOf was earlier
-    → frames ≡ earlier.frames → rows ≡ earlier.rows → count ≡ length frames → Told frames rows count t laters → IsFrameCount (length t.seat.frames) → HoldsUsedBlocks t → slice ≡ laters → AreBytesOf earlier t slice new
+    → frames ≡ earlier.frames → rows ≡ earlier.rows → count ≡ length frames → IsCopied frames rows count t laters → IsFrameCount (length t.seat.frames) → HoldsUsedBlocks t → slice ≡ laters → AreBytesOf earlier t slice new
     → IsWritten bytes new was earlier t laters
 done bytes new was earlier frames rows count t laters slice read of same_frames same_rows same_count copied frame_count used same parts =
-    let told : Told earlier.frames earlier.rows (length earlier.frames) t laters = told_of earlier frames rows count t laters same_frames same_rows same_count copied in
+    let told : IsCopied earlier.frames earlier.rows (length earlier.frames) t laters = copied_of earlier frames rows count t laters same_frames same_rows same_count copied in
     record {
       read = read;
       of = of;

@@ -15,7 +15,7 @@ use Rattle.migration.specs.Frames.{fresh_log}
 use Rattle.migration.specs.Rows.{AscendAbove}
 use Rattle.migration.specs.Migrated.{frames_then}
 use Rattle.migration.proofs.Then.{as_many}
-use Rattle.migration.proofs.Done.{Told, done, told_of, old_frames, old_rows}
+use Rattle.migration.proofs.Done.{IsCopied, done, copied_of, old_frames, old_rows}
 use Rattle.migration.proofs.Whole.{as_many_rows}
 use Rattle.migration.proofs.migrating.migrated.Goals as goal
 
@@ -43,9 +43,9 @@ write_image-requires-clause-count c =
     let old : EarlierFields = c.in_ok-old.old in
     let laters : List Row = c.in_ok-copied.copied.rows.items in
     let t : Table = c.in_ok-copied.copied.table in
-    let told : Told old.frames old.rows (length old.frames) t laters = told_of old c.frames-used.result.now c.rows.result.now c.len.result t laters c.frames-used.ensures c.rows.ensures c.len.ensures
+    let copied_here : IsCopied old.frames old.rows (length old.frames) t laters = copied_of old c.frames-used.result.now c.rows.result.now c.len.result t laters c.frames-used.ensures c.rows.ensures c.len.ensures
     (record { copied = c.in_ok-copied.ensures.copied; filled = c.in_ok-copied.ensures.frames; few = c.in_ok-copied.ensures.fits }) in
-    ap (λ (ls : List Row). length ls) c.as_slice.ensures.value ∙ as_many (used_in old.frames) old.rows laters (fresh_log (frames_then old)) (log_of t) told.copied
+    ap (λ (ls : List Row). length ls) c.as_slice.ensures.value ∙ as_many (used_in old.frames) old.rows laters (fresh_log (frames_then old)) (log_of t) copied_here.copied
 
 pub write_image-requires-clause-rows : goal.write_image-requires-clause-rows
 write_image-requires-clause-rows c =
@@ -61,10 +61,10 @@ returns-clause-migrates c =
     let t : Table = copied.copied.table in
     let bytes = c.args.bytes.now in
     let new = c.in_ok-new.new.items in
-    let told : Told c.frames-used.result.now c.rows.result.now c.len.result t copied.copied.rows.items = record { copied = copied.ensures.copied; filled = copied.ensures.frames; few = copied.ensures.fits } in
+    let copied_here : IsCopied c.frames-used.result.now c.rows.result.now c.len.result t copied.copied.rows.items = record { copied = copied.ensures.copied; filled = copied.ensures.frames; few = copied.ensures.fits } in
     c.what_was_written_is_migrated.ensures.migrates bytes new (image_in bytes) old t copied.copied.rows.items
     (done bytes new (image_in bytes) old c.frames-used.result.now c.rows.result.now c.len.result t copied.copied.rows.items c.as_slice.result.now c.in_ok-old.ensures.whole c.in_ok-old.ensures.read
-    c.frames-used.ensures c.rows.ensures c.len.ensures told c.frame_rules.ensures.count c.frame_rules.ensures.used c.as_slice.ensures.value c.in_ok-new.ensures.written)
+    c.frames-used.ensures c.rows.ensures c.len.ensures copied_here c.frame_rules.ensures.count c.frame_rules.ensures.used c.as_slice.ensures.value c.in_ok-new.ensures.written)
 
 pub returns-clause-layout : goal.returns-clause-layout
 returns-clause-layout c =
@@ -73,16 +73,16 @@ returns-clause-layout c =
     let t : Table = copied.copied.table in
     let bytes = c.args.bytes.now in
     let new = c.in_ok-new.new.items in
-    let told : Told c.frames-used.result.now c.rows.result.now c.len.result t copied.copied.rows.items = record { copied = copied.ensures.copied; filled = copied.ensures.frames; few = copied.ensures.fits } in
+    let copied_here : IsCopied c.frames-used.result.now c.rows.result.now c.len.result t copied.copied.rows.items = record { copied = copied.ensures.copied; filled = copied.ensures.frames; few = copied.ensures.fits } in
     c.what_was_written_is_migrated.ensures.layout bytes new (image_in bytes) old t copied.copied.rows.items
     (done bytes new (image_in bytes) old c.frames-used.result.now c.rows.result.now c.len.result t copied.copied.rows.items c.as_slice.result.now c.in_ok-old.ensures.whole c.in_ok-old.ensures.read
-    c.frames-used.ensures c.rows.ensures c.len.ensures told c.frame_rules.ensures.count c.frame_rules.ensures.used c.as_slice.ensures.value c.in_ok-new.ensures.written)
+    c.frames-used.ensures c.rows.ensures c.len.ensures copied_here c.frame_rules.ensures.count c.frame_rules.ensures.used c.as_slice.ensures.value c.in_ok-new.ensures.written)
 
 pub returns-clause-fits : goal.returns-clause-fits
 returns-clause-fits c =
     let old : EarlierFields = c.in_ok-old.old in
     let laters : List Row = c.in_ok-copied.copied.rows.items in
     let t : Table = c.in_ok-copied.copied.table in
-    let told : Told old.frames old.rows (length old.frames) t laters = told_of old c.frames-used.result.now c.rows.result.now c.len.result t laters c.frames-used.ensures c.rows.ensures c.len.ensures
+    let copied_here : IsCopied old.frames old.rows (length old.frames) t laters = copied_of old c.frames-used.result.now c.rows.result.now c.len.result t laters c.frames-used.ensures c.rows.ensures c.len.ensures
     (record { copied = c.in_ok-copied.ensures.copied; filled = c.in_ok-copied.ensures.frames; few = c.in_ok-copied.ensures.fits }) in
-    c.what_was_written_is_migrated.ensures.fits c.args.bytes.now (image_in c.args.bytes.now) old c.in_ok-old.ensures.whole c.in_ok-old.ensures.read told.few
+    c.what_was_written_is_migrated.ensures.fits c.args.bytes.now (image_in c.args.bytes.now) old c.in_ok-old.ensures.whole c.in_ok-old.ensures.read copied_here.few
