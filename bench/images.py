@@ -2,7 +2,8 @@
 """Measures `s4d` over a full image of 1,024 frames, in seconds by the clock of a whole process and in the memory that it has at most:
 verify; at, which verifies, opens and reads; and run with no request, which verifies, opens and saves, and has to save the same bytes.
 Between them goes one SHA-256 of the image's bytes by Python's hashlib, the digest. Of seven rounds the median is printed with the least
-and the most. Then the same of migrate, over a full image of version 1 (tests/images/v1/most.xz), and of verify over the new one.
+and the most. Then the same of migrate, over a full image of version 1 (tests/images/v1/most.xz), and of verify over the new one; and of both
+over one of as many objects as a drive has room for.
 
     images.py [PROGRAM [OTHER]]      crates/s4d/out/s4d where it isn't given; build it by `rt run` there
 
@@ -20,6 +21,7 @@ import wire
 from wire import ratio, spread
 
 OBJECTS = 75
+FILLED = 15  # blocks of a frame after its summary
 WHOLE = bytes(range(256)) * (wire.WHOLE // 256)  # the most bytes that an object may have
 WRITES = wire.WHOLE // wire.PIECE  # of an object
 RUNS = 7
@@ -34,6 +36,28 @@ def requests():
 def removed(folder, name):
     if name and os.path.exists(os.path.join(folder, name)):
         os.remove(os.path.join(folder, name))
+
+
+def small_objects():
+    """An image of version 1: all blocks of 1,012 frames are journals, each of an object that was made and is empty."""
+    frames, rows = [], []
+    for number in range(1_012):
+        made = range(FILLED * number + 1, FILLED * number + FILLED + 1)
+        roles = b"".join(b"\1" + wire.long(it) for it in made)
+        head = (b"S4sg" + number.to_bytes(2, "big") + bytes([FILLED, 0, 0, 0, 0, 1]) + bytes(4) + roles).ljust(480, b"\0")
+        blocks = b"".join(making(it).ljust(512, b"\0") for it in made)
+        frames.append(wire.long(1 << 32 | 2) + head + hashlib.sha256(head + blocks).digest() + blocks)
+        pointers = [number.to_bytes(2, "big") + bytes([block, 0, 0, 0, 0, 1]) for block in range(1, FILLED + 1)]
+        rows += [2 * wire.long(it) + bytes(16) + pointer for it, pointer in zip(made, pointers)]
+    numbers = [len(rows), 1_000_000, 0, len(rows) + 1]  # clock, window, floor and the next object
+    header = b"S4IMAGE1" + (1_024).to_bytes(2, "big") + bytes(6) + b"".join(map(wire.long, numbers)) + wire.long(len(rows) << 32)
+    data = header.ljust(512, b"\0") + b"".join(frames) + 12 * wire.long(1 << 32) + b"".join(rows)
+    return data + hashlib.sha256(data).digest()
+
+
+def making(number):
+    """The journal block of an object that was made at the moment of its number."""
+    return bytes([1, 1, 0, 34]) + bytes(4) + wire.long(number) + bytes(8) + wire.long(number) + b"\2" + bytes(17) + wire.long(number)
 
 
 def run(program, words, folder, made=None):
@@ -89,12 +113,14 @@ def main():
         measure(programs, "run without a request", ["run", "--no-upkeep", "image", "client:none:out"], image, folder)
         if bytes_of(os.path.join(folder, "image")) != image:
             sys.exit("images.py: what was saved again without a request are other bytes")
-        with lzma.open(OLD) as kept, open(os.path.join(folder, "old"), "wb") as file:
-            file.write(kept.read())
-        old = bytes_of(os.path.join(folder, "old"))
-        print(f"an image of version 1 of {len(old):,} bytes")
-        measure(programs, "migrate", ["migrate", "old", "new"], old, folder, "new")
-        measure(programs, "verify of the new one", ["verify", "new"], old, folder)
+        with lzma.open(OLD) as kept:
+            images = [kept.read(), small_objects()]
+        for old in images:
+            with open(os.path.join(folder, "old"), "wb") as file:
+                file.write(old)
+            print(f"an image of version 1 of {len(old):,} bytes")
+            measure(programs, "migrate", ["migrate", "old", "new"], old, folder, "new")
+            measure(programs, "verify of the new one", ["verify", "new"], old, folder)
 
 
 if __name__ == "__main__":

@@ -9,11 +9,13 @@ use Rattle.s4_types.specs.declared.refusals.Cause.{Cause}
 use Rattle.s4_types.specs.declared.refusals.Cause.TheVariants.{Header, Length}
 use Rattle.s4_types.specs.declared.refusals.Refusal.{Refusal}
 use Rattle.s4_types.specs.declared.refusals.Refusal.TheVariants.{Damaged, NoMemory}
-use Rattle.image_parts.specs.Causes.{FirstSplitCause}
+use Rattle.codec.specs.declared.versions.ImageVersion.{ImageVersion}
+use Rattle.codec.specs.declared.versions.ImageVersion.TheVariants.{Second}
+use Rattle.image_parts.specs.Causes.{FirstSplitCauseBy, TestedPartsBy}
 use Rattle.verifier.specs.Grammar.{FirstFault}
 use Rattle.image_commands.specs.Files.{AreKnown}
 use Rattle.image_commands.specs.Faults.{SaysDamaged}
-use Rattle.image_commands.specs.Verifying.{IsDamaged}
+use Rattle.image_commands.specs.Verifying.{IsDamaged, IsUnsplit}
 
 -- a reader at its end gave all that is known of it
 pub all_read : (known left : Option (List ℕ)) (bytes : List ℕ) → Consumes known left bytes → IsAtEnd left → AreKnown known bytes
@@ -45,37 +47,48 @@ pub refused_so : (known : Option (List ℕ)) (bytes : List ℕ) (e : Refusal) �
 refused_so known bytes e same (inl memory) = inl memory
 refused_so known bytes e same (inr (found, told, fault)) = inr (subst (SaysDamaged known) (sym told) (known_damaged known bytes found same fault))
 
--- bytes that can't be split into parts encode no drive, for the same cause
-split_fault : (bytes : List ℕ) (cause : Cause) → FirstSplitCause bytes (Some cause) → FirstFault bytes (Some cause)
-split_fault bytes cause (inl bad) = inl bad
-split_fault bytes cause (inr (long, inl bad)) = inr (long, inl bad)
-split_fault bytes cause (inr (long, inr (header, inl bad))) = inr (long, inr (header, inl bad))
-split_fault bytes cause (inr (long, inr (header, inr (filled, e)))) = absurd cc
+-- what can't be split into parts is refused by all tests of an image, for the same cause
+pub split_fault : (version : ImageVersion) (bytes : List ℕ) (later : Option Cause → Type 0) (cause : Cause) → FirstSplitCauseBy version bytes (Some cause) → TestedPartsBy version bytes later (Some cause)
+split_fault version bytes later cause (inl bad) = inl bad
+split_fault version bytes later cause (inr (long, inl bad)) = inr (long, inl bad)
+split_fault version bytes later cause (inr (long, inr (header, inl bad))) = inr (long, inr (header, inl bad))
+split_fault version bytes later cause (inr (long, inr (header, inr (filled, e)))) = absurd cc
 
--- too few bytes
-pub too_short : (known left : Option (List ℕ)) (bytes : List ℕ) → Consumes known left bytes → IsAtEnd left → length bytes < 544 → IsDamaged known Length
-too_short known left bytes read end short =
-    known_damaged known bytes Length (all_read known left bytes read end) (inl ((λ long. omega (arith, long, short)), refl))
+-- what is known to be such bytes is damaged
+pub unsplit_is_damaged : (known : Option (List ℕ)) (cause : Cause) → IsUnsplit Second known cause → IsDamaged known cause
+unsplit_is_damaged None cause unsplit = tt
+unsplit_is_damaged (Some bytes) cause unsplit = split_fault Second bytes _ cause unsplit
 
--- bytes whose front has no header
-pub no_header : (known left : Option (List ℕ)) (front : List ℕ) → Consumes known left front → ((rest : List ℕ) → FirstSplitCause (front ++ rest) (Some Header)) → IsDamaged known Header
-no_header None left front read none = tt
-no_header (Some whole) None front read none = absurd read
-no_header (Some whole) (Some rest) front read none =
-    subst (λ (xs : List ℕ). FirstFault xs (Some Header)) (sym read) (split_fault (front ++ rest) Header (none rest))
+-- What is read may be an image of this version.
+module _ (version : ImageVersion) where
+  -- what was found first of known bytes is found of what is known
+  known_unsplit : (known : Option (List ℕ)) (bytes : List ℕ) (cause : Cause) → AreKnown known bytes → FirstSplitCauseBy version bytes (Some cause) → IsUnsplit version known cause
+  known_unsplit None bytes cause same fault = tt
+  known_unsplit (Some whole) bytes cause same fault = subst (λ (xs : List ℕ). FirstSplitCauseBy version xs (Some cause)) (sym same) fault
 
--- more bytes than an image with their front can have
-pub too_long : (known left : Option (List ℕ)) (front bytes : List ℕ) (longest : ℕ) → Consumes known left bytes → StartsWith bytes front
-    → ((rest : List ℕ) → longest < length (front ++ rest) → FirstSplitCause (front ++ rest) (Some Length)) → longest < length bytes → IsDamaged known Length
-too_long None left front bytes longest read begins longer long = tt
-too_long (Some whole) None front bytes longest read begins longer long = absurd read
-too_long (Some whole) (Some left) front bytes longest read begins longer long =
-    let more = drop (length front) bytes in
-    let is : bytes ≡ front ++ more = starts_with_rest bytes front begins in
-    let all : whole ≡ front ++ (more ++ left) = read ∙ ap (λ (xs : List ℕ). xs ++ left) is ∙ append_assoc front more left in
-    let size : longest < length (front ++ (more ++ left)) =
-    omega (arith, long, ap length is, length-append front more, length-append front (more ++ left), length-append more left) in
-    subst (λ (xs : List ℕ). FirstFault xs (Some Length)) (sym all) (split_fault (front ++ (more ++ left)) Length (longer (more ++ left) size))
+  -- too few bytes
+  pub too_short : (known left : Option (List ℕ)) (bytes : List ℕ) → Consumes known left bytes → IsAtEnd left → length bytes < 544 → IsUnsplit version known Length
+  too_short known left bytes read end short =
+      known_unsplit known bytes Length (all_read known left bytes read end) (inl ((λ long. omega (arith, long, short)), refl))
+
+  -- bytes whose front has no header
+  pub no_header : (known left : Option (List ℕ)) (front : List ℕ) → Consumes known left front → ((rest : List ℕ) → FirstSplitCauseBy version (front ++ rest) (Some Header)) → IsUnsplit version known Header
+  no_header None left front read none = tt
+  no_header (Some whole) None front read none = absurd read
+  no_header (Some whole) (Some rest) front read none = subst (λ (xs : List ℕ). FirstSplitCauseBy version xs (Some Header)) (sym read) (none rest)
+
+  -- more bytes than an image with their front can have
+  pub too_long : (known left : Option (List ℕ)) (front bytes : List ℕ) (longest : ℕ) → Consumes known left bytes → StartsWith bytes front
+      → ((rest : List ℕ) → longest < length (front ++ rest) → FirstSplitCauseBy version (front ++ rest) (Some Length)) → longest < length bytes → IsUnsplit version known Length
+  too_long None left front bytes longest read begins longer long = tt
+  too_long (Some whole) None front bytes longest read begins longer long = absurd read
+  too_long (Some whole) (Some left) front bytes longest read begins longer long =
+      let more = drop (length front) bytes in
+      let is : bytes ≡ front ++ more = starts_with_rest bytes front begins in
+      let all : whole ≡ front ++ (more ++ left) = read ∙ ap (λ (xs : List ℕ). xs ++ left) is ∙ append_assoc front more left in
+      let size : longest < length (front ++ (more ++ left)) =
+      omega (arith, long, ap length is, length-append front more, length-append front (more ++ left), length-append more left) in
+      subst (λ (xs : List ℕ). FirstSplitCauseBy version xs (Some Length)) (sym all) (longer (more ++ left) size)
 
 -- ---- what is read piece by piece
 

@@ -1,16 +1,19 @@
 -- What a fault says, from what less of it says.
-use Rattle.std.proofs.Common.{◌≡◌, ◌⊎◌, ℕ, List, Option, inl, inr, subst}
+use Rattle.std.proofs.Common.{◌≡◌, ◌⊎◌, ℕ, List, Option, inl, inr, sym, subst}
 use Rattle.s4_types.specs.History.{Base}
 use Rattle.s4_types.specs.declared.refusals.Refusal.{Refusal}
+use Rattle.codec.specs.declared.versions.ImageVersion.{ImageVersion}
+use Rattle.codec.specs.declared.versions.ImageVersion.TheVariants.{Second}
 use Rattle.image_parts.specs.Image.{image_in}
 use Rattle.verifier.specs.Images.{ImageFields}
 use Rattle.verifier.specs.Opened.{IsToldBy}
 use Rattle.image_commands.specs.declared.faults.Fault.{Fault}
 use Rattle.image_commands.specs.declared.faults.Fault.TheVariants.{CannotRead, CannotWrite, HasBytes, KeptIn, Refused, WriteFailed}
-use Rattle.image_commands.specs.Faults.{KeepsMade, KeepsNew, SaysUnmade, SaysUnplaced, SaysUnread, SaysUnreadable, SaysUnwritable, SaysUnwritten}
+use Rattle.image_commands.specs.Faults.{KeepsMade, KeepsNew, SaysUnmade, SaysUnplaced, SaysDamaged, SaysUnread, SaysUnreadable, SaysUnsplit, SaysUnwritable, SaysUnwritten}
 use Rattle.image_commands.specs.Making.{SpellsNew}
 use Rattle.image_commands.specs.ReadingPast.{RefusesObject, RefusesVersion, SaysRefused, SaysUngiven}
 use Rattle.image_commands.specs.Verifying.{IsVerified}
+use Rattle.image_commands.proofs.Fronts.{unsplit_is_damaged}
 
 -- an image that can't be read was not read
 pub unread : (known : Option (List ℕ)) (image : List ℕ) (fault : Fault) → SaysUnreadable image fault → SaysUnread known image fault
@@ -20,6 +23,25 @@ unread known image (CannotWrite path obstacle) is = absurd is
 unread known image (HasBytes path) is = absurd is
 unread known image (KeptIn path obstacle kept) is = absurd is
 unread known image WriteFailed is = absurd is
+
+-- nor were its bytes
+pub unsplit : (version : ImageVersion) (known : Option (List ℕ)) (image : List ℕ) (fault : Fault) → SaysUnreadable image fault → SaysUnsplit version known image fault
+unsplit version known image (Refused refusal) is = inl is
+unsplit version known image (CannotRead path obstacle) is = is
+unsplit version known image (CannotWrite path obstacle) is = absurd is
+unsplit version known image (HasBytes path) is = absurd is
+unsplit version known image (KeptIn path obstacle kept) is = absurd is
+unsplit version known image WriteFailed is = absurd is
+
+-- an image whose bytes weren't read wasn't either
+pub unread_unsplit : (known : Option (List ℕ)) (image : List ℕ) (fault : Fault) → SaysUnsplit Second known image fault → SaysUnread known image fault
+unread_unsplit known image (Refused refusal) (inl is) = inl is
+unread_unsplit known image (Refused refusal) (inr (cause, is, bytes)) = inr (subst (SaysDamaged known) (sym is) (unsplit_is_damaged known cause bytes))
+unread_unsplit known image (CannotRead path obstacle) is = is
+unread_unsplit known image (CannotWrite path obstacle) is = absurd is
+unread_unsplit known image (HasBytes path) is = absurd is
+unread_unsplit known image (KeptIn path obstacle kept) is = absurd is
+unread_unsplit known image WriteFailed is = absurd is
 
 -- an image that can't be written was not made
 pub unmade : (known : Option (List ℕ)) (image : List ℕ) (fault : Fault) → SaysUnwritable image fault → SaysUnmade known image fault

@@ -1,12 +1,14 @@
 -- What a fault says, and what it leaves.
 use Rattle.std.specs.Prelude.{◌≡◌, ◌⊎◌, ◌+◌, ℕ, List, Option, ⊤, string_bytes}
+use Rattle.s4_types.specs.declared.refusals.Cause.{Cause}
 use Rattle.s4_types.specs.declared.refusals.Refusal.{Refusal}
 use Rattle.s4_types.specs.declared.refusals.Refusal.TheVariants.{Busy, Damaged, NoMemory}
+use Rattle.codec.specs.declared.versions.ImageVersion.{ImageVersion}
 use Rattle.image_commands.specs.declared.faults.Fault.{Fault}
 use Rattle.image_commands.specs.declared.faults.Fault.TheVariants.{CannotRead, CannotWrite, HasBytes, KeptIn, Refused, WriteFailed}
 use Rattle.image_commands.specs.Files.{AreKnown, HasSome}
 use Rattle.image_commands.specs.Making.{HasNew}
-use Rattle.image_commands.specs.Verifying.{IsDamaged}
+use Rattle.image_commands.specs.Verifying.{IsDamaged, IsUnsplit}
 
 -- where a fault names the file that has the new image, that has these bytes
 abbrev pub KeepsNew : (List ℕ → Option (List ℕ)) → List ℕ → Fault → Type 0
@@ -47,6 +49,13 @@ abbrev pub SaysUnread : Option (List ℕ) → (image : List ℕ) → Fault → T
 SaysUnread known image (Refused refusal) = (refusal ≡ NoMemory) ⊎ SaysDamaged known refusal
 SaysUnread known image (CannotRead path obstacle) = path.now ≡ image
 SaysUnread known image _ = ⊥
+
+-- Why the bytes of a file aren't read that may be an image of a version: it can't be read; they can't be split into the parts of one; or
+-- memory was short.
+abbrev pub SaysUnsplit : ImageVersion → Option (List ℕ) → (image : List ℕ) → Fault → Type 0
+SaysUnsplit version known image (Refused refusal) = (refusal ≡ NoMemory) ⊎ ((cause : Cause) × (refusal ≡ Damaged cause) × IsUnsplit version known cause)
+SaysUnsplit version known image (CannotRead path obstacle) = path.now ≡ image
+SaysUnsplit version known image _ = ⊥
 
 -- Why an output has not all that it is to have: it failed once more.
 abbrev pub SaysUnwritten : (failures failures' : ℕ) → Fault → Type 0

@@ -2,6 +2,8 @@
 use Rattle.std.specs.Prelude.{ℕ, ◌++◌, List, ⊤, Option, None, Some, codes, decimal, length}
 use Rattle.std.specs.Io.KnownBytes.{Appends}
 use Rattle.s4_types.specs.declared.refusals.Cause.{Cause}
+use Rattle.codec.specs.declared.versions.ImageVersion.{ImageVersion}
+use Rattle.image_parts.specs.Causes.{FirstSplitCauseBy}
 use Rattle.image_parts.specs.Image.{image_in}
 use Rattle.verifier.specs.Grammar.{SpellsDrive, FirstFault}
 use Rattle.verifier.specs.Images.{ImageFields, IsImageOf}
@@ -28,6 +30,11 @@ pub record IsVerified (known : Option (List ℕ)) (image : ImageFields) : Type 0
 abbrev pub IsDamaged : Option (List ℕ) → Cause → Type 0
 IsDamaged None cause = ⊤
 IsDamaged (Some bytes) cause = FirstFault bytes (Some cause)
+
+-- the bytes, where they are known, can't be split into the parts of an image of a version, for this cause first
+abbrev pub IsUnsplit : ImageVersion → Option (List ℕ) → Cause → Type 0
+IsUnsplit version None cause = ⊤
+IsUnsplit version (Some bytes) cause = FirstSplitCauseBy version bytes (Some cause)
 
 -- the output has the line of an image that was read and verified after it
 pub record TellsImage (known : Option (List ℕ)) (output output' : Option (List ℕ)) : Type 0 where

@@ -1,8 +1,9 @@
 //! The commands over images that serve no sessions: `new`, `verify` and `at`; and how every command
 //! reads an image and writes one.
 //!
-//! The layer above may rely on this: `read_image` gives the image that a file's bytes encode, and
-//! `read_bytes` these, whatever they are. `verify_file` writes its line, `write_object` the bytes
+//! The layer above may rely on this: `read_image` gives the image that a file's bytes encode,
+//! `read_whole` the bytes of what may be an image of a version, and `read_bytes` all bytes, whatever
+//! they are. `verify_file` writes its line, `write_object` the bytes
 //! of an object at a moment in the drive that begins with it, and `make_file` leaves the image of a
 //! new drive in a file that had no bytes; what was written has been passed on where they succeed.
 //! `remove_leftovers` removes nothing that `verify` takes. That is proved over any `Files` that say
@@ -30,4 +31,4 @@ pub use obstacles::Obstacle;
 pub use reading_past::{write_object, write_version};
 pub use saving::{Place, longest_image, make_file};
 pub use streams::hold_standard_streams;
-pub use verifying::{read_bytes, read_image, verify_file, write_out};
+pub use verifying::{number_line, read_bytes, read_image, read_whole, verify_file, write_out};

@@ -3,16 +3,18 @@ ghost use Rattle.std.specs.Prelude.{◌≡◌, ℕ, ◌+◌, ◌^◌, ◌<◌, L
 ghost use Rattle.std.specs.Prelude.{IsTrue, OnOk, length, string_bytes};
 ghost use Rattle.std.specs.Io.{StartsWith};
 ghost use Rattle.std.specs.Io.KnownBytes.{Appends, Consumes, IsAtEnd};
-ghost use Rattle.image_commands.specs.Faults.{SaysUnread, SaysUnverified, SaysUnwritten};
+ghost use Rattle.image_commands.specs.Faults.{SaysUnread, SaysUnsplit, SaysUnverified};
+ghost use Rattle.image_commands.specs.Faults.{SaysUnwritten};
 ghost use Rattle.image_commands.specs.Files.{AreKnown};
 ghost use Rattle.image_commands.specs.Leaving.{IsNoImage};
-ghost use Rattle.image_commands.specs.Verifying.{number_line, image_line, IsDamaged, IsVerified};
+ghost use Rattle.image_commands.specs.Verifying.{number_line, image_line, IsUnsplit, IsVerified};
 ghost use Rattle.image_commands.specs.Verifying.{TellsImage};
 
 use crate::faults::{Fault, reading};
 use crate::files::Files;
 use crate::saving::longest_image;
-use image_parts::longest_with;
+use codec::ImageVersion;
+use image_parts::longest_with_by;
 use s4_types::limits::MOST_FRAMES;
 use s4_types::{Cause, Moment, Refusal};
 use s4d_command::Verify;
@@ -29,7 +31,7 @@ const FRONT_BYTES: usize = 544;
 /// How many bytes are asked for at once.
 const PIECE_BYTES: usize = 4096;
 
-/// The image in a file, which was verified. What is damaged by the length that its front tells
+/// The image in a file, which was verified. What is damaged by the length that its front gives
 /// isn't read further.
 pub fn read_image<'a, T: Threads, F: Files>(
     rt: &T,
@@ -40,7 +42,7 @@ pub fn read_image<'a, T: Threads, F: Files>(
     ensures verified { IfOk result (IsVerified (F.contents files.now path.now)) }
     ensures fault { IfErr result (SaysUnread (F.contents files.now path.now) path.now) }
 {
-    let bytes = match read_whole(alloc, files, path) {
+    let bytes = match read_whole(alloc, files, ImageVersion::Second, path) {
         Ok(bytes) => bytes,
         Err(fault) => return Err(fault),
     };
@@ -54,7 +56,7 @@ pub fn read_image<'a, T: Threads, F: Files>(
 pub fn is_damaged<T: Threads, R: Read>(rt: &T, alloc: Global, reader: &mut R) -> bool
     ensures damaged { IsTrue result → IsNoImage (R.remaining reader.old) }
 {
-    match read_bounded(alloc, reader) {
+    match read_bounded(alloc, ImageVersion::Second, reader) {
         Ok(Ok(bytes)) => match verify(rt, alloc, bytes.as_slice()) {
             Err(Refusal::Damaged(_)) => true,
             _ => false,
@@ -64,16 +66,23 @@ pub fn is_damaged<T: Threads, R: Read>(rt: &T, alloc: Global, reader: &mut R) ->
     }
 }
 
-// All bytes of a file, or why they are no image, as far as `read_bounded` finds it.
-fn read_whole<'a, F: Files>(alloc: Global, files: &F, path: &'a str) -> Result<Vec<u8>, Fault<'a>>
+/// All bytes of a file, which may be an image of a version. What is damaged by the length that its
+/// front gives isn't read further.
+pub fn read_whole<'a, F: Files>(
+    alloc: Global,
+    files: &F,
+    version: ImageVersion,
+    path: &'a str,
+) -> Result<Vec<u8>, Fault<'a>>
     ensures bytes { IfOk result (λ bytes. AreKnown (F.contents files.now path.now) bytes.items) }
-    ensures fault { IfErr result (SaysUnread (F.contents files.now path.now) path.now) }
+    ensures fault { IfErr result
+        (SaysUnsplit version (F.contents files.now path.now) path.now) }
 {
     let mut reader = match files.open(path) {
         Ok(reader) => reader,
         Err(error) => return Err(reading(error.kind(), path)),
     };
-    match read_bounded(alloc, &mut reader) {
+    match read_bounded(alloc, version, &mut reader) {
         Ok(Ok(bytes)) => Ok(bytes),
         Ok(Err(cause)) => Err(Fault::Refused(Refusal::Damaged(cause))),
         Err(error) => Err(reading(error.kind(), path)),
@@ -114,20 +123,25 @@ fn read_shorter<R: Read>(alloc: Global, reader: &mut R, most: usize) -> io::Resu
     Ok(Some(bytes))
 }
 
-// All bytes of a reader. Where they are too few or have no header in front, or are more than an
-// image with that header can have, why they are no image: then no more of them is read, since they
-// may be many.
-fn read_bounded<R: Read>(alloc: Global, reader: &mut R) -> io::Result<Result<Vec<u8>, Cause>>
+// All bytes of a reader. Where they are too few or have no header of a version in front, or are
+// more than an image with that header can have, why they are no image of it: then no more of them
+// is read, since they may be many.
+fn read_bounded<R: Read>(
+    alloc: Global,
+    version: ImageVersion,
+    reader: &mut R,
+) -> io::Result<Result<Vec<u8>, Cause>>
     ensures bytes { IfOk result
         (λ read. IfOk read (λ bytes. AreKnown (R.remaining reader.old) bytes.items)) }
-    ensures damaged { IfOk result (λ read. IfErr read (IsDamaged (R.remaining reader.old))) }
+    ensures damaged { IfOk result
+        (λ read. IfErr read (IsUnsplit version (R.remaining reader.old))) }
 {
     let mut bytes = Vec::new(alloc);
     read_until(reader, &mut bytes, FRONT_BYTES)?;
     if bytes.len() < FRONT_BYTES {
         return Ok(Err(Cause::Length));
     }
-    let Some(longest) = longest_with(bytes.as_slice()) else {
+    let Some(longest) = longest_with_by(version, bytes.as_slice()) else {
         return Ok(Err(Cause::Header));
     };
     read_until(reader, &mut bytes, longest + 1)?;
@@ -233,8 +247,8 @@ fn write_numbers<'a, W: Sink>(
     }
 }
 
-// The line of such numbers.
-fn number_line(
+/// The line of such numbers.
+pub fn number_line(
     alloc: Global,
     frames: u16,
     objects: usize,

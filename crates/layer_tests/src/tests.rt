@@ -1,4 +1,5 @@
-//! The layers, from frames and records up to the wire.
+//! The layers, from frames and records up to the wire and to images.
+mod moved_images;
 mod numbers;
 mod records;
 mod seats;

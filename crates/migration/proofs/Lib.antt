@@ -12,3 +12,4 @@ mod Parts
 mod Fronts
 mod Filled
 mod Done
+mod Reading

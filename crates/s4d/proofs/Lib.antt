@@ -1,5 +1,5 @@
 mod Ends
-pub mod Fronts
+mod Lines
 pub mod Given
 pub mod Left
 pub mod Promised

@@ -3,24 +3,30 @@ use Rattle.std.proofs.Common.{◌≡◌, ◌⊎◌, ◌∙◌, ℕ, List, Option
 use Rattle.s4_types.specs.declared.refusals.Cause.{Cause}
 use Rattle.s4_types.specs.declared.refusals.Refusal.{Refusal}
 use Rattle.s4_types.specs.declared.refusals.Refusal.TheVariants.{Damaged, NoMemory, NoRoom}
+use Rattle.codec.specs.declared.versions.ImageVersion.TheVariants.{First}
 use Rattle.s4d_command.specs.declared.Migrate.{Migrate}
 use Rattle.image_commands.specs.declared.faults.Fault.{Fault}
 use Rattle.image_commands.specs.declared.faults.Fault.TheVariants.{CannotRead, CannotWrite, HasBytes, KeptIn, Refused, WriteFailed}
-use Rattle.image_commands.specs.Faults.{KeepsNew, SaysUnplaced, SaysUnreadable, SaysUnwritable}
+use Rattle.image_commands.specs.Faults.{KeepsNew, SaysUnplaced, SaysUnsplit, SaysUnwritable}
 use Rattle.image_commands.specs.Files.{AreKnown}
-use Rattle.image_commands.specs.Verifying.{image_line}
+use Rattle.image_commands.specs.Verifying.{IsUnsplit, image_line}
+use Rattle.image_commands.proofs.Fronts.{split_fault}
 use Rattle.image_parts.specs.Image.{Image as ImageParts, image_in}
 use Rattle.verifier.specs.Grammar.{SpellsDrive}
 use Rattle.verifier.specs.Images.{ImageFields, IsImageOf}
 use Rattle.verifier.specs.Opened.{IsReadOf}
 use Rattle.earlier_images.specs.Grammar.{FirstEarlierFault}
 use Rattle.migration.specs.Migrated.{IsTooMuch, LaysOut, Migrates}
-use Rattle.s4d.specs.Migrating.{HasLine, HasMigrated, RefusesEarlier, SaysEarlierUnread, SaysNoPlace, SaysUnmigrated, SaysUntaken}
-use Rattle.s4d.proofs.Fronts.{known_damaged}
+use Rattle.s4d.specs.Migrating.{HasLine, HasMigrated, IsDamagedEarlier, RefusesEarlier, SaysEarlierUnread, SaysNoPlace, SaysUnmigrated, SaysUntaken}
 
 -- memory was short
 pub memory : (known : Option (List ℕ)) (refusal : Refusal) → refusal ≡ NoMemory → RefusesEarlier known refusal
 memory known refusal is = subst (RefusesEarlier known) (sym is) refl
+
+-- what was found first of known bytes is found of what is known
+known_damaged : (known : Option (List ℕ)) (bytes : List ℕ) (cause : Cause) → AreKnown known bytes → FirstEarlierFault bytes (Some cause) → IsDamagedEarlier known cause
+known_damaged None bytes cause same fault = tt
+known_damaged (Some whole) bytes cause same fault = subst (λ (xs : List ℕ). FirstEarlierFault xs (Some cause)) (sym same) fault
 
 -- what is read of a file becomes no new image
 pub refused_so : (known : Option (List ℕ)) (bytes : List ℕ) (e : Refusal) → AreKnown known bytes
@@ -54,9 +60,14 @@ has_line known bytes image line saved one read of told is =
       is = is ∙ told;
     }
 
--- an earlier image that can't be read
-pub earlier_unread : (known : Option (List ℕ)) (earlier : List ℕ) (fault : Fault) → SaysUnreadable earlier fault → SaysEarlierUnread known earlier fault
-earlier_unread known earlier (Refused refusal) says = memory known refusal says
+unsplit_is_damaged : (known : Option (List ℕ)) (cause : Cause) → IsUnsplit First known cause → IsDamagedEarlier known cause
+unsplit_is_damaged None cause unsplit = tt
+unsplit_is_damaged (Some bytes) cause unsplit = split_fault First bytes _ cause unsplit
+
+-- an earlier image whose bytes aren't read
+pub earlier_unread : (known : Option (List ℕ)) (earlier : List ℕ) (fault : Fault) → SaysUnsplit First known earlier fault → SaysEarlierUnread known earlier fault
+earlier_unread known earlier (Refused refusal) (inl is) = memory known refusal is
+earlier_unread known earlier (Refused refusal) (inr (cause, is, unsplit)) = subst (RefusesEarlier known) (sym is) (unsplit_is_damaged known cause unsplit)
 earlier_unread known earlier (CannotRead path obstacle) says = says
 earlier_unread known earlier (CannotWrite path obstacle) says = absurd says
 earlier_unread known earlier (HasBytes path) says = absurd says

@@ -1,15 +1,15 @@
 -- What `migrate` reads, and what it leaves where it doesn't make a new image.
-use Rattle.std.specs.Prelude.{◌≡◌, ◌⊎◌, ◌+◌, ℕ, List, ⊤, Option, None, Some, string_bytes}
-use Rattle.std.specs.Io.KnownBytes.{Appends}
+use Rattle.std.specs.Prelude.{◌≡◌, ◌⊎◌, ℕ, List, length, ⊤, Option, None, Some, string_bytes}
 use Rattle.s4_types.specs.declared.refusals.Cause.{Cause}
 use Rattle.s4_types.specs.declared.refusals.Refusal.{Refusal}
 use Rattle.s4_types.specs.declared.refusals.Refusal.TheVariants.{Damaged, NoMemory, NoRoom}
+use Rattle.image_parts.specs.Image.{Image as ImageParts}
 use Rattle.verifier.specs.Images.{ImageFields}
 use Rattle.s4d_command.specs.declared.Migrate.{Migrate}
 use Rattle.image_commands.specs.declared.faults.Fault.{Fault}
 use Rattle.image_commands.specs.declared.faults.Fault.TheVariants.{CannotRead, CannotWrite, HasBytes, KeptIn, Refused, WriteFailed}
 use Rattle.image_commands.specs.Files.{AreKnown, HasSome}
-use Rattle.image_commands.specs.Verifying.{IsVerified, TellsImage, image_line}
+use Rattle.image_commands.specs.Verifying.{IsVerified, TellsImage, image_line, number_line}
 use Rattle.earlier_images.specs.Grammar.{FirstEarlierFault}
 use Rattle.migration.specs.Migrated.{IsTooMuch, LaysOut, Migrates}
 
@@ -22,6 +22,10 @@ pub record HasMigrated (earlier known : Option (List ℕ)) : Type 0 where
   pub migrates : Migrates old new
   pub layout : LaysOut old new
   pub kept : AreKnown known new
+
+-- the line of an image by its parts
+abbrev pub parts_line : ImageParts → List ℕ
+parts_line parts = number_line (length parts.frames) (length parts.rows) parts.clock parts.window parts.floor
 
 -- a line is that of an image that was read of what is known of a file
 pub record HasLine (known : Option (List ℕ)) (line : List ℕ) : Type 0 where

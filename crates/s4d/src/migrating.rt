@@ -10,19 +10,24 @@ ghost use Rattle.verifier.specs.Opened.{IsReadOf};
 ghost use Rattle.image_commands.specs.Faults.{KeepsNew, SaysUnplaced};
 ghost use Rattle.image_commands.specs.Files.{AreKnown};
 ghost use Rattle.image_commands.specs.Verifying.{image_line};
+ghost use Rattle.image_parts.specs.Image.{image_in};
+ghost use Rattle.verifier.specs.Grammar.{SpellsDrive};
 ghost use Rattle.earlier_images.specs.Grammar.{FirstEarlierFault};
 ghost use Rattle.migration.specs.Migrated.{IsTooMuch, LaysOut, Migrates};
-ghost use Rattle.s4d.specs.Migrating.{HasLine, HasMigrated, SaysNoPlace, SaysUnmigrated, SaysUntaken};
+ghost use Rattle.s4d.specs.Migrating.{HasLine, HasMigrated, SaysEarlierUnread, SaysNoPlace};
+ghost use Rattle.s4d.specs.Migrating.{SaysUnmigrated, SaysUntaken, parts_line};
 
-use crate::earlier_files::read_earlier;
-use image_commands::{Fault, Files, Obstacle, Place, Placed, writing};
+use codec::ImageVersion;
+use image_commands::{
+    Fault, Files, Obstacle, Place, Placed, number_line, read_whole, writing,
+};
+use image_parts::split_parts;
+use migration::laws::a_new_image_is_read;
 use migration::migrated;
 use s4_types::Refusal;
 use s4d_command::Migrate;
 use std::alloc::{AllocError, Global};
-use std::thread::Threads;
 use verifier::laws::{what_has_a_fault_spells_nothing, what_has_no_fault_is_an_image};
-use verifier::{Image, verify};
 
 /// A new image that is in its place.
 #[derive(Drop)]
@@ -44,8 +49,7 @@ struct Saved {
 ///
 /// The earlier image is claimed until the new one is in its place: nobody changes it meanwhile, and
 /// one that another program serves is refused. Whatever happens it stays as it is.
-pub fn migrate_file<'a, T: Threads, F: Files>(
-    rt: &T,
+pub fn migrate_file<'a, F: Files>(
     alloc: Global,
     files: &mut F,
     asked: Migrate<'a>,
@@ -82,7 +86,7 @@ pub fn migrate_file<'a, T: Threads, F: Files>(
         Ok(bytes) => bytes,
         Err(fault) => return Err(fault),
     };
-    let saved = match save_migrated(rt, alloc, bytes) {
+    let saved = match save_migrated(alloc, bytes) {
         Ok(saved) => saved,
         Err(refusal) => return Err(Fault::Refused(refusal)),
     };
@@ -134,12 +138,26 @@ fn claim_earlier<'a, F: Files>(
     }
 }
 
-// The bytes of the new image of an earlier one, read back, and the line of its numbers.
+// All bytes of the earlier image's file, which is claimed, so that nobody else serves it meanwhile.
+fn read_earlier<'a, F: Files>(
+    alloc: Global,
+    files: &F,
+    claim: &F::Claim,
+    path: &'a str,
+) -> Result<Vec<u8>, Fault<'a>>
+    requires claimed { F.leads claim.now path.now }
+    ensures bytes { IfOk result (λ bytes. AreKnown (F.contents files.now path.now) bytes.items) }
+    ensures fault { IfErr result (SaysEarlierUnread (F.contents files.now path.now) path.now) }
+{
+    read_whole(alloc, files, ImageVersion::First, path)
+}
+
+// The bytes of the new image of an earlier one, and the line of its numbers.
 //
 // At most three copies of the blocks are there at once, all within `migrated`: the earlier image's
-// bytes, and of the new one its bytes beside the table that they are written from. The earlier
-// bytes are let go before the new ones are read.
-fn save_migrated<T: Threads>(rt: &T, alloc: Global, bytes: Vec<u8>) -> Result<Saved, Refusal>
+// bytes, and of the new one its bytes beside the table that they are written from. The new image
+// isn't read back for its line: what its objects take would be more than all of these.
+fn save_migrated(alloc: Global, bytes: Vec<u8>) -> Result<Saved, Refusal>
     ensures migrates { IfOk result (λ saved. Migrates bytes.items saved.bytes.items) }
     ensures layout { IfOk result (λ saved. LaysOut bytes.items saved.bytes.items) }
     ensures line { IfOk result
@@ -150,29 +168,30 @@ fn save_migrated<T: Threads>(rt: &T, alloc: Global, bytes: Vec<u8>) -> Result<Sa
         ⊎ (((e ≡ NoRoom) × IsTooMuch bytes.items)
         ⊎ ((cause : Found) × (e ≡ Damaged cause) × FirstEarlierFault bytes.items (Some cause)))) }
 {
-    what_has_a_fault_spells_nothing();
+    what_has_no_fault_is_an_image();
+    a_new_image_is_read();
     let new = match migrated(alloc, bytes.as_slice()) {
         Ok(new) => new,
         Err(refusal) => return Err(refusal),
     };
     drop(bytes);
-    let image = match verify(rt, alloc, new.as_slice()) {
-        Ok(image) => image,
-        Err(refusal) => return Err(refusal),
-    };
-    let line = line_of(alloc, &image)?;
+    let line = line_of(alloc, new.as_slice())?;
     Ok(Saved { bytes: new, line })
 }
 
-// The line that `verify` writes of an image.
-fn line_of(alloc: Global, image: &Image) -> Result<String, AllocError>
-    ensures { IfOk result (λ line. string_bytes line ≡ image_line image.now) }
+// The line that `verify` writes of the image that bytes encode. Its numbers are in the header.
+fn line_of(alloc: Global, bytes: &[u8]) -> Result<String, AllocError>
+    requires spelled { SpellsDrive bytes.now (image_in bytes.now) }
+    ensures line { IfOk result (λ line. string_bytes line ≡ parts_line (image_in bytes.now)) }
 {
-    let (frames, objects, window) = (image.frames(), image.objects(), image.window());
-    let (clock, floor) = (image.clock().number(), image.floor().number());
-    format!(in alloc;
-        "ok frames={frames} objects={objects} clock={clock} window={window} floor={floor}\n"
-    )
+    what_has_a_fault_spells_nothing();
+    let Ok(parts) = split_parts(bytes) else {
+        unreachable!()
+    };
+    let header = parts.header();
+    let objects = header.rows as usize;
+    let (clock, window, floor) = (header.clock, header.window, header.floor);
+    number_line(alloc, header.frames, objects, clock, window, floor)
 }
 
 // Puts the new image in its place, which is claimed.

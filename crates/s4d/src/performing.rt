@@ -107,7 +107,7 @@ fn perform_line<
         Ok(Command::Verify(asked)) => perform_verify(rt, alloc, files, asked, writer),
         Ok(Command::At(asked)) => perform_at(rt, alloc, files, asked, writer),
         Ok(Command::Run(run)) => perform_run(rt, alloc, files, run, errors),
-        Ok(Command::Migrate(asked)) => perform_migrate(rt, alloc, files, asked, writer),
+        Ok(Command::Migrate(asked)) => perform_migrate(alloc, files, asked, writer),
         Err(CommandError::NoMemory) => Err(Undone::NoMemory),
         Err(CommandError::Usage) => Err(Undone::Usage),
     }
@@ -197,8 +197,7 @@ fn perform_at<'a, T: Threads, F: Files, W: Sink>(
 }
 
 // Makes a new image of an earlier one, and writes the line of its numbers.
-fn perform_migrate<'a, T: Threads, F: Files, W: Sink>(
-    rt: &T,
+fn perform_migrate<'a, F: Files, W: Sink>(
     alloc: Global,
     files: &mut F,
     asked: Migrate<'a>,
@@ -212,7 +211,7 @@ fn perform_migrate<'a, T: Threads, F: Files, W: Sink>(
         (SaysNotMigrated (F.contents files.old) (F.contents files.new) (W.failures writer.old)
         (W.failures writer.new) asked.entry) }
 {
-    let made = match migrate_file(rt, alloc, files, asked) {
+    let made = match migrate_file(alloc, files, asked) {
         Ok(made) => made,
         Err(fault) => return Err(Undone::Failed(fault)),
     };

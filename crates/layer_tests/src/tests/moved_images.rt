@@ -1,0 +1,192 @@
+//! An image of the first version, and the one that it becomes, both worked by hand: an object that
+//! is made at moment 10, and three bytes that are written in it at 11.
+
+use migration::{migrate, migrated};
+use s4_types::{Cause, Refusal};
+use std::alloc::{AllocError, Global};
+use std::test::Fail;
+use std::thread::Threads;
+use verifier::{Image, verify};
+
+/// The header of the earlier image: 16 frames, clock 11, window 100, next 2, and one row.
+const OLD_HEADER: [u8; 52] = [
+    0x53, 0x34, 0x49, 0x4d, 0x41, 0x47, 0x45, 0x31, 0, 0x10, 0, 0, 0, 0, 0, 0, 0, 0, 0, 0, 0, 0, 0,
+    0x0b, 0, 0, 0, 0, 0, 0, 0, 0x64, 0, 0, 0, 0, 0, 0, 0, 0, 0, 0, 0, 0, 0, 0, 0, 2, 0, 0, 0, 1,
+];
+
+/// That of the new one: 24 frames.
+const NEW_HEADER: [u8; 52] = [
+    0x53, 0x34, 0x49, 0x4d, 0x41, 0x47, 0x45, 0x32, 0, 0x18, 0, 0, 0, 0, 0, 0, 0, 0, 0, 0, 0, 0, 0,
+    0x0b, 0, 0, 0, 0, 0, 0, 0, 0x64, 0, 0, 0, 0, 0, 0, 0, 0, 0, 0, 0, 0, 0, 0, 0, 2, 0, 0, 0, 1,
+];
+
+/// The word of a frame that is open in its first life.
+const OPEN: [u8; 8] = [0, 0, 0, 1, 0, 0, 0, 1];
+
+/// The word of one that is free in its first life.
+const FREE: [u8; 8] = [0, 0, 0, 1, 0, 0, 0, 0];
+
+/// The front of the earlier summary: a journal block, one of data and a journal block.
+const OLD_SUMMARY: [u8; 43] = [
+    0x53, 0x34, 0x73, 0x67, 0, 0, 3, 0, 0, 0, 0, 1, 0, 0, 0, 0, 1, 0, 0, 0, 0, 0, 0, 0, 1, 3, 0, 0,
+    0, 0, 0, 0, 0, 1, 1, 0, 0, 0, 0, 0, 0, 0, 1,
+];
+
+/// Its digest.
+const OLD_FRAME_DIGEST: [u8; 32] = [
+    0x2e, 0xde, 0x3f, 0x0e, 0x37, 0x57, 0xa6, 0x7a, 0x29, 0x5b, 0x6d, 0x29, 0x3f, 0xa3, 0xbd, 0xbc,
+    0x17, 0xbf, 0x6c, 0x66, 0x8d, 0x4a, 0x7f, 0xac, 0x1e, 0xd6, 0x81, 0x54, 0x9f, 0x96, 0xcc, 0xf4,
+];
+
+/// The front of the new summary: the data comes first, and then a journal block.
+const NEW_SUMMARY: [u8; 34] = [
+    0x53, 0x34, 0x73, 0x67, 0, 0, 2, 0, 0, 0, 0, 1, 0, 0, 0, 0, 3, 0, 0, 0, 0, 0, 0, 0, 1, 1, 0, 0,
+    0, 0, 0, 0, 0, 1,
+];
+
+/// Its digest.
+const NEW_FRAME_DIGEST: [u8; 32] = [
+    0x60, 0x81, 0x3f, 0xd3, 0xe8, 0x78, 0x95, 0x53, 0xe1, 0xb1, 0x1e, 0x93, 0xb9, 0x5c, 0x38, 0x3d,
+    0xce, 0x26, 0x8b, 0xc4, 0xc6, 0x9a, 0xfa, 0xcb, 0xe8, 0xe0, 0xfd, 0x41, 0x9d, 0x8f, 0x5c, 9,
+];
+
+/// The first journal block of the earlier image, which nothing names any more.
+const UNNAMED: [u8; 58] = [
+    1, 1, 0, 0x22, 0, 0, 0, 0, 0, 0, 0, 0, 0, 0, 0, 1, 0, 0, 0, 0, 0, 0, 0, 0, 0, 0, 0, 0, 0, 0, 0,
+    0x0a, 2, 0, 0, 0, 0, 0, 0, 0, 0, 0, 0, 0, 0, 0, 0, 0, 0, 0, 0, 0, 0, 0, 0, 0, 0, 0x0a,
+];
+
+/// The second one, with 85 bytes of entries.
+const OLD_JOURNAL: [u8; 109] = [
+    1, 2, 0, 0x55, 0, 0, 0, 0, 0, 0, 0, 0, 0, 0, 0, 1, 0, 0, 0, 0, 0, 0, 0, 0, 0, 0, 0, 0, 0, 0, 0,
+    0x0a, 2, 0, 0, 0, 0, 0, 0, 0, 0, 0, 0, 0, 0, 0, 0, 0, 0, 0, 0, 0, 0, 0, 0, 0, 0, 0x0a, 0, 0, 0,
+    0, 0, 0, 0, 0x0b, 3, 1, 0, 0, 0, 0, 0, 0, 0, 3, 0, 0, 0, 0, 0, 0, 0, 0x0a, 0, 0, 0, 0, 0, 0, 0,
+    0x0b, 0, 0, 0, 0, 0, 0, 0, 0, 0, 0, 0, 2, 0, 0, 0, 0, 1,
+];
+
+/// The one of the new image, with 86 bytes of entries.
+const NEW_JOURNAL: [u8; 110] = [
+    1, 2, 0, 0x56, 0, 0, 0, 0, 0, 0, 0, 0, 0, 0, 0, 1, 0, 0, 0, 0, 0, 0, 0, 0, 0, 0, 0, 0, 0, 0, 0,
+    0x0a, 2, 0, 0, 0, 0, 0, 0, 0, 0, 0, 0, 0, 0, 0, 0, 0, 0, 0, 0, 0, 0, 0, 0, 0, 0, 0x0a, 0, 0, 0,
+    0, 0, 0, 0, 0x0b, 3, 1, 0, 0, 0, 0, 0, 0, 0, 3, 0, 0, 0, 0, 0, 0, 0, 0x0a, 0, 0, 0, 0, 0, 0, 0,
+    0x0b, 0, 0, 0, 0, 0, 0, 0, 0, 0, 0, 0, 0, 1, 0, 0, 0, 0, 1,
+];
+
+/// The row of the earlier image: made at 10, no checkpoint, and block 3 is the head.
+const OLD_ROW: [u8; 40] = [
+    0, 0, 0, 0, 0, 0, 0, 1, 0, 0, 0, 0, 0, 0, 0, 0x0a, 0, 0, 0, 0, 0, 0, 0, 0, 0, 0, 0, 0, 0, 0, 0,
+    0, 0, 0, 3, 0, 0, 0, 0, 1,
+];
+
+/// That of the new one: block 2 is the head.
+const NEW_ROW: [u8; 40] = [
+    0, 0, 0, 0, 0, 0, 0, 1, 0, 0, 0, 0, 0, 0, 0, 0x0a, 0, 0, 0, 0, 0, 0, 0, 0, 0, 0, 0, 0, 0, 0, 0,
+    0, 0, 0, 2, 0, 0, 0, 0, 1,
+];
+
+/// The digest of the earlier image.
+const OLD_DIGEST: [u8; 32] = [
+    0xdc, 0x4a, 0xeb, 0x91, 0x61, 0xb9, 0xc2, 0xb3, 0x68, 0xe1, 0x5f, 0x70, 0x58, 0xf2, 0xf8, 0xd3,
+    0x4c, 0xf6, 0x59, 0x43, 0xe3, 0x38, 0x69, 0x7d, 0xda, 0xfb, 0x69, 0x9e, 0x55, 0x43, 0x97, 0x1c,
+];
+
+/// That of the new one.
+const NEW_DIGEST: [u8; 32] = [
+    0xb7, 0x86, 8, 0xf7, 0x92, 0xc5, 0x9a, 0x6f, 0x3b, 0x9b, 0x90, 0x47, 0xae, 0x73, 0xfa, 0x13,
+    0x95, 0xf6, 0x3a, 0x43, 4, 0xcb, 0x15, 0x40, 0x88, 0xd6, 0x1a, 1, 0x8c, 0x9d, 0xca, 0x44,
+];
+
+/// Bytes of an image from a place on, after zeros.
+fn put(out: &mut Vec<u8>, at: usize, bytes: &[u8]) -> Result<(), AllocError> {
+    for _ in out.len()..at {
+        out.push(0)?;
+    }
+    out.extend_from_slice(bytes)
+}
+
+/// The words of free frames, after zeros.
+fn put_free(out: &mut Vec<u8>, at: usize, count: usize) -> Result<(), AllocError> {
+    put(out, at, &[])?;
+    for _ in 0..count {
+        out.extend_from_slice(&FREE)?;
+    }
+    Ok(())
+}
+
+/// The earlier image.
+fn earlier_image(alloc: Global) -> Result<Vec<u8>, AllocError> {
+    let mut out = Vec::new(alloc);
+    put(&mut out, 0, &OLD_HEADER)?;
+    put(&mut out, 512, &OPEN)?;
+    put(&mut out, 520, &OLD_SUMMARY)?;
+    put(&mut out, 1_000, &OLD_FRAME_DIGEST)?;
+    put(&mut out, 1_032, &UNNAMED)?;
+    put(&mut out, 1_544, b"abc")?;
+    put(&mut out, 2_056, &OLD_JOURNAL)?;
+    put_free(&mut out, 8_712, 15)?;
+    put(&mut out, 8_832, &OLD_ROW)?;
+    put(&mut out, 8_872, &OLD_DIGEST)?;
+    Ok(out)
+}
+
+/// The image that it becomes.
+fn new_image(alloc: Global) -> Result<Vec<u8>, AllocError> {
+    let mut out = Vec::new(alloc);
+    put(&mut out, 0, &NEW_HEADER)?;
+    put(&mut out, 512, &OPEN)?;
+    put(&mut out, 520, &NEW_SUMMARY)?;
+    put(&mut out, 1_000, &NEW_FRAME_DIGEST)?;
+    put(&mut out, 1_032, b"abc")?;
+    put(&mut out, 1_544, &NEW_JOURNAL)?;
+    put_free(&mut out, 8_712, 23)?;
+    put(&mut out, 8_896, &NEW_ROW)?;
+    put(&mut out, 8_936, &NEW_DIGEST)?;
+    Ok(out)
+}
+
+/// Whether two images have the same numbers.
+fn are_alike(one: &Image, other: &Image) -> bool {
+    one.frames() == other.frames()
+        && one.objects() == other.objects()
+        && one.clock() == other.clock()
+        && one.window() == other.window()
+        && one.floor() == other.floor()
+}
+
+/// Why bytes become no image.
+fn refusal_of<R: Threads>(rt: &R, alloc: Global, bytes: &[u8]) -> Option<Refusal> {
+    match migrate(rt, alloc, bytes) {
+        Ok(_) => None,
+        Err(refusal) => Some(refusal),
+    }
+}
+
+#[test]
+fn an_earlier_image_becomes_another(rt: HostRuntime) -> Result<(), Fail> {
+    let old = earlier_image(rt.alloc())?;
+    let new = migrated(rt.alloc(), old.as_slice())?;
+    assert!(rt; old.len() == 8_904 && new.len() == 8_968);
+    assert!(rt; new == new_image(rt.alloc())?);
+    let image = migrate(&rt, rt.alloc(), old.as_slice())?;
+    assert!(rt; image.frames() == 24 && image.objects() == 1 && image.window() == 100);
+    assert!(rt; image.clock().number() == 11 && image.floor().number() == 0);
+    assert!(rt; are_alike(&image, &verify(&rt, rt.alloc(), new.as_slice())?));
+    Ok(())
+}
+
+#[test]
+fn other_bytes_are_refused(rt: HostRuntime) -> Result<(), Fail> {
+    let new = new_image(rt.alloc())?;
+    let header = Some(Refusal::Damaged(Cause::Header));
+    assert!(rt; refusal_of(&rt, rt.alloc(), new.as_slice()) == header);
+    let mut longer = earlier_image(rt.alloc())?;
+    longer.push(0)?;
+    let length = Some(Refusal::Damaged(Cause::Length));
+    assert!(rt; refusal_of(&rt, rt.alloc(), longer.as_slice()) == length);
+    let mut changed = earlier_image(rt.alloc())?;
+    changed.pop();
+    changed.push(0)?;
+    let digest = Some(Refusal::Damaged(Cause::Digest));
+    assert!(rt; refusal_of(&rt, rt.alloc(), changed.as_slice()) == digest);
+    Ok(())
+}
