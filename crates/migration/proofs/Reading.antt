@@ -166,8 +166,8 @@ marked_used test k slots (suc i) g =
     (ap (λ (slot : Option Slot). option_map (with_bytes (block_bytes k.contents (suc i))) slot) (marked_get test slots i) ∙ same_bytes (block_bytes k.contents (suc i)) (test i) (slice_get slots i))
 
 -- what is held of a block by its mark
-marked_held : (named : Option Stored → Bool) → named None ≡ false → (open : Bool) (bytes : List ℕ) (slot : Option Slot) (mark : Bool) → mark ≡ named (cond open (option_map (with_bytes bytes) slot) None)
-    → stored (unwrap_or (option_map (marked_slot mark) slot) no_slot) bytes ≡ cond mark (cond open (option_map (with_bytes bytes) slot) None) None
+marked_held : (named : Option Stored → Bool) → named None ≡ false → (whole : Bool) (bytes : List ℕ) (slot : Option Slot) (mark : Bool) → mark ≡ named (cond whole (option_map (with_bytes bytes) slot) None)
+    → stored (unwrap_or (option_map (marked_slot mark) slot) no_slot) bytes ≡ cond mark (cond whole (option_map (with_bytes bytes) slot) None) None
 marked_held named none true bytes None true is = refl
 marked_held named none true bytes None false is = refl
 marked_held named none false bytes None true is = refl
