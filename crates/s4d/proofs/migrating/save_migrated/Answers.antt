@@ -7,12 +7,12 @@ use Rattle.s4d.proofs.Unmigrated.{refused_alike}
 use Rattle.s4d.proofs.migrating.save_migrated.Goals as goal
 
 pub returns-in-Err-clause-refusal : goal.returns-in-Err-clause-refusal
-returns-in-Err-clause-refusal g c =
+returns-in-Err-clause-refusal c =
     refused_alike c.as_slice.result.now c.args.bytes.items c.in-Err.refusal c.as_slice.ensures.value c.in-Err.ensures.refusal
 
 -- what was just written encodes an image
 pub line_of-requires : goal.line_of-requires
-line_of-requires g c =
+line_of-requires c =
     let migrates = c.in-Ok.ensures.migrates in
     let new : List ℕ = c.in-Ok.new.items in
     let same = c.what_has_no_fault_is_an_image.ensures.read new migrates.is migrates.written in
@@ -21,7 +21,7 @@ line_of-requires g c =
     }
 
 pub returns-clause-line : goal.returns-clause-line
-returns-clause-line g c =
+returns-clause-line c =
     let new : List ℕ = c.in-Ok.new.items in
     let line : List ℕ = string_bytes c.in_ok-line.line in
     let read = c.a_new_image_is_read.ensures.read c.as_slice.result.now new c.in-Ok.ensures.migrates in
