@@ -6,13 +6,15 @@ use Rattle.std.proofs.Transfers.{starts_with_length}
 use Rattle.std.specs.Io.{StartsWith}
 use Rattle.std.specs.Io.KnownBytes.{Consumes, IsAtEnd, Keeps}
 use Rattle.s4_types.specs.declared.refusals.Cause.{Cause}
-use Rattle.s4_types.specs.declared.refusals.Cause.TheVariants.{Header, Length}
+use Rattle.s4_types.specs.declared.refusals.Cause.TheVariants.{Chain, Header, Length}
 use Rattle.s4_types.specs.declared.refusals.Refusal.{Refusal}
 use Rattle.s4_types.specs.declared.refusals.Refusal.TheVariants.{Damaged, NoMemory}
 use Rattle.codec.specs.declared.versions.ImageVersion.{ImageVersion}
 use Rattle.codec.specs.declared.versions.ImageVersion.TheVariants.{Second}
-use Rattle.image_parts.specs.Causes.{FirstSplitCauseBy, TestedPartsBy}
+use Rattle.image_parts.specs.Causes.{FirstSplitCauseBy, Tested, TestedPartsBy}
+use Rattle.image_parts.specs.Image.{image_in}
 use Rattle.verifier.specs.Grammar.{FirstFault}
+use Rattle.verifier.specs.Rows.{ChainsStand}
 use Rattle.image_commands.specs.Files.{AreKnown}
 use Rattle.image_commands.specs.Faults.{SaysDamaged}
 use Rattle.image_commands.specs.Verifying.{IsDamaged, IsUnsplit}
@@ -57,7 +59,7 @@ split_fault version bytes later cause (inr (long, inr (header, inr (filled, e)))
 -- what is known to be such bytes is damaged
 pub unsplit_is_damaged : (known : Option (List ℕ)) (cause : Cause) → IsUnsplit Second known cause → IsDamaged known cause
 unsplit_is_damaged None cause unsplit = tt
-unsplit_is_damaged (Some bytes) cause unsplit = split_fault Second bytes _ cause unsplit
+unsplit_is_damaged (Some bytes) cause unsplit = split_fault Second bytes (Tested (ChainsStand (image_in bytes)) Chain (λ found. found ≡ None)) cause unsplit
 
 -- What is read may be an image of this version.
 module _ (version : ImageVersion) where

@@ -1,6 +1,7 @@
 -- Why no new image of an earlier one is in its place, from why a step towards it failed.
 use Rattle.std.proofs.Common.{◌≡◌, ◌⊎◌, ◌∙◌, ℕ, List, Option, Some, None, inl, inr, refl, sym, subst}
 use Rattle.s4_types.specs.declared.refusals.Cause.{Cause}
+use Rattle.s4_types.specs.declared.refusals.Cause.TheVariants.{Chain}
 use Rattle.s4_types.specs.declared.refusals.Refusal.{Refusal}
 use Rattle.s4_types.specs.declared.refusals.Refusal.TheVariants.{Damaged, NoMemory, NoRoom}
 use Rattle.codec.specs.declared.versions.ImageVersion.TheVariants.{First}
@@ -11,11 +12,13 @@ use Rattle.image_commands.specs.Faults.{KeepsNew, SaysUnplaced, SaysUnsplit, Say
 use Rattle.image_commands.specs.Files.{AreKnown}
 use Rattle.image_commands.specs.Verifying.{IsUnsplit, image_line}
 use Rattle.image_commands.proofs.Fronts.{split_fault}
+use Rattle.image_parts.specs.Causes.{Tested}
 use Rattle.image_parts.specs.Image.{Image as ImageParts, image_in}
 use Rattle.verifier.specs.Grammar.{SpellsDrive}
 use Rattle.verifier.specs.Images.{ImageFields, IsImageOf}
 use Rattle.verifier.specs.Opened.{IsReadOf}
 use Rattle.earlier_images.specs.Grammar.{FirstEarlierFault}
+use Rattle.earlier_images.specs.Rows.{EarlierChainsStand}
 use Rattle.migration.specs.Migrated.{IsTooMuch, LaysOut, Migrates}
 use Rattle.s4d.specs.Migrating.{HasLine, HasMigrated, IsDamagedEarlier, RefusesEarlier, SaysEarlierUnread, SaysNoPlace, SaysUnmigrated, SaysUntaken}
 
@@ -62,7 +65,7 @@ has_line known bytes image line saved one read of told is =
 
 unsplit_is_damaged : (known : Option (List ℕ)) (cause : Cause) → IsUnsplit First known cause → IsDamagedEarlier known cause
 unsplit_is_damaged None cause unsplit = tt
-unsplit_is_damaged (Some bytes) cause unsplit = split_fault First bytes _ cause unsplit
+unsplit_is_damaged (Some bytes) cause unsplit = split_fault First bytes (Tested (EarlierChainsStand (image_in bytes)) Chain (λ found. found ≡ None)) cause unsplit
 
 -- an earlier image whose bytes aren't read
 pub earlier_unread : (known : Option (List ℕ)) (earlier : List ℕ) (fault : Fault) → SaysUnsplit First known earlier fault → SaysEarlierUnread known earlier fault
