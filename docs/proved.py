@@ -10,19 +10,17 @@ import textwrap
 TOP = pathlib.Path(__file__).resolve().parents[1]
 HEAD = """# What is proved, crate by crate
 
-Made by `docs/proved.py` from the sources. "Proved" means: for every input, the function meets the contract beside it in the
-source, is safe (no overflow, no index out of range, no use after free), and returns. That the calls of `server`, which wait for
-a lock, return isn't shown. Where memory is short the answer is `NoMemory`, and nothing changes but what the contract says.
+Made by `docs/proved.py` from the sources. "Proved" means: for every input the function meets the contract beside it in the
+source, is safe (no overflow, no index out of range, no use after free), and returns. That calls of `server` return, which wait
+for a lock, isn't shown.
 
-Here are the public calls that have a contract, with the names of its clauses in brackets, where they have names. Left out after a
-first one are the usual `same` and `unchanged` (what stays, always or where the call is refused), `ledger`, `state` and `store`
-(history and objects stay) and `refusal` (which there can be).
-A **law** is a theorem: a function without arguments, whose contract is all of it. What each crate is:
-[ARCHITECTURE](ARCHITECTURE.md). What the clauses say is in the contract, under `crates/CRATE/src`, in the terms of
-[DEFINITIONS](DEFINITIONS.md); which of them carry a promise, [PROMISES](PROMISES.md).
+Each crate's public calls that have a contract, with the names of its clauses in brackets. Left out after a first one are `same`,
+`unchanged` and `others` (what stays), `ledger`, `state` and `store` where history and objects stay, `refusal` and `memory` (what
+a refusal leaves), and `least`, `most` and `few` (bounds). A **law** is a theorem: a function without arguments. What each crate
+is: [ARCHITECTURE](ARCHITECTURE.md). The clauses are under `crates/CRATE/src`, in terms of [DEFINITIONS](DEFINITIONS.md).
 """
 WIDTH = 130
-USUAL = {"same", "unchanged", "refusal", "ledger"}
+USUAL = {"same", "unchanged", "others", "refusal", "memory", "ledger", "least", "most", "few"}
 HISTORY = {"ledger", "state"}
 FUNCTION = re.compile(r"\s*(?:(pub) |pub\([^)]*\) )?(?:const |unsafe |final )*fn (\w+)(.*)")
 OWNER = re.compile(r"(?:pub )?(?:unsafe )?(impl|trait)\b(.*)")
@@ -80,11 +78,13 @@ def functions(path):
 
 
 def laws_of_traits(path):
-    """Yields of a file's traits: the trait, and each of its laws: the ghost members below its last function."""
+    """Yields each trait of a file that has laws, and their names: the ghost members below its last function."""
     for name, body in re.findall(r"^pub trait (\w+)[^\n]*\{\n(.*?)^\}", path.read_text(encoding="utf-8"), re.M | re.S):
         lines = body.splitlines()
         last = max((at for at, line in enumerate(lines) if FUNCTION.match(line)), default=len(lines))
-        yield from ((name, found.group(1)) for found in map(GHOST.match, lines[last + 1:]) if found)
+        laws = [found.group(1) for found in map(GHOST.match, lines[last + 1:]) if found]
+        if laws:
+            yield name, laws
 
 
 def exported(root):
@@ -119,9 +119,9 @@ def calls_of(source):
                 said = ", ".join(filter(None, clauses) if law else shown(clauses))
                 row = f"`{name}`" + (f" ({said})" if said else "")
                 calls.setdefault("Laws" if law else owner, []).append(row)
-        for trait, law in laws_of_traits(path):
+        for trait, laws in laws_of_traits(path):
             if trait in names:
-                calls.setdefault(trait, []).append(f"law `{law}`")
+                calls.setdefault(trait, []).append(("laws " if laws[1:] else "law ") + ", ".join(f"`{law}`" for law in laws))
     return calls
 
 
