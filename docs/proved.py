@@ -16,8 +16,8 @@ for a lock, isn't shown.
 
 Each crate's public calls that have a contract, with the names of its clauses in brackets. Left out after a first one are `same`,
 `unchanged` and `others` (what stays), `ledger`, `state` and `store` where history and objects stay, `refusal` and `memory` (what
-a refusal leaves), and `least`, `most` and `few` (bounds). A **law** is a theorem: a function without arguments. What each crate
-is: [ARCHITECTURE](ARCHITECTURE.md). The clauses are under `crates/CRATE/src`, in terms of [DEFINITIONS](DEFINITIONS.md).
+a refusal leaves), and `least`, `most` and `few` (bounds). A **law** is a theorem: a function without arguments. The contracts are
+in `crates/CRATE/src`, in terms of [DEFINITIONS](DEFINITIONS.md).
 """
 WIDTH = 130
 USUAL = {"same", "unchanged", "others", "refusal", "memory", "ledger", "least", "most", "few"}
