@@ -1,5 +1,5 @@
 #!/usr/bin/env bash
-# Tells a story over fresh files: an owner makes two objects, an intruder overwrites one and deletes the other, and an
+# Plays a story over fresh files: an owner makes two objects, an intruder overwrites one and deletes the other, and an
 # administrator restores both from what they held before.
 #     story.sh        S4D names the program, else the one that `rt ci` or `rt run` left, else an unproved build, which is
 #                     made once and kept: about a minute
