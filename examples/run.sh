@@ -1,6 +1,6 @@
 #!/usr/bin/env bash
 # Runs `s4d pipe` on an example, and shows each request with its comment and its reply.
-#     run.sh [FILE.hex [ROLE [OPTION..]]]     such as: run.sh first_requests.hex client --tick 0 --window 1000
+#     run.sh [FILE.hex [ROLE [OPTION..]]]     such as: run.sh examples/first_requests.hex client --tick 0 --window 1000
 # S4D names the program, else it is the one that `rt ci` or `rt run` left, else an unproved build, which is made once.
 set -euo pipefail
 . "$(dirname "$0")/program.sh"
