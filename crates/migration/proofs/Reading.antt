@@ -250,7 +250,7 @@ table_is frames t rows is = record {
   frame_count = is.frame_count;
   slot_count = all_marked_length (tests_of t rows) t.slots ∙ is.slot_count;
   each = λ n inside. subst (λ (slots : List Slot). IsFrameOf n (get_or frames n no_part) (frame_at t.seat.frames n) slots) (sym (marked_at (tests_of t rows) t.slots n))
-    (frame_holding n (get_or frames n no_part) (frame_at t.seat.frames n) (tests_of t rows n) (slots_at t.slots n) (is.each n inside));
+      (frame_holding n (get_or frames n no_part) (frame_at t.seat.frames n) (tests_of t rows n) (slots_at t.slots n) (is.each n inside));
 }
 
 -- ---- the objects, and all of it
@@ -268,20 +268,21 @@ image_of_parts : (parts : Image) → ChainsStand parts → (image : ImageFields)
 image_of_parts parts stand =
     let t : Table = table_holding stand.table stand.rows in
     let used : Place → Option Stored = used_at stand.table in
-    let alike : used ≡ used_at t = λ i p. sym (same_used stand.table stand.rows p) i in
-    (record { clock = parts.clock; window = parts.window; floor = parts.floor; next = parts.next; table = t; objects = kept_objects (used_at t) stand.rows; spans = parts.spans },
-    record {
-      clock = refl;
-      window = refl;
-      floor = refl;
-      next = refl;
-      spans = refl;
-      frames = table_is parts.frames stand.table stand.rows stand.frames;
-      rows = stand.rows;
-      spelled = stand.spelled;
-      objects = objects_kept (used_at t) stand.rows;
-      held = subst (λ (u : Place → Option Stored). HoldsWhatIsNamed u (held_at t) stand.rows) alike (holds_named used (held_at t) stand.rows (held_so stand.table stand.rows));
-    })
+    let alike : used ≡ used_at t = λ i p. sym (same_used stand.table stand.rows p) i in (
+      record { clock = parts.clock; window = parts.window; floor = parts.floor; next = parts.next; table = t; objects = kept_objects (used_at t) stand.rows; spans = parts.spans },
+      record {
+        clock = refl;
+        window = refl;
+        floor = refl;
+        next = refl;
+        spans = refl;
+        frames = table_is parts.frames stand.table stand.rows stand.frames;
+        rows = stand.rows;
+        spelled = stand.spelled;
+        objects = objects_kept (used_at t) stand.rows;
+        held = subst (λ (u : Place → Option Stored). HoldsWhatIsNamed u (held_at t) stand.rows) alike (holds_named used (held_at t) stand.rows (held_so stand.table stand.rows));
+      },
+    )
 
 -- an image has as many objects as rows
 objects_counted : (used : Place → Option Stored) (rows : List ImageRow) (objects : List OpenedFields) → AreKept used rows objects → length objects ≡ length rows

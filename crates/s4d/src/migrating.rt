@@ -18,9 +18,7 @@ ghost use Rattle.s4d.specs.Migrating.{HasLine, HasMigrated, SaysEarlierUnread, S
 ghost use Rattle.s4d.specs.Migrating.{SaysUnmigrated, SaysUntaken, parts_line};
 
 use codec::ImageVersion;
-use image_commands::{
-    Fault, Files, Obstacle, Place, Placed, number_line, read_whole, writing,
-};
+use image_commands::{Fault, Files, Obstacle, Place, Placed, number_line, read_whole, writing};
 use image_parts::split_parts;
 use migration::laws::a_new_image_is_read;
 use migration::migrated;
