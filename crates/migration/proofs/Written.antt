@@ -24,10 +24,6 @@ use Rattle.time_read.specs.Rows.{IsRow, entries_of, checkpoint_of, inode_of, che
 use Rattle.time_read.specs.Orderly.{IsFromTo, IsOrderly, IsOrderlyChain, BeginsDead}
 use Rattle.chain_rewriting.specs.Apart.{Passes, ToldWithin}
 use Rattle.chain_rewriting.specs.Mapping.{mapped_slot, mapped_inode, KeepsContents}
-use Rattle.chain_rewriting.specs.MappingLaws.{AMappedChainShowsMappedInodes, APointerIsMapped, MappedEntriesStayInOrder, AMappedChainTellsInOrder, AMappedChainShowsTheSame, AMappedChainTakesAsManyBytes, MappedEntriesTakeAsManyBytes}
-use Rattle.chain_rewriting.specs.Places.{WhatIsToldIsListed, AChainPointsToWhatItTells}
-use Rattle.row_changes.specs.Laws.{ItsFirstInodeIsMapped}
-use Rattle.row_changes.specs.Recent.{IsBy}
 use Rattle.row_changes.specs.Rewritten.{OnlyMetadataChanged}
 use Rattle.row_changes.specs.Moving.{checkpoint_kept, first_kept, moved_blocks}
 use Rattle.version_store.specs.Store.{HasNothing, IsLed, pointers_kept, pointers_of, sides_told}
@@ -39,9 +35,8 @@ use Rattle.migration.specs.Copied.{CanCopy, CopiesBy, IsInOrder, entries_then, f
 use Rattle.migration.specs.private.CopyLaws.{CopyLaws}
 use Rattle.migration.specs.private.Copying.{Copying, AreApart, IsUsedData}
 use Rattle.migration.proofs.Ascending.{apart, ascend_with}
-use Rattle.migration.proofs.Appending.{PlacesAddUp}
 use Rattle.migration.proofs.Moving.{OnePlace, old_places, from_places, copied_at, comes_from, moved_is}
-use Rattle.migration.proofs.Mapping.{HolesTellBlocks, same_blocks, held_stays, GoesSomewhere, each_goes, told_within, same_bytes, beginning_mapped, mapped_pointers, some_mapped, kept_pointers, of_pointers, contains_mapped, is_told}
+use Rattle.migration.proofs.Mapping.{same_blocks, held_stays, GoesSomewhere, each_goes, told_within, same_bytes, beginning_mapped, mapped_pointers, some_mapped, kept_pointers, of_pointers, contains_mapped, is_told}
 
 -- what is told of the row that was written, in place of this one
 pub record Wrote (o : ℕ) (start : Row) (m : ℕ) (kept : Option Inode) (entries : List EntryFields) (middle after : Log) (later : Row) : Type 0 where

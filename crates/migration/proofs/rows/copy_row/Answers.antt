@@ -1,14 +1,19 @@
-use Rattle.std.proofs.Common.{◌≡◌, ◌≤◌, ◌<◌, ◌+◌, ◌-◌, ℕ, [], List, Option, length, drop, subst, sym, ap, ◌∙◌, arith}
+use Rattle.std.proofs.Common.{◌≡◌, ◌≤◌, ◌<◌, ◌+◌, ◌-◌, ℕ, [], List, Option, None, option_map, length, drop, refl, subst, sym, ap, ◌∙◌, arith}
 use Rattle.std.specs.Prelude.{option_copied}
 use Rattle.std.specs.List.{AllByRecursion}
 use Rattle.std.proofs.lemmas.List.{append-nil, length-drop}
 use Rattle.s4_types.specs.Pointer.{Place}
-use Rattle.block_log.specs.Log.{Log}
+use Rattle.block_log.specs.Growth.{OthersStay}
+use Rattle.block_log.specs.Log.{Log, Stored, of_kind}
+use Rattle.block_log.specs.declared.kinds.BlockKind.TheVariants.{Checkpoint, Data, Journal, Pointers}
+use Rattle.checkpoint.specs.Held.{begun_by, of_checkpoints, or_others}
 use Rattle.codec.specs.declared.inodes.Inode.{Inode}
 use Rattle.codec.specs.Entry.{EntryFields}
 use Rattle.object_map.specs.declared.map.Row.{Row}
 use Rattle.object_map.specs.Rows.{fresh_row}
-use Rattle.row_changes.specs.Moving.{moved_blocks}
+use Rattle.time_read.specs.Rows.{IsRow}
+use Rattle.row_changes.specs.Moving.{CanWrite, moved_blocks}
+use Rattle.version_store.specs.Store.{HasNothing}
 use Rattle.migration.specs.declared.moves.Move.{Move}
 use Rattle.migration.specs.Moves.{moved_by}
 use Rattle.migration.specs.Places.{data_places, data_pointers}
@@ -51,6 +56,37 @@ map_entries-requires-clause-told g c =
     let fits : length c.as_slice.result.now ≤ length ahead = enough (moved_blocks kept entries) (ap length are) c.requires.room in
     let from : old_places moves ≡ data_places kept entries = ap old_places (sym (append-nil moves) ∙ c.in_ok-moves.ensures.copied.exact) ∙ from_places c.as_slice.result.now ahead fits ∙ are in
     sides_within (c.a_copied_object_keeps_its_history.ensures.moved moves).listed moves kept entries (each_goes moves (data_pointers kept entries) from)
+
+-- an object of which nothing was held has no block of its journal and none of a checkpoint, once its data was copied
+no_journal : (before held : Place → Option Stored) (o : ℕ) → HasNothing before o → OthersStay Data o before held → (p : Place) → of_kind Journal o held p ≡ None
+no_journal before held o nothing others p = others Journal o p refl ∙ nothing Journal p
+
+no_checkpoint : (before held : Place → Option Stored) (o : ℕ) → HasNothing before o → OthersStay Data o before held → (p : Place) → of_checkpoints o held p ≡ None
+no_checkpoint before held o nothing others p =
+    ap (λ (first : Option (List ℕ)). or_others (option_map (begun_by Checkpoint) first) (option_map (begun_by Pointers) (of_kind Pointers o held p))) (others Checkpoint o p refl ∙ nothing Checkpoint p)
+    ∙ ap (λ (part : Option (List ℕ)). or_others None (option_map (begun_by Pointers) part)) (others Pointers o p refl ∙ nothing Pointers p)
+
+pub write_row-requires-clause-row : goal.write_row-requires-clause-row
+write_row-requires-clause-row g c =
+    let o = c.args.row.now.object in
+    let before : Log = g.B.Blocks.log c.args.table.now in
+    let middle : Log = g.B.Blocks.log c.copy_data.new.table in
+    let others = c.in_ok-moves.ensures.copied.others in
+    subst (IsRow middle.held o) (sym c.fresh-fresh.ensures)
+    (c.a_copied_object_keeps_its_history.ensures.fresh middle.held o c.args.row.now.created c.requires.object (no_journal before.held middle.held o c.requires.nothing others) (no_checkpoint before.held middle.held o c.requires.nothing others))
+
+pub write_row-requires-clause-tell : goal.write_row-requires-clause-tell
+write_row-requires-clause-tell g c =
+    let row = c.args.row.now in
+    let moves : List Move = c.in_ok-moves.moves.list.items in
+    let kept : Option Inode = option_copied c.as_ref-2.result in
+    let mapped : CanWrite row.object row.created row.checkpoint_moment (kept_then moves c.args.kept) (entries_then moves c.args.entries.now) =
+    c.a_copied_object_keeps_its_history.ensures.written (moved_by moves) row.object row.created row.checkpoint_moment c.args.kept c.args.entries.now c.requires.can.write in
+    let with_entries : CanWrite row.object row.created row.checkpoint_moment (kept_then moves c.args.kept) c.map_entries.new.entries =
+    subst (CanWrite row.object row.created row.checkpoint_moment (kept_then moves c.args.kept)) (sym c.map_entries.ensures) mapped in
+    let with_kept : CanWrite row.object row.created row.checkpoint_moment kept c.map_entries.new.entries =
+    subst (λ (k : Option Inode). CanWrite row.object row.created row.checkpoint_moment k c.map_entries.new.entries) (sym (c.as_ref-2.ensures.value ∙ c.map_kept-kept.ensures)) with_entries in
+    subst (λ (r : Row). CanWrite row.object r.created row.checkpoint_moment kept c.map_entries.new.entries) (sym c.fresh-fresh.ensures) with_kept
 
 pub returns-clause-copied : goal.returns-clause-copied
 returns-clause-copied g c =
