@@ -20,7 +20,7 @@ use Rattle.verifier.specs.Opened.{IsReadOf}
 use Rattle.earlier_images.specs.Grammar.{FirstEarlierFault}
 use Rattle.earlier_images.specs.Rows.{EarlierChainsStand}
 use Rattle.migration.specs.Migrated.{IsTooMuch, LaysOut, Migrates}
-use Rattle.s4d.specs.Migrating.{HasLine, HasMigrated, IsDamagedEarlier, RefusesEarlier, SaysEarlierUnread, SaysNoPlace, SaysUnmigrated, SaysUntaken}
+use Rattle.s4d.specs.Migrating.{HasLine, IsDamagedEarlier, RefusesEarlier, SaysEarlierUnread, SaysNoPlace, SaysUnmigrated, SaysUntaken}
 
 -- memory was short
 pub memory : (known : Option (List ℕ)) (refusal : Refusal) → refusal ≡ NoMemory → RefusesEarlier known refusal
