@@ -1,4 +1,4 @@
-use Rattle.codec.specs.declared.versions.ImageVersion.TheVariants.{Second}
+use Rattle.std.proofs.Common.{Some}
 use Rattle.image_parts.specs.Image.{image_in}
 use Rattle.image_commands.proofs.Fronts.{unsplit_is_damaged}
 use Rattle.s4d.proofs.migrating.line_of.Goals as goal
