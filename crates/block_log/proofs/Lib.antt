@@ -1,3 +1,4 @@
 pub mod Places
 pub mod Taking
 mod Names
+pub mod BlockKinds

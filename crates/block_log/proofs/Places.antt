@@ -6,18 +6,34 @@ use Rattle.block_log.specs.declared.kinds.BlockKind.{BlockKind}
 use Rattle.block_log.specs.Log.{Log, Stored, same_place, same_kind, seen_as, with_held, named_with, is_data, dropped_by, without, appended, appended_at, dropped}
 use Rattle.block_log.specs.Growth.{Puts, LetsGo}
 
+pub place_from_parts : (p q : Place) → p.frame ≡ q.frame → p.block ≡ q.block → p.generation ≡ q.generation → p ≡ q
+place_from_parts p q frame block generation =
+    ap (λ n. record p { frame = n }) frame
+    ∙ ap (λ n. record p { frame = q.frame; block = n }) block
+    ∙ ap (λ n. record { frame = q.frame; block = q.block; generation = n }) generation
+
 pub one_place : (p q : Place) → same_place p q ≡ true → p ≡ q
 one_place p q h =
     let frame = and_parts (p.frame == q.frame) (p.block == q.block && p.generation == q.generation) h in
     let rest = and_parts (p.block == q.block) (p.generation == q.generation) frame.1 in
-    ap (λ n. record p { frame = n }) (eqb-true p.frame q.frame frame.0)
-    ∙ ap (λ n. record p { frame = q.frame; block = n }) (eqb-true p.block q.block rest.0)
-    ∙ ap (λ n. record { frame = q.frame; block = q.block; generation = n }) (eqb-true p.generation q.generation rest.1)
+    place_from_parts p q (eqb-true p.frame q.frame frame.0) (eqb-true p.block q.block rest.0) (eqb-true p.generation q.generation rest.1)
 
-same_as_itself : (p : Place) → same_place p p ≡ true
-same_as_itself p =
+pub same_place_itself : (p : Place) → same_place p p ≡ true
+same_place_itself p =
     and_from (p.frame == p.frame) (p.block == p.block && p.generation == p.generation) (eq-eqb p.frame p.frame refl)
     (and_from (p.block == p.block) (p.generation == p.generation) (eq-eqb p.block p.block refl) (eq-eqb p.generation p.generation refl))
+
+pub same_place_back : (p q : Place) → same_place p q ≡ true → same_place q p ≡ true
+same_place_back p q h = subst (λ r. same_place r p ≡ true) (one_place p q h) (same_place_itself p)
+
+pub same_place_turned : (p q : Place) → same_place p q ≡ same_place q p
+same_place_turned p q = elim (cases_Bool (same_place p q)) [
+  | inl is ↦ is ∙ sym (same_place_back p q is)
+  | inr isnt ↦ elim (cases_Bool (same_place q p)) [
+    | inl back ↦ same_place_back q p back ∙ sym back
+    | inr neither ↦ isnt ∙ sym neither
+  ]
+]
 
 -- an update at a place, seen at that place and elsewhere
 unfoldable pub put : (Place → Option Stored) → Place → Option Stored → Place → Option Stored
@@ -25,7 +41,7 @@ put held p found = λ q. if same_place p q then found else held q
 
 put_here : (held : Place → Option Stored) (p : Place) (found : Option Stored) → put held p found p ≡ found
 unfolding put
-put_here held p found = ap (λ b. if b then found else held p) (same_as_itself p)
+put_here held p found = ap (λ b. if b then found else held p) (same_place_itself p)
 
 pub put_elsewhere : (held : Place → Option Stored) (p : Place) (found : Option Stored) (q : Place) → same_place p q ≡ false → put held p found q ≡ held q
 unfolding put

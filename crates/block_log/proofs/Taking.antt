@@ -6,13 +6,10 @@ use Rattle.std.proofs.lemmas.List.{drop-drop}
 use Rattle.std.proofs.lemmas.List.Elements.{Contains-append_left, Contains-append_right}
 use Rattle.std.proofs.Math.Seq.{take-add}
 use Rattle.s4_types.specs.Pointer.{Place}
+use Rattle.lemmas.proofs.Option.{none_not_some}
 use Rattle.block_log.specs.Log.{Log, Stored, same_place, with_held, named_with, is_data, dropped_by, without, appended, appended_at, dropped}
 use Rattle.block_log.specs.Taken.{TakesPlaces}
 use Rattle.block_log.proofs.Places.{one_place, inside, put, put_elsewhere}
-
--- nothing is both there and not
-pub not_both : {X : Type 0} (there : Option X) → there ≡ None → IsSome there → ⊥
-not_both there none some = both_ways false refl (sym (ap is_some none) ∙ some)
 
 is_none : {X : Type 0} (there : Option X) → is_some there ≡ false → there ≡ None
 is_none None h = refl
@@ -26,7 +23,7 @@ first_is p ahead = (0, omega arith, refl)
 newly_put : (held : Place → Option Stored) (p : Place) (found : Option Stored) (q : Place) → held q ≡ None → IsSome (put held p found q) → p ≡ q
 newly_put held p found q none some = elim (cases_Bool (same_place p q)) [
   | inl e ↦ one_place p q e
-  | inr e ↦ absurd (not_both (put held p found q) (put_elsewhere held p found q e ∙ none) some)
+  | inr e ↦ absurd (none_not_some (put held p found q) (put_elsewhere held p found q e ∙ none) some)
 ]
 
 takes_first : (log : Log) (block : Stored) (p : Place) (ahead : List Place) → log.ahead ≡ p ∷ ahead → TakesPlaces 1 log (record { held = with_held log.held p block; ahead = ahead; spent = 1 + log.spent; named = named_with block.kind log.named p })
@@ -69,12 +66,12 @@ drop_takes_by : (b : Bool) (before : Log) (p : Place) → TakesPlaces 0 before (
 drop_takes_by true before p = record {
   ahead = refl;
   spent = omega arith;
-  among = λ q none some. absurd (not_both ((dropped_by true before p).held q) (still_dropped_by true before p q none) some);
+  among = λ q none some. absurd (none_not_some ((dropped_by true before p).held q) (still_dropped_by true before p q none) some);
 }
 drop_takes_by false before p = record {
   ahead = refl;
   spent = omega arith;
-  among = λ q none some. absurd (not_both ((dropped_by false before p).held q) (still_dropped_by false before p q none) some);
+  among = λ q none some. absurd (none_not_some ((dropped_by false before p).held q) (still_dropped_by false before p q none) some);
 }
 
 pub drop_takes : (before : Log) (p : Place) → TakesPlaces 0 before (dropped before p)
@@ -84,7 +81,7 @@ pub none_taken : (log : Log) → TakesPlaces 0 log log
 none_taken log = record {
   ahead = refl;
   spent = omega arith;
-  among = λ q none some. absurd (not_both (log.held q) none some);
+  among = λ q none some. absurd (none_not_some (log.held q) none some);
 }
 
 -- what is held newly after both changes is held newly after the first or by the second
@@ -104,3 +101,9 @@ adds_up n m first second third a b = record {
   spent = (let one = a.spent in let two = b.spent in omega arith);
   among = among_both n m first second third a b;
 }
+
+-- what is among the next places after a change is among those of both changes
+pub among_later : (n m : ℕ) (first between : Log) (p : Place) → TakesPlaces n first between → Contains (take m between.ahead) p → Contains (take (n + m) first.ahead) p
+among_later n m first between p takes at =
+    subst (λ (places : List Place). Contains places p) (sym (take-add n m first.ahead))
+    (Contains-append_right (take n first.ahead) (take m (drop n first.ahead)) p (subst (λ (places : List Place). Contains (take m places) p) takes.ahead at))

@@ -2,6 +2,7 @@
 use Rattle.std.proofs.Common.{◌≡◌, ℕ, ◌-◌, ◌<◌, ◌≤◌, Bool, true, false, ltb, cond, inl, inr, List, [], ◌∷◌, ◌++◌, length, Some, None, refl, sym, ap, subst, ◌∙◌, arith}
 use Rattle.std.specs.Prelude.{◌||◌, ⊤, IfSome}
 use Rattle.std.proofs.lemmas.Bool.{cases_Bool, and_parts, and_from, and_left, or_cases, or_left, or_right, leb-true, ltb-true, lt-ltb, le-ltb, cond-true}
+use Rattle.lemmas.proofs.Bool.{or_false}
 use Rattle.codec.specs.declared.inodes.Inode.{Inode}
 use Rattle.codec.specs.Entry.{EntryFields}
 use Rattle.undo_redo.specs.Redone.{redone}
@@ -10,7 +11,7 @@ use Rattle.undo_redo.specs.Between.{entries_between}
 use Rattle.chain_rewriting.specs.Cleaned.{Span, KeptChain, span_of, stays, kept, any_live, led, step, entries_over, end_over, chain_of, cleaned}
 use Rattle.chain_rewriting.specs.CleaningLaws.{FitsSight, CleaningAgainChangesNothing}
 use Rattle.chain_rewriting.specs.private.Leading.{AllLead, LeadsOn}
-use Rattle.chain_rewriting.proofs.Leading.{led_live, led_dead, kept_stays, kept_goes, or_false, chain_leads}
+use Rattle.chain_rewriting.proofs.Leading.{led_live, led_dead, kept_stays, kept_goes, chain_leads}
 use Rattle.chain_rewriting.proofs.Grouped.{of_cleaned}
 use Rattle.chain_rewriting.proofs.Ordered.{BetweenSome, LiveOver, LiveSpans, BeginSpans, led_alive, live_same, start_begins}
 use Rattle.chain_rewriting.specs.private.Resting.{AllOfOne, BetweenRuns, Ends, GroupsAscend, Redoes}

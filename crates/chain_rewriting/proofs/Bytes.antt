@@ -3,7 +3,7 @@ use Rattle.std.proofs.Common.{◌≡◌, ℕ, zero, suc, ◌+◌, ◌*◌, ◌-�
 use Rattle.std.specs.Prelude.{◌||◌, not, IfSome}
 use Rattle.std.specs.List.{filter, range_with_len, AllByRecursion}
 use Rattle.std.specs.Cmp.Lexicographic.{pointwise}
-use Rattle.std.proofs.lemmas.Bool.{cases_Bool, cases_eq, or_parts, ne_eqb, and_from, eq-eqb}
+use Rattle.std.proofs.lemmas.Bool.{cases_Bool, cases_eq, or_parts, ne_eqb, eq-eqb}
 use lib.Pointwise.{bytes_decides}
 use Rattle.s4_types.specs.Pointer.{Place}
 use Rattle.s4_types.specs.declared.limits.TheConstants.{OBJECT_BLOCKS, ENTRY_TRIPLES, SHORTEST_ENTRY_BYTES, TRIPLE_BYTES}
@@ -12,10 +12,13 @@ use Rattle.codec.specs.declared.entries.Pair.{Pair}
 use Rattle.codec.specs.declared.entries.Triple.{Triple}
 use Rattle.codec.specs.Checkpoint.{pointer_at}
 use Rattle.codec.specs.Entry.{EntryFields, same_slot, pair_length, entry_length, entries_length}
+use Rattle.codec.proofs.Fronts.{bit_most}
+use Rattle.codec.proofs.JournalEntries.{entries_none}
 use Rattle.undo_redo.specs.Linked.{Linked, AreSides, pointer_after}
 use Rattle.undo_redo.specs.Redone.{redone}
 use Rattle.undo_redo.specs.Between.{pair_between, triple_between, tells_apart, triples_below, triples_between, entries_between}
 use Rattle.undo_redo.specs.Sizes.{later_sizes, entry_sizes}
+use Rattle.undo_redo.proofs.Slots.{same_slot_itself}
 use Rattle.chain_rewriting.specs.Cleaned.{Span, KeptChain, span_of, stays, kept, led, step, entries_over, chain_of}
 use Rattle.chain_rewriting.specs.Chains.{IsChain}
 use Rattle.chain_rewriting.specs.CleaningLaws.{AKeptChainTakesNoMoreBytes}
@@ -34,11 +37,11 @@ unfolding pair_length
 pair_most true a b = omega arith
 pair_most false a b = omega arith
 
-pair_whole : (a b : List ℕ) → pointwise ◌==◌ a b ≡ false → pair_length (pair_between a b) ≡ (1 + length a) + (1 + length b)
+pub pair_whole : (a b : List ℕ) → pointwise ◌==◌ a b ≡ false → pair_length (pair_between a b) ≡ (1 + length a) + (1 + length b)
 unfolding pair_length
 pair_whole a b differ = ap (λ (same : Bool). pair_length (pair_if same a b)) differ
 
-pair_none : (a b : List ℕ) → a ≡ b → pair_length (pair_between a b) ≡ 0
+pub pair_none : (a b : List ℕ) → a ≡ b → pair_length (pair_between a b) ≡ 0
 unfolding pair_length
 pair_none a b is = ap (λ (same : Bool). pair_length (pair_if same a b)) ((bytes_decides a b).1 is)
 
@@ -132,10 +135,6 @@ next_length false t triples = omega arith
 stretch_next : (i j : Inode) (a n : ℕ) → length (stretch i j a (suc n)) ≡ one_if (tells_apart (triple_between i j a)) + length (stretch i j (a + 1) n)
 stretch_next i j a n = next_length (tells_apart (triple_between i j a)) (triple_between i j a) (stretch i j (a + 1) n)
 
-at_most_one : (b : Bool) → one_if b ≤ 1
-at_most_one true = omega arith
-at_most_one false = omega arith
-
 -- where a pointer changes of which the triples tell alone, no more pointers differ but as many as they tell of
 stretch_more : (p i j : Inode) (triples : List Triple) (a n : ℕ) → ((m : ℕ) → m < a + n → tells triples m ≡ false → pointer_at j m ≡ pointer_at i m) → length (stretch p j a n) ≤ length (stretch p i a n) + count_from (tells triples) a n
 stretch_more p i j triples a zero same = omega arith
@@ -145,22 +144,18 @@ stretch_more p i j triples a (suc n) same =
     let was = stretch_next p i a n in
     elim (cases_Bool (tells triples a)) [
       | inl is ↦ (let here : one_if (tells triples a) ≡ 1 = ap one_if is in
-          let one = at_most_one (tells_apart (triple_between p j a)) in
+          let one = bit_most (tells_apart (triple_between p j a)) in
           omega (arith, behind, now, was, here, one))
       | inr not_told ↦ (let alike : one_if (tells_apart (triple_between p j a)) ≡ one_if (tells_apart (triple_between p i a)) = ap (λ (q : Option Place). one_if (not (same_slot (pointer_at p a) q))) (same a (omega arith) not_told) in
           omega (arith, behind, now, was, alike))
     ]
-
-same_slot_own : (p : Option Place) → same_slot p p ≡ true
-same_slot_own None = refl
-same_slot_own (Some p) = and_from (p.frame == p.frame) _ (eq-eqb p.frame p.frame refl) (and_from (p.block == p.block) _ (eq-eqb p.block p.block refl) (eq-eqb p.generation p.generation refl))
 
 stretch_none : (i j : Inode) (a n : ℕ) → ((m : ℕ) → pointer_at i m ≡ pointer_at j m) → length (stretch i j a n) ≡ 0
 stretch_none i j a zero same = refl
 stretch_none i j a (suc n) same =
     let behind = stretch_none i j (a + 1) n same in
     let next = stretch_next i j a n in
-    let alike : same_slot (pointer_at i a) (pointer_at j a) ≡ true = subst (λ (q : Option Place). same_slot (pointer_at i a) q ≡ true) (same a) (same_slot_own (pointer_at i a)) in
+    let alike : same_slot (pointer_at i a) (pointer_at j a) ≡ true = subst (λ (q : Option Place). same_slot (pointer_at i a) q ≡ true) (same a) (same_slot_itself (pointer_at i a)) in
     let not_here : one_if (tells_apart (triple_between i j a)) ≡ 0 = ap (λ (b : Bool). one_if (not b)) alike in
     omega (arith, behind, next, not_here)
 
@@ -257,13 +252,9 @@ between_bytes f p j m k bytes triples some c =
     let total = sizes_total k count pair some (omega (arith, few, most)) in
     omega (arith, pair_most, few, whole, total)
 
-none_long : entries_length [] ≡ 0
-unfolding entries_length
-none_long = refl
-
 step_bytes : Facts → (p : Inode) (s : Span) (k bytes triples : ℕ) → 1 ≤ k → Carried p s.inode k bytes triples → entries_length (step p s) ≤ SHORTEST_ENTRY_BYTES * k + bytes + TRIPLE_BYTES * triples
 step_bytes f p s k bytes triples some c =
-    of_step (λ es. entries_length es ≤ SHORTEST_ENTRY_BYTES * k + bytes + TRIPLE_BYTES * triples) p s (omega (arith, none_long)) (λ is. between_bytes f p (led p s.inode) s.from k bytes triples some (carried_led p s.inode k bytes triples c))
+    of_step (λ es. entries_length es ≤ SHORTEST_ENTRY_BYTES * k + bytes + TRIPLE_BYTES * triples) p s (omega (arith, entries_none)) (λ is. between_bytes f p (led p s.inode) s.from k bytes triples some (carried_led p s.inode k bytes triples c))
 
 -- ---- the bytes of all steps
 

@@ -2,14 +2,15 @@
 use Rattle.std.proofs.Common.{◌≡◌, ℕ, ◌≤◌, true, false, List, [], ◌∷◌, ◌++◌, length, refl, sym, ap, subst, ◌∙◌, arith}
 use Rattle.std.proofs.Math.Seq.{take-append_seam, take-length}
 use Rattle.std.specs.List.{AllByRecursion}
-use Rattle.std.proofs.lemmas.Bool.{le-leb, both_ways}
+use Rattle.std.proofs.lemmas.Bool.{both_ways}
 use Rattle.codec.specs.declared.inodes.Inode.{Inode}
 use Rattle.codec.specs.Entry.{EntryFields, entry_rules}
 use Rattle.undo_redo.specs.Redone.{redone}
-use Rattle.undo_redo.specs.Runs.{Run, redone_all, AllAt, AllBy, blank}
+use Rattle.undo_redo.specs.Runs.{Run, redone_all, AllAt, blank}
 use Rattle.undo_redo.specs.Groups.{grouped}
 use Rattle.undo_redo.specs.Between.{entries_between}
 use Rattle.time_read.specs.Orderly.{IsFromTo, inode_behind}
+use Rattle.time_read.proofs.Ordering.{from_to_later, moments_later, all_by_last}
 use Rattle.chain_rewriting.specs.Chains.{IsChain}
 use Rattle.chain_rewriting.specs.CleaningLaws.{ACreationIsAChain, AChainGoesOn, AChainIsOneLater}
 use Rattle.chain_rewriting.proofs.Leading.{Onward, begun}
@@ -30,20 +31,9 @@ pub record Facts : Type 0 where
 
 -- ---- moments
 
-within_later : (c latest later t : ℕ) → latest ≤ later → IsFromTo c latest t → IsFromTo c later t
-within_later c latest later t le h = (let low : c ≤ t = h.0 in low, let high : t ≤ latest = h.1 in omega (arith, le, high))
-
-all_later : (c latest later : ℕ) (entries : List EntryFields) → latest ≤ later → AllByRecursion (λ e. IsFromTo c latest e.moment) entries → AllByRecursion (λ e. IsFromTo c later e.moment) entries
-all_later c latest later [] le h = tt
-all_later c latest later (e ∷ entries) le h = (within_later c latest later e.moment le h.0, all_later c latest later entries le h.1)
-
-all_of_one : (c m : ℕ) (entries : List EntryFields) → c ≤ m → AllAt m entries → AllByRecursion (λ e. IsFromTo c m e.moment) entries
+pub all_of_one : (c m : ℕ) (entries : List EntryFields) → c ≤ m → AllAt m entries → AllByRecursion (λ e. IsFromTo c m e.moment) entries
 all_of_one c m [] le h = tt
 all_of_one c m (e ∷ entries) le h = (let is : e.moment ≡ m = h.0 in ((omega (arith, is, le), omega (arith, is)), all_of_one c m entries le h.1))
-
-all_by : (c latest : ℕ) (entries : List EntryFields) → AllByRecursion (λ e. IsFromTo c latest e.moment) entries → AllBy latest entries
-all_by c latest [] h = tt
-all_by c latest (e ∷ entries) h = (le-leb e.moment latest h.0.1, all_by c latest entries h.1)
 
 pub one_later : AChainIsOneLater
 one_later c latest later first entries h le = record {
@@ -51,8 +41,8 @@ one_later c latest later first entries h le = record {
   groups = h.groups;
   rules = h.rules;
   order = record {
-    moments = all_later c latest later entries le h.order.moments;
-    changed = λ n live. within_later c latest later (inode_behind first entries n).changed le (h.order.changed n live);
+    moments = moments_later c latest later entries le h.order.moments;
+    changed = λ n live. from_to_later c latest later (inode_behind first entries n).changed le (h.order.changed n live);
     between = h.order.between;
     beginning = h.order.beginning;
     live = h.order.live;
@@ -61,7 +51,7 @@ one_later c latest later first entries h le = record {
 
 -- ---- a creation
 
-blank_dead : (m : ℕ) → (blank m).alive ≡ false
+pub blank_dead : (m : ℕ) → (blank m).alive ≡ false
 unfolding blank
 blank_dead m = refl
 
@@ -116,14 +106,14 @@ goes_on f join groups c latest m first next entries h live lt lead =
     let changed = h.order.changed (length entries) (ap (λ (j : Inode). j.alive) (behind_all first entries) ∙ live) in
     let low : c ≤ (inode_behind first entries (length entries)).changed = changed.0 in
     let high : (inode_behind first entries (length entries)).changed ≤ latest = changed.1 in
-    let moments = join_all (λ e. IsFromTo c m e.moment) entries back (all_later c latest m entries (omega (arith, lt)) h.order.moments) (all_of_one c m back (omega (arith, low, high, lt)) at) in
+    let moments = join_all (λ e. IsFromTo c m e.moment) entries back (moments_later c latest m entries (omega (arith, lt)) h.order.moments) (all_of_one c m back (omega (arith, low, high, lt)) at) in
     record {
       run = subst (λ (j : Inode). Run first all j) (f.ends first next all run) run;
-      groups = groups latest entries back h.groups group (all_by c latest entries h.order.moments) (at_past latest m back lt at);
+      groups = groups latest entries back h.groups group (all_by_last c latest entries h.order.moments) (at_past latest m back lt at);
       rules = ruled;
       order = record {
         moments = moments;
-        changed = all_changed c m first all (λ is. within_later c latest m first.changed (omega (arith, lt)) (h.order.changed 0 is)) ruled moments;
+        changed = all_changed c m first all (λ is. from_to_later c latest m first.changed (omega (arith, lt)) (h.order.changed 0 is)) ruled moments;
         between = all_between f.redoes first next all run (join_later entries back (later_live f.redoes c latest first entries h) (begin_live last next back back_run live (group_live m back at group)));
         beginning = h.order.beginning;
         live = (length entries, ap (λ (j : Inode). j.alive) (behind_front first entries back) ∙ live);

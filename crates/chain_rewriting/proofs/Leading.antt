@@ -1,16 +1,18 @@
 -- Entries can lead over all that is kept of a chain, and what is joined step by step is the chain of all.
-use Rattle.std.proofs.Common.{◌≡◌, ℕ, suc, ◌-◌, ◌<◌, ◌≤◌, ◌==◌, ◌&&◌, Bool, true, false, leb, inl, inr, List, [], ◌∷◌, length, Option, Some, None, refl, sym, ap, subst, ◌∙◌, append_assoc, arith}
+use Rattle.std.proofs.Common.{◌≡◌, ℕ, suc, ◌-◌, ◌<◌, ◌≤◌, Bool, true, false, leb, inl, inr, List, [], ◌∷◌, length, Option, Some, None, refl, sym, ap, subst, ◌∙◌, append_assoc, arith}
 use Rattle.std.specs.Prelude.{◌||◌}
 use Rattle.std.specs.List.{AllByRecursion}
 use Rattle.std.proofs.lemmas.List.{append-nil}
 use Rattle.std.proofs.lemmas.Bool.{cases_Bool, and_parts, or_cases, leb-true, eqb-true, cond-true, cond-false, both_ways}
 use Rattle.s4_types.specs.declared.limits.TheConstants.{OBJECT_BYTES, OBJECT_BLOCKS}
+use Rattle.lemmas.proofs.Bool.{or_assoc, or_false}
 use Rattle.codec.specs.declared.inodes.Inode.{Inode}
 use Rattle.codec.specs.Entry.{EntryFields, was_nothing, changes_now, entry_rules}
 use Rattle.undo_redo.specs.Linked.{Linked}
 use Rattle.undo_redo.specs.Redone.{redone}
 use Rattle.undo_redo.specs.Runs.{Run, redone_all}
 use Rattle.undo_redo.specs.Between.{CanLead}
+use Rattle.undo_redo.proofs.BetweenLaws.{dead_is_empty}
 use Rattle.time_read.specs.Orderly.{inode_behind}
 use Rattle.chain_rewriting.specs.Cleaned.{Span, KeptChain, span_of, stays, kept, any_live, led, step, entries_over, end_over, chain_of, cleaned}
 use Rattle.chain_rewriting.specs.Chains.{IsChain}
@@ -51,12 +53,6 @@ pub record Target (c : ℕ) (i : Inode) (from : ℕ) : Type 0 where
   pub moment : 1 ≤ from
   pub changed : i.alive ≡ true → i.changed ≡ from
 
-was_dead : (alive : Bool) (size changed : ℕ) → (alive || (size == 0 && changed == 0)) ≡ true → alive ≡ false → (size ≡ 0) × (changed ≡ 0)
-was_dead true size changed h dead = absurd (both_ways true dead refl)
-was_dead false size changed h dead =
-    let parts = and_parts (size == 0) (changed == 0) h in
-    (eqb-true size 0 parts.0, eqb-true changed 0 parts.1)
-
 source_of : (c : ℕ) (i : Inode) (e : EntryFields) (j : Inode) → i.created ≡ c → Linked i e j → entry_rules e ≡ true → Source c i
 source_of c i e j created l h =
     let r = rules_of e h in
@@ -64,7 +60,7 @@ source_of c i e j created l h =
       created = created;
       count = l.count_before;
       size = subst (λ s. s.size ≤ OBJECT_BYTES) (sym l.status_before) r.size_before;
-      nothing = was_dead i.alive i.size i.changed (ap (λ s. was_nothing s) l.status_before ∙ r.was);
+      nothing = dead_is_empty i.alive i.size i.changed (ap (λ s. was_nothing s) l.status_before ∙ r.was);
     }
 
 target_of : (c : ℕ) (i : Inode) (e : EntryFields) (j : Inode) → i.created ≡ c → Linked i e j → entry_rules e ≡ true → Target c j e.moment
@@ -200,10 +196,6 @@ leads_behind : (chain : Option KeptChain) (s : Span) (spans : List Span) → Lea
 leads_behind None s spans h = h
 leads_behind (Some chain) s spans h = h.1
 
-or_assoc : (a b c : Bool) → ((a || b) || c) ≡ (a || (b || c))
-or_assoc true b c = refl
-or_assoc false b c = refl
-
 pub walk_may : (sees : ℕ → ℕ → Bool) (clock : ℕ) (first : Inode) (all : List EntryFields) (chain : Option KeptChain) (live : Bool) (i : Inode) (from : ℕ) (e : EntryFields) (rest : List EntryFields) → Walks sees clock first all chain live i from (e ∷ rest) → stays sees from e.moment ≡ true → LeadsTo chain (span_of i from 0)
 walk_may sees clock first all chain live i from e rest w is =
     leads_to chain i from (e.moment - 1) (kept sees clock (redone e i) e.moment rest) (subst (λ (spans : List Span). LeadsOn chain spans) (kept_stays sees clock i from e rest is) w.leads)
@@ -230,10 +222,6 @@ walk_goes sees clock first all chain live i from e rest w gone =
 
 pub walk_end_may : (sees : ℕ → ℕ → Bool) (clock : ℕ) (first : Inode) (all : List EntryFields) (chain : Option KeptChain) (live : Bool) (i : Inode) (from : ℕ) → Walks sees clock first all chain live i from [] → LeadsTo chain (span_of i from 0)
 walk_end_may sees clock first all chain live i from w = leads_to chain i from clock [] w.leads
-
-pub or_false : (a : Bool) → (a || false) ≡ a
-or_false true = refl
-or_false false = refl
 
 nothing_more : (k : KeptChain) → Some k ≡ continued (Some k) []
 nothing_more k = ap (λ (es : List EntryFields). Some (record { first = k.first; entries = es; last = k.last })) (sym (append-nil k.entries))

@@ -4,6 +4,7 @@ use Rattle.std.specs.Prelude.{◌||◌, IfSome}
 use Rattle.std.specs.List.{AllByRecursion}
 use Rattle.std.proofs.lemmas.Bool.{cases_Bool, and_parts, and_from, or_cases, or_right, le-leb, leb-true, eq-eqb, eqb-true, cond-true, cond-false, both_ways}
 use Rattle.s4_types.specs.declared.limits.TheConstants.{CHANGE_ENTRIES}
+use Rattle.lemmas.proofs.Bool.{or_false}
 use Rattle.codec.specs.declared.inodes.Inode.{Inode}
 use Rattle.codec.specs.Entry.{EntryFields, entry_rules}
 use Rattle.undo_redo.specs.Redone.{redone}
@@ -15,7 +16,7 @@ use Rattle.chain_rewriting.specs.Cleaned.{Span, KeptChain, stays, kept, any_live
 use Rattle.chain_rewriting.specs.Chains.{IsChain}
 use Rattle.chain_rewriting.specs.CleaningLaws.{AKeptChainIsARun, AKeptChainHasOldMoments, AKeptChainIsGrouped, AKeptChainIsInOrder, AKeptChainIsAChain}
 use Rattle.chain_rewriting.specs.private.Leading.{AllLead, LeadsOn}
-use Rattle.chain_rewriting.proofs.Leading.{Onward, rules_of, begun, kept_stays, kept_goes, or_false, chain_leads}
+use Rattle.chain_rewriting.proofs.Leading.{Onward, rules_of, begun, kept_stays, kept_goes, chain_leads}
 use Rattle.chain_rewriting.proofs.Grouped.{BetweenGroups, of_step, of_cleaned, step_at, step_grouped}
 use Rattle.chain_rewriting.proofs.Runs.{RunsJoin, step_run, run_over}
 use Rattle.chain_rewriting.specs.private.Resting.{AllOfOne, BetweenRuns, Ends, Redoes}

@@ -1,9 +1,10 @@
 -- A kept chain points to places of the old one alone.
-use Rattle.std.proofs.Common.{◌≡◌, ℕ, inl, inr, List, [], ◌∷◌, ◌++◌, Option, Some, None, refl, sym, subst}
+use Rattle.std.proofs.Common.{ℕ, inl, inr, List, [], ◌∷◌, ◌++◌, sym, subst}
 use Rattle.std.specs.Prelude.{IfSome}
 use Rattle.std.specs.List.{AllByRecursion}
 use Rattle.std.proofs.lemmas.Bool.{cases_Bool}
 use Rattle.s4_types.specs.Pointer.{Place}
+use Rattle.lemmas.proofs.Option.{IfSome_from}
 use Rattle.codec.specs.declared.inodes.Inode.{Inode}
 use Rattle.codec.specs.declared.entries.Triple.{Triple}
 use Rattle.codec.specs.Checkpoint.{pointer_at}
@@ -54,12 +55,8 @@ chain_within : BetweenTells → (Is : Place → Type 0) (spans : List Span) → 
 chain_within tells Is [] h = tt
 chain_within tells Is (s ∷ spans) h = record { first = h.0; entries = over_within tells Is s.inode spans h.0 h.1; last = end_within Is s.inode spans h.0 h.1 }
 
-some_within : (Is : Place → Type 0) (o : Option Place) → ((p : Place) → o ≡ Some p → Is p) → IfSome o Is
-some_within Is None h = tt
-some_within Is (Some p) h = h p refl
-
 pub cleaned_places : Facts → BetweenTells → AKeptChainPointsToOldPlaces
 cleaned_places f tells sees created latest clock first entries h =
     let Is : Place → Type 0 = IsPlaceOf first entries in
     of_cleaned (HasPlacesWithin Is) sees clock first entries (λ some.
-    chain_within tells Is (kept sees clock first 0 entries) (kept_each f (PointsWithin Is) sees clock first 0 entries (f.ascend entries h.groups) (λ u low k. some_within Is (pointer_at (inode_after first entries u) k) (λ p is. (u, k, is)))))
+    chain_within tells Is (kept sees clock first 0 entries) (kept_each f (PointsWithin Is) sees clock first 0 entries (f.ascend entries h.groups) (λ u low k. IfSome_from (pointer_at (inode_after first entries u) k) Is (λ p is. (u, k, is)))))

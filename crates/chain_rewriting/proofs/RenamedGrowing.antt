@@ -10,6 +10,7 @@ use Rattle.codec.specs.declared.inodes.Inode.{Inode}
 use Rattle.codec.specs.declared.entries.Triple.{Triple}
 use Rattle.codec.specs.Checkpoint.{pointer_at}
 use Rattle.codec.specs.Entry.{EntryFields}
+use Rattle.inode.proofs.Standing.{replicate_hole}
 use Rattle.chain_rewriting.specs.CleaningLaws.{TellsWithin}
 use Rattle.chain_rewriting.specs.Renaming.{RenamingFields, no_moves, with_move, move_of}
 use Rattle.chain_rewriting.specs.Apart.{Passes, ToldWithin, IsNotNew}
@@ -38,15 +39,10 @@ passes_too test other i entries so h = told_on (Passes test) (Passes other) i en
 
 -- ---- the first renaming
 
-none_at : (n k : ℕ) → get_or {A = Option Place} (replicate n None) k None ≡ None
-none_at zero k = refl
-none_at (suc n) zero = refl
-none_at (suc n) (suc k) = none_at n k
-
 pub nothing_moves : NothingMovesYet
 unfolding no_moves
 nothing_moves frame generation zero p h = cc
-nothing_moves frame generation (suc n) p h = let none : get_or {A = Option Place} (replicate 15 None) n None ≡ None = none_at 15 n in cc
+nothing_moves frame generation (suc n) p h = let none : get_or {A = Option Place} (replicate 15 None) n None ≡ None = replicate_hole 15 n in cc
 
 pub none_distinct : NoPlacesAreDistinct
 none_distinct frame generation m n p at too = absurd (nothing_moves frame generation m p at)

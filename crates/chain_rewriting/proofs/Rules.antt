@@ -6,6 +6,7 @@ use Rattle.std.proofs.lemmas.List.{length-map}
 use Rattle.std.proofs.lemmas.Bool.{cases_Bool, and_parts, and_from, eqb-true, eq-eqb, cond-true, cond-false, both_ways}
 use Rattle.s4_types.specs.Pointer.{Place}
 use Rattle.s4_types.specs.declared.limits.TheConstants.{OBJECT_BLOCKS, OBJECT_BYTES}
+use Rattle.block_log.proofs.Places.{place_from_parts}
 use Rattle.codec.specs.declared.entries.Status.{Status}
 use Rattle.codec.specs.declared.entries.Pair.{Pair}
 use Rattle.codec.specs.declared.entries.Triple.{Triple}
@@ -21,18 +22,8 @@ use Rattle.chain_rewriting.specs.Places.{RenamingIsOneToOne}
 
 -- ---- one to one
 
-place_of : ℕ → ℕ → ℕ → Place
-place_of frame block generation = record { frame = frame; block = block; generation = generation }
-
-place_of-same : (f g b c m n : ℕ) → f ≡ g → b ≡ c → m ≡ n → place_of f b m ≡ place_of g c n
-place_of-same f g b c m n d e h = cc
-
-same_place : (p q : Place) → p.frame ≡ q.frame → p.block ≡ q.block → p.generation ≡ q.generation → p ≡ q
-unfolding place_of
-same_place p q f b g = place_of-same p.frame q.frame p.block q.block p.generation q.generation f b g
-
 -- where a block moves, its place is in the frame, and the move is its block's
-move_is : (r : RenamingFields) (p q : Place) → new_place r p ≡ Some q → (is_in r p ≡ true) × (move_of r p.block ≡ Some q)
+pub move_is : (r : RenamingFields) (p q : Place) → new_place r p ≡ Some q → (is_in r p ≡ true) × (move_of r p.block ≡ Some q)
 move_is r p q h = elim (cases_Bool (is_in r p)) [
   | inl inside ↦ (inside, sym (cond-true (is_in r p) (move_of r p.block) None inside) ∙ h)
   | inr outside ↦ (let none : new_place r p ≡ None = cond-false (is_in r p) (move_of r p.block) None outside in absurd (cc))
@@ -56,7 +47,7 @@ both_move r p q x y distinct hp hq same =
     let block : p.block ≡ q.block = distinct p.block q.block y (a.1 ∙ ap (λ (z : Place). Some z) one) b.1 in
     let c = and_parts (p.frame == r.frame) (p.generation == r.generation) a.0 in
     let d = and_parts (q.frame == r.frame) (q.generation == r.generation) b.0 in
-    same_place p q (eqb-true p.frame r.frame c.0 ∙ sym (eqb-true q.frame r.frame d.0)) block (eqb-true p.generation r.generation c.1 ∙ sym (eqb-true q.generation r.generation d.1))
+    place_from_parts p q (eqb-true p.frame r.frame c.0 ∙ sym (eqb-true q.frame r.frame d.0)) block (eqb-true p.generation r.generation c.1 ∙ sym (eqb-true q.generation r.generation d.1))
 
 -- a place that stays isn't the new one of another
 moves_on : (r : RenamingFields) (p q x : Place) → IsNotNew r q → new_place r p ≡ Some x → new_place r q ≡ None → renamed r p ≡ renamed r q → ⊥
@@ -85,7 +76,7 @@ same_slot_places : (p q : Place) → same_slot (Some p) (Some q) ≡ true → p 
 same_slot_places p q h =
     let a = and_parts (p.frame == q.frame) (p.block == q.block && p.generation == q.generation) h in
     let b = and_parts (p.block == q.block) (p.generation == q.generation) a.1 in
-    same_place p q (eqb-true p.frame q.frame a.0) (eqb-true p.block q.block b.0) (eqb-true p.generation q.generation b.1)
+    place_from_parts p q (eqb-true p.frame q.frame a.0) (eqb-true p.block q.block b.0) (eqb-true p.generation q.generation b.1)
 
 same_slot_own : (p : Place) → same_slot (Some p) (Some p) ≡ true
 same_slot_own p = and_from (p.frame == p.frame) (p.block == p.block && p.generation == p.generation) (eq-eqb p.frame p.frame refl) (and_from (p.block == p.block) (p.generation == p.generation) (eq-eqb p.block p.block refl) (eq-eqb p.generation p.generation refl))

@@ -1,11 +1,12 @@
 -- A kept chain tells of places alone to which a live inode points that it shows at a visible moment.
-use Rattle.std.proofs.Common.{◌≡◌, ℕ, ◌+◌, ◌-◌, ◌<◌, ◌≤◌, ◌==◌, ◌&&◌, Bool, true, false, leb, ltb, inl, inr, List, [], ◌∷◌, length, Option, Some, None, refl, sym, ap, subst, ◌∙◌, arith}
+use Rattle.std.proofs.Common.{◌≡◌, ℕ, ◌+◌, ◌-◌, ◌<◌, ◌≤◌, ◌==◌, ◌&&◌, Bool, true, false, leb, ltb, inl, inr, List, [], ◌∷◌, length, Option, Some, None, sym, ap, subst, ◌∙◌, arith}
 use Rattle.std.specs.Prelude.{◌⊎◌, ◌||◌, IfSome, slice_index_or}
 use Rattle.std.specs.List.{AllByRecursion}
 use Rattle.std.proofs.lemmas.Bool.{cases_Bool, and_parts, or_cases, leb-true, leb-false, le-leb, ltb-true, eqb-true, cond-true, cond-false, both_ways}
 use Rattle.std.proofs.lemmas.List.{nil_from_length}
 use Rattle.s4_types.specs.Pointer.{Place}
 use Rattle.s4_types.specs.declared.limits.TheConstants.{CHANGE_ENTRIES}
+use Rattle.lemmas.proofs.Option.{IfSome_from}
 use Rattle.codec.specs.declared.inodes.Inode.{Inode}
 use Rattle.codec.specs.declared.entries.Triple.{Triple}
 use Rattle.codec.specs.Checkpoint.{pointer_at}
@@ -166,10 +167,6 @@ entries_within : (A B : Place → Type 0) → ((p : Place) → A p → B p) → 
 entries_within A B to [] h = tt
 entries_within A B to (e ∷ entries) h = (triples_within A B to e.triples h.0, entries_within A B to entries h.1)
 
-some_place : (Is : Place → Type 0) (o : Option Place) → ((p : Place) → o ≡ Some p → Is p) → IfSome o Is
-some_place Is None h = tt
-some_place Is (Some p) h = h p refl
-
 -- ---- the kept chain
 
 -- what the laws tell of it: it is a chain that cleaning leaves as it is, and each of its inodes is seen
@@ -194,7 +191,7 @@ tells f holes places visible sees created latest clock chain known =
     let to = λ (p : Place) (place : Is p). seen_place f holes visible created latest clock chain.first chain.entries p known.chain known.seen place in
     let old : HasPlacesWithin Is chain = subst (λ (o : Option KeptChain). IfSome o (HasPlacesWithin Is)) known.again (places sees created latest clock chain.first chain.entries known.chain) in
     record {
-      each = λ t k. some_place Seen (pointer_at (inode_after chain.first chain.entries t) k) (λ p is. to p (t, k, is));
+      each = λ t k. IfSome_from (pointer_at (inode_after chain.first chain.entries t) k) Seen (λ p is. to p (t, k, is));
       entries = entries_within Is Seen to chain.entries old.entries;
       first = λ k. if_within Is Seen to (pointer_at chain.first k) (old.first k);
       last = subst (λ (i : Inode). PointsWithin Seen i) (f.ends chain.first chain.last chain.entries known.run) (λ k. if_within Is Seen to (pointer_at chain.last k) (old.last k));

@@ -1,7 +1,7 @@
 -- What is kept of a chain shows at each visible moment what the chain shows.
 use Rattle.std.proofs.Common.{◌≡◌, ℕ, ◌-◌, ◌<◌, ◌≤◌, ◌&&◌, Bool, true, false, leb, cond, inl, inr, List, [], ◌∷◌, ◌++◌, Option, None, refl, sym, ap, subst, ◌∙◌, arith}
 use Rattle.std.specs.Prelude.{not, IfSome}
-use Rattle.std.proofs.lemmas.Bool.{cases_Bool, and_parts, or_parts, leb-true, leb-false, le-leb, lt-leb, lt-ltb, cond-true, cond-false, both_ways}
+use Rattle.std.proofs.lemmas.Bool.{cases_Bool, and_parts, or_parts, leb-true, leb-false, le-leb, lt-leb, lt-ltb, cond-true, cond-false, both_ways, not-true}
 use Rattle.codec.specs.declared.inodes.Inode.{Inode}
 use Rattle.codec.specs.Entry.{EntryFields}
 use Rattle.undo_redo.specs.Redone.{redone}
@@ -26,16 +26,12 @@ led_alike p i = elim (cases_Bool i.alive) [
 abbrev is_past : ℕ → ℕ → Bool
 is_past t m = not (leb m t)
 
-not_true : (b : Bool) → not b ≡ true → b ≡ false
-not_true true h = sym h
-not_true false h = refl
-
 past_is : (t m : ℕ) → t < m → is_past t m ≡ true
 past_is t m lt = ap not (lt-leb m t lt)
 
 past_of : (t : ℕ) (entries : List EntryFields) → Within (is_past t) entries → AllPast t entries
 past_of t [] h = tt
-past_of t (e ∷ entries) h = (not_true (leb e.moment t) h.0, past_of t entries h.1)
+past_of t (e ∷ entries) h = (not-true (leb e.moment t) h.0, past_of t entries h.1)
 
 ascend_within : (low t : ℕ) (entries : List EntryFields) → t < low → moments_ascend_from low entries ≡ true → Within (is_past t) entries
 ascend_within low t [] lt up = tt

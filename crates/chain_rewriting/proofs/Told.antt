@@ -85,11 +85,11 @@ all_within : (Is : Place → Type 0) (entries : List EntryFields) (i : Inode) �
 all_within Is [] i h told = h
 all_within Is (e ∷ entries) i h told = all_within Is entries (redone e i) (redone_within Is e i h told.0) told.1
 
-all_cond : (P : EntryFields → Type 0) (b : Bool) (e : EntryFields) (entries : List EntryFields) → P e → AllByRecursion P entries → AllByRecursion P (cond b (e ∷ entries) entries)
+pub all_cond : (P : EntryFields → Type 0) (b : Bool) (e : EntryFields) (entries : List EntryFields) → P e → AllByRecursion P entries → AllByRecursion P (cond b (e ∷ entries) entries)
 all_cond P true e entries is h = (is, h)
 all_cond P false e entries is h = h
 
-by_within : (P : EntryFields → Type 0) (t : ℕ) (entries : List EntryFields) → AllByRecursion P entries → AllByRecursion P (entries_by t entries)
+pub by_within : (P : EntryFields → Type 0) (t : ℕ) (entries : List EntryFields) → AllByRecursion P entries → AllByRecursion P (entries_by t entries)
 by_within P t [] h = tt
 by_within P t (e ∷ entries) h = all_cond P (entry_is_by t e) e (entries_by t entries) h.0 (by_within P t entries h.1)
 

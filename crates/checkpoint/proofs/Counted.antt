@@ -3,7 +3,7 @@ use Rattle.std.proofs.Common.{◌≡◌, ℕ, zero, suc, ◌*◌, ◌+◌, ◌�
 use Rattle.std.specs.Prelude.{is_none, slice_index_or}
 use Rattle.std.specs.List.{list_all}
 use Rattle.std.specs.Option.{option_to_list}
-use Rattle.std.proofs.lemmas.Bool.{false≢true}
+use Rattle.std.proofs.lemmas.Bool.{not-true, not-false}
 use Rattle.std.proofs.lemmas.Option.{same_Some}
 use Rattle.s4_types.specs.Pointer.{Place}
 use Rattle.s4_types.specs.declared.limits.TheConstants.{CHECKPOINT_POINTERS, CHECKPOINT_BLOCKS}
@@ -15,9 +15,11 @@ use Rattle.codec.specs.Parts.{part_of, are_holes, pointers_of, told_in, ArePart}
 use Rattle.codec.specs.declared.first_blocks.FirstBlock.{FirstBlock}
 use Rattle.codec.specs.declared.inodes.Inode.{Inode}
 use Rattle.codec.specs.declared.pointer_blocks.PointerBlock.{PointerBlock}
+use Rattle.codec.proofs.PartLaws.{not_kept}
+use Rattle.codec.proofs.Exact.{bind_some}
 use Rattle.checkpoint.specs.Held.{places_in, part_in, checkpoint_held, checkpoint_places, checkpoint_blocks, part_blocks, of_checkpoints}
 use Rattle.checkpoint.proofs.Places.{all_places}
-use Rattle.checkpoint.proofs.Reading.{View, Tells, tells, first_told, places_are, step_of, BlockLaws, JoinedIs}
+use Rattle.checkpoint.proofs.Reading.{View, Tells, tells, first_told, places_are, BlockLaws, JoinedIs}
 
 few_bit : (b : Bool) → cond b 0 1 ≤ 1
 few_bit true = omega arith
@@ -86,7 +88,7 @@ part_there blocks laws view f part None pointers has =
     let same : holes CHECKPOINT_POINTERS ≡ pointers = same_Some _ _ has in
     subst (Part None) same (record { count = laws.holes.0; blocks = ap (λ b. cond b 0 1) (holes_there CHECKPOINT_POINTERS) })
 part_there blocks laws view f part (Some q) pointers has =
-    let s = step_of (view q) (told_in f part) pointers has in
+    let s = bind_some (view q) (told_in f part) pointers has in
     let t = blocks.part f part s.0 pointers s.2 in
     record { count = t.count; blocks = ap (λ b. cond b 0 1) t.some }
 
@@ -130,26 +132,14 @@ placed blocks laws law held o p c found = as_many blocks laws law (of_checkpoint
 
 -- ---- a part is in a block, or in none
 
-not_kept : {A : Type 0} (test : Bool) (x : A) → kept test x ≡ None → test ≡ false
-not_kept true x e = absurd cc
-not_kept false x e = refl
-
 some_kept : {A : Type 0} (test : Bool) (x y : A) → kept test x ≡ Some y → test ≡ true
 some_kept true x y e = refl
 some_kept false x y e = absurd cc
 
-not_false : (b : Bool) → not b ≡ false → b ≡ true
-not_false true e = refl
-not_false false e = absurd (false≢true (sym e))
-
-not_true : (b : Bool) → not b ≡ true → b ≡ false
-not_true true e = absurd (false≢true e)
-not_true false e = refl
-
 pub no_blocks : (c : CheckpointFields) (part : ℕ) → pointers_of c part ≡ None → part_blocks c.inode part ≡ 0
 unfolding part_blocks
-no_blocks c part none = ap (λ b. cond b 0 1) (not_false _ (not_kept _ _ none))
+no_blocks c part none = ap (λ b. cond b 0 1) (not-false _ (not_kept _ _ none))
 
 pub one_block : (c : CheckpointFields) (part : ℕ) (b : PointerBlock) → pointers_of c part ≡ Some b → part_blocks c.inode part ≡ 1
 unfolding part_blocks
-one_block c part b some = ap (λ b. cond b 0 1) (not_true _ (some_kept _ _ b some))
+one_block c part b some = ap (λ b. cond b 0 1) (not-true _ (some_kept _ _ b some))

@@ -136,7 +136,7 @@ pub record Ready (log : Log) (o : ℕ) (p : Place) (first : Option FirstBlock) :
   pub three : IfSome (part_place first 2) (HasNoOther log.held o)
   pub last : HasNoOther log.held o p
 
-reads_is : (r read : Option FirstBlock) → Reads (λ f. f) r read → read ≡ r
+pub reads_is : (r read : Option FirstBlock) → Reads (λ f. f) r read → read ≡ r
 reads_is None read is = is
 reads_is (Some f) read is = is
 

@@ -1,37 +1,18 @@
 -- The places of a checkpoint: those of its parts, and the one of its first block.
-use Rattle.std.proofs.Common.{◌≡◌, ◌⊎◌, inl, inr, ◌==◌, ◌&&◌, ◌||◌, Bool, true, false, List, [], ◌∷◌, ◌++◌, Option, Some, None, refl, sym, ap, ◌∙◌}
+use Rattle.std.proofs.Common.{◌≡◌, ◌⊎◌, inl, inr, ◌||◌, Bool, true, false, List, [], ◌∷◌, ◌++◌, Option, Some, None, sym, ap, ◌∙◌}
 use Rattle.std.specs.Option.{option_to_list}
-use Rattle.std.proofs.lemmas.Bool.{cases_Bool, false≢true, and_from, eq-eqb}
+use Rattle.std.proofs.lemmas.Bool.{cases_Bool, false≢true, or_cases, or_left, or_right, or_parts}
 use Rattle.std.proofs.lemmas.List.Folds.{list_any-append}
 use Rattle.s4_types.specs.Pointer.{Place}
 use Rattle.block_log.specs.Log.{same_place}
+use Rattle.block_log.proofs.Places.{same_place_itself}
 use Rattle.checkpoint.specs.Held.{is_one_of}
 
 -- Places that the test finds to be one are equal.
 abbrev pub OneName : Type 0
 OneName = (p q : Place) → same_place p q ≡ true → p ≡ q
 
-pub same_as_itself : (p : Place) → same_place p p ≡ true
-same_as_itself p =
-    and_from (p.frame == p.frame) (p.block == p.block && p.generation == p.generation) (eq-eqb p.frame p.frame refl)
-    (and_from (p.block == p.block) (p.generation == p.generation) (eq-eqb p.block p.block refl) (eq-eqb p.generation p.generation refl))
-
 -- ---- what is in a list of places
-
-or_left : (a b : Bool) → a ≡ true → (a || b) ≡ true
-or_left a b is = ap (λ x. x || b) is
-
-or_right : (a b : Bool) → b ≡ true → (a || b) ≡ true
-or_right true b is = refl
-or_right false b is = is
-
-or_either : (a b : Bool) → (a || b) ≡ true → (a ≡ true) ⊎ (b ≡ true)
-or_either true b is = inl refl
-or_either false b is = inr is
-
-or_neither : (a b : Bool) → (a || b) ≡ false → (a ≡ false) × (b ≡ false)
-or_neither true b is = absurd (false≢true (sym is))
-or_neither false b is = (refl, is)
 
 pub in_left : (xs ys : List Place) (q : Place) → is_one_of xs q ≡ true → is_one_of (xs ++ ys) q ≡ true
 in_left xs ys q is = list_any-append (λ p. same_place p q) xs ys ∙ or_left (is_one_of xs q) (is_one_of ys q) is
@@ -40,10 +21,10 @@ pub in_right : (xs ys : List Place) (q : Place) → is_one_of ys q ≡ true → 
 in_right xs ys q is = list_any-append (λ p. same_place p q) xs ys ∙ or_right (is_one_of xs q) (is_one_of ys q) is
 
 pub in_either : (xs ys : List Place) (q : Place) → is_one_of (xs ++ ys) q ≡ true → (is_one_of xs q ≡ true) ⊎ (is_one_of ys q ≡ true)
-in_either xs ys q is = or_either (is_one_of xs q) (is_one_of ys q) (sym (list_any-append (λ p. same_place p q) xs ys) ∙ is)
+in_either xs ys q is = or_cases (is_one_of xs q) (is_one_of ys q) (sym (list_any-append (λ p. same_place p q) xs ys) ∙ is)
 
 pub in_neither : (xs ys : List Place) (q : Place) → is_one_of (xs ++ ys) q ≡ false → (is_one_of xs q ≡ false) × (is_one_of ys q ≡ false)
-in_neither xs ys q is = or_neither (is_one_of xs q) (is_one_of ys q) (sym (list_any-append (λ p. same_place p q) xs ys) ∙ is)
+in_neither xs ys q is = or_parts (is_one_of xs q) (is_one_of ys q) (sym (list_any-append (λ p. same_place p q) xs ys) ∙ is)
 
 -- whether a place is the one
 pub tested : (p q : Place) (b : Bool) → is_one_of (p ∷ []) q ≡ b → same_place p q ≡ b
@@ -53,7 +34,7 @@ tested p q b is = elim (cases_Bool (same_place p q)) [
 ]
 
 pub alone : (p : Place) → is_one_of (p ∷ []) p ≡ true
-alone p = ap (λ b. b || false) (same_as_itself p)
+alone p = ap (λ b. b || false) (same_place_itself p)
 
 pub in_option : (a : Option Place) (q : Place) → a ≡ Some q → is_one_of (option_to_list a) q ≡ true
 in_option a q is = ap (λ (x : Option Place). is_one_of (option_to_list x) q) is ∙ alone q

@@ -3,9 +3,10 @@ use Rattle.std.proofs.Common.{◌≡◌, ◌⊎◌, inl, inr, ℕ, ◌+◌, ◌�
 use Rattle.std.specs.Prelude.{slice_index, slice_index_or}
 use Rattle.std.specs.List.{fold}
 use Rattle.std.specs.Option.{option_to_list}
-use Rattle.std.proofs.lemmas.Bool.{cases_Bool, false≢true}
+use Rattle.std.proofs.lemmas.Bool.{cases_Bool}
 use Rattle.std.proofs.lemmas.Option.{same_Some}
 use Rattle.s4_types.specs.Pointer.{Place}
+use Rattle.lemmas.proofs.Option.{value_there}
 use Rattle.block_log.specs.Log.{Log, Stored, same_place}
 use Rattle.codec.specs.Fields.{◌>>=◌, all_of}
 use Rattle.codec.specs.Checkpoint.{CheckpointFields}
@@ -14,6 +15,7 @@ use Rattle.codec.specs.PointerBlock.{pointers_at}
 use Rattle.codec.specs.Parts.{told_in, whole, joined, TellsPart}
 use Rattle.codec.specs.declared.first_blocks.FirstBlock.{FirstBlock}
 use Rattle.codec.specs.declared.pointer_blocks.PointerBlock.{PointerBlock}
+use Rattle.codec.proofs.Exact.{bind_some}
 use Rattle.checkpoint.specs.Held.{checkpoint_in, checkpoint_of, places_in, first_in, part_in, part_place, checkpoint_held, checkpoint_places, of_checkpoints, is_one_of, HasBytes, HasItsBlocks, IsInBoth}
 use Rattle.checkpoint.proofs.OwnBlocks.{bytes_begin}
 use Rattle.checkpoint.proofs.Places.{OneName, all_places, in_one, in_two, in_three, in_last, among}
@@ -21,10 +23,6 @@ use Rattle.checkpoint.proofs.Places.{OneName, all_places, in_one, in_two, in_thr
 -- blocks of checkpoints, by their places
 abbrev pub View : Type 0
 View = Place → Option (List ℕ)
-
-pub step_of : {A B : Type 0} (o : Option A) (f : A → Option B) (y : B) → (o >>= f) ≡ Some y → (x : A) × (o ≡ Some x) × (f x ≡ Some y)
-step_of (Some x) f y e = (x, refl, e)
-step_of None f y e = absurd cc
 
 -- ---- the places
 
@@ -89,11 +87,11 @@ pub record Tells (view : View) (p : Place) (c : CheckpointFields) : Type 0 where
 pub tells : (view : View) (p : Place) (c : CheckpointFields) → checkpoint_in view p ≡ Some c → Tells view p c
 unfolding checkpoint_in
 tells view p c e =
-    let f = step_of (first_in view p) (checkpoint_of view) c e in
-    let b = step_of (view p) (all_of first_at) f.0 f.1 in
-    let one = step_of (part_in view f.0 1 (slice_index_or f.0.parts 0 None)) (λ x. part_in view f.0 2 (slice_index_or f.0.parts 1 None) >>= λ y. part_in view f.0 3 (slice_index_or f.0.parts 2 None) >>= λ z. joined f.0 x y z) c f.2 in
-    let two = step_of (part_in view f.0 2 (slice_index_or f.0.parts 1 None)) (λ y. part_in view f.0 3 (slice_index_or f.0.parts 2 None) >>= λ z. joined f.0 one.0 y z) c one.2 in
-    let three = step_of (part_in view f.0 3 (slice_index_or f.0.parts 2 None)) (λ z. joined f.0 one.0 two.0 z) c two.2 in
+    let f = bind_some (first_in view p) (checkpoint_of view) c e in
+    let b = bind_some (view p) (all_of first_at) f.0 f.1 in
+    let one = bind_some (part_in view f.0 1 (slice_index_or f.0.parts 0 None)) (λ x. part_in view f.0 2 (slice_index_or f.0.parts 1 None) >>= λ y. part_in view f.0 3 (slice_index_or f.0.parts 2 None) >>= λ z. joined f.0 x y z) c f.2 in
+    let two = bind_some (part_in view f.0 2 (slice_index_or f.0.parts 1 None)) (λ y. part_in view f.0 3 (slice_index_or f.0.parts 2 None) >>= λ z. joined f.0 one.0 y z) c one.2 in
+    let three = bind_some (part_in view f.0 3 (slice_index_or f.0.parts 2 None)) (λ z. joined f.0 one.0 two.0 z) c two.2 in
     record {
       block = b.0;
       at = b.1;
@@ -111,10 +109,6 @@ tells view p c e =
 pub first_told : (view : View) (p : Place) (c : CheckpointFields) (t : Tells view p c) → first_in view p ≡ Some t.first
 first_told view p c t = ap (λ (b : Option (List ℕ)). b >>= all_of first_at) t.at ∙ t.read
 
-some_there : {A : Type 0} (o : Option A) → IsSome o → (x : A) × (o ≡ Some x)
-some_there None some = absurd (false≢true some)
-some_there (Some x) some = (x, refl)
-
 -- a part that is in a block
 record InBlock (view : View) (f : FirstBlock) (part : ℕ) (q : Place) (pointers : List (Option Place)) : Type 0 where
   bytes : List ℕ
@@ -123,7 +117,7 @@ record InBlock (view : View) (f : FirstBlock) (part : ℕ) (q : Place) (pointers
 
 in_block : (view : View) (f : FirstBlock) (part : ℕ) (place : Option Place) (q : Place) (pointers : List (Option Place)) → part_in view f part place ≡ Some pointers → place ≡ Some q → InBlock view f part q pointers
 in_block view f part place q pointers has is =
-    let s = step_of (view q) (told_in f part) pointers (ap (part_in view f part) (sym is) ∙ has) in
+    let s = bind_some (view q) (told_in f part) pointers (ap (part_in view f part) (sym is) ∙ has) in
     record { bytes = s.0; at = s.1; told = s.2 }
 
 -- Laws of the blocks of checkpoints.
@@ -158,7 +152,7 @@ each_there laws one view p c t q is =
 
 pub blocks_there : BlockLaws → OneName → (held : Place → Option Stored) (o : ℕ) (p : Place) → IsSome (checkpoint_held held o p) → HasItsBlocks held o (Some p)
 blocks_there laws one held o p told q is =
-    let (c, found) = some_there (checkpoint_held held o p) told in
+    let (c, found) = value_there (checkpoint_held held o p) told in
     each_there laws one (of_checkpoints o held) p c (tells (of_checkpoints o held) p c found) q is
 
 -- the blocks of its parts
@@ -288,7 +282,7 @@ places_apart laws one view p c t q =
 
 pub once : BlockLaws → OneName → (held : Place → Option Stored) (o : ℕ) (p q : Place) → IsSome (checkpoint_held held o p) → count_by (λ (r : Place). same_place r q) (checkpoint_places held o p) ≤ 1
 once laws one held o p q told =
-    let (c, found) = some_there (checkpoint_held held o p) told in
+    let (c, found) = value_there (checkpoint_held held o p) told in
     places_apart laws one (of_checkpoints o held) p c (tells (of_checkpoints o held) p c found) q
 
 -- ---- moments

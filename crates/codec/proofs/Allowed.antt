@@ -1,5 +1,7 @@
 -- The rules of an entry by a version: those of a single entry, where its sizes and triples are allowed.
-use Rattle.std.proofs.Common.{◌≡◌, ℕ, Bool, true, false, ◌&&◌, List, Option, Some, None, refl, ap, ◌∙◌}
+use Rattle.std.proofs.Common.{◌≡◌, ℕ, Bool, true, false, List, Option, Some, None, refl, ap, ◌∙◌}
+use Rattle.std.proofs.lemmas.Bool.{and_right}
+use Rattle.lemmas.proofs.Bool.{and_true}
 use Rattle.codec.specs.Fields.{◌>>=◌, kept}
 use Rattle.codec.specs.Entry.{EntryFields, entry_rules, is_small, is_allowed_by, pair_at, triples_at_by, checked_entry, checked_entry_by, behind_statuses}
 use Rattle.codec.specs.declared.entries.Status.{Status}
@@ -8,14 +10,6 @@ use Rattle.codec.specs.declared.entries.Pair.{Pair}
 use Rattle.codec.specs.declared.versions.ImageVersion.{ImageVersion}
 use Rattle.codec.specs.declared.versions.ImageVersion.TheVariants.{First, Second}
 
-and_true : (a b : Bool) → b ≡ true → (a && b) ≡ a
-and_true true b h = h
-and_true false b h = refl
-
-and_false : (a b : Bool) → b ≡ false → (a && b) ≡ false
-and_false true b h = h
-and_false false b h = refl
-
 pub allowed_entry : (v : ImageVersion) (e : EntryFields) → is_allowed_by v e.before.size e.after.size e.triples ≡ true → checked_entry_by v e ≡ checked_entry e
 unfolding is_small
 allowed_entry First e h = ap (λ (b : Bool). kept b e) (and_true (entry_rules e) (is_small e) h)
@@ -23,7 +17,7 @@ allowed_entry Second e h = refl
 
 pub refused_entry : (v : ImageVersion) (e : EntryFields) → is_allowed_by v e.before.size e.after.size e.triples ≡ false → checked_entry_by v e ≡ None
 unfolding is_small
-refused_entry First e h = ap (λ (b : Bool). kept b e) (and_false (entry_rules e) (is_small e) h)
+refused_entry First e h = ap (λ (b : Bool). kept b e) (and_right (entry_rules e) (is_small e) h)
 refused_entry Second e h = absurd cc
 
 -- an entry that is read, by its pair and its triples

@@ -3,8 +3,10 @@ use Rattle.std.proofs.Common.{◌≡◌, ℕ, zero, suc, ◌/◌, ◌%◌, ◌^�
 use Rattle.std.specs.Prelude.{is_some}
 use Rattle.std.specs.Int.{w16, w32, w64}
 use Rattle.std.specs.List.{flat_map, list_all, AllByRecursion}
-use Rattle.std.proofs.lemmas.Bool.{ltb-false, le-ltb, ltb-true, leb-true, le-leb}
+use Rattle.std.proofs.lemmas.Bool.{ltb-false, le-ltb, ltb-true, leb-true, le-leb, and_parts}
+use Rattle.std.proofs.lemmas.Option.{same_Some}
 use Rattle.s4_types.specs.declared.limits.TheConstants.{ENTRY_TRIPLES}
+use Rattle.lemmas.proofs.Bytes.{bytes_rest, IsBytes}
 use Rattle.codec.specs.Fields.{◌>>=◌, kept, number, slot, bit, byte_at, bytes_at, number_at, slot_at, many_at}
 use Rattle.codec.specs.Entry.{EntryFields, EntryNumbers, IsEntry, IsPair, IsTriple, IsEntryBy, entry_rules, is_small, has_small_index, entry_rules_by, text, pair_spelling, index_spelling_by, triple_spelling_by, flags_byte, flags_of, entry_spelling, entry_spelling_by, flags_at, text_at, pair_at, index_at_by, triple_at_by, triples_at_by, checked_entry_by, entry_at, entry_at_by}
 use Rattle.codec.specs.Checkpoint.{IsSlot}
@@ -15,9 +17,9 @@ use Rattle.codec.specs.declared.versions.TheConstants.{FIRST_OBJECT_BLOCKS, FIRS
 use Rattle.codec.specs.declared.entries.Triple.{Triple}
 use Rattle.codec.specs.declared.entries.Pair.{Pair}
 use Rattle.codec.specs.declared.entries.Flags.{Flags}
-use Rattle.codec.proofs.Exact.{IsBytes, IsField, Exact, Then, Made, then_exact, made_exact, byte_field, bytes_field, short_field, word_field, long_field, passed, some_is, step_some, bytes_behind}
+use Rattle.codec.proofs.Exact.{IsField, Exact, Then, Made, then_exact, made_exact, byte_field, bytes_field, short_field, word_field, long_field, passed, bind_some}
 use Rattle.codec.proofs.Many.{AreMany, many_field}
-use Rattle.codec.proofs.Slots.{slot_field, kept_is, both}
+use Rattle.codec.proofs.Slots.{slot_field, kept_is}
 
 -- ---- flags
 
@@ -39,7 +41,7 @@ flags_whole [] x e = absurd cc
 flags_whole (b ∷ rest) x e =
     let p = passed (ltb 7 b) (Some (flags_in b, rest)) x e in
     let told : b ∷ rest ≡ flags_byte (flags_in b) ∷ rest = ap (λ (n : ℕ). n ∷ rest) (sym (flags_told b (ltb-false _ _ p.0))) in
-    subst (λ (y : Flags × List ℕ). b ∷ rest ≡ flags_byte y.0 ∷ y.1) (some_is _ _ p.1) told
+    subst (λ (y : Flags × List ℕ). b ∷ rest ≡ flags_byte y.0 ∷ y.1) (same_Some _ _ p.1) told
 
 flags_again : (before after pair : Bool) (rest : List ℕ) → flags_at (flags_byte (record { before = before; after = after; pair = pair }) ∷ rest) ≡ Some (record { before = before; after = after; pair = pair }, rest)
 unfolding flags_at flags_byte
@@ -60,17 +62,17 @@ flags_field = record { whole = λ bytes x h e. flags_whole bytes x e; fits = λ 
 text_takes : (bytes : List ℕ) (x : List ℕ × List ℕ) → IsBytes bytes → text_at bytes ≡ Some x → (bytes ≡ text x.0 ++ x.1) × (length x.0 ≤ 64)
 unfolding text_at text
 text_takes bytes x h e =
-    let a = step_some (byte_at bytes) (λ len. bytes_at len.0 len.1 >>= λ found. kept (leb (length found.0) 64) found.0 >>= λ made. Some (made, found.1)) x e in
-    let b = step_some (bytes_at a.0.0 a.0.1) (λ found. kept (leb (length found.0) 64) found.0 >>= λ made. Some (made, found.1)) x a.2 in
-    let c = step_some (kept (leb (length b.0.0) 64) b.0.0) (λ made. Some (made, b.0.1)) x b.2 in
+    let a = bind_some (byte_at bytes) (λ len. bytes_at len.0 len.1 >>= λ found. kept (leb (length found.0) 64) found.0 >>= λ made. Some (made, found.1)) x e in
+    let b = bind_some (bytes_at a.0.0 a.0.1) (λ found. kept (leb (length found.0) 64) found.0 >>= λ made. Some (made, found.1)) x a.2 in
+    let c = bind_some (kept (leb (length b.0.0) 64) b.0.0) (λ made. Some (made, b.0.1)) x b.2 in
     let k = kept_is (leb (length b.0.0) 64) b.0.0 c.0 c.1 in
     let front = byte_field.whole bytes a.0 h a.1 in
-    let behind = bytes_behind (a.0.0 ∷ []) a.0.1 bytes front h in
+    let behind = bytes_rest (a.0.0 ∷ []) a.0.1 bytes front h in
     let parts = (bytes_field a.0.0).whole a.0.1 b.0 behind b.1 in
     let size : length b.0.0 ≡ a.0.0 = (bytes_field a.0.0).fits a.0.1 b.0 behind b.1 in
     let told : bytes ≡ a.0.0 ∷ (b.0.0 ++ b.0.1) = front ∙ ap (λ (r : List ℕ). a.0.0 ∷ r) parts in
     let whole : bytes ≡ length b.0.0 ∷ (b.0.0 ++ b.0.1) = subst (λ (n : ℕ). bytes ≡ n ∷ (b.0.0 ++ b.0.1)) (sym size) told in
-    let same : (b.0.0, b.0.1) ≡ x = ap (λ (y : List ℕ). (y, b.0.1)) k.1 ∙ some_is _ _ c.2 in
+    let same : (b.0.0, b.0.1) ≡ x = ap (λ (y : List ℕ). (y, b.0.1)) k.1 ∙ same_Some _ _ c.2 in
     subst (λ (y : List ℕ × List ℕ). (bytes ≡ (length y.0 ∷ y.0) ++ y.1) × (length y.0 ≤ 64)) same (whole, leb-true _ _ k.0)
 
 text_again : (a rest : List ℕ) → length a ≤ 64 → text_at (text a ++ rest) ≡ Some (a, rest)
@@ -88,15 +90,15 @@ IsToldPair there pair = (is_some pair ≡ there) × IsPair pair
 
 pair_takes : (there : Bool) (bytes : List ℕ) (x : Option Pair × List ℕ) → IsBytes bytes → pair_at there bytes ≡ Some x → (bytes ≡ pair_spelling x.0 ++ x.1) × IsToldPair there x.0
 unfolding pair_at pair_spelling
-pair_takes false bytes x h e = subst (λ (y : Option Pair × List ℕ). (bytes ≡ pair_spelling y.0 ++ y.1) × IsToldPair false y.0) (some_is _ _ e) (refl, (refl, tt))
+pair_takes false bytes x h e = subst (λ (y : Option Pair × List ℕ). (bytes ≡ pair_spelling y.0 ++ y.1) × IsToldPair false y.0) (same_Some _ _ e) (refl, (refl, tt))
 pair_takes true bytes x h e =
-    let a = step_some (text_at bytes) (λ before. text_at before.1 >>= λ after. Some (Some (record { before = before.0; after = after.0 }), after.1)) x e in
-    let b = step_some (text_at a.0.1) (λ after. Some (Some (record { before = a.0.0; after = after.0 }), after.1)) x a.2 in
+    let a = bind_some (text_at bytes) (λ before. text_at before.1 >>= λ after. Some (Some (record { before = before.0; after = after.0 }), after.1)) x e in
+    let b = bind_some (text_at a.0.1) (λ after. Some (Some (record { before = a.0.0; after = after.0 }), after.1)) x a.2 in
     let front = text_field.whole bytes a.0 h a.1 in
-    let behind = bytes_behind (text a.0.0) a.0.1 bytes front h in
+    let behind = bytes_rest (text a.0.0) a.0.1 bytes front h in
     let parts = text_field.whole a.0.1 b.0 behind b.1 in
     let whole : bytes ≡ (text a.0.0 ++ text b.0.0) ++ b.0.1 = front ∙ ap (λ (r : List ℕ). text a.0.0 ++ r) parts ∙ sym (append_assoc (text a.0.0) (text b.0.0) b.0.1) in
-    subst (λ (y : Option Pair × List ℕ). (bytes ≡ pair_spelling y.0 ++ y.1) × IsToldPair true y.0) (some_is _ _ b.2) (whole, (refl, (text_field.fits bytes a.0 h a.1, text_field.fits a.0.1 b.0 behind b.1)))
+    subst (λ (y : Option Pair × List ℕ). (bytes ≡ pair_spelling y.0 ++ y.1) × IsToldPair true y.0) (same_Some _ _ b.2) (whole, (refl, (text_field.fits bytes a.0 h a.1, text_field.fits a.0.1 b.0 behind b.1)))
 
 pair_again : (there : Bool) (p : Option Pair) (rest : List ℕ) → IsToldPair there p → pair_at there (pair_spelling p ++ rest) ≡ Some (p, rest)
 unfolding pair_at pair_spelling
@@ -123,18 +125,18 @@ record FitsBy (v : ImageVersion) (t : Triple) : Type 0 where
 triple_takes : (v : ImageVersion) (bytes : List ℕ) (x : Triple × List ℕ) → IsBytes bytes → triple_at_by v bytes ≡ Some x → (bytes ≡ triple_spelling_by v x.0 ++ x.1) × FitsBy v x.0
 unfolding triple_at_by triple_spelling_by
 triple_takes v bytes x h e =
-    let a = step_some (index_at_by v bytes) (λ index. slot_at index.1 >>= λ before. slot_at before.1 >>= λ after. Some (record { index = index.0; before = before.0; after = after.0 }, after.1)) x e in
-    let b = step_some (slot_at a.0.1) (λ before. slot_at before.1 >>= λ after. Some (record { index = a.0.0; before = before.0; after = after.0 }, after.1)) x a.2 in
-    let c = step_some (slot_at b.0.1) (λ after. Some (record { index = a.0.0; before = b.0.0; after = after.0 }, after.1)) x b.2 in
+    let a = bind_some (index_at_by v bytes) (λ index. slot_at index.1 >>= λ before. slot_at before.1 >>= λ after. Some (record { index = index.0; before = before.0; after = after.0 }, after.1)) x e in
+    let b = bind_some (slot_at a.0.1) (λ before. slot_at before.1 >>= λ after. Some (record { index = a.0.0; before = before.0; after = after.0 }, after.1)) x a.2 in
+    let c = bind_some (slot_at b.0.1) (λ after. Some (record { index = a.0.0; before = b.0.0; after = after.0 }, after.1)) x b.2 in
     let one = (index_field v).whole bytes a.0 h a.1 in
-    let behind = bytes_behind (index_spelling_by v a.0.0) a.0.1 bytes one h in
+    let behind = bytes_rest (index_spelling_by v a.0.0) a.0.1 bytes one h in
     let two = slot_field.whole a.0.1 b.0 behind b.1 in
-    let behind_two = bytes_behind (slot b.0.0) b.0.1 a.0.1 two behind in
+    let behind_two = bytes_rest (slot b.0.0) b.0.1 a.0.1 two behind in
     let three = slot_field.whole b.0.1 c.0 behind_two c.1 in
     let whole : bytes ≡ (index_spelling_by v a.0.0 ++ (slot b.0.0 ++ slot c.0.0)) ++ c.0.1 =
     one ∙ ap (λ (r : List ℕ). index_spelling_by v a.0.0 ++ r) (two ∙ ap (λ (r : List ℕ). slot b.0.0 ++ r) three ∙ sym (append_assoc (slot b.0.0) (slot c.0.0) c.0.1)) ∙ sym (append_assoc (index_spelling_by v a.0.0) (slot b.0.0 ++ slot c.0.0) c.0.1) in
     let numbers : FitsBy v (record { index = a.0.0; before = b.0.0; after = c.0.0 }) = record { index = (index_field v).fits bytes a.0 h a.1; before = slot_field.fits a.0.1 b.0 behind b.1; after = slot_field.fits b.0.1 c.0 behind_two c.1 } in
-    subst (λ (y : Triple × List ℕ). (bytes ≡ (index_spelling_by v y.0.index ++ (slot y.0.before ++ slot y.0.after)) ++ y.1) × FitsBy v y.0) (some_is _ _ c.2) (whole, numbers)
+    subst (λ (y : Triple × List ℕ). (bytes ≡ (index_spelling_by v y.0.index ++ (slot y.0.before ++ slot y.0.after)) ++ y.1) × FitsBy v y.0) (same_Some _ _ c.2) (whole, numbers)
 
 triple_again : (v : ImageVersion) (t : Triple) (rest : List ℕ) → FitsBy v t → triple_at_by v (triple_spelling_by v t ++ rest) ≡ Some (t, rest)
 unfolding triple_at_by triple_spelling_by
@@ -184,21 +186,21 @@ all_widened v (t ∷ triples) h = (widened v t h.0, all_widened v triples h.1)
 all_small : (triples : List Triple) → list_all has_small_index triples ≡ true → AllByRecursion IsTriple triples → AllByRecursion (FitsBy First) triples
 all_small [] small h = tt
 all_small (t ∷ triples) small h =
-    let s = both (ltb t.index FIRST_OBJECT_BLOCKS) (list_all has_small_index triples) small in
+    let s = and_parts (ltb t.index FIRST_OBJECT_BLOCKS) (list_all has_small_index triples) small in
     (record { index = omega (arith, ltb-true _ _ s.0); before = h.0.before; after = h.0.after }, all_small triples s.1 h.1)
 
 small_triples : (e : EntryFields) → is_small e ≡ true → list_all has_small_index e.triples ≡ true
 unfolding is_small
 small_triples e h =
-    let a = both (leb e.before.size FIRST_OBJECT_BYTES) (leb e.after.size FIRST_OBJECT_BYTES && list_all has_small_index e.triples) h in
-    (both (leb e.after.size FIRST_OBJECT_BYTES) (list_all has_small_index e.triples) a.1).1
+    let a = and_parts (leb e.before.size FIRST_OBJECT_BYTES) (leb e.after.size FIRST_OBJECT_BYTES && list_all has_small_index e.triples) h in
+    (and_parts (leb e.after.size FIRST_OBJECT_BYTES) (list_all has_small_index e.triples) a.1).1
 
 second_ones : (triples : List Triple) → AllByRecursion IsTriple triples → AllByRecursion (FitsBy Second) triples
 second_ones [] h = tt
 second_ones (t ∷ triples) h = (record { index = h.0.index; before = h.0.before; after = h.0.after }, second_ones triples h.1)
 
 narrowed : (v : ImageVersion) (e : EntryFields) → entry_rules_by v e ≡ true → AllByRecursion IsTriple e.triples → AllByRecursion (FitsBy v) e.triples
-narrowed First e rules h = all_small e.triples (small_triples e (both (entry_rules e) (is_small e) rules).1) h
+narrowed First e rules h = all_small e.triples (small_triples e (and_parts (entry_rules e) (is_small e) rules).1) h
 narrowed Second e rules h = second_ones e.triples h
 
 -- ---- the entry

@@ -1,29 +1,17 @@
 -- Readers that read what is encoded and nothing else: single fields, and fields one after the other.
-use Rattle.std.proofs.Common.{◌≡◌, ℕ, zero, suc, ◌+◌, ◌^◌, ◌<◌, ◌≤◌, Bool, true, false, cond, ltb, eqb, List, [], ◌∷◌, ◌++◌, length, get_or, take, drop, Option, Some, None, refl, sym, ap, subst, ◌∙◌, arith, inl, inr}
+use Rattle.std.proofs.Common.{◌≡◌, ℕ, zero, suc, ◌^◌, ◌<◌, ◌≤◌, Bool, true, false, cond, ltb, eqb, List, [], ◌∷◌, ◌++◌, length, take, drop, Option, Some, None, refl, sym, ap, subst, ◌∙◌, arith}
 use Rattle.std.specs.Int.{Width, w16, w32, w64, byte_len, from_be_bytes, to_be_bytes}
-use Rattle.std.proofs.lemmas.Bool.{cases_lt, ltb-false, le-ltb, eqb-true}
-use Rattle.std.proofs.lemmas.List.{take_at, drop_at, take-append-drop, length-append, length-take, get_or-take, get_or_past, get_or-append-add}
+use Rattle.std.proofs.lemmas.Bool.{ltb-false, le-ltb, eqb-true}
+use Rattle.std.proofs.lemmas.List.{take_at, drop_at, take-append-drop, length-append, length-take}
 use Rattle.std.proofs.lemmas.Nat.{be_bytes_2, be_bytes_4, be_bytes_8, from_be_bytes-to_be_bytes_2, from_be_bytes-to_be_bytes_4, from_be_bytes-to_be_bytes_8}
+use Rattle.std.proofs.lemmas.Option.{same_Some}
+use Rattle.lemmas.proofs.Bytes.{bytes_before, bytes_rest, IsBytes}
 use Rattle.codec.specs.Fields.{◌>>=◌, number, zeros, byte_at, number_at, bytes_at, zeros_at}
 
-abbrev pub IsBytes : List ℕ → Type 0
-IsBytes bytes = (i : ℕ) → get_or bytes i 0 < 256
-
-pub bytes_before : (n : ℕ) (bytes : List ℕ) → IsBytes bytes → IsBytes (take n bytes)
-bytes_before n bytes h i =
-    elim (cases_lt i n) [
-      | inl lt ↦ rw (get_or-take n bytes i 0 lt) (h i)
-      | inr le ↦ rw (get_or_past (take n bytes) i 0 (omega (arith, length-take n bytes))) (omega arith)
-    ]
-
--- what comes after other bytes
-pub bytes_behind : (front rest bytes : List ℕ) → bytes ≡ front ++ rest → IsBytes bytes → IsBytes rest
-bytes_behind front rest bytes e h i = subst (λ (n : ℕ). n < 256) (get_or-append-add front rest i 0) (subst (λ (b : List ℕ). get_or b (length front + i) 0 < 256) e (h (length front + i)))
-
 -- the value of a step that answered one
-pub step_some : {A B : Type 0} (o : Option A) (f : A → Option B) (y : B) → (o >>= f) ≡ Some y → (x : A) × (o ≡ Some x) × (f x ≡ Some y)
-step_some (Some x) f y e = (x, refl, e)
-step_some None f y e = absurd cc
+pub bind_some : {A B : Type 0} (o : Option A) (f : A → Option B) (y : B) → (o >>= f) ≡ Some y → (x : A) × (o ≡ Some x) × (f x ≡ Some y)
+bind_some (Some x) f y e = (x, refl, e)
+bind_some None f y e = absurd cc
 
 -- after a test that gives up
 pub passed : {A : Type 0} (b : Bool) (x : Option A) (y : A) → cond b None x ≡ Some y → (b ≡ false) × (x ≡ Some y)
@@ -33,9 +21,6 @@ passed false x y e = (refl, e)
 pub held : {A : Type 0} (b : Bool) (x : Option A) (y : A) → cond b x None ≡ Some y → (b ≡ true) × (x ≡ Some y)
 held true x y e = (refl, e)
 held false x y e = absurd cc
-
-pub some_is : {A : Type 0} (x y : A) → Some x ≡ Some y → x ≡ y
-some_is x y e = cc
 
 -- ---- one field
 
@@ -83,7 +68,7 @@ number_takes w limit wide bytes x h e =
     let front = bytes_before (byte_len w) bytes h in
     let parts : bytes ≡ to_be_bytes w (from_be_bytes w (take (byte_len w) bytes)) ++ drop (byte_len w) bytes =
     rw (wide.back (take (byte_len w) bytes) (omega (arith, length-take (byte_len w) bytes)) front) (sym (take-append-drop (byte_len w) bytes)) in
-    subst (λ (y : ℕ × List ℕ). (bytes ≡ to_be_bytes w y.0 ++ y.1) × (y.0 < limit)) (some_is _ _ p.1) (parts, wide.below (take (byte_len w) bytes) front)
+    subst (λ (y : ℕ × List ℕ). (bytes ≡ to_be_bytes w y.0 ++ y.1) × (y.0 < limit)) (same_Some _ _ p.1) (parts, wide.below (take (byte_len w) bytes) front)
 
 number_again : (w : Width) (limit : ℕ) → IsWide w limit → (n : ℕ) (rest : List ℕ) → n < limit → number_at w (number w n ++ rest) ≡ Some (n, rest)
 unfolding number_at number
@@ -110,11 +95,11 @@ long_field = number_field w64 (2 ^ 64) wide_long
 
 byte_whole : (bytes : List ℕ) (x : ℕ × List ℕ) → IsBytes bytes → byte_at bytes ≡ Some x → bytes ≡ (x.0 ∷ []) ++ x.1
 byte_whole [] x h e = absurd cc
-byte_whole (b ∷ rest) x h e = let same : (b, rest) ≡ x = some_is _ _ e in ap (λ (y : ℕ × List ℕ). y.0 ∷ y.1) same
+byte_whole (b ∷ rest) x h e = let same : (b, rest) ≡ x = same_Some _ _ e in ap (λ (y : ℕ × List ℕ). y.0 ∷ y.1) same
 
 byte_fits : (bytes : List ℕ) (x : ℕ × List ℕ) → IsBytes bytes → byte_at bytes ≡ Some x → x.0 < 256
 byte_fits [] x h e = absurd cc
-byte_fits (b ∷ rest) x h e = let same : (b, rest) ≡ x = some_is _ _ e in subst (λ (y : ℕ × List ℕ). y.0 < 256) same (h 0)
+byte_fits (b ∷ rest) x h e = let same : (b, rest) ≡ x = same_Some _ _ e in subst (λ (y : ℕ × List ℕ). y.0 < 256) same (h 0)
 
 pub byte_field : IsField byte_at (λ b. b ∷ []) (λ b. b < 256)
 byte_field = record { whole = byte_whole; fits = byte_fits; again = λ b rest lt. refl }
@@ -124,7 +109,7 @@ unfolding bytes_at
 bytes_takes n bytes x h e =
     let p = passed (ltb (length bytes) n) (Some (take n bytes, drop n bytes)) x e in
     let enough : n ≤ length bytes = ltb-false _ _ p.0 in
-    subst (λ (y : List ℕ × List ℕ). (bytes ≡ y.0 ++ y.1) × (length y.0 ≡ n)) (some_is _ _ p.1) (sym (take-append-drop n bytes), omega (arith, length-take n bytes))
+    subst (λ (y : List ℕ × List ℕ). (bytes ≡ y.0 ++ y.1) × (length y.0 ≡ n)) (same_Some _ _ p.1) (sym (take-append-drop n bytes), omega (arith, length-take n bytes))
 
 bytes_again : (n : ℕ) (b rest : List ℕ) → length b ≡ n → bytes_at n (b ++ rest) ≡ Some (b, rest)
 unfolding bytes_at
@@ -141,7 +126,7 @@ bytes_field n = record {
 
 zeros_whole : (n : ℕ) (bytes : List ℕ) (x : Unit {0} × List ℕ) → zeros_at n bytes ≡ Some x → bytes ≡ zeros n ++ x.1
 unfolding zeros_at zeros
-zeros_whole zero bytes x e = ap (λ (y : Unit {0} × List ℕ). y.1) (some_is _ _ e)
+zeros_whole zero bytes x e = ap (λ (y : Unit {0} × List ℕ). y.1) (same_Some _ _ e)
 zeros_whole (suc n) [] x e = absurd cc
 zeros_whole (suc n) (b ∷ bytes) x e =
     let p = held (eqb b 0) (zeros_at n bytes) x e in
@@ -183,9 +168,9 @@ pub record Made {A : Type 0} (made : Option A) (bytes : List ℕ) (r : A × List
 module _ {A R : Type 0} {read : List ℕ → Option (A × List ℕ)} {write : A → List ℕ} {Fits : A → Type 0} (field : IsField read write Fits) where
   then_found : (k : A → List ℕ → Option R) (Says : A → List ℕ → R → Type 0) → ((a : A) → Exact (k a) (Says a)) → (bytes : List ℕ) (r : R) → IsBytes bytes → (read bytes >>= λ x. k x.0 x.1) ≡ Some r → Then write Fits Says bytes r
   then_found k Says behind bytes r h e =
-      let s = step_some (read bytes) (λ x. k x.0 x.1) r e in
+      let s = bind_some (read bytes) (λ x. k x.0 x.1) r e in
       let parts = field.whole bytes s.0 h s.1 in
-      record { value = s.0.0; rest = s.0.1; fits = field.fits bytes s.0 h s.1; whole = parts; after = (behind s.0.0).found s.0.1 r (bytes_behind (write s.0.0) s.0.1 bytes parts h) s.2 }
+      record { value = s.0.0; rest = s.0.1; fits = field.fits bytes s.0 h s.1; whole = parts; after = (behind s.0.0).found s.0.1 r (bytes_rest (write s.0.0) s.0.1 bytes parts h) s.2 }
 
   then_again : (k : A → List ℕ → Option R) (Says : A → List ℕ → R → Type 0) → ((a : A) → Exact (k a) (Says a)) → (bytes : List ℕ) (r : R) → Then write Fits Says bytes r → (read bytes >>= λ x. k x.0 x.1) ≡ Some r
   then_again k Says behind bytes r s =
@@ -196,8 +181,8 @@ module _ {A R : Type 0} {read : List ℕ → Option (A × List ℕ)} {write : A 
 
 made_found : {A : Type 0} (made : Option A) (bytes : List ℕ) (r : A × List ℕ) → IsBytes bytes → (made >>= λ a. Some (a, bytes)) ≡ Some r → Made made bytes r
 made_found made bytes r h e =
-    let s = step_some made (λ a. Some (a, bytes)) r e in
-    let same : (s.0, bytes) ≡ r = some_is _ _ s.2 in
+    let s = bind_some made (λ a. Some (a, bytes)) r e in
+    let same : (s.0, bytes) ≡ r = same_Some _ _ s.2 in
     record { is = s.1 ∙ ap (λ (y : _ × List ℕ). Some y.0) same; rest = ap (λ (y : _ × List ℕ). y.1) same }
 
 made_again : {A : Type 0} (made : Option A) (bytes : List ℕ) (r : A × List ℕ) → Made made bytes r → (made >>= λ a. Some (a, bytes)) ≡ Some r

@@ -2,13 +2,15 @@
 use Rattle.std.proofs.Common.{◌≡◌, ℕ, ◌^◌, ◌<◌, ◌≤◌, Bool, List, [], ◌∷◌, ◌++◌, length, Option, Some, refl, sym, ap, subst, ◌∙◌, append_assoc, arith}
 use Rattle.std.specs.Int.{w32, w64}
 use Rattle.std.specs.List.{flat_map}
+use Rattle.std.proofs.lemmas.Option.{same_Some}
 use Rattle.codec.specs.Fields.{number, slot, bit, padded}
 use Rattle.codec.specs.Checkpoint.{IsSlot}
 use Rattle.codec.specs.FirstBlock.{FirstNumbers, first_spelling, first_at}
 use Rattle.codec.specs.declared.first_blocks.FirstBlock.{FirstBlock}
 use Rattle.s4_types.specs.Pointer.{Place}
 use Rattle.s4_types.specs.declared.limits.TheConstants.{CHECKPOINT_POINTERS, CHECKPOINT_PARTS}
-use Rattle.codec.proofs.Exact.{IsBytes, IsField, Exact, Then, Made, then_exact, made_exact, some_is, byte_field, word_field, long_field}
+use Rattle.lemmas.proofs.Bytes.{IsBytes}
+use Rattle.codec.proofs.Exact.{IsField, Exact, Then, Made, then_exact, made_exact, byte_field, word_field, long_field}
 use Rattle.codec.proofs.Many.{AreMany, many_field}
 use Rattle.codec.proofs.Slots.{mark_field, flag_field, slot_field, padded_field}
 
@@ -83,7 +85,7 @@ takes bytes x h e =
     (exact.found bytes x h e).whole ∙ ap (λ (r : List ℕ). 2 ∷ r) (alive.whole ∙ ap (λ (r : List ℕ). bit alive.value ∷ r) (len.whole ∙ ap (λ (r : List ℕ). len.value ∷ r) (len.after.whole ∙ ap (λ (r : List ℕ). 0 ∷ r) (size.whole ∙ ap (λ (r : List ℕ). number w32 size.value ++ r) tail)))) in
     let whole : bytes ≡ first_spelling f ++ x.1 =
     head ∙ ap (λ (n : ℕ). before alive.value n size.value object.value moment.value created.value changed.value attribute.value pointers.value parts.value x.1) (sym attribute.fits.0) ∙ sym (spelled_before f x.1) in
-    subst (λ (d : FirstBlock). (bytes ≡ first_spelling d ++ x.1) × FirstNumbers d) (some_is _ _ parts.after.is) (whole, numbers)
+    subst (λ (d : FirstBlock). (bytes ≡ first_spelling d ++ x.1) × FirstNumbers d) (same_Some _ _ parts.after.is) (whole, numbers)
 
 again : (f : FirstBlock) (rest : List ℕ) → FirstNumbers f → first_at (first_spelling f ++ rest) ≡ Some (f, rest)
 again f rest n =

@@ -4,12 +4,12 @@ use Rattle.std.specs.List.{flat_map}
 use Rattle.std.proofs.lemmas.List.{get_or-drop}
 use Rattle.std.proofs.Math.Seq.{get_or-append_seam}
 use Rattle.s4_types.specs.declared.limits.TheConstants.{SHORTEST_ENTRY_BYTES}
+use Rattle.lemmas.proofs.Bytes.{IsBytes}
 use Rattle.codec.specs.Fields.{number, bit}
 use Rattle.codec.specs.Entry.{EntryFields, BeginsWithEntryBy, entry_at_by, entry_spelling_by, entry_length_by, pair_length, pair_spelling, triple_spelling_by, text, flags_byte, flags_of}
 use Rattle.codec.specs.Versions.{triple_bytes_by}
 use Rattle.codec.specs.declared.versions.ImageVersion.{ImageVersion}
 use Rattle.codec.specs.declared.entries.Pair.{Pair}
-use Rattle.codec.proofs.Exact.{IsBytes}
 use Rattle.codec.proofs.EntryLaws.{entry_field_by}
 use Rattle.codec.proofs.Lengths.{entry_is_by, entry_least_by}
 
@@ -34,13 +34,13 @@ second_here v e rest p h =
     ∙ ap (λ (l : List ℕ). get_or l (length p.before) 0) (append_assoc (p.before ++ (length p.after ∷ p.after)) triples rest ∙ append_assoc p.before (length p.after ∷ p.after) (triples ++ rest))
     ∙ get_or-append_seam p.before (length p.after) (p.after ++ (triples ++ rest)) 0
 
-bit_low : (b : Bool) → bit b ≤ 1
-bit_low true = omega arith
-bit_low false = omega arith
+pub bit_most : (b : Bool) → bit b ≤ 1
+bit_most true = omega arith
+bit_most false = omega arith
 
 flags_alone : (e : EntryFields) → e.pair ≡ None → flags_byte (flags_of e) < 4
 unfolding flags_byte
-flags_alone e h = let no : bit (is_some e.pair) ≡ 0 = ap (λ (q : Option Pair). bit (is_some q)) h in omega (arith, bit_low e.before.alive, bit_low e.after.alive)
+flags_alone e h = let no : bit (is_some e.pair) ≡ 0 = ap (λ (q : Option Pair). bit (is_some q)) h in omega (arith, bit_most e.before.alive, bit_most e.after.alive)
 
 flags_paired : (e : EntryFields) (p : Pair) → e.pair ≡ Some p → 4 ≤ flags_byte (flags_of e)
 unfolding flags_byte

@@ -1,6 +1,6 @@
 -- How many bytes several entries have, and what that leaves room for.
 use Rattle.std.proofs.Common.{◌≡◌, ℕ, zero, suc, ◌+◌, ◌-◌, ◌≤◌, ◌<◌, true, leb, ◌&&◌, List, [], ◌∷◌, ◌++◌, length, Option, get_or, take, refl, arith, add-one, length-append}
-use Rattle.std.proofs.lemmas.Bool.{leb-true, le-leb}
+use Rattle.std.proofs.lemmas.Bool.{leb-true, le-leb, and_parts}
 use Rattle.s4_types.specs.Pointer.{Place}
 use Rattle.s4_types.specs.declared.limits.TheConstants.{JOURNAL_ENTRY_BYTES, JOURNAL_ENTRIES}
 use Rattle.std.specs.Int.{w16, w64}
@@ -10,9 +10,8 @@ use Rattle.codec.specs.Entry.{EntryFields, entry_spelling, entry_spelling_by, en
 use Rattle.codec.specs.Journal.{JournalFields, journal_rules, journal_rules_by, journal_spelling, journal_spelling_by}
 use Rattle.codec.specs.declared.versions.ImageVersion.{ImageVersion}
 use Rattle.codec.specs.declared.versions.ImageVersion.TheVariants.{Second}
-use Rattle.codec.proofs.Lengths.{entry_is, entry_is_by, fourteen, length_next, length_end, long_length, slot_length}
+use Rattle.codec.proofs.Lengths.{entry_is, entry_is_by, fourteen, length_next, length_end, long_length, slot_length, short_length}
 use Rattle.codec.proofs.Zeros.{zeros_length}
-use Rattle.codec.proofs.Slots.{both}
 
 pub entries_append : (front back : List EntryFields) → entries_length (front ++ back) ≡ entries_length front + entries_length back
 unfolding entries_length
@@ -75,8 +74,8 @@ Rules j = RulesBy Second j
 pub rules_say_by : (v : ImageVersion) (j : JournalFields) → journal_rules_by v j ≡ true → RulesBy v j
 unfolding journal_rules_by
 rules_say_by v j e =
-    let a = both (leb 1 j.object) (leb 1 (length j.entries) && leb (entries_length_by v j.entries) JOURNAL_ENTRY_BYTES) e in
-    let b = both (leb 1 (length j.entries)) (leb (entries_length_by v j.entries) JOURNAL_ENTRY_BYTES) a.1 in
+    let a = and_parts (leb 1 j.object) (leb 1 (length j.entries) && leb (entries_length_by v j.entries) JOURNAL_ENTRY_BYTES) e in
+    let b = and_parts (leb 1 (length j.entries)) (leb (entries_length_by v j.entries) JOURNAL_ENTRY_BYTES) a.1 in
     record { object = leb-true _ _ a.0; some = leb-true _ _ b.0; fit = leb-true _ _ b.1 }
 
 pub rules_say : (j : JournalFields) → journal_rules j ≡ true → Rules j
@@ -115,10 +114,6 @@ pub entries_spelled : (entries : List EntryFields) → length (flat_map entry_sp
 unfolding entries_length
 entries_spelled [] = refl
 entries_spelled (e ∷ entries) = omega (arith, length-append (entry_spelling e) (flat_map entry_spelling entries), entry_is e, entries_spelled entries)
-
-short_length : (n : ℕ) → length (number w16 n) ≡ 2
-unfolding number
-short_length n = refl
 
 -- the encoding has 512 bytes
 pub spelling_length_by : (v : ImageVersion) (j : JournalFields) → journal_rules_by v j ≡ true → length (journal_spelling_by v j) ≡ 512

@@ -3,18 +3,20 @@ use Rattle.std.proofs.Common.{◌≡◌, ℕ, ◌-◌, ◌^◌, ◌<◌, ◌≤�
 use Rattle.std.specs.Prelude.{IfSome}
 use Rattle.std.specs.Int.{w16, w64}
 use Rattle.std.specs.List.{flat_map}
-use Rattle.std.proofs.lemmas.Bool.{ltb-false, le-ltb, eqb-true, eq-eqb}
+use Rattle.std.proofs.lemmas.Bool.{ltb-false, le-ltb, eqb-true, eq-eqb, and_parts}
+use Rattle.std.proofs.lemmas.Option.{same_Some}
 use Rattle.s4_types.specs.Pointer.{Place}
 use Rattle.s4_types.specs.declared.limits.TheConstants.{JOURNAL_ENTRIES, JOURNAL_ENTRY_BYTES}
+use Rattle.lemmas.proofs.Bytes.{IsBytes}
 use Rattle.codec.specs.Fields.{number, zeros, slot, many_at, kept, all_of, ◌>>=◌, Reads}
 use Rattle.codec.specs.Checkpoint.{IsSlot}
 use Rattle.codec.specs.Entry.{EntryFields, IsEntryBy, entry_spelling, entry_spelling_by, entry_at_by, entries_length_by}
 use Rattle.codec.specs.Journal.{JournalFields, JournalNumbersBy, IsJournal, IsJournalBy, journal_rules, journal_rules_by, journal_spelling, journal_spelling_by, entries_at_by, told_journal_by, journal_at, journal_at_by}
 use Rattle.codec.specs.declared.versions.ImageVersion.{ImageVersion}
 use Rattle.codec.specs.declared.versions.ImageVersion.TheVariants.{Second}
-use Rattle.codec.proofs.Exact.{IsBytes, IsField, Exact, Then, Made, then_exact, made_exact, byte_field, short_field, long_field, zeros_field, passed, some_is, step_some}
+use Rattle.codec.proofs.Exact.{IsField, Exact, Then, Made, then_exact, made_exact, byte_field, short_field, long_field, zeros_field, passed, bind_some}
 use Rattle.codec.proofs.Many.{AreMany, many_field}
-use Rattle.codec.proofs.Slots.{mark_field, slot_field, kept_is, both}
+use Rattle.codec.proofs.Slots.{mark_field, slot_field, kept_is}
 use Rattle.codec.proofs.EntryLaws.{entry_field_by}
 use Rattle.codec.proofs.Whole.{all_exact}
 use Rattle.codec.proofs.JournalEntries.{rules_say_by}
@@ -55,7 +57,7 @@ told_takes : (v : ImageVersion) (told : ℕ) (made j : JournalFields) → told_j
 unfolding told_journal_by
 told_takes v told made j e =
     let k = kept_is (eqb told (entries_length_by v made.entries) && journal_rules_by v made) made j e in
-    let b = both (eqb told (entries_length_by v made.entries)) (journal_rules_by v made) k.0 in
+    let b = and_parts (eqb told (entries_length_by v made.entries)) (journal_rules_by v made) k.0 in
     record { same = k.1; bytes = eqb-true _ _ b.0; rules = b.1 }
 
 told_again : (v : ImageVersion) (j : JournalFields) → journal_rules_by v j ≡ true → told_journal_by v (entries_length_by v j.entries) j ≡ Some j
@@ -193,7 +195,7 @@ OfObject n j = kept (eqb j.object n) j
 
 pub of_object : (o : Option JournalFields) (a b : JournalFields) (n : ℕ) → o ≡ Some a → o ≡ Some b → eqb a.object n ≡ true → (o >>= OfObject n) ≡ Some b
 of_object o a b n first second is =
-    let same : a ≡ b = some_is a b (sym first ∙ second) in
+    let same : a ≡ b = same_Some a b (sym first ∙ second) in
     ap (λ (p : Option JournalFields). p >>= OfObject n) second ∙ ap (λ (t : Bool). kept t b) (subst (λ (j : JournalFields). eqb j.object n ≡ true) same is)
 
 pub another_object : (o : Option JournalFields) (a : JournalFields) (n : ℕ) → o ≡ Some a → eqb a.object n ≡ false → (o >>= OfObject n) ≡ None
@@ -202,6 +204,6 @@ another_object o a n first other = ap (λ (p : Option JournalFields). p >>= OfOb
 pub rules_of_one : (v : ImageVersion) (block : List ℕ) (n : ℕ) (result : Option JournalFields) → IsBytes block → Reads (λ j. j) result (all_of (journal_at_by v) block >>= OfObject n) → IfSome result (λ j. journal_rules_by v j ≡ true)
 rules_of_one v block n None h e = tt
 rules_of_one v block n (Some j) h e =
-    let s = step_some (all_of (journal_at_by v) block) (OfObject n) j e in
+    let s = bind_some (all_of (journal_at_by v) block) (OfObject n) j e in
     let k = kept_is (eqb s.0.object n) s.0 j s.2 in
     subst (λ (x : JournalFields). journal_rules_by v x ≡ true) k.1 ((all_exact (journal_field_by v)).found block s.0 h s.1).0.0

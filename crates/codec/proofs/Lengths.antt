@@ -2,6 +2,7 @@
 use Rattle.std.proofs.Common.{◌≡◌, ℕ, ◌+◌, ◌*◌, ◌≤◌, List, [], ◌∷◌, ◌++◌, length, Option, Some, None, refl, sym, ap, ◌∙◌, arith, length-append, mul-suc}
 use Rattle.std.specs.Int.{w16, w32, w64}
 use Rattle.std.specs.List.{flat_map}
+use Rattle.std.proofs.lemmas.Option.{same_Some}
 use Rattle.s4_types.specs.Pointer.{Place}
 use Rattle.s4_types.specs.declared.limits.TheConstants.{TRIPLE_BYTES, SHORTEST_ENTRY_BYTES, ATTRIBUTE_PAIR_BYTES, LONGEST_ENTRY_BYTES, JOURNAL_ENTRY_BYTES, JOURNAL_ENTRIES}
 use Rattle.codec.specs.Fields.{number, zeros, slot}
@@ -11,19 +12,19 @@ use Rattle.codec.specs.declared.versions.ImageVersion.{ImageVersion}
 use Rattle.codec.specs.declared.versions.ImageVersion.TheVariants.{First, Second}
 use Rattle.codec.specs.declared.entries.Triple.{Triple}
 use Rattle.codec.specs.declared.entries.Pair.{Pair}
-use Rattle.codec.proofs.Exact.{IsField, some_is}
+use Rattle.codec.proofs.Exact.{IsField}
 
 -- what one text begins with in two ways is one thing
 pub one_reading : {A : Type 0} {read : List ℕ → Option (A × List ℕ)} {write : A → List ℕ} {Fits : A → Type 0} → IsField read write Fits → (bytes : List ℕ) (a b : A) (rest behind : List ℕ)
     → Fits a × (bytes ≡ write a ++ rest) → Fits b × (bytes ≡ write b ++ behind) → ◌≡◌ {A = A × List ℕ} (a, rest) (b, behind)
 one_reading {read = read} field bytes a b rest behind p q =
-    some_is (a, rest) (b, behind) (sym (ap read p.1 ∙ field.again a rest p.0) ∙ ap read q.1 ∙ field.again b behind q.0)
+    same_Some (a, rest) (b, behind) (sym (ap read p.1 ∙ field.again a rest p.0) ∙ ap read q.1 ∙ field.again b behind q.0)
 
 pub long_length : (n : ℕ) → length (number w64 n) ≡ 8
 unfolding number
 long_length n = refl
 
-short_length : (n : ℕ) → length (number w16 n) ≡ 2
+pub short_length : (n : ℕ) → length (number w16 n) ≡ 2
 unfolding number
 short_length n = refl
 

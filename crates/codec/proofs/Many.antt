@@ -3,8 +3,10 @@ use Rattle.std.proofs.Common.{◌≡◌, ℕ, zero, suc, ◌-◌, ◌+◌, ◌�
 use Rattle.std.specs.List.{flat_map, AllByRecursion}
 use Rattle.std.proofs.lemmas.List.{append-nil}
 use Rattle.std.proofs.lemmas.List.Concat.{flat_map-cons}
+use Rattle.std.proofs.lemmas.Option.{same_Some}
+use Rattle.lemmas.proofs.Bytes.{bytes_rest, IsBytes}
 use Rattle.codec.specs.Fields.{◌>>=◌, many_at}
-use Rattle.codec.proofs.Exact.{IsBytes, IsField, bytes_behind, step_some, some_is}
+use Rattle.codec.proofs.Exact.{IsField, bind_some}
 
 -- what was read before, and what is still read
 abbrev pub with_front : {A : Type 0} → List A → Option (List A × List ℕ) → Option (List A × List ℕ)
@@ -42,11 +44,11 @@ module _ {A : Type 0} (read : List ℕ → Option (A × List ℕ)) where
 -- as many are read as were asked for
 pub many_count : {A : Type 0} (read : List ℕ → Option (A × List ℕ)) (n : ℕ) (bytes : List ℕ) (xs : List A × List ℕ) → many_at read n bytes ≡ Some xs → length xs.0 ≡ n
 unfolding many_at
-many_count read zero bytes xs e = sym (ap (λ (y : List _ × List ℕ). length y.0) (some_is _ _ e))
+many_count read zero bytes xs e = sym (ap (λ (y : List _ × List ℕ). length y.0) (same_Some _ _ e))
 many_count read (suc n) bytes xs e =
-    let a = step_some (read bytes) (λ first. many_at read n first.1 >>= λ others. Some (first.0 ∷ others.0, others.1)) xs e in
-    let b = step_some (many_at read n a.0.1) (λ others. Some (a.0.0 ∷ others.0, others.1)) xs a.2 in
-    sym (ap (λ (y : List _ × List ℕ). length y.0) (some_is _ _ b.2)) ∙ ap (λ (k : ℕ). suc k) (many_count read n a.0.1 b.0 b.1)
+    let a = bind_some (read bytes) (λ first. many_at read n first.1 >>= λ others. Some (first.0 ∷ others.0, others.1)) xs e in
+    let b = bind_some (many_at read n a.0.1) (λ others. Some (a.0.0 ∷ others.0, others.1)) xs a.2 in
+    sym (ap (λ (y : List _ × List ℕ). length y.0) (same_Some _ _ b.2)) ∙ ap (λ (k : ℕ). suc k) (many_count read n a.0.1 b.0 b.1)
 
 -- this many, each of which fits
 abbrev pub AreMany : {A : Type 0} → (A → Type 0) → ℕ → List A → Type 0
@@ -61,18 +63,18 @@ module _ {A : Type 0} {read : List ℕ → Option (A × List ℕ)} {write : A �
   many_takes : (n : ℕ) (bytes : List ℕ) (xs : List A × List ℕ) → IsBytes bytes → many_at read n bytes ≡ Some xs → Taken n bytes xs.0 xs.1
   unfolding many_at
   many_takes zero bytes xs h e =
-      subst (λ (y : List A × List ℕ). Taken 0 bytes y.0 y.1) (some_is _ _ e) (record { whole = refl; len = refl; fits = tt })
+      subst (λ (y : List A × List ℕ). Taken 0 bytes y.0 y.1) (same_Some _ _ e) (record { whole = refl; len = refl; fits = tt })
   many_takes (suc n) bytes xs h e =
-      let a = step_some (read bytes) (λ first. many_at read n first.1 >>= λ others. Some (first.0 ∷ others.0, others.1)) xs e in
-      let b = step_some (many_at read n a.0.1) (λ others. Some (a.0.0 ∷ others.0, others.1)) xs a.2 in
+      let a = bind_some (read bytes) (λ first. many_at read n first.1 >>= λ others. Some (first.0 ∷ others.0, others.1)) xs e in
+      let b = bind_some (many_at read n a.0.1) (λ others. Some (a.0.0 ∷ others.0, others.1)) xs a.2 in
       let parts = field.whole bytes a.0 h a.1 in
-      let rest = many_takes n a.0.1 b.0 (bytes_behind (write a.0.0) a.0.1 bytes parts h) b.1 in
+      let rest = many_takes n a.0.1 b.0 (bytes_rest (write a.0.0) a.0.1 bytes parts h) b.1 in
       let made : Taken (suc n) bytes (a.0.0 ∷ b.0.0) b.0.1 = record {
         whole = parts ∙ ap (λ (t : List ℕ). write a.0.0 ++ t) rest.whole ∙ sym (append_assoc (write a.0.0) (flat_map write b.0.0) b.0.1);
         len = ap (λ (k : ℕ). suc k) rest.len;
         fits = (field.fits bytes a.0 h a.1, rest.fits);
       } in
-      subst (λ (y : List A × List ℕ). Taken (suc n) bytes y.0 y.1) (some_is _ _ b.2) made
+      subst (λ (y : List A × List ℕ). Taken (suc n) bytes y.0 y.1) (same_Some _ _ b.2) made
 
   many_again : (n : ℕ) (xs : List A) (rest : List ℕ) → AreMany Fits n xs → many_at read n (flat_map write xs ++ rest) ≡ Some (xs, rest)
   unfolding many_at

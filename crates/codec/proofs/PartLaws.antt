@@ -3,8 +3,9 @@ use Rattle.std.proofs.Common.{◌≡◌, ℕ, zero, suc, ◌*◌, ◌+◌, ◌�
 use Rattle.std.specs.Prelude.{replicate}
 use Rattle.std.specs.Int.{w32, w64}
 use Rattle.std.specs.List.{AllByRecursion}
-use Rattle.std.proofs.lemmas.Bool.{eq-eqb, eqb-true, and_from, and_parts, false≢true}
+use Rattle.std.proofs.lemmas.Bool.{eq-eqb, eqb-true, and_from, and_parts, false≢true, not-true, not-false}
 use Rattle.std.proofs.lemmas.List.{take-append-drop, take_all, take_at, drop-drop, drop_at, length-drop, length-take}
+use Rattle.std.proofs.lemmas.Option.{same_Some}
 use Rattle.s4_types.specs.Pointer.{Place}
 use Rattle.s4_types.specs.declared.limits.TheConstants.{CHECKPOINT_POINTERS, CHECKPOINT_PARTS, OBJECT_BLOCKS}
 use Rattle.codec.specs.Fields.{◌>>=◌, all_of, kept, ended, byte_at, number_at, zeros_at, mark_at, flag_at, slot_at, many_at, padded_at}
@@ -15,11 +16,11 @@ use Rattle.codec.specs.Parts.{part_of, are_holes, first_of, pointers_of, block_w
 use Rattle.codec.specs.declared.first_blocks.FirstBlock.{FirstBlock}
 use Rattle.codec.specs.declared.pointer_blocks.PointerBlock.{PointerBlock}
 use Rattle.codec.specs.declared.pointer_blocks.TheConstants.{GAP_BYTES, END_BYTES}
-use Rattle.codec.proofs.Exact.{step_some, some_is}
 use Rattle.codec.proofs.Many.{many_count}
 use Rattle.codec.proofs.PointerLaws.{pointers_field}
 use Rattle.codec.proofs.Slots.{mark_whole, kept_is}
 use Rattle.codec.proofs.Whole.{all_exact, ended_is}
+use Rattle.codec.proofs.Exact.{bind_some}
 
 -- ---- what is read, whatever the bytes are
 
@@ -28,14 +29,14 @@ record Gives {R : Type 0} (P : R → Type 0) (read : List ℕ → Option R) : Ty
   each : (bytes : List ℕ) (r : R) → read bytes ≡ Some r → P r
 
 skip_gives : {A R : Type 0} {P : R → Type 0} (read : List ℕ → Option (A × List ℕ)) {k : A → List ℕ → Option R} → ((a : A) → Gives P (k a)) → Gives P (λ bytes. read bytes >>= λ x. k x.0 x.1)
-skip_gives read {k} behind = record { each = λ bytes r e. let s = step_some (read bytes) (λ x. k x.0 x.1) r e in (behind s.0.0).each s.0.1 r s.2 }
+skip_gives read {k} behind = record { each = λ bytes r e. let s = bind_some (read bytes) (λ x. k x.0 x.1) r e in (behind s.0.0).each s.0.1 r s.2 }
 
 count_gives : {A R : Type 0} {P : R → Type 0} (read : List ℕ → Option (A × List ℕ)) (n : ℕ) {k : List A → List ℕ → Option R} → ((xs : List A) → length xs ≡ n → Gives P (k xs)) → Gives P (λ bytes. many_at read n bytes >>= λ x. k x.0 x.1)
 count_gives read n {k} behind =
-    record { each = λ bytes r e. let s = step_some (many_at read n bytes) (λ x. k x.0 x.1) r e in (behind s.0.0 (many_count read n bytes s.0 s.1)).each s.0.1 r s.2 }
+    record { each = λ bytes r e. let s = bind_some (many_at read n bytes) (λ x. k x.0 x.1) r e in (behind s.0.0 (many_count read n bytes s.0 s.1)).each s.0.1 r s.2 }
 
 made_gives : {A : Type 0} {P : A × List ℕ → Type 0} (a : A) → ((rest : List ℕ) → P (a, rest)) → Gives P (λ bytes. Some (a, bytes))
-made_gives {P = P} a fact = record { each = λ bytes r e. subst P (some_is _ _ e) (fact bytes) }
+made_gives {P = P} a fact = record { each = λ bytes r e. subst P (same_Some _ _ e) (fact bytes) }
 
 abbrev FirstCounts : FirstBlock × List ℕ → Type 0
 FirstCounts x = (length x.0.pointers ≡ CHECKPOINT_POINTERS) × (length x.0.parts ≡ CHECKPOINT_PARTS)
@@ -59,7 +60,7 @@ pointer_count =
 -- all of the bytes are read
 all_read : {A : Type 0} (read : List ℕ → Option (A × List ℕ)) (bytes : List ℕ) (a : A) → all_of read bytes ≡ Some a → read bytes ≡ Some (a, [])
 all_read read bytes a e =
-    let s = step_some (read bytes) (λ x. ended (Some x.0) x.1) a e in
+    let s = bind_some (read bytes) (λ x. ended (Some x.0) x.1) a e in
     let end = ended_is s.0.0 a s.0.1 s.2 in
     s.1 ∙ ap (λ (b : _). Some (b, s.0.1)) end.1 ∙ ap (λ (rest : List ℕ). Some (a, rest)) end.0
 
@@ -72,7 +73,7 @@ block_has block b e = pointer_count.each block (b, []) (all_read pointers_at blo
 first_begins : (block : List ℕ) (x : FirstBlock × List ℕ) → first_at block ≡ Some x → get_or block 0 0 ≡ 2
 unfolding first_at
 first_begins block x e =
-    let s = step_some (mark_at 2 block) (λ mark. flag_at mark.1 >>= λ alive. byte_at alive.1 >>= λ len. mark_at 0 len.1 >>= λ gap. number_at w32 gap.1 >>= λ size. behind_size alive.0 len.0 size.0 size.1) x e in
+    let s = bind_some (mark_at 2 block) (λ mark. flag_at mark.1 >>= λ alive. byte_at alive.1 >>= λ len. mark_at 0 len.1 >>= λ gap. number_at w32 gap.1 >>= λ size. behind_size alive.0 len.0 size.0 size.1) x e in
     ap (λ (l : List ℕ). get_or l 0 0) (mark_whole 2 block s.0 s.1)
 
 pub first_kind : (block : List ℕ) (f : FirstBlock) → all_of first_at block ≡ Some f → get_or block 0 0 ≡ 2
@@ -81,19 +82,15 @@ first_kind block f e = first_begins block (f, []) (all_read first_at block f e)
 block_begins : (block : List ℕ) (x : PointerBlock × List ℕ) → pointers_at block ≡ Some x → get_or block 0 0 ≡ 4
 unfolding pointers_at
 block_begins block x e =
-    let s = step_some (mark_at 4 block) (λ mark. byte_at mark.1 >>= λ part. behind_part part.0 part.1) x e in
+    let s = bind_some (mark_at 4 block) (λ mark. byte_at mark.1 >>= λ part. behind_part part.0 part.1) x e in
     ap (λ (l : List ℕ). get_or l 0 0) (mark_whole 4 block s.0 s.1)
 
 pub block_kind : (block : List ℕ) (b : PointerBlock) → all_of pointers_at block ≡ Some b → get_or block 0 0 ≡ 4
 block_kind block b e = block_begins block (b, []) (all_read pointers_at block b e)
 
-not_true : (b : Bool) → not b ≡ true → b ≡ false
-not_true true e = absurd (false≢true e)
-not_true false e = refl
-
 pub tells : (f : FirstBlock) (part : ℕ) (block : List ℕ) (pointers : List (Option Place)) → told_in f part block ≡ Some pointers → TellsPart f part block pointers
 tells f part block pointers e =
-    let s = step_some (all_of pointers_at block) (λ b. kept (is_part f part b) b.pointers) pointers e in
+    let s = bind_some (all_of pointers_at block) (λ b. kept (is_part f part b) b.pointers) pointers e in
     let b = s.0 in
     let k = kept_is (is_part f part b) b.pointers pointers s.2 in
     let one = and_parts (eqb b.part part) (eqb b.object f.object && (eqb b.moment f.moment && not (are_holes b.pointers))) k.0 in
@@ -105,7 +102,7 @@ tells f part block pointers e =
       its_part = eqb-true _ _ one.0;
       object = eqb-true _ _ two.0;
       moment = eqb-true _ _ three.0;
-      some = sym (ap are_holes k.1) ∙ not_true _ three.1;
+      some = sym (ap are_holes k.1) ∙ not-true _ three.1;
       count = sym (ap length k.1) ∙ block_has block b s.1;
     }
 
@@ -163,13 +160,9 @@ joins c parts rules len = made_is c _ (ap (with_pointers c) (all_parts c.inode.p
 pub joined_is : (f : FirstBlock) (one two three : List (Option Place)) (c : CheckpointFields) → joined f one two three ≡ Some c → whole f (f.pointers ++ (one ++ (two ++ three))) ≡ c
 joined_is f one two three c e = (kept_is (checkpoint_rules (whole f (f.pointers ++ (one ++ (two ++ three))))) (whole f (f.pointers ++ (one ++ (two ++ three)))) c e).1
 
-not_kept : {A : Type 0} (test : Bool) (x : A) → kept test x ≡ None → test ≡ false
+pub not_kept : {A : Type 0} (test : Bool) (x : A) → kept test x ≡ None → test ≡ false
 not_kept true x e = absurd cc
 not_kept false x e = refl
-
-not_false : (b : Bool) → not b ≡ false → b ≡ true
-not_false true e = refl
-not_false false e = absurd (false≢true (sym e))
 
 block_told : (object moment part : ℕ) (f : FirstBlock) (ps : List (Option Place)) (b : PointerBlock) → f.object ≡ object → f.moment ≡ moment → block_with object moment part ps ≡ Some b → (is_part f part b ≡ true) × (b.pointers ≡ ps)
 block_told object moment part f ps b o m e =
@@ -201,7 +194,7 @@ pub holes_of : (c : CheckpointFields) (part : ℕ) → part ≤ CHECKPOINT_PARTS
 unfolding part_of holes
 holes_of c part le len e =
     all_holes (take CHECKPOINT_POINTERS (drop (CHECKPOINT_POINTERS * part) c.inode.pointers)) CHECKPOINT_POINTERS (part_length CHECKPOINT_POINTERS (CHECKPOINT_POINTERS * part) c.inode.pointers (omega (arith, len, le)))
-    (not_false _ (not_kept _ _ e))
+    (not-false _ (not_kept _ _ e))
 
 -- ---- numbers in their ranges
 

@@ -10,12 +10,14 @@ use Rattle.std.proofs.lemmas.Grind.{common_steps, flat_map-append}
 use Rattle.std.proofs.Math.Seq.{drop-append-add}
 use Rattle.std.proofs.lemmas.Slice.{between_to_end}
 use Rattle.std.specs.List.{between}
+use Rattle.std.proofs.lemmas.Option.{same_Some}
 use Rattle.s4_types.specs.declared.limits.TheConstants.{JOURNAL_ENTRY_BYTES, JOURNAL_HEAD_BYTES, JOURNAL_ENTRIES}
+use Rattle.lemmas.proofs.Bytes.{IsBytes}
 use Rattle.codec.specs.Fields.{Reads, number, zeros, slot, mark_at, slot_at, number_at, all_of}
 use Rattle.codec.specs.Entry.{EntryFields, IsEntry, entry_spelling, entry_spelling_by, entry_length, entries_length}
 use Rattle.codec.specs.Journal.{JournalFields, JournalNumbers, SpellsJournal, journal_spelling, journal_spelling_by, journal_at}
 use Rattle.codec.specs.Patching.{decoded, with_entry}
-use Rattle.codec.proofs.Exact.{IsBytes, long_field, some_is}
+use Rattle.codec.proofs.Exact.{long_field}
 use Rattle.codec.proofs.Whole.{all_exact}
 use Rattle.codec.proofs.Slots.{slot_field}
 use Rattle.codec.proofs.Padded.{drop_zeros}
@@ -164,4 +166,4 @@ read_some view (Some x) read y h e = refl
 read_some view None read y h e = absurd (let n : None ≡ Some y = sym h ∙ e in cc)
 
 pub read_is : {X Y : Type 0} (view : X → Y) (result : Option X) (read : Option Y) (x : X) (y : Y) → Reads view result read → read ≡ Some y → result ≡ Some x → view x ≡ y
-read_is {X = X} view result read x y h e is = some_is _ _ (sym (subst (λ (r : Option X). Reads view r read) is h) ∙ e)
+read_is {X = X} view result read x y h e is = same_Some _ _ (sym (subst (λ (r : Option X). Reads view r read) is h) ∙ e)

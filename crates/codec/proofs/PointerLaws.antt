@@ -2,6 +2,7 @@
 use Rattle.std.proofs.Common.{◌≡◌, ℕ, ◌^◌, ◌<◌, List, [], ◌∷◌, ◌++◌, Option, Some, refl, sym, ap, subst, ◌∙◌, append_assoc}
 use Rattle.std.specs.Int.{w64}
 use Rattle.std.specs.List.{flat_map}
+use Rattle.std.proofs.lemmas.Option.{same_Some}
 use Rattle.codec.specs.Fields.{number, zeros, slot}
 use Rattle.codec.specs.Checkpoint.{IsSlot}
 use Rattle.codec.specs.PointerBlock.{PointerNumbers, pointers_spelling, pointers_at}
@@ -9,7 +10,8 @@ use Rattle.codec.specs.declared.pointer_blocks.PointerBlock.{PointerBlock}
 use Rattle.codec.specs.declared.pointer_blocks.TheConstants.{GAP_BYTES, END_BYTES}
 use Rattle.s4_types.specs.Pointer.{Place}
 use Rattle.s4_types.specs.declared.limits.TheConstants.{CHECKPOINT_POINTERS}
-use Rattle.codec.proofs.Exact.{IsBytes, IsField, Exact, Then, Made, then_exact, made_exact, some_is, byte_field, long_field, zeros_field}
+use Rattle.lemmas.proofs.Bytes.{IsBytes}
+use Rattle.codec.proofs.Exact.{IsField, Exact, Then, Made, then_exact, made_exact, byte_field, long_field, zeros_field}
 use Rattle.codec.proofs.Many.{AreMany, many_field}
 use Rattle.codec.proofs.Slots.{mark_field, slot_field}
 
@@ -58,7 +60,7 @@ takes bytes x h e =
     rw (gap.whole, object.whole, moment.whole, pointers.whole, end.whole, end.after.rest) refl in
     let head : bytes ≡ before part.value object.value moment.value pointers.value x.1 =
     (exact.found bytes x h e).whole ∙ ap (λ (r : List ℕ). 4 ∷ r) (part.whole ∙ ap (λ (r : List ℕ). part.value ∷ r) tail) in
-    subst (λ (d : PointerBlock). (bytes ≡ pointers_spelling d ++ x.1) × PointerNumbers d) (some_is _ _ end.after.is) (head ∙ sym (spelled_before b x.1), numbers)
+    subst (λ (d : PointerBlock). (bytes ≡ pointers_spelling d ++ x.1) × PointerNumbers d) (same_Some _ _ end.after.is) (head ∙ sym (spelled_before b x.1), numbers)
 
 again : (b : PointerBlock) (rest : List ℕ) → PointerNumbers b → pointers_at (pointers_spelling b ++ rest) ≡ Some (b, rest)
 again b rest n =

@@ -2,10 +2,12 @@
 use Rattle.std.proofs.Common.{◌≡◌, ℕ, zero, suc, ◌-◌, ◌+◌, ◌≤◌, ◌<◌, ◌^◌, Bool, true, false, cond, eqb, ltb, leb, ◌&&◌, List, [], ◌∷◌, ◌++◌, length, Option, Some, None, refl, sym, ap, subst, ◌∙◌, append_assoc, arith}
 use Rattle.std.specs.Prelude.{IfSome}
 use Rattle.std.specs.Int.{w16, w32}
-use Rattle.std.proofs.lemmas.Bool.{eq-eqb, eqb-true, ne_eqb, leb-true, le-leb, ltb-true, lt-ltb}
+use Rattle.std.proofs.lemmas.Bool.{eq-eqb, eqb-true, ne_eqb, leb-true, le-leb, ltb-true, lt-ltb, and_parts}
+use Rattle.std.proofs.lemmas.Option.{same_Some}
 use Rattle.s4_types.specs.Pointer.{Place, IsPlace}
+use Rattle.lemmas.proofs.Bytes.{bytes_rest, IsBytes}
 use Rattle.codec.specs.Fields.{◌>>=◌, kept, number, zeros, slot, bytes_at, zeros_at, mark_at, flag_at, slot_of, slot_at, is_place, bit, padded, padded_at}
-use Rattle.codec.proofs.Exact.{IsBytes, IsField, Exact, Then, Made, then_exact, made_exact, byte_field, short_field, word_field, bytes_field, zeros_field, held, some_is, step_some, bytes_behind}
+use Rattle.codec.proofs.Exact.{IsField, Exact, Then, Made, then_exact, made_exact, byte_field, short_field, word_field, bytes_field, zeros_field, held, bind_some}
 
 pub mark_whole : (mark : ℕ) (bytes : List ℕ) (x : Unit {0} × List ℕ) → mark_at mark bytes ≡ Some x → bytes ≡ mark ∷ x.1
 unfolding mark_at
@@ -13,7 +15,7 @@ mark_whole mark [] x e = absurd cc
 mark_whole mark (b ∷ rest) x e =
     let p = held (eqb b mark) (Some (tt, rest)) x e in
     let is : b ≡ mark = eqb-true b mark p.0 in
-    let same : rest ≡ x.1 = ap (λ (y : Unit {0} × List ℕ). y.1) (some_is _ _ p.1) in
+    let same : rest ≡ x.1 = ap (λ (y : Unit {0} × List ℕ). y.1) (same_Some _ _ p.1) in
     rw (is, same) refl
 
 mark_again : (mark : ℕ) (u : Unit {0}) (rest : List ℕ) → mark_at mark (mark ∷ rest) ≡ Some (u, rest)
@@ -26,8 +28,8 @@ mark_field mark = record { whole = λ bytes x h e. mark_whole mark bytes x e; fi
 flag_whole : (bytes : List ℕ) (x : Bool × List ℕ) → flag_at bytes ≡ Some x → bytes ≡ bit x.0 ∷ x.1
 unfolding flag_at
 flag_whole [] x e = absurd cc
-flag_whole (zero ∷ rest) x e = let same : (false, rest) ≡ x = some_is _ _ e in ap (λ (y : Bool × List ℕ). bit y.0 ∷ y.1) same
-flag_whole (suc zero ∷ rest) x e = let same : (true, rest) ≡ x = some_is _ _ e in ap (λ (y : Bool × List ℕ). bit y.0 ∷ y.1) same
+flag_whole (zero ∷ rest) x e = let same : (false, rest) ≡ x = same_Some _ _ e in ap (λ (y : Bool × List ℕ). bit y.0 ∷ y.1) same
+flag_whole (suc zero ∷ rest) x e = let same : (true, rest) ≡ x = same_Some _ _ e in ap (λ (y : Bool × List ℕ). bit y.0 ∷ y.1) same
 flag_whole (suc (suc b) ∷ rest) x e = absurd cc
 
 flag_again : (b : Bool) (rest : List ℕ) → flag_at (bit b ∷ rest) ≡ Some (b, rest)
@@ -40,12 +42,8 @@ flag_field = record { whole = λ bytes x h e. flag_whole bytes x e; fits = λ by
 
 -- ---- pointers
 
-pub both : (a b : Bool) → (a && b) ≡ true → (a ≡ true) × (b ≡ true)
-both true b e = (refl, e)
-both false b e = absurd cc
-
 pub kept_is : {A : Type 0} (test : Bool) (x y : A) → kept test x ≡ Some y → (test ≡ true) × (x ≡ y)
-kept_is true x y e = (refl, some_is x y e)
+kept_is true x y e = (refl, same_Some x y e)
 kept_is false x y e = absurd cc
 
 abbrev slot_says : List ℕ → (Option Place × List ℕ) → Type 0
@@ -75,7 +73,7 @@ numbered : (p : Option Place) (frame block generation : ℕ) (none place : Bool)
 numbered p frame block generation true place none-is place-is e =
     let z = none-is refl in
     let at_hole : Numbered None frame block 0 generation = record { spelled = rw (z.0, z.1, z.2) hole_is; fits = tt } in
-    subst (λ (q : Option Place). Numbered q frame block 0 generation) (some_is _ _ e) at_hole
+    subst (λ (q : Option Place). Numbered q frame block 0 generation) (same_Some _ _ e) at_hole
 numbered p frame block generation false place none-is place-is e =
     let k = kept_is place (Some (record { frame = frame; block = block; generation = generation })) p e in
     let at_place : Numbered (Some (record { frame = frame; block = block; generation = generation })) frame block 0 generation = record { spelled = place_is _; fits = place-is k.0 } in
@@ -83,15 +81,15 @@ numbered p frame block generation false place none-is place-is e =
 
 no_number : (a b c : ℕ) → (eqb a 0 && (eqb b 0 && eqb c 0)) ≡ true → (a ≡ 0) × (b ≡ 0) × (c ≡ 0)
 no_number a b c e =
-    let p = both (eqb a 0) (eqb b 0 && eqb c 0) e in
-    let q = both (eqb b 0) (eqb c 0) p.1 in
+    let p = and_parts (eqb a 0) (eqb b 0 && eqb c 0) e in
+    let q = and_parts (eqb b 0) (eqb c 0) p.1 in
     (eqb-true a 0 p.0, eqb-true b 0 q.0, eqb-true c 0 q.1)
 
 is_place-true : (p : Place) → p.frame < 2 ^ 16 → is_place p ≡ true → IsPlace p
 is_place-true p lt e =
-    let a = both (leb 1 p.block) (leb p.block 15 && (leb 1 p.generation && ltb (p.generation + 1) (2 ^ 32))) e in
-    let b = both (leb p.block 15) (leb 1 p.generation && ltb (p.generation + 1) (2 ^ 32)) a.1 in
-    let c = both (leb 1 p.generation) (ltb (p.generation + 1) (2 ^ 32)) b.1 in
+    let a = and_parts (leb 1 p.block) (leb p.block 15 && (leb 1 p.generation && ltb (p.generation + 1) (2 ^ 32))) e in
+    let b = and_parts (leb p.block 15) (leb 1 p.generation && ltb (p.generation + 1) (2 ^ 32)) a.1 in
+    let c = and_parts (leb 1 p.generation) (ltb (p.generation + 1) (2 ^ 32)) b.1 in
     record { frame = lt; lowest_block = leb-true _ _ a.0; highest_block = leb-true _ _ b.0; lowest_generation = leb-true _ _ c.0; highest_generation = ltb-true _ _ c.1 }
 
 slot_numbered : (p : Option Place) (frame block gap generation : ℕ) → frame < 2 ^ 16 → slot_of frame block gap generation ≡ Some p → Numbered p frame block gap generation
@@ -191,17 +189,17 @@ slot_field = record { whole = λ bytes x h e. (slot_takes bytes x h e).0; fits =
 padded_takes : (len : ℕ) (bytes : List ℕ) (x : List ℕ × List ℕ) → IsBytes bytes → padded_at len bytes ≡ Some x → (bytes ≡ padded x.0 ++ x.1) × ((length x.0 ≡ len) × (len ≤ 64))
 unfolding padded_at padded
 padded_takes len bytes x h e =
-    let a = step_some (bytes_at len bytes) (λ attribute. zeros_at (64 - len) attribute.1 >>= λ gap. kept (leb (length attribute.0) 64) attribute.0 >>= λ made. Some (made, gap.1)) x e in
-    let b = step_some (zeros_at (64 - len) a.0.1) (λ gap. kept (leb (length a.0.0) 64) a.0.0 >>= λ made. Some (made, gap.1)) x a.2 in
-    let c = step_some (kept (leb (length a.0.0) 64) a.0.0) (λ made. Some (made, b.0.1)) x b.2 in
+    let a = bind_some (bytes_at len bytes) (λ attribute. zeros_at (64 - len) attribute.1 >>= λ gap. kept (leb (length attribute.0) 64) attribute.0 >>= λ made. Some (made, gap.1)) x e in
+    let b = bind_some (zeros_at (64 - len) a.0.1) (λ gap. kept (leb (length a.0.0) 64) a.0.0 >>= λ made. Some (made, gap.1)) x a.2 in
+    let c = bind_some (kept (leb (length a.0.0) 64) a.0.0) (λ made. Some (made, b.0.1)) x b.2 in
     let k = kept_is (leb (length a.0.0) 64) a.0.0 c.0 c.1 in
     let low : length a.0.0 ≤ 64 = leb-true _ _ k.0 in
     let front = (bytes_field len).whole bytes a.0 h a.1 in
     let size : length a.0.0 ≡ len = (bytes_field len).fits bytes a.0 h a.1 in
-    let blank = (zeros_field (64 - len)).whole a.0.1 b.0 (bytes_behind a.0.0 a.0.1 bytes front h) b.1 in
+    let blank = (zeros_field (64 - len)).whole a.0.1 b.0 (bytes_rest a.0.0 a.0.1 bytes front h) b.1 in
     let told : bytes ≡ (a.0.0 ++ zeros (64 - len)) ++ b.0.1 = front ∙ ap (λ (r : List ℕ). a.0.0 ++ r) blank ∙ sym (append_assoc a.0.0 (zeros (64 - len)) b.0.1) in
     let parts : bytes ≡ (a.0.0 ++ zeros (64 - length a.0.0)) ++ b.0.1 = subst (λ (n : ℕ). bytes ≡ (a.0.0 ++ zeros (64 - n)) ++ b.0.1) (sym size) told in
-    let same : (a.0.0, b.0.1) ≡ x = ap (λ (y : List ℕ). (y, b.0.1)) k.1 ∙ some_is _ _ c.2 in
+    let same : (a.0.0, b.0.1) ≡ x = ap (λ (y : List ℕ). (y, b.0.1)) k.1 ∙ same_Some _ _ c.2 in
     subst (λ (y : List ℕ × List ℕ). (bytes ≡ (y.0 ++ zeros (64 - length y.0)) ++ y.1) × ((length y.0 ≡ len) × (len ≤ 64))) same (parts, (size, omega (arith, size, low)))
 
 padded_again : (len : ℕ) (a rest : List ℕ) → (length a ≡ len) × (len ≤ 64) → padded_at len (padded a ++ rest) ≡ Some (a, rest)

@@ -7,6 +7,7 @@ use Rattle.std.proofs.lemmas.Bool.{and_from, and_parts, leb-true, le-leb}
 use Rattle.std.proofs.lemmas.List.{take_at, length-take}
 use Rattle.s4_types.specs.Pointer.{Place}
 use Rattle.s4_types.specs.declared.limits.TheConstants.{CHECKPOINT_POINTERS, CHECKPOINT_PARTS, OBJECT_BLOCKS, OBJECT_BYTES}
+use Rattle.lemmas.proofs.Bytes.{IsBytes}
 use Rattle.codec.specs.Fields.{◌>>=◌, number, zeros, slot, bit, kept, padded, all_of}
 use Rattle.codec.specs.Checkpoint.{CheckpointFields, IsSlot, checkpoint_rules, holes, holes_past}
 use Rattle.codec.specs.FirstBlock.{FirstNumbers, SpellsFirst, first_spelling, first_at}
@@ -15,7 +16,7 @@ use Rattle.codec.specs.SmallCheckpoint.{SpellsSmallCheckpoint, small_spelling, s
 use Rattle.codec.specs.declared.first_blocks.FirstBlock.{FirstBlock}
 use Rattle.codec.specs.declared.pointer_blocks.PointerBlock.{PointerBlock}
 use Rattle.codec.specs.declared.versions.TheConstants.{FIRST_OBJECT_BYTES}
-use Rattle.codec.proofs.Exact.{IsBytes, Exact, step_some}
+use Rattle.codec.proofs.Exact.{Exact, bind_some}
 use Rattle.codec.proofs.FirstLaws.{first_field}
 use Rattle.codec.proofs.PartLaws.{joins, joined_is, all_holes, holes_of, holes_are, numbers_of}
 use Rattle.codec.proofs.Slots.{kept_is}
@@ -123,9 +124,9 @@ test_of f = leb f.size FIRST_OBJECT_BYTES && are_holes f.parts
 found : (block : List ℕ) (c : CheckpointFields) → IsBytes block → small_checkpoint_in block ≡ Some c → SpellsSmallCheckpoint block c
 unfolding small_checkpoint_in
 found block c h e =
-    let a = step_some (all_of first_at block) (λ f. kept (test_of f) f >>= joined_with) c e in
+    let a = bind_some (all_of first_at block) (λ f. kept (test_of f) f >>= joined_with) c e in
     let f = a.0 in
-    let b = step_some (kept (test_of f) f) joined_with c a.2 in
+    let b = bind_some (kept (test_of f) f) joined_with c a.2 in
     let k = kept_is (test_of f) f b.0 b.1 in
     let t = and_parts (leb f.size FIRST_OBJECT_BYTES) (are_holes f.parts) k.0 in
     let j : joined_with f ≡ Some c = subst (λ (x : FirstBlock). joined_with x ≡ Some c) (sym k.1) b.2 in

@@ -9,12 +9,12 @@ use Rattle.s4_types.specs.Pointer.{Place}
 use Rattle.s4_types.specs.declared.limits.TheConstants.{JOURNAL_ENTRIES, JOURNAL_ENTRY_BYTES, JOURNAL_HEAD_BYTES}
 use Rattle.std.specs.Prelude.{unwrap_or}
 use Rattle.std.specs.Int.{w16, w64}
+use Rattle.lemmas.proofs.Bytes.{IsBytes}
 use Rattle.codec.specs.Fields.{◌>>=◌, number, zeros, slot, slot_at, mark_at, all_of}
 use Rattle.codec.specs.Entry.{EntryFields, IsEntryBy, BeginsWithEntryBy, entry_at_by, entry_spelling_by, entry_length_by, entries_length_by}
 use Rattle.codec.specs.Journal.{JournalFields, SpellsJournalBy, journal_at_by, journal_spelling_by}
 use Rattle.codec.specs.Reader.{BeginsAt, entry_in, entries_begun_at, object_decoded}
 use Rattle.codec.specs.declared.versions.ImageVersion.{ImageVersion}
-use Rattle.codec.proofs.Exact.{IsBytes}
 use Rattle.codec.proofs.Slots.{slot_field}
 use Rattle.codec.proofs.Whole.{all_exact}
 use Rattle.codec.proofs.EntryLaws.{entry_field_by}
@@ -33,10 +33,6 @@ spelled_there v block h there = some_journal v block (all_of (journal_at_by v) b
 
 pub spells : (v : ImageVersion) (block : List ℕ) (j : JournalFields) → IsBytes block → all_of (journal_at_by v) block ≡ Some j → SpellsJournalBy v block j
 spells v block j h is = (all_exact (journal_field_by v)).found block j h is
-
-pub is_there : {A : Type 0} (o : Option A) → IsSome o → (x : A) × (o ≡ Some x)
-is_there None h = absurd (let e : false ≡ true = h in cc)
-is_there (Some x) h = (x, refl)
 
 pub not_both : {A : Type 0} (o : Option A) (x : A) → o ≡ None → o ≡ Some x → ⊥
 not_both o x none some = let e : None ≡ Some x = sym none ∙ some in cc

@@ -3,16 +3,18 @@ use Rattle.std.proofs.Common.{◌≡◌, ℕ, zero, suc, ◌-◌, ◌*◌, ◌+�
 use Rattle.std.specs.Int.{w16, w32, w64, to_be_bytes}
 use Rattle.std.specs.List.{concat, flat_map, AllByRecursion, list_all}
 use Rattle.sha2.specs.Sha256.{sha256, digest_bytes, final_hash, initial_hash_256}
-use Rattle.std.proofs.lemmas.Bool.{eqb-true, ltb-false, le-ltb, leb-true, le-leb, ltb-true, lt-ltb}
+use Rattle.std.proofs.lemmas.Bool.{eqb-true, ltb-false, le-ltb, leb-true, le-leb, ltb-true, lt-ltb, and_parts}
 use Rattle.std.proofs.lemmas.List.{take_at, drop_at}
+use Rattle.std.proofs.lemmas.Option.{same_Some}
+use Rattle.lemmas.proofs.Bytes.{bytes_before, bytes_rest, IsBytes}
 use Rattle.block_log.specs.declared.kinds.BlockKind.{BlockKind}
 use Rattle.block_log.specs.declared.kinds.BlockKind.TheVariants.{Journal, Checkpoint, Data, Pointers}
 use Rattle.codec.specs.Fields.{◌>>=◌, Reads, all_of, number, zeros, number_at, many_at}
 use Rattle.codec.specs.Summary.{SummaryFields, SummaryNumbers, KeepsSummaryRules, IsSummary, IsBlockRole, UnusedAreBlank, SpellsSummary, has_object, summary_rules, kind_number, role_spelling, summary_head, frame_digest, summary_spelling, kind_at, role_at, roles_at, checked_summary, head_at}
 use Rattle.codec.specs.declared.summaries.BlockRole.{BlockRole}
-use Rattle.codec.proofs.Exact.{IsBytes, IsField, Exact, Then, Made, then_exact, made_exact, byte_field, short_field, word_field, long_field, zeros_field, passed, some_is, step_some, bytes_before, bytes_behind}
+use Rattle.codec.proofs.Exact.{IsField, Exact, Then, Made, then_exact, made_exact, byte_field, short_field, word_field, long_field, zeros_field, passed, bind_some}
 use Rattle.codec.proofs.Many.{AreMany, many_field}
-use Rattle.codec.proofs.Slots.{mark_field, kept_is, both}
+use Rattle.codec.proofs.Slots.{mark_field, kept_is}
 use Rattle.codec.proofs.Zeros.{zeros_length}
 use Rattle.codec.proofs.Whole.{all_exact, found_all, only_all}
 
@@ -20,7 +22,7 @@ use Rattle.codec.proofs.Whole.{all_exact, found_all, only_all}
 
 kind_or : (t : Bool) (b : ℕ) (k : BlockKind) (rest : List ℕ) (x : BlockKind × List ℕ) (other : Option (BlockKind × List ℕ)) → (t ≡ true → b ≡ kind_number k) → (other ≡ Some x → b ∷ rest ≡ kind_number x.0 ∷ x.1)
     → cond t (Some (k, rest)) other ≡ Some x → b ∷ rest ≡ kind_number x.0 ∷ x.1
-kind_or true b k rest x other is else e = let same : (k, rest) ≡ x = some_is _ _ e in rw (is refl) (ap (λ (y : BlockKind × List ℕ). kind_number y.0 ∷ y.1) same)
+kind_or true b k rest x other is else e = let same : (k, rest) ≡ x = same_Some _ _ e in rw (is refl) (ap (λ (y : BlockKind × List ℕ). kind_number y.0 ∷ y.1) same)
 kind_or false b k rest x other is else e = else e
 
 kind_whole : (bytes : List ℕ) (x : BlockKind × List ℕ) → kind_at bytes ≡ Some x → bytes ≡ kind_number x.0 ∷ x.1
@@ -41,13 +43,13 @@ kind_field = record { whole = λ bytes x h e. kind_whole bytes x e; fits = λ by
 role_takes : (bytes : List ℕ) (x : BlockRole × List ℕ) → IsBytes bytes → role_at bytes ≡ Some x → (bytes ≡ role_spelling x.0 ++ x.1) × IsBlockRole x.0
 unfolding role_at role_spelling
 role_takes bytes x h e =
-    let a = step_some (kind_at bytes) (λ kind. number_at w64 kind.1 >>= λ object. Some (record { kind = kind.0; object = object.0 }, object.1)) x e in
-    let b = step_some (number_at w64 a.0.1) (λ object. Some (record { kind = a.0.0; object = object.0 }, object.1)) x a.2 in
+    let a = bind_some (kind_at bytes) (λ kind. number_at w64 kind.1 >>= λ object. Some (record { kind = kind.0; object = object.0 }, object.1)) x e in
+    let b = bind_some (number_at w64 a.0.1) (λ object. Some (record { kind = a.0.0; object = object.0 }, object.1)) x a.2 in
     let one = kind_field.whole bytes a.0 h a.1 in
-    let behind = bytes_behind (kind_number a.0.0 ∷ []) a.0.1 bytes one h in
+    let behind = bytes_rest (kind_number a.0.0 ∷ []) a.0.1 bytes one h in
     let two = long_field.whole a.0.1 b.0 behind b.1 in
     let whole : bytes ≡ kind_number a.0.0 ∷ (number w64 b.0.0 ++ b.0.1) = one ∙ ap (λ (r : List ℕ). kind_number a.0.0 ∷ r) two in
-    subst (λ (y : BlockRole × List ℕ). (bytes ≡ kind_number y.0.kind ∷ (number w64 y.0.object ++ y.1)) × IsBlockRole y.0) (some_is _ _ b.2) (whole, long_field.fits a.0.1 b.0 behind b.1)
+    subst (λ (y : BlockRole × List ℕ). (bytes ≡ kind_number y.0.kind ∷ (number w64 y.0.object ++ y.1)) × IsBlockRole y.0) (same_Some _ _ b.2) (whole, long_field.fits a.0.1 b.0 behind b.1)
 
 role_again : (p : BlockRole) (rest : List ℕ) → IsBlockRole p → role_at (role_spelling p ++ rest) ≡ Some (p, rest)
 unfolding role_at role_spelling
@@ -144,7 +146,7 @@ made_is s e = rw e refl
 
 objects_are : (roles : List BlockRole) → list_all has_object roles ≡ true → AllByRecursion (λ p. 1 ≤ p.object) roles
 objects_are [] e = tt
-objects_are (p ∷ roles) e = let h = both (leb 1 p.object) (list_all has_object roles) e in (leb-true _ _ h.0, objects_are roles h.1)
+objects_are (p ∷ roles) e = let h = and_parts (leb 1 p.object) (list_all has_object roles) e in (leb-true _ _ h.0, objects_are roles h.1)
 
 objects_pass : (roles : List BlockRole) → AllByRecursion (λ p. 1 ≤ p.object) roles → list_all has_object roles ≡ true
 objects_pass [] h = refl
@@ -153,10 +155,10 @@ objects_pass (p ∷ roles) h = let first : leb 1 p.object ≡ true = le-leb _ _ 
 pub kept_by : (s : SummaryFields) → summary_rules s ≡ true → KeepsSummaryRules s
 unfolding summary_rules
 kept_by s e =
-    let a = both (leb 1 s.generation) (ltb (s.generation + 1) (2 ^ 32) && (leb 1 (length s.roles) && (leb (length s.roles) 15 && list_all has_object s.roles))) e in
-    let b = both (ltb (s.generation + 1) (2 ^ 32)) (leb 1 (length s.roles) && (leb (length s.roles) 15 && list_all has_object s.roles)) a.1 in
-    let c = both (leb 1 (length s.roles)) (leb (length s.roles) 15 && list_all has_object s.roles) b.1 in
-    let d = both (leb (length s.roles) 15) (list_all has_object s.roles) c.1 in
+    let a = and_parts (leb 1 s.generation) (ltb (s.generation + 1) (2 ^ 32) && (leb 1 (length s.roles) && (leb (length s.roles) 15 && list_all has_object s.roles))) e in
+    let b = and_parts (ltb (s.generation + 1) (2 ^ 32)) (leb 1 (length s.roles) && (leb (length s.roles) 15 && list_all has_object s.roles)) a.1 in
+    let c = and_parts (leb 1 (length s.roles)) (leb (length s.roles) 15 && list_all has_object s.roles) b.1 in
+    let d = and_parts (leb (length s.roles) 15) (list_all has_object s.roles) c.1 in
     record { least = leb-true _ _ a.0; most = ltb-true _ _ b.0; used = leb-true _ _ c.0; room = leb-true _ _ d.0; objects = objects_are s.roles d.1 }
 
 pub keeps : (s : SummaryFields) → KeepsSummaryRules s → summary_rules s ≡ true
@@ -271,12 +273,12 @@ head_length s few =
       roles_length s.roles,
     )
 
-words_length : (h : List ℕ) (n : ℕ) → length (digest_bytes h n) ≡ 4 * n
+pub words_length : (h : List ℕ) (n : ℕ) → length (digest_bytes h n) ≡ 4 * n
 unfolding digest_bytes
 words_length h zero = refl
 words_length h (suc n) = omega (arith, length-append (digest_bytes h n) (to_be_bytes w32 (slice_index h n)), words_length h n)
 
-digest_length : (m : List ℕ) → length (sha256 m) ≡ 32
+pub digest_length : (m : List ℕ) → length (sha256 m) ≡ 32
 unfolding sha256
 digest_length m = words_length (final_hash initial_hash_256 m) 8
 
@@ -314,9 +316,9 @@ module _ (payload : List (List ℕ)) (block head digest : List ℕ) (front : hea
       (told.0, (blank, whole ∙ ap (λ (b : List ℕ). b ++ frame_digest b payload) told.1))
 
 pub unused_told : (payload : List (List ℕ)) (block : List ℕ) (s t : SummaryFields) → Some t ≡ Some s → SpellsSummary payload block s → UnusedAreBlank (length t.roles) payload
-unused_told payload block s t e h = subst (λ (r : SummaryFields). UnusedAreBlank (length r.roles) payload) (sym (some_is t s e)) h.1.0
+unused_told payload block s t e h = subst (λ (r : SummaryFields). UnusedAreBlank (length r.roles) payload) (sym (same_Some t s e)) h.1.0
 
 pub one_summary : (payload : List (List ℕ)) (block : List ℕ) (s t : SummaryFields) → SpellsSummary payload block s → SpellsSummary payload block t → s ≡ t
 one_summary payload block s t h k =
     let p = spelled_of payload block s h in
-    some_is s t (sym ((all_exact head_field).again (take 480 block) s (h.0, p.head)) ∙ (all_exact head_field).again (take 480 block) t (k.0, (spelled_of payload block t k).head))
+    same_Some s t (sym ((all_exact head_field).again (take 480 block) s (h.0, p.head)) ∙ (all_exact head_field).again (take 480 block) t (k.0, (spelled_of payload block t k).head))

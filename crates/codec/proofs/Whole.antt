@@ -2,17 +2,19 @@
 use Rattle.std.proofs.Common.{◌≡◌, ℕ, List, [], ◌∷◌, ◌++◌, Option, Some, None, refl, sym, ap, subst, ◌∙◌}
 use Rattle.std.proofs.lemmas.List.{append-nil}
 use Rattle.std.specs.Prelude.{IfSome}
+use Rattle.std.proofs.lemmas.Option.{same_Some}
+use Rattle.lemmas.proofs.Bytes.{IsBytes}
 use Rattle.codec.specs.Fields.{◌>>=◌, Reads, ended, all_of}
-use Rattle.codec.proofs.Exact.{IsBytes, IsField, Exact, step_some, some_is}
+use Rattle.codec.proofs.Exact.{IsField, Exact, bind_some}
 
 pub ended_is : {A : Type 0} (a b : A) (rest : List ℕ) → ended (Some a) rest ≡ Some b → (rest ≡ []) × (a ≡ b)
-ended_is a b [] e = (refl, some_is a b e)
+ended_is a b [] e = (refl, same_Some a b e)
 ended_is a b (_ ∷ _) e = absurd cc
 
 module _ {A : Type 0} {read : List ℕ → Option (A × List ℕ)} {write : A → List ℕ} {Fits : A → Type 0} (field : IsField read write Fits) where
   all_found : (bytes : List ℕ) (a : A) → IsBytes bytes → all_of read bytes ≡ Some a → Fits a × (bytes ≡ write a)
   all_found bytes a h e =
-      let s = step_some (read bytes) (λ x. ended (Some x.0) x.1) a e in
+      let s = bind_some (read bytes) (λ x. ended (Some x.0) x.1) a e in
       let end = ended_is s.0.0 a s.0.1 s.2 in
       let whole : bytes ≡ write s.0.0 = field.whole bytes s.0 h s.1 ∙ ap (λ (rest : List ℕ). write s.0.0 ++ rest) end.0 ∙ append-nil (write s.0.0) in
       subst (λ (x : A). Fits x × (bytes ≡ write x)) end.1 (field.fits bytes s.0 h s.1, whole)

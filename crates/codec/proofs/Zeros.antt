@@ -1,15 +1,15 @@
 -- Reading zeros one after the other, as a loop does.
 use Rattle.std.proofs.Common.{◌≡◌, ℕ, zero, suc, ◌-◌, ◌+◌, ◌≤◌, ◌<◌, false, cond, eqb, List, [], ◌∷◌, Some, None, refl, ap, ◌∙◌, ◌≢◌, ◌++◌, length, append_assoc, add-one, arith}
-use Rattle.codec.proofs.Exact.{some_is}
 use Rattle.std.proofs.lemmas.Bool.{ne_eqb}
 use Rattle.std.proofs.lemmas.List.{append-nil, length-replicate}
+use Rattle.std.proofs.lemmas.Option.{same_Some}
 use Rattle.codec.specs.Fields.{byte_at, zeros, zeros_at}
 
 step : (n : ℕ) (bytes after : List ℕ) (b : ℕ) → byte_at bytes ≡ Some (b, after) → zeros_at (suc n) bytes ≡ cond (eqb b 0) (zeros_at n after) None
 unfolding zeros_at
 step n [] after b e = absurd cc
 step n (x ∷ xs) after b e =
-    let same : (x, xs) ≡ (b, after) = some_is _ _ e in
+    let same : (x, xs) ≡ (b, after) = same_Some _ _ e in
     let p : x ≡ b = ap (λ (y : ℕ × List ℕ). y.0) same in
     let q : xs ≡ after = ap (λ (y : ℕ × List ℕ). y.1) same in
     rw (p, q) refl
@@ -35,7 +35,7 @@ zeros_on count i bytes after b lt e nought = zeros_step count i bytes after b lt
 pub zeros_bad : (count i : ℕ) (bytes after : List ℕ) (b : ℕ) → i < count → byte_at bytes ≡ Some (b, after) → b ≢ 0 → zeros_at (count - i) bytes ≡ None
 zeros_bad count i bytes after b lt e other = let no : eqb b 0 ≡ false = ne_eqb b 0 other in zeros_step count i bytes after b lt e ∙ rw no refl
 
-zero_more : (n : ℕ) → zeros n ++ 0 ∷ [] ≡ zeros (suc n)
+pub zero_more : (n : ℕ) → zeros n ++ 0 ∷ [] ≡ zeros (suc n)
 unfolding zeros
 zero_more zero = refl
 zero_more (suc n) = ap (λ (xs : List ℕ). 0 ∷ xs) (zero_more n)

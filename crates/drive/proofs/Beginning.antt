@@ -1,19 +1,15 @@
 -- What a new drive begins with.
-use Rattle.std.proofs.Common.{◌≡◌, true, false, ℕ, Option, None, refl, ap, ◌∙◌, cond, arith}
+use Rattle.std.proofs.Common.{◌≡◌, true, false, ℕ, None, refl, ◌∙◌, cond, arith}
 use Rattle.std.specs.Prelude.{nat_le}
 use Rattle.s4_types.specs.declared.versions.Version.TheVariants.{Absent}
 use Rattle.s4_model.specs.State.{state_of, new_history}
 use Rattle.s4_model.specs.VersionAt.{version_of}
 use Rattle.s4_model.specs.Laws.{ANewDriveIsSound}
-use Rattle.object_map.specs.declared.map.Row.{Row}
 use Rattle.object_map.specs.Rows.{row_of}
 use Rattle.version_store.specs.Store.{StoreFields, IsStore}
-use Rattle.version_store.specs.Versions.{version_in, version_by, inode_by}
 use Rattle.window.specs.Timeline.{Timeline, StandsFor}
 use Rattle.drive.specs.Keeping.{IsKeptDrive}
-
-no_version : (s : StoreFields) (o t : ℕ) → row_of s.rows o ≡ None → version_in s o t ≡ Absent
-no_version s o t none = ap (λ (r : Option Row). version_by s.log.held (inode_by s.log.held o t r)) none
+use Rattle.drive.proofs.Opening.{no_version}
 
 first_version : (window o t : ℕ) → Absent ≡ version_of (state_of (new_history window)) o t
 first_version window o t = elim (nat_le t 0) as (λ b. Absent ≡ cond b Absent Absent) [ true ↦ refl | false ↦ refl ]

@@ -21,9 +21,11 @@ use Rattle.version_store.specs.Taking.{IsReadyFor, IsThere}
 use Rattle.version_store.specs.Laws.{ThePresentStays}
 use Rattle.window.specs.Timeline.{Timeline, StandsFor}
 use Rattle.s4_model.specs.Plain.{HasNext}
+use Rattle.s4_model.proofs.SoundLemmas.{next_by-grows}
+use Rattle.s4_model.proofs.VersionLemmas.{version_of-skipped}
 use Rattle.drive.specs.Keeping.{IsKeptDrive, IsNeeded}
 use Rattle.drive.proofs.Needed.{needed_before_moment, needed_before_change, present_needed}
-use Rattle.drive.proofs.Versions.{version_of-other, version_of-its_own, counted_by_moments}
+use Rattle.drive.proofs.Versions.{version_of-its_own, counted_by_moments}
 
 -- ---- a moment seen
 
@@ -68,7 +70,7 @@ kept_hidden s store w later next a kept none lt stands sound =
       window = stands;
       next = kept.next ∙ sym number;
       store = kept.store;
-      versions = λ o t needed. kept.versions o t (needed_before_change s a o t lt needed) ∙ sym (version_of-other s a o t (and_left (is_change_of o a.change) (nat_le a.moment t) (no_object a.change o none)));
+      versions = λ o t needed. kept.versions o t (needed_before_change s a o t lt needed) ∙ sym (version_of-skipped s a o t (and_left (is_change_of o a.change) (nat_le a.moment t) (no_object a.change o none)));
       past = omega arith;
       unborn = λ o ge. kept.unborn o (subst (λ (n : ℕ). n ≤ o) number ge);
       sound = sound;
@@ -95,7 +97,7 @@ versions_taken stays s store w next a kept lt o t needed =
       | inr other ↦
           cond-false (is_by o t a) (effect a.change a.moment (version_in store o store.latest)) (version_in store o t) other
           ∙ kept.versions o t (needed_before_change s a o t lt needed)
-          ∙ sym (version_of-other s a o t other)
+          ∙ sym (version_of-skipped s a o t other)
     ]
 
 -- no object is there whose number wasn't given
@@ -116,16 +118,6 @@ unborn_taken s store later w next a kept rows grows given o ge =
     ∙ ap (λ (b : Bool). b || o == object_of a.change) (some_none (row_of store.rows o) (kept.unborn o (omega arith)))
     ∙ ne_eqb o (object_of a.change) (λ e. absurd (omega arith)))
 
-next_grows : (change : Change) (next : ℕ) → next ≤ next_by change next
-next_grows (Create object attribute) next = omega arith
-next_grows (Delete object) next = omega arith
-next_grows (Write object offset bytes) next = omega arith
-next_grows (Truncate object size) next = omega arith
-next_grows (SetAttr object attribute) next = omega arith
-next_grows (SetWindow window) next = omega arith
-next_grows (Flush first last) next = omega arith
-next_grows (FlushO object first last) next = omega arith
-
 pub kept_taken : ThePresentStays → (s : State) (store later : StoreFields) (w last : Timeline) (next : ℕ) (a : Accepted) → IsKeptDrive s store w next → s.clock < a.moment
     → IsStore later
     → ((o t : ℕ) → version_in later o t ≡ version_taken store a.change a.moment o t)
@@ -139,7 +131,7 @@ kept_taken stays s store later w last next a kept lt is_store versions latest ro
   store = is_store;
   versions = λ o t needed. versions o t ∙ versions_taken stays s store w next a kept lt o t needed;
   past = omega (arith, latest);
-  unborn = unborn_taken s store later w next a kept rows (next_grows a.change s.next) given;
+  unborn = unborn_taken s store later w next a kept rows (next_by-grows a.change s.next) given;
   sound = sound;
 }
 

@@ -132,13 +132,13 @@ base_listed law s w next store = record {
 
 -- ---- what holds of a drive holds of one that is opened
 
-no_version : (s : StoreFields) (o t : ℕ) → row_of s.rows o ≡ None → version_in s o t ≡ Absent
+pub no_version : (s : StoreFields) (o t : ℕ) → row_of s.rows o ≡ None → version_in s o t ≡ Absent
 no_version s o t none = ap (λ (r : Option Row). version_by s.log.held (inode_by s.log.held o t r)) none
 
 -- an object that isn't numbered has no row
-nobody_by : (s : StoreFields) (row : Option Row) → row_of s.rows 0 ≡ row → IsStore s → row ≡ None
-nobody_by s None is store = refl
-nobody_by s (Some row) is store = let numbered : 1 ≤ 0 = (store.objects 0 row is).stands.object in absurd (omega arith)
+pub no_row_of_0 : (s : StoreFields) (row : Option Row) → row_of s.rows 0 ≡ row → IsStore s → row ≡ None
+no_row_of_0 s None is store = refl
+no_row_of_0 s (Some row) is store = let numbered : 1 ≤ 0 = (store.objects 0 row is).stands.object in absurd (omega arith)
 
 -- at each moment the state of an opened drive tells the store's version
 opened_version : ThePresentStays → ABaseTellsTheStoresVersions → (s : StoreFields) (w : Timeline) (next o t : ℕ) → IsStore s → NoneFrom next s → s.latest ≤ w.clock
@@ -155,7 +155,7 @@ opened_version stays tells s w next o t store none past = elim (cases_lt w.clock
 ]
 
 -- the spans of its state are its window's runs
-opened_spans : (s : StoreFields) (w : Timeline) (next : ℕ) → spans_of (state_of (opened_history s w next)) ≡ w.runs
+pub opened_spans : (s : StoreFields) (w : Timeline) (next : ℕ) → spans_of (state_of (opened_history s w next)) ≡ w.runs
 opened_spans s w next = append-nil w.runs
 
 -- a drive that has just begun has what its parts have
@@ -201,7 +201,7 @@ kept_opened stays tells lists s w next store past below reach numbered made none
         past = subst (AllByRecursion (EndsBefore w.clock)) (sym spans) ends;
         owned = subst (AllByRecursion (IsOfGiven next)) (sym spans) given;
         unborn = λ o t late. opened_version stays tells s w next o t store none past ∙ no_version s o t (none o late);
-        nobody = λ t. opened_version stays tells s w next 0 t store none past ∙ no_version s 0 t (nobody_by s (row_of s.rows 0) refl store);
+        nobody = λ t. opened_version stays tells s w next 0 t store none past ∙ no_version s 0 t (no_row_of_0 s (row_of s.rows 0) refl store);
         listed = listed.once;
         dated = listed.dated;
       };

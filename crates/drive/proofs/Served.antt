@@ -1,8 +1,8 @@
 -- What a request is answered and what it leaves, by what its parts came to.
-use Rattle.std.proofs.Common.{◌≡◌, ◌≢◌, ◌⊎◌, ℕ, Bool, true, false, cond, inl, inr, Option, Some, None, List, [], ◌∷◌, ◌++◌, refl, sym, ap, subst, ◌∙◌, arith}
+use Rattle.std.proofs.Common.{◌≡◌, ◌≢◌, ◌⊎◌, ℕ, Bool, true, false, cond, inl, inr, Option, Some, None, [], ◌∷◌, ◌++◌, refl, sym, ap, subst, ◌∙◌, arith}
 use Rattle.std.proofs.lemmas.Option.{none-some, same_Some}
 use Rattle.std.specs.Prelude.{MatchBool, Result, Ok, Err, MatchResult, IfOk, IfErr, OnOk}
-use Rattle.std.specs.List.{find, AllByRecursion}
+use Rattle.std.specs.List.{AllByRecursion}
 use Rattle.s4_types.specs.History.{History, Seen}
 use Rattle.s4_types.specs.RefusalNumber.{number_of}
 use Rattle.s4_types.specs.Sizes.{ReplyFits}
@@ -26,12 +26,14 @@ use Rattle.s4_model.specs.Refusals.{first_refusal, applies, checks, asked}
 use Rattle.s4_model.specs.Step.{Step, Refuses, MayRefuse, AsFirst, ForMemory, AsOpen, IsLeftOpen, judged, change_of, stamp, reply_at, reply_to_read, data_of, attributes_of}
 use Rattle.segment_word.specs.AcceptViews.{Ledger, with_moment, credited, caught_up}
 use Rattle.segment_word.specs.AcceptRule.{FitsLedger}
+use Rattle.s4_model.proofs.StepLemmas.{found_passes}
+use Rattle.s4_model.proofs.OutcomeLemmas.{judged-change}
 use Rattle.version_store.specs.Store.{StoreFields}
 use Rattle.drive.specs.Fields.{DriveFields, SessionFields, store_of, state_in, history_of}
 use Rattle.drive.specs.Refusing.{or_then, want_of, refusal_of, MayLackMemory, WantsPin, RefusesBy, IsRefusal, IsJudgedOut, IsUnplanned}
 use Rattle.time_read.specs.Plans.{PlanFields, bytes_planned}
 use Rattle.drive.specs.Answering.{is_acceptance, told_after, owners_after, StoresChange, Leaves, TakesChange, RefusesChange, ComesTo, Sees, IsSettled, IsServed, reply_planned}
-use Rattle.drive.proofs.Stepping.{open_of_want, or_then_some, may_refuse, step_accepts, step_refuses, step_tells, judged_as_it_was}
+use Rattle.drive.proofs.Stepping.{open_of_want, or_then_some, may_refuse, step_accepts, step_refuses, step_tells}
 
 -- ---- which replies are of accepted changes
 
@@ -101,17 +103,6 @@ told_unrefused why d request (Changed m) told is = absurd told
 told_unrefused why d request (Created o m) told is = absurd told
 
 -- ---- refusals
-
-some_same : (x r : Refusal) → Some x ≡ Some r → x ≡ r
-some_same x r e = same_Some x r e
-
-found_passes : (p : Refusal → Bool) (P : Refusal → Type 0) (xs : List Refusal) (r : Refusal) → AllByRecursion P xs → find p xs ≡ Some r → P r
-found_passes p P [] r all e = absurd (none-some r e)
-found_passes p P (x ∷ xs) r all e =
-    elim (p x) as (λ b. cond b (Some x) (find p xs) ≡ Some r → P r) [
-      | true ↦ λ is. subst P (some_same x r is) all.0
-      | false ↦ λ is. found_passes p P xs r all.1 is
-    ] e
 
 IsWhole : Refusal → Type 0
 IsWhole r = number_of r ≢ 16
@@ -226,7 +217,7 @@ leaves_all b P Q e q = subst (λ (x : Bool). MatchBool x P Q) (sym e) q
 served_change : (d later : DriveFields) (before after : SessionFields) (request : Request) (now : ℕ) (given : Reply) → TakesChange (first_refusal (state_in d) before.role request) d later before after request now given → IsServed d later before after request now given
 served_change d later before after request now given is =
     let accepts : is_acceptance given ≡ true = ap (λ (r : Reply). is_acceptance r) is.reply ∙ accepts_change is.change (stamp (state_in d) now) in
-    let as_it_was : judged (history_of d) request now ≡ state_in d = judged_as_it_was (history_of d) request now is.change is.asked in
+    let as_it_was : judged (history_of d) request now ≡ state_in d = judged-change (history_of d) request now is.change is.asked in
     record {
       step = step_accepts d later before after before.role request now given is;
       refused = subst (λ (r : Reply). RefusesBy (refusal_of (store_of d) (judged (history_of d) request now) before.role request now) later request r) (sym is.reply)

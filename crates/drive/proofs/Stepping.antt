@@ -23,6 +23,7 @@ use Rattle.s4_model.specs.Sound.{IsSound}
 use Rattle.s4_model.specs.Laws.{EveryStepKeepsSoundness}
 use Rattle.segment_word.specs.AcceptViews.{Ledger}
 use Rattle.s4_model.specs.Effect.{is_of_versions}
+use Rattle.s4_model.proofs.OutcomeLemmas.{judged-change}
 use Rattle.version_store.specs.Store.{StoreFields}
 use Rattle.version_store.specs.Costs.{change_refusal}
 use Rattle.drive.specs.Refusing.{or_then, storing_refusal, want_of, IsFoundLater, MayLackMemory, IsRefusal}
@@ -114,17 +115,11 @@ step_refuses h store role request now e is = Refuses e refl (may_refuse (first_r
 
 -- ---- what is accepted
 
--- what asks for a change is judged by the history as it was
-pub judged_as_it_was : (h : History) (request : Request) (now : ℕ) (change : Change) → change_of (state_of h) request ≡ Some change → judged h request now ≡ state_of h
-judged_as_it_was h (Query question) now change asked = absurd (none-some change asked)
-judged_as_it_was h (Update update) now change asked = refl
-judged_as_it_was h (Control control) now change asked = refl
-
 -- an accepted change is a step that takes it
 pub step_takes : (h : History) (role : Role) (request : Request) (now : ℕ) (change : Change) → first_refusal (state_of h) role request ≡ None → change_of (state_of h) request ≡ Some change
     → Step h role request now (reply_to_change (state_of h) change now) (grown h (Took (accepted_record (state_of h) change now)))
 step_takes h role request now change free asked =
-    Serves (Took (accepted_record (state_of h) change now)) (ap (λ (s : State). first_refusal s role request) (judged_as_it_was h request now change asked) ∙ free) (Alters change asked refl refl) refl
+    Serves (Took (accepted_record (state_of h) change now)) (ap (λ (s : State). first_refusal s role request) (judged-change h request now change asked) ∙ free) (Alters change asked refl refl) refl
 
 pub step_accepts : (d later : DriveFields) (before after : SessionFields) (role : Role) (request : Request) (now : ℕ) (reply : Reply) → TakesChange (first_refusal (state_in d) role request) d later before after request now reply → Step d.ledger.history role request now reply later.ledger.history
 step_accepts d later before after role request now reply is =

@@ -41,8 +41,8 @@ abbrev pub moment_tests : Bool → Bool → Bool → Option Refusal
 moment_tests late early hidden = cond late (Some Future) (cond early (Some Expired) (cond hidden (Some Flushed) None))
 
 -- a visible moment is refused by nothing
-pub visible_free : (s : State) (o t : ℕ) → IsVisible s o t → moment_refusal s o t ≡ None
-visible_free s o t visible =
+pub visible_not_refused : (s : State) (o t : ℕ) → IsVisible s o t → moment_refusal s o t ≡ None
+visible_not_refused s o t visible =
     ap (λ (b : Bool). moment_tests b (nat_lt t s.floor) (is_hidden s o t)) (le-ltb s.clock t visible.reached)
     ∙ ap (λ (b : Bool). moment_tests false b (is_hidden s o t)) (le-ltb t s.floor visible.kept)
     ∙ ap (λ (b : Bool). moment_tests false false b) visible.shown
@@ -52,14 +52,14 @@ visible_free s o t visible =
 version_there : (s : State) (store : StoreFields) (w : Timeline) (next o t : ℕ) (found : Option Inode) → IsKeptDrive s store w next → IsVisible s o t → found ≡ inode_in store o t → version_of s o t ≡ version_by store.log.held found
 version_there s store w next o t found kept visible is = sym (kept.versions o t (inl visible)) ∙ ap (λ (i : Option Inode). version_by store.log.held i) (sym is)
 
-live_means : (contents : Place → List ℕ) (i : Inode) → i.alive ≡ true → meaning contents i ≡ Live (bytes_of contents i) i.attribute i.created i.changed
-live_means contents i is = ap (λ (b : Bool). cond b (Live (bytes_of contents i) i.attribute i.created i.changed) Absent) is
+pub live_meaning : (contents : Place → List ℕ) (i : Inode) → i.alive ≡ true → meaning contents i ≡ Live (bytes_of contents i) i.attribute i.created i.changed
+live_meaning contents i is = ap (λ (b : Bool). cond b (Live (bytes_of contents i) i.attribute i.created i.changed) Absent) is
 
 -- a live inode tells the version
 pub live_version : (s : State) (store : StoreFields) (w : Timeline) (next o t : ℕ) (found : Option Inode) (i : Inode) → IsKeptDrive s store w next → IsVisible s o t → found ≡ inode_in store o t → found ≡ Some i → i.alive ≡ true
     → version_of s o t ≡ Live (bytes_of (contents_of store.log.held) i) i.attribute i.created i.changed
 live_version s store w next o t found i kept visible is some alive =
-    version_there s store w next o t found kept visible is ∙ ap (λ (x : Option Inode). version_by store.log.held x) some ∙ live_means (contents_of store.log.held) i alive
+    version_there s store w next o t found kept visible is ∙ ap (λ (x : Option Inode). version_by store.log.held x) some ∙ live_meaning (contents_of store.log.held) i alive
 
 pub live_free : (s : State) (o t : ℕ) (bytes attribute : List ℕ) (created changed : ℕ) → moment_refusal s o t ≡ None → version_of s o t ≡ Live bytes attribute created changed → telling_refusal s o t ≡ None
 live_free s o t bytes attribute created changed free is =
@@ -88,7 +88,7 @@ has_version d w next o t Holds kept visible has = record {
 
 free_of_version : (d : DriveFields) (o t : ℕ) (Holds : Inode → Type 0) → IsVisible (state_in d) o t → HasVersion d o t Holds → telling_refusal (state_in d) o t ≡ None
 free_of_version d o t Holds visible has =
-    live_free (state_in d) o t (bytes_of (contents_of (store_of d).log.held) has.inode) has.inode.attribute has.inode.created has.inode.changed (visible_free (state_in d) o t visible) has.version
+    live_free (state_in d) o t (bytes_of (contents_of (store_of d).log.held) has.inode) has.inode.attribute has.inode.created has.inode.changed (visible_not_refused (state_in d) o t visible) has.version
 
 free_where_read : {T : Type 0} (r : Result T Refusal) (d : DriveFields) (w : Timeline) (next o t : ℕ) (Reads : Inode → T → Type 0) → IsKeptDrive (state_in d) (store_of d) w next → IsVisible (state_in d) o t
     → IfOk r (λ read. HasLive (store_of d) o t (λ inode. Reads inode read)) → OnOk r (telling_refusal (state_in d) o t ≡ None) × IfOk r (λ read. HasVersion d o t (λ inode. Reads inode read))
@@ -109,7 +109,7 @@ untold_where_unread : {T : Type 0} (r : Result T Refusal) (d : DriveFields) (w :
     → IfErr r (λ e. IsUnread (store_of d) o t (λ inode. Refuses inode e) e) → IfErr r (λ e. IsUntold d o t (λ inode. Refuses inode e) e)
 untold_where_unread (Ok read) d w next o t Refuses kept visible unread = tt
 untold_where_unread (Err e) d w next o t Refuses kept visible (inl absent) =
-    inl (absent_told (state_in d) o t (visible_free (state_in d) o t visible) (sym (kept.versions o t (inl visible)) ∙ absent.1) ∙ ap (λ (x : Refusal). Some x) (sym absent.0))
+    inl (absent_told (state_in d) o t (visible_not_refused (state_in d) o t visible) (sym (kept.versions o t (inl visible)) ∙ absent.1) ∙ ap (λ (x : Refusal). Some x) (sym absent.0))
 untold_where_unread (Err e) d w next o t Refuses kept visible (inr has) =
     let told = has_version d w next o t (λ inode. Refuses inode e) kept visible has in
     inr (free_of_version d o t (λ inode. Refuses inode e) visible told, told)

@@ -11,6 +11,7 @@ use Rattle.row_changes.specs.Moving.{kept_blocks, inode_kept, row_blocks}
 use Rattle.time_read.specs.Rows.{entries_of}
 use Rattle.version_store.specs.Store.{StoreFields, IsStore}
 use Rattle.version_store.specs.Versions.{entries_of_object, entries_of_row}
+use Rattle.drive.proofs.Opening.{no_row_of_0}
 use Rattle.drive_compaction.specs.Choosing.{blocks_of_row, blocks_rewritten, count_in, AreCounts}
 
 -- ---- one object
@@ -35,13 +36,9 @@ pub record CountsUpTo (s : StoreFields) (m : MapOf ℕ) (object : ℕ) : Type 0 
   pub values : (o : ℕ) → object < o → value_of m.values o ≡ None
   pub rows : (o : ℕ) → object < o → row_of m.rows o ≡ None
 
-found_none_0 : (s : StoreFields) (row : Option Row) → IsStore s → row_of s.rows 0 ≡ row → row ≡ None
-found_none_0 s None store is = refl
-found_none_0 s (Some row) store is = absurd (let least = (store.objects 0 row is).stands.object in omega (arith, least))
-
 -- no object has the number 0
 pub has_none_0 : (s : StoreFields) → IsStore s → row_of s.rows 0 ≡ None
-has_none_0 s store = found_none_0 s (row_of s.rows 0) store refl
+has_none_0 s store = no_row_of_0 s (row_of s.rows 0) refl store
 
 no_row : (s : StoreFields) (o : ℕ) → row_of s.rows o ≡ None → blocks_rewritten s o ≡ 0
 no_row s o none = ap (blocks_of_row s o) none

@@ -1,19 +1,16 @@
 -- What stays over several steps.
-use Rattle.std.proofs.Common.{◌≡◌, ◌⊎◌, inl, inr, refl, sym, ap, subst, ◌∙◌}
-use Rattle.s4_model.specs.State.{State, state_of}
+use Rattle.std.proofs.Common.{◌≡◌, ◌⊎◌, inl, inr, refl, sym, subst, ◌∙◌}
+use Rattle.s4_model.specs.State.{State}
 use Rattle.s4_types.specs.declared.refusals.Refusal.{Refusal}
 use Rattle.s4_types.specs.declared.refusals.Refusal.TheVariants.{NoMemory, Busy, InUse}
-use Rattle.segment_word.specs.AcceptViews.{Ledger}
 use Rattle.version_store.specs.Store.{StoreFields}
 use Rattle.version_store.specs.Upkeep.{KeepsObjects}
 use Rattle.drive.specs.Fields.{DriveFields, state_in, store_of}
 use Rattle.drive.specs.Keeping.{KeepsVersions}
 use Rattle.history_cleaner.specs.Emptying.{StopsAtReader}
 use Rattle.history_cleaner.specs.Passing.{StoppedAtReader}
+use Rattle.history_cleaner.proofs.Passing.{state_stays}
 use Rattle.drive_compaction.specs.Emptying.{KeepsAll, FindsReader}
-
-state_stays : (d later : DriveFields) → later.ledger ≡ d.ledger → state_in later ≡ state_in d
-state_stays d later same = ap (λ (l : Ledger). state_of l.history) same
 
 pub keeps_all : (d : DriveFields) → KeepsAll d d
 keeps_all d = record { ledger = refl; needed = λ o t needed. refl }

@@ -4,11 +4,10 @@ use Rattle.std.specs.Prelude.{option_map}
 use Rattle.std.proofs.lemmas.Bool.{eq-eqb, and_from}
 use Rattle.s4_types.specs.Pointer.{Place}
 use Rattle.s4_types.specs.declared.refusals.Refusal.{Refusal}
-use Rattle.block_log.specs.declared.kinds.BlockKind.{BlockKind}
-use Rattle.block_log.specs.declared.kinds.BlockKind.TheVariants.{Journal, Checkpoint, Data, Pointers}
 use Rattle.block_log.specs.Log.{Stored, same_kind, seen_as}
 use Rattle.codec.specs.declared.summaries.BlockRole.{BlockRole}
 use Rattle.object_map.specs.Rows.{row_of}
+use Rattle.block_log.proofs.BlockKinds.{same_kind_itself}
 use Rattle.segment_table.specs.Table.{held_at, role_of}
 use Rattle.version_store.specs.Store.{IsStore}
 use Rattle.drive.specs.Fields.{DriveFields, store_of}
@@ -17,15 +16,9 @@ use Rattle.drive_compaction.specs.Emptying.{Stays}
 
 -- ---- what is held has a row
 
-same_as_itself : (kind : BlockKind) → same_kind kind kind ≡ true
-same_as_itself Journal = refl
-same_as_itself Checkpoint = refl
-same_as_itself Data = refl
-same_as_itself Pointers = refl
-
 seen_itself : (block : Stored) (o : ℕ) → block.object ≡ o → seen_as block.kind o (Some block) ≡ None → ⊥
 seen_itself block o is none =
-    let both : (same_kind block.kind block.kind && block.object == o) ≡ true = and_from (same_kind block.kind block.kind) (block.object == o) (same_as_itself block.kind) (eq-eqb block.object o is) in
+    let both : (same_kind block.kind block.kind && block.object == o) ≡ true = and_from (same_kind block.kind block.kind) (block.object == o) (same_kind_itself block.kind) (eq-eqb block.object o is) in
     let some : Some block.bytes ≡ None = sym (ap (λ (b : Bool). if b then Some block.bytes else None) both) ∙ none in
     absurd (cc)
 

@@ -6,6 +6,7 @@ use Rattle.std.proofs.lemmas.Bool.{and_from, eq-eqb, lt-ltb}
 use Rattle.std.proofs.lemmas.List.{take_all}
 use Rattle.std.proofs.lemmas.List.Folds.{list_all_more, list_all_at}
 use Rattle.s4_types.specs.Pointer.{Place}
+use Rattle.lemmas.proofs.Bool.{and_false}
 use Rattle.segment_word.specs.Frames.{is_sealed}
 use Rattle.segment_word.specs.Layout.{frame_at}
 use Rattle.segment_table.specs.Table.{Table, held_at}
@@ -16,10 +17,6 @@ use Rattle.drive_compaction.specs.Choosing.{is_taken, is_life, are_all_taken, is
 use Rattle.drive_compaction.proofs.Summing.{sum_more, sum_at}
 
 -- ---- all of a frame
-
-no_right : (b : Bool) → (b && false) ≡ false
-no_right true = refl
-no_right false = refl
 
 -- whether the first n of its blocks are taken
 abbrev pub taken_to : Table → List ℕ → ℕ → ℕ → Bool
@@ -42,7 +39,7 @@ stays_there t objects g n m generation p h place block its here =
     ap (λ (b : Bool). is_life (frame_at t.seat.frames g).generation && b)
     (list_all_at (λ (q : Place). is_taken objects (held_at t q)) (whole_of t g) n (block_at t g (n + 1)) (omega (arith, length-whole_of t g))
     (taken_there t objects g n p h (place_is t g (n + 1) m generation p place block its) ∙ here))
-    ∙ no_right (is_life (frame_at t.seat.frames g).generation)
+    ∙ and_false (is_life (frame_at t.seat.frames g).generation)
 
 pub all_taken : (t : Table) (objects : List ℕ) (g n : ℕ) → n ≡ 15 → is_life (frame_at t.seat.frames g).generation ≡ true → taken_to t objects g n ≡ true → are_all_taken t objects g ≡ true
 all_taken t objects g n end life taken =

@@ -2,10 +2,10 @@
 use Rattle.std.proofs.Common.{◌≡◌, ℕ, suc, ◌+◌, ◌≤◌, ◌||◌, Bool, true, false, cond, List, [], ◌∷◌, ◌++◌, length, refl, sym, ap, subst, ◌∙◌, arith, append_assoc}
 use Rattle.std.specs.List.{count_by, AllByRecursion}
 use Rattle.std.proofs.lemmas.List.{append-nil}
-use Rattle.std.proofs.lemmas.List.Sums.{sum_by-cons}
 use Rattle.codec.specs.declared.versions.ImageVersion.TheVariants.{First}
 use Rattle.image_parts.specs.Frames.{FrameFields, is_open, IsReadOf, HasNoParts, KeepsFrameRulesBy, EachKeepsFrameRules, KeepFrameRulesBy}
 use Rattle.image_parts.specs.declared.frame_rules.FrameRead.{FrameRead}
+use Rattle.verifier.proofs.Frames.{either_open, count_more}
 use Rattle.earlier_images.specs.declared.frames.EarlierFrame.{EarlierFrame}
 use Rattle.earlier_images.specs.Used.{AreFramesOf}
 
@@ -40,9 +40,6 @@ one_breaks parts n opened f rest left done h is breaks keep =
     let K : LeftKeep n opened (f ∷ rest) = subst (LeftKeep n opened) is (h.back keep) in
     breaks (K.each.0, K.whole.0)
 
-count_more : (f : FrameFields) (rest : List FrameFields) → count_by is_open (f ∷ rest) ≡ cond {A = ℕ} (is_open f) 1 0 + count_by is_open rest
-count_more f rest = sum_by-cons (λ y. cond (is_open y) 1 0) f rest
-
 -- two frames are open
 pub two_open : (parts : List FrameFields) (n : ℕ) (opened : Bool) (f : FrameFields) (rest left : List FrameFields) (done : List EarlierFrame) → HaveRead parts n opened left done → left ≡ f ∷ rest → opened ≡ true → is_open f ≡ true
     → KeepFrameRulesBy First parts → ⊥
@@ -51,12 +48,6 @@ two_open parts n opened f rest left done h is before here keep =
     let a : ◌≡◌ {A = ℕ} (cond opened 1 0) 1 = ap (λ (t : Bool). cond {A = ℕ} t 1 0) before in
     let b : ◌≡◌ {A = ℕ} (cond (is_open f) 1 0) 1 = ap (λ (t : Bool). cond {A = ℕ} t 1 0) here in
     omega (arith, K.open_one, a, b, count_more f rest)
-
-either_open : (opened here : Bool) → (opened ≡ true → here ≡ true → ⊥) → ◌≡◌ {A = ℕ} (cond (opened || here) 1 0) (cond {A = ℕ} opened 1 0 + cond {A = ℕ} here 1 0)
-either_open true true not_both = absurd (not_both refl refl)
-either_open true false not_both = refl
-either_open false true not_both = refl
-either_open false false not_both = refl
 
 -- one frame more, which keeps its rules and isn't a second open one
 pub one_read : (parts : List FrameFields) (n : ℕ) (opened : Bool) (f : FrameFields) (rest left : List FrameFields) (done new : List EarlierFrame) (read : FrameRead) → HaveRead parts n opened left done → left ≡ f ∷ rest

@@ -2,7 +2,6 @@
 use Rattle.std.proofs.Common.{◌≡◌, ◌≢◌, ℕ, zero, suc, ◌<◌, ◌≤◌, ◌||◌, ◌&&◌, Bool, true, false, cond, eqb, if◌then◌else◌, List, [], ◌∷◌, length, map, get_or, Option, Some, None, refl, sym, ap, ◌∙◌, inl, inr, arith}
 use Rattle.std.specs.Prelude.{option_map, slice_get}
 use Rattle.std.proofs.lemmas.Bool.{cases_lt, eqb-true, ne_eqb, and_parts, false≢true}
-use Rattle.std.proofs.lemmas.List.{get_or_past}
 use Rattle.s4_types.specs.Pointer.{Place}
 use Rattle.block_log.specs.Log.{Stored}
 use Rattle.codec.specs.declared.summaries.BlockRole.{BlockRole}
@@ -10,7 +9,7 @@ use Rattle.codec.specs.Summary.{SummaryFields}
 use Rattle.image_parts.specs.Frames.{FrameFields, state_of, generation_of, IsReadOf}
 use Rattle.image_parts.specs.declared.frame_rules.FrameRead.{FrameRead}
 use Rattle.image_parts.specs.declared.frame_rules.FrameRead.TheVariants.{Free as FreeRead, Used}
-use Rattle.segment_word.specs.Frames.{Phase, Free, Open, Sealed, Draining, Frame, no_frame, is_open, is_sealed}
+use Rattle.segment_word.specs.Frames.{Phase, Free, Open, Sealed, Draining, Frame, is_open, is_sealed}
 use Rattle.segment_word.specs.Layout.{phase_of, frame_at, block_bytes}
 use Rattle.segment_table.specs.declared.slots.Slot.{Slot}
 use Rattle.segment_table.specs.Table.{Table, slots_at}
@@ -18,6 +17,7 @@ use Rattle.segment_table.specs.Used.{used_slot, used_at}
 use Rattle.segment_table.specs.Used.{with_bytes as slot_with_bytes, used_block as table_block}
 use Rattle.segment_table.specs.Sealing.{summary_of}
 use Rattle.verifier.specs.Tables.{no_part, block_in, IsFrameOf, IsTableOf}
+use Rattle.verifier.proofs.Retold.{no_block}
 use Rattle.earlier_images.specs.declared.frames.EarlierFrame.{EarlierFrame}
 use Rattle.earlier_images.specs.Used.{roles_of, role_at, with_bytes, is_named, used_block, used_of, used_in, AreFramesOf}
 use Rattle.earlier_images.proofs.OneFrames.{OneSummaryASpelling}
@@ -117,9 +117,6 @@ no_frame_there [] (k ∷ frames) n are past = absurd are
 no_frame_there (f ∷ parts) [] n are past = absurd are
 no_frame_there (f ∷ parts) (k ∷ frames) zero are past = absurd (omega arith)
 no_frame_there (f ∷ parts) (k ∷ frames) (suc n) are past = no_frame_there parts frames n are.1 (omega arith)
-
-no_block : (t : Table) (f b g : ℕ) → length t.seat.frames ≤ f → table_block (frame_at t.seat.frames f) (slots_at t.slots f) b g ≡ None
-no_block t f b g past = ap (λ (k : Frame). table_block k (slots_at t.slots f) b g) (get_or_past t.seat.frames f no_frame past)
 
 pub names_same : OneSummaryASpelling → (parts : List FrameFields) (frames : List EarlierFrame) (t : Table) (p : Place) → AreFramesOf parts frames → IsTableOf parts t → used_in frames p ≡ used_at t p
 names_same one parts frames t p are is = elim (cases_lt p.frame (length parts)) [

@@ -1,13 +1,13 @@
 -- Frames that hold nothing are marked and released, one after the other.
-use Rattle.std.proofs.Common.{◌≡◌, ◌⊎◌, ℕ, zero, suc, ◌+◌, ◌<◌, ◌≤◌, Bool, true, false, cond, Result, Ok, Err, inl, inr, List, [], ◌∷◌, length, Option, refl, sym, ap, subst, ◌∙◌, arith}
+use Rattle.std.proofs.Common.{◌≡◌, ◌⊎◌, ℕ, zero, suc, ◌+◌, ◌<◌, ◌≤◌, Bool, true, false, Result, Ok, Err, inl, inr, List, [], ◌∷◌, length, Option, refl, sym, ap, subst, ◌∙◌, arith}
 use Rattle.std.specs.Prelude.{OnOk, OnErr, IfErr, slice_set, count_by}
 use Rattle.std.specs.List.{range_with_len}
 use Rattle.std.proofs.lemmas.Bool.{cases_eq, false≢true}
 use Rattle.std.proofs.lemmas.List.{get_or-set_same, get_or-set_other, length-set}
-use Rattle.std.proofs.lemmas.List.Sums.{sum_by-cons}
 use Rattle.s4_types.specs.Pointer.{Place}
 use Rattle.s4_types.specs.declared.refusals.Refusal.{Refusal}
 use Rattle.s4_types.specs.declared.refusals.Refusal.TheVariants.{InUse}
+use Rattle.lemmas.proofs.Range.{count_first, count_last, tally}
 use Rattle.block_log.specs.Log.{Stored}
 use Rattle.segment_word.specs.Frames.{Phase, Free, Open, Sealed, Draining, is_draining, Frame, Releases, no_frame}
 use Rattle.segment_word.specs.Layout.{frame_at, word_of}
@@ -175,12 +175,6 @@ mark_step (Err e) f old d new sofar marks = record {
 
 -- ---- counting
 
-abbrev pub tally : Bool → ℕ
-tally b = cond b 1 0
-
-pub count_first : (p : ℕ → Bool) (a n : ℕ) → count_by p (range_with_len a (suc n)) ≡ tally (p a) + count_by p (range_with_len (a + 1) n)
-count_first p a n = sum_by-cons (λ (x : ℕ). tally (p x)) a (range_with_len (a + 1) n)
-
 pub count_alike : (p q : ℕ → Bool) (a n : ℕ) → ((k : ℕ) → a ≤ k → k < a + n → p k ≡ q k) → count_by p (range_with_len a n) ≡ count_by q (range_with_len a n)
 count_alike p q a zero alike = refl
 count_alike p q a (suc n) alike =
@@ -188,14 +182,6 @@ count_alike p q a (suc n) alike =
     ∙ ap (λ (b : Bool). tally b + count_by p (range_with_len (a + 1) n)) (alike a (omega arith) (omega arith))
     ∙ ap (λ (m : ℕ). tally (q a) + m) (count_alike p q (a + 1) n (λ k low high. alike k (omega arith) (omega arith)))
     ∙ sym (count_first q a n)
-
-count_last : (p : ℕ → Bool) (a n : ℕ) → count_by p (range_with_len a (suc n)) ≡ count_by p (range_with_len a n) + tally (p (a + n))
-count_last p a zero =
-    let here : tally (p (a + 0)) ≡ tally (p a) = ap (λ (m : ℕ). tally (p m)) (omega arith) in
-    omega (arith, count_first p a 0, here)
-count_last p a (suc n) =
-    let here : tally (p (a + 1 + n)) ≡ tally (p (a + suc n)) = ap (λ (m : ℕ). tally (p m)) (omega arith) in
-    omega (arith, count_first p a (suc n), count_last p (a + 1) n, count_first p a n, here)
 
 -- one more number is counted, or isn't
 pub count_more : (p q : ℕ → Bool) (n : ℕ) → ((k : ℕ) → k < n → p k ≡ q k) → count_by p (range_with_len 0 (n + 1)) ≡ count_by q (range_with_len 0 n) + tally (p n)
@@ -304,11 +290,6 @@ skip_step first n f old d e last next sofar same not is =
     })
 
 -- ---- where a frame had a reader
-
--- what holds whatever was refused
-pub on_err_of : {A E X : Type 0} (r : Result A E) → X → OnErr r X
-on_err_of (Ok a) x = tt
-on_err_of (Err e) x = x
 
 draining_is : (p : Phase) → is_draining p ≡ true → p ≡ Draining
 draining_is Free is = absurd (false≢true is)

@@ -18,15 +18,17 @@ use Rattle.codec.specs.Journal.{JournalFields}
 use Rattle.journal_chain.specs.Packing.{joined}
 use Rattle.journal_chain.specs.Chain.{BlockView, Link, journal_of, journal_in, links_from, chain_links, entries_in}
 use Rattle.s4_types.specs.declared.limits.TheConstants.{CHAIN_BLOCKS}
+use Rattle.lemmas.proofs.Range.{count_first, tally}
 use Rattle.object_map.specs.declared.map.Row.{Row}
 use Rattle.object_map.specs.Rows.{row_of}
+use Rattle.codec.proofs.Fronts.{bit_most}
 use Rattle.time_read.specs.Rows.{entries_of, inode_of}
 use Rattle.time_read.specs.Orderly.{BeginsDead, IsFromTo}
 use Rattle.version_store.specs.Store.{IsStore}
 use Rattle.checkpoint.specs.Held.{checkpoint_held, checkpoint_places, of_checkpoints, is_one_of, HasBytes, HasItsBlocks}
 use Rattle.checkpoint.proofs.OwnBlocks.{IsOwn, seen_own, has_some}
 use Rattle.drive.specs.Fields.{DriveFields, store_of}
-use Rattle.history_cleaner.proofs.Emptied.{tally, count_first, count_alike}
+use Rattle.history_cleaner.proofs.Emptied.{count_alike}
 
 -- ---- numbers of a list
 
@@ -48,16 +50,12 @@ but_else test x o other = elim (cases_Bool (test o)) [
 but_past : (test : ℕ → Bool) (x a n : ℕ) → x < a → count_by test (range_with_len a n) ≡ count_by (but test x) (range_with_len a n)
 but_past test x a n past = count_alike test (but test x) a n (λ k low high. but_else test x k (λ same. omega (arith, same, low, past)))
 
-at_most_one : (b : Bool) → tally b ≤ 1
-at_most_one true = omega arith
-at_most_one false = omega arith
-
 one_more : (test : ℕ → Bool) (x a n : ℕ) → count_by test (range_with_len a n) ≤ count_by (but test x) (range_with_len a n) + 1
 one_more test x a zero = omega arith
 one_more test x a (suc n) = elim (cases_eq a x) [
   | inl here ↦
       let rest : count_by test (range_with_len (a + 1) n) ≡ count_by (but test x) (range_with_len (a + 1) n) = but_past test x (a + 1) n (omega (arith, here)) in
-      omega (arith, count_first test a n, count_first (but test x) a n, rest, at_most_one (test a))
+      omega (arith, count_first test a n, count_first (but test x) a n, rest, bit_most (test a))
   | inr other ↦
       let same : tally (test a) ≡ tally (but test x a) = ap tally (but_else test x a other) in
       omega (arith, count_first test a n, count_first (but test x) a n, same, one_more test x (a + 1) n)

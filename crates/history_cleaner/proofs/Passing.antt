@@ -1,16 +1,17 @@
 -- What holds of a pass over all objects that has come to one.
-use Rattle.std.proofs.Common.{◌≡◌, ◌⊎◌, ℕ, zero, suc, ◌+◌, ◌-◌, ◌<◌, ◌≤◌, ◌==◌, Bool, true, false, cond, inl, inr, List, [], Option, Some, None, IsSome, refl, sym, ap, subst, ◌∙◌, arith}
-use Rattle.std.specs.Prelude.{IfSome, count_by, unwrap_or}
+use Rattle.std.proofs.Common.{◌≡◌, ◌⊎◌, ℕ, zero, suc, ◌+◌, ◌-◌, ◌<◌, ◌≤◌, ◌==◌, Bool, true, false, cond, inl, inr, List, Option, Some, None, IsSome, refl, sym, ap, subst, ◌∙◌, arith}
+use Rattle.std.specs.Prelude.{IfSome, count_by}
 use Rattle.std.specs.List.{range_with_len}
 use Rattle.std.proofs.lemmas.Bool.{cases_lt, ne_eqb, false≢true}
 use Rattle.s4_types.specs.Pointer.{Place}
 use Rattle.s4_types.specs.declared.refusals.Refusal.{Refusal}
 use Rattle.s4_types.specs.declared.refusals.Refusal.TheVariants.{NoMemory, NoRoom, InUse}
+use Rattle.lemmas.proofs.Option.{none_not_some}
+use Rattle.lemmas.proofs.Range.{tally}
 use Rattle.block_log.specs.declared.kinds.BlockKind.TheVariants.{Journal, Data}
-use Rattle.block_log.specs.Log.{Stored, of_kind}
+use Rattle.block_log.specs.Log.{of_kind}
 use Rattle.codec.specs.Entry.{EntryFields}
 use Rattle.undo_redo.specs.Runs.{entries_by}
-use Rattle.journal_chain.specs.Chain.{BlockView, entries_in, chain_entries}
 use Rattle.object_map.specs.declared.map.Row.{Row}
 use Rattle.object_map.specs.Rows.{row_of}
 use Rattle.object_map.specs.Objects.{IsNextAbove}
@@ -19,6 +20,7 @@ use Rattle.segment_word.specs.AcceptViews.{Ledger}
 use Rattle.s4_model.specs.State.{State, state_of}
 use Rattle.s4_model.specs.Visible.{IsVisible}
 use Rattle.segment_table.specs.Rules.{HasFramesInOrder}
+use Rattle.time_read.proofs.Staying.{same_entries}
 use Rattle.version_store.specs.Store.{StoreFields, IsStore}
 use Rattle.version_store.specs.Versions.{inode_in}
 use Rattle.drive.specs.Fields.{DriveFields, state_in, store_of}
@@ -26,10 +28,11 @@ use Rattle.drive.specs.Keeping.{KeepsVersions}
 use Rattle.history_cleaner.specs.Cleaning.{IsUntouched, OthersStay, IsSeenThroughout, IsClean, HasNoRoom}
 use Rattle.history_cleaner.specs.Passing.{is_other, is_gone, has_other_row, has_lost_row, IsCount, IsCleaned, StoppedAt, StoppedAtReader}
 use Rattle.version_store.specs.Upkeep.{KeepsObjects}
+use Rattle.drive.proofs.Opening.{no_row_of_0}
 use Rattle.history_cleaner.specs.Emptying.{StopsAtReader}
 use Rattle.history_cleaner.specs.Reaching.{IsReached, HoldsWhatIsReached, HeldIsWhatIsReached, RowTellsOfSeenPlaces}
 use Rattle.history_cleaner.specs.private.Counting.{NamesPlaces}
-use Rattle.history_cleaner.proofs.Emptied.{tally, count_alike, count_more}
+use Rattle.history_cleaner.proofs.Emptied.{count_alike, count_more}
 use Rattle.history_cleaner.proofs.Few.{HasBlock, LeadsToItsOwn, few_with_blocks, row_block}
 
 -- ---- counts over a range of numbers
@@ -63,10 +66,6 @@ one_more false n m is = is ∙ omega arith
 
 -- ---- what stays of an object that isn't touched
 
-entries_stay : (held later : Place → Option Stored) (o : ℕ) (row : Row) → of_kind Journal o later ≡ of_kind Journal o held → entries_of later o row ≡ entries_of held o row
-unfolding chain_entries
-entries_stay held later o row same = ap (λ (view : BlockView). unwrap_or (entries_in view o row.head) []) same
-
 seen_stays : (s later : StoreFields) (state : State) (o : ℕ) (r : Option Row) → ((row : Row) → entries_of later.log.held o row ≡ entries_of s.log.held o row) → IfSome r (IsSeenThroughout s state o) → IfSome r (IsSeenThroughout later state o)
 seen_stays s later state o None same clean = tt
 seen_stays s later state o (Some row) same clean = subst (λ (es : List EntryFields). (t : ℕ) → (u : ℕ) × (IsVisible state o u × (entries_by u es ≡ entries_by t es))) (sym (same row)) clean
@@ -74,7 +73,7 @@ seen_stays s later state o (Some row) same clean = subst (λ (es : List EntryFie
 clean_stays : (s later : StoreFields) (state : State) (o : ℕ) → IsUntouched s later o → IsClean s state o → IsClean later state o
 clean_stays s later state o same clean =
     subst (λ (r : Option Row). IfSome r (IsSeenThroughout later state o)) (sym same.row)
-    (seen_stays s later state o (row_of s.rows o) (λ row. entries_stay s.log.held later.log.held o row (same.blocks Journal)) clean)
+    (seen_stays s later state o (row_of s.rows o) (λ row. same_entries s.log.held later.log.held o row (same.blocks Journal)) clean)
 
 reached_again : (s later : StoreFields) (state : State) (o : ℕ) (p : Place) → ((t : ℕ) → inode_in later o t ≡ inode_in s o t) → IsReached s state o p → IsReached later state o p
 reached_again s later state o p same reached = record {
@@ -144,29 +143,19 @@ pub record HasStepped (d later : DriveFields) (o n m more lost : ℕ) : Type 0 w
   pub ledger : later.ledger ≡ d.ledger
   pub needed : KeepsVersions (state_in d) (store_of d) (store_of later)
 
--- no object has number 0
-no_row : (s : StoreFields) (r : Option Row) → IsStore s → row_of s.rows 0 ≡ r → r ≡ None
-no_row s None store is = refl
-no_row s (Some row) store is =
-    let one : 1 ≤ 0 = (store.objects 0 row is).stands.object in
-    absurd (omega (arith, one))
-
-some_not : (r : Option Row) → r ≡ None → IsSome r → ⊥
-some_not r none some = false≢true (subst (λ (x : Option Row). IsSome x) none some)
-
 is_zero : (q : ℕ) → q ≤ 0 → 0 ≡ q
 is_zero q le = omega (arith, le)
 
 pub begun : HeldIsWhatIsReached → (d : DriveFields) → IsStore (store_of d) → HasPassed d d 0 0 0
 begun reached d store =
     let rows : List (ℕ × Row) = d.store.rows in
-    let none : row_of rows 0 ≡ None = no_row (store_of d) (row_of rows 0) store refl in
+    let none : row_of rows 0 ≡ None = no_row_of_0 (store_of d) (row_of rows 0) refl store in
     let other : tally (has_other_row rows rows 0) ≡ 0 = ap (λ (r : Option Row). tally (is_other r (row_of rows 0))) none in
     let lost : tally (has_lost_row rows rows 0) ≡ 0 = ap (λ (r : Option Row). tally (is_gone r (row_of rows 0))) none in
     record {
       cleaned = λ q le. subst (IsCleaned (store_of d) (store_of d) (state_in d)) (is_zero q le) (bare_cleaned reached (store_of d) (store_of d) (state_in d) 0 store none);
       rest = λ q above. touched_none (store_of d) q;
-      blocks = λ q le some. absurd (some_not (row_of rows 0) none (subst (λ (x : ℕ). IsSome (row_of rows x)) (sym (is_zero q le)) some));
+      blocks = λ q le some. absurd (none_not_some (row_of rows 0) none (subst (λ (x : ℕ). IsSome (row_of rows x)) (sym (is_zero q le)) some));
       rewritten = omega (arith, other, count_more (has_other_row rows rows) (has_other_row rows rows) 0 (λ k below. refl));
       removed = omega (arith, lost, count_more (has_lost_row rows rows) (has_lost_row rows rows) 0 (λ k below. refl));
       few_rewritten = omega arith;
@@ -222,7 +211,7 @@ cleaned_since s mid later state o needed is = record {
   held = is.held;
 }
 
-state_stays : (d later : DriveFields) → later.ledger ≡ d.ledger → state_in later ≡ state_in d
+pub state_stays : (d later : DriveFields) → later.ledger ≡ d.ledger → state_in later ≡ state_in d
 state_stays d later same = ap (λ (l : Ledger). state_of l.history) same
 
 pub passed : LeadsToItsOwn → HeldIsWhatIsReached → (d mid later : DriveFields) (o next n m more lost : ℕ) → IsStore (store_of d) → HasPassed d mid o n m → IsNextAbove mid.store.rows o next → IfSome (row_of mid.store.rows next) NamesPlaces → HasStepped mid later next n m more lost
@@ -236,7 +225,7 @@ passed own reached d mid later o next n m more lost store so is places step =
       | inr ge ↦ subst (HasBlock d.store.table) (same_number next q le ge)
           (named_block own d next (row_of d.store.rows next) store refl (subst (λ (r : Option Row). IfSome r NamesPlaces) (so.rest next above).row places) (subst (λ (x : ℕ). IsSome (row_of d.store.rows x)) (sym (same_number next q le ge)) some))
       | inl below ↦ elim (cases_lt o q) [
-        | inl past ↦ absurd (some_not (row_of d.store.rows q) (sym (so.rest q past).row ∙ is.least q past below) some)
+        | inl past ↦ absurd (none_not_some (row_of d.store.rows q) (sym (so.rest q past).row ∙ is.least q past below) some)
         | inr old ↦ so.blocks q old some
       ]
     ] in

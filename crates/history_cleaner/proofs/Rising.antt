@@ -3,12 +3,13 @@ use Rattle.std.proofs.Common.{◌≡◌, ℕ, ◌+◌, ◌≤◌, ◌++◌, ◌�
 use Rattle.std.specs.Prelude.{count_by, nat_lt}
 use Rattle.std.specs.List.{range_with_len}
 use Rattle.std.proofs.lemmas.List.FromFn.{length-map-range_with_len, get_or-map-range_with_len, map-range_with_len_more}
+use Rattle.lemmas.proofs.Range.{tally}
 use Rattle.segment_word.specs.Frames.{Frame}
 use Rattle.segment_word.specs.Handles.{Drive}
 use Rattle.segment_word.specs.Layout.{frame_at}
 use Rattle.history_cleaner.specs.Emptying.{has_risen, frames_risen}
 use Rattle.history_cleaner.specs.private.Emptying.{generations_in, is_later}
-use Rattle.history_cleaner.proofs.Emptied.{tally, count_alike, count_more}
+use Rattle.history_cleaner.proofs.Emptied.{count_alike, count_more}
 
 abbrev pub generation_at : List Frame → ℕ → ℕ
 generation_at frames f = (frame_at frames f).generation

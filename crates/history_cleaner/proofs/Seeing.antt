@@ -1,37 +1,23 @@
 -- What can be seen of an object, as a test and as a fact.
-use Rattle.std.proofs.Common.{◌≡◌, ℕ, zero, suc, ◌+◌, ◌-◌, ◌<◌, ◌≤◌, ◌&&◌, ◌||◌, Bool, true, false, leb, inl, inr, refl, sym, ap, ◌∙◌, arith}
+use Rattle.std.proofs.Common.{◌≡◌, ℕ, zero, suc, ◌+◌, ◌-◌, ◌<◌, ◌≤◌, ◌&&◌, Bool, true, false, leb, inl, inr, refl, sym, ap, ◌∙◌, arith}
 use Rattle.std.specs.Prelude.{not, MatchBool}
 use Rattle.std.specs.List.{list_any, range_with_len}
-use Rattle.std.proofs.lemmas.Bool.{cases_Bool, cases_lt, and_parts, or_cases, both_ways, leb-true, le-leb}
+use Rattle.std.proofs.lemmas.Bool.{cases_Bool, cases_lt, and_parts, or_cases, both_ways, leb-true, le-leb, not-true, or_left, or_right, and_from}
 use Rattle.s4_model.specs.State.{State}
 use Rattle.s4_model.specs.Visible.{IsVisible, IsSeenBetween, is_hidden}
 use Rattle.chain_rewriting.specs.CleaningLaws.{FitsSight}
 use Rattle.history_cleaner.specs.Sight.{is_visible, is_seen_between}
 
-and_both : (a b : Bool) → a ≡ true → b ≡ true → (a && b) ≡ true
-and_both a b p q = ap (λ (x : Bool). x && b) p ∙ q
-
-or_first : (a b : Bool) → a ≡ true → (a || b) ≡ true
-or_first a b p = ap (λ (x : Bool). x || b) p
-
-or_second : (a b : Bool) → b ≡ true → (a || b) ≡ true
-or_second true b p = refl
-or_second false b p = p
-
-not_true : (b : Bool) → not b ≡ true → b ≡ false
-not_true true h = sym h
-not_true false h = refl
-
 pub visible_true : (s : State) (o t : ℕ) → IsVisible s o t → is_visible s o t ≡ true
 visible_true s o t h =
-    and_both (leb s.floor t) (leb t s.clock && not (is_hidden s o t)) (le-leb s.floor t h.kept)
-    (and_both (leb t s.clock) (not (is_hidden s o t)) (le-leb t s.clock h.reached) (ap not h.shown))
+    and_from (leb s.floor t) (leb t s.clock && not (is_hidden s o t)) (le-leb s.floor t h.kept)
+    (and_from (leb t s.clock) (not (is_hidden s o t)) (le-leb t s.clock h.reached) (ap not h.shown))
 
 pub true_visible : (s : State) (o t : ℕ) → is_visible s o t ≡ true → IsVisible s o t
 true_visible s o t h =
     let all = and_parts (leb s.floor t) (leb t s.clock && not (is_hidden s o t)) h in
     let late = and_parts (leb t s.clock) (not (is_hidden s o t)) all.1 in
-    record { kept = leb-true s.floor t all.0; reached = leb-true t s.clock late.0; shown = not_true (is_hidden s o t) late.1 }
+    record { kept = leb-true s.floor t all.0; reached = leb-true t s.clock late.0; shown = not-true (is_hidden s o t) late.1 }
 
 -- a number of a range passes a test
 found : (p : ℕ → Bool) (a n : ℕ) → list_any p (range_with_len a n) ≡ true → (t : ℕ) × ((a ≤ t) × ((t < a + n) × (p t ≡ true)))
@@ -48,10 +34,10 @@ found p a (suc n) h = elim (or_cases (p a) (list_any p (range_with_len (a + 1) n
 there : (p : ℕ → Bool) (a n t : ℕ) → a ≤ t → t < a + n → p t ≡ true → list_any p (range_with_len a n) ≡ true
 there p a zero t low high h = absurd (omega (arith, low, high))
 there p a (suc n) t low high h = elim (cases_lt a t) [
-  | inl past ↦ or_second (p a) (list_any p (range_with_len (a + 1) n)) (there p (a + 1) n t (omega (arith, past)) (omega (arith, high)) h)
+  | inl past ↦ or_right (p a) (list_any p (range_with_len (a + 1) n)) (there p (a + 1) n t (omega (arith, past)) (omega (arith, high)) h)
   | inr le ↦
       let same : a ≡ t = omega (arith, low, le) in
-      or_first (p a) (list_any p (range_with_len (a + 1) n)) (ap p same ∙ h)
+      or_left (p a) (list_any p (range_with_len (a + 1) n)) (ap p same ∙ h)
 ]
 
 pub fits : (s : State) (o : ℕ) → FitsSight (is_seen_between s o) (is_visible s o)

@@ -14,6 +14,7 @@ use Rattle.version_store.specs.Replacing.{inode_led}
 use Rattle.chain_rewriting.specs.Chains.{IsChain}
 use Rattle.chain_rewriting.specs.Cleaned.{KeptChain, cleaned}
 use Rattle.chain_rewriting.specs.CleaningLaws.{ShowsAlike, AKeptChainIsARun, AKeptChainHasOldMoments, AKeptChainShowsTheSame, NoKeptChainShowsNothing, AKeptChainIsSeenAlive, AKeptChainHasSeenInodesAlone, AChainIsOneLater}
+use Rattle.drive.proofs.Told.{live_meaning}
 use Rattle.history_cleaner.specs.Laws.{HasChain, IsSight, first_stored, left_of, WhatIsLeftShowsTheSame, NothingIsLeftOfTheAbsent, WhatIsLeftIsSeen, WhatIsLeftIsSeenThroughout}
 use Rattle.history_cleaner.proofs.Stored.{RunLaws, at_moment, shown_is, stored_chain}
 use Rattle.history_cleaner.proofs.Standing.{some_of}
@@ -30,9 +31,6 @@ pub record Laws : Type 0 where
 
 dead_means : (contents : Place → List ℕ) (i : Inode) → i.alive ≡ false → meaning contents i ≡ Absent
 dead_means contents i dead = ap (λ (b : Bool). cond b (Live (bytes_of contents i) i.attribute i.created i.changed) Absent) dead
-
-alive_means : (contents : Place → List ℕ) (i : Inode) → i.alive ≡ true → meaning contents i ≡ Live (bytes_of contents i) i.attribute i.created i.changed
-alive_means contents i alive = ap (λ (b : Bool). cond b (Live (bytes_of contents i) i.attribute i.created i.changed) Absent) alive
 
 alike_means : (contents : Place → List ℕ) (i j : Inode) → ShowsAlike i j → meaning contents j ≡ meaning contents i
 alike_means contents i j alike = elim alike [
@@ -120,7 +118,7 @@ left_seen laws sees visible s o clock row chain h sight left =
     let found = some_of (cleaned sees clock first entries) (λ c. (u : ℕ) × ((visible u ≡ true) × ((inode_after first entries u).alive ≡ true))) chain left (laws.alive sees visible row.created clock clock first entries sight.fits sight.now (omega arith) base) in
     let i : Inode = inode_of s.log.held o row found.0 in
     let there : version_in s o found.0 ≡ Live (bytes_of (contents_of s.log.held) i) i.attribute i.created i.changed =
-    version_is s o clock found.0 row h ∙ alive_means (contents_of s.log.held) i (sym (ap (λ (j : Inode). j.alive) (shown_is laws.run s o clock found.0 row h)) ∙ found.1.1) in
+    version_is s o clock found.0 row h ∙ live_meaning (contents_of s.log.held) i (sym (ap (λ (j : Inode). j.alive) (shown_is laws.run s o clock found.0 row h)) ∙ found.1.1) in
     (found.0, (found.1.0, λ absent. not_live (bytes_of (contents_of s.log.held) i) i.attribute i.created i.changed (sym there ∙ absent)))
 
 pub left_throughout : Laws → WhatIsLeftIsSeenThroughout

@@ -2,7 +2,7 @@
 use Rattle.std.proofs.Common.{◌≡◌, ℕ, zero, suc, ◌<◌, ◌≤◌, ◌||◌, Bool, true, false, leb, cond, inl, inr, List, [], ◌∷◌, get_or, length, Option, Some, None, refl, sym, ap, subst, ◌∙◌, arith}
 use Rattle.std.specs.Prelude.{IfSome}
 use Rattle.std.specs.List.{AllByRecursion, Contains}
-use Rattle.std.proofs.lemmas.Bool.{cases_Bool, and_parts, leb-true, le-leb}
+use Rattle.std.proofs.lemmas.Bool.{cases_Bool, and_parts, le-leb}
 use Rattle.std.proofs.lemmas.List.{get_or_default}
 use Rattle.std.proofs.lemmas.List.Elements.{Contains-append_cases}
 use Rattle.std.proofs.lemmas.Option.{same_Some}
@@ -27,6 +27,7 @@ use Rattle.version_store.specs.Checkpointing.{last_entry}
 use Rattle.chain_rewriting.specs.Chains.{IsChain}
 use Rattle.chain_rewriting.specs.Cleaned.{KeptChain, cleaned}
 use Rattle.chain_rewriting.specs.CleaningLaws.{IsOneShown, IsPlaceOf, TellsWithin, HasPlacesWithin, AKeptChainIsARun, AKeptChainIsGrouped, AKeptChainHasOldMoments, TheMomentsOfAKeptChainAreOld, AKeptChainIsInOrder, AKeptChainShowsOldInodes, AKeptChainPointsToOldPlaces, AChainIsOneLater, AKeptChainTakesNoMoreBytes}
+use Rattle.version_store.proofs.CheckpointSteps.{last_moment_least}
 use Rattle.history_cleaner.specs.Laws.{HasChain, first_stored, WhatIsLeftCanStand, AnEmptyJournalStaysEmpty}
 use Rattle.history_cleaner.proofs.Stored.{RunLaws, first_is, shown_is, stored_chain}
 
@@ -36,19 +37,11 @@ some_of o P chain is h = subst (λ (x : Option KeptChain). IfSome x P) is h
 
 -- ---- moments
 
-low_last : (low : ℕ) (entries : List EntryFields) → moments_ascend_from low entries ≡ true → low ≤ last_moment low entries
-low_last low [] up = omega arith
-low_last low (e ∷ entries) up =
-    let parts = and_parts (leb low e.moment) (moments_ascend_from e.moment entries) up in
-    let le : low ≤ e.moment = leb-true low e.moment parts.0 in
-    let rest : e.moment ≤ last_moment e.moment entries = low_last e.moment entries parts.1 in
-    omega (arith, le, rest)
-
 by_last : (low : ℕ) (entries : List EntryFields) → moments_ascend_from low entries ≡ true → AllBy (last_moment low entries) entries
 by_last low [] up = tt
 by_last low (e ∷ entries) up =
     let parts = and_parts (leb low e.moment) (moments_ascend_from e.moment entries) up in
-    (le-leb e.moment (last_moment e.moment entries) (low_last e.moment entries parts.1), by_last e.moment entries parts.1)
+    (le-leb e.moment (last_moment e.moment entries) (last_moment_least e.moment entries parts.1), by_last e.moment entries parts.1)
 
 -- ---- inodes
 

@@ -1,5 +1,5 @@
 -- What a folder has, file by file.
-use Rattle.std.proofs.Common.{◌≡◌, ◌⊎◌, ◌∙◌, ◌<◌, ◌++◌, ℕ, false, List, [], ◌∷◌, Option, Some, None, Result, Ok, Err, OnOk, IfErr, inl, inr, refl, sym, ap, ap₂, subst}
+use Rattle.std.proofs.Common.{◌≡◌, ◌⊎◌, ◌∙◌, ◌<◌, ◌++◌, ℕ, false, List, [], ◌∷◌, Option, Some, None, Result, Ok, Err, IfErr, inl, inr, refl, sym, ap, ap₂, subst}
 use Rattle.std.specs.Option.{option_map}
 use Rattle.std.proofs.lemmas.List.{map-append}
 use Rattle.s4_types.specs.declared.refusals.Refusal.TheVariants.{NoMemory}
@@ -90,11 +90,6 @@ of_file e file (inr write) = subst IsOfWriting (sym write) tt
 pub of_folder : (files : Option (List NamedFile)) (e : ExportError) → (e ≡ Refused NoMemory) ⊎ (e ≡ CannotRead) → Explains files e
 of_folder files e (inl memory) = subst (Explains files) (sym memory) (inl refl)
 of_folder files e (inr read) = subst (Explains files) (sym read) tt
-
--- what a call gives where it succeeds
-pub for_ok : {A E P Q : Type 0} → (result : Result A E) → (P → Q) → OnOk result P → OnOk result Q
-for_ok (Ok value) f fact = f fact
-for_ok (Err error) f fact = tt
 
 -- ---- drives that stay
 

@@ -1,5 +1,5 @@
 mod Later
 mod Covering
-mod Files
+pub mod Files
 pub mod Counts
 pub mod Seen

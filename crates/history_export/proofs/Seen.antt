@@ -1,11 +1,11 @@
 -- Which moments can be read, as a test and as a fact.
-use Rattle.std.proofs.Common.{◌≡◌, ◌⊎◌, ◌∙◌, ◌+◌, ◌-◌, ◌<◌, ◌≤◌, ℕ, zero, suc, Bool, true, false, cond, List, [], ◌∷◌, length, get_or, Option, Some, None, nat_lt, Result, Ok, Err, IfErr, inl, inr, refl, ap, sym, subst, arith}
-use Rattle.std.proofs.lemmas.Bool.{le-ltb, cond-true, cond-false, true≢false, false_from_ne_true, cases_Bool, cases_lt, cases_eq}
+use Rattle.std.proofs.Common.{◌≡◌, ◌⊎◌, ◌∙◌, ◌+◌, ◌-◌, ◌<◌, ◌≤◌, ℕ, zero, suc, Bool, true, false, List, [], ◌∷◌, length, get_or, Option, Some, None, Result, Ok, Err, IfErr, inl, inr, refl, ap, sym, subst, arith}
+use Rattle.std.proofs.lemmas.Bool.{cond-true, cond-false, true≢false, false_from_ne_true, cases_Bool, cases_lt, cases_eq}
 use Rattle.s4_types.specs.declared.refusals.Refusal.{Refusal}
-use Rattle.s4_types.specs.declared.refusals.Refusal.TheVariants.{NoMemory, Busy, Future, Expired, Flushed}
+use Rattle.s4_types.specs.declared.refusals.Refusal.TheVariants.{NoMemory, Busy}
 use Rattle.s4_model.specs.State.{State}
 use Rattle.s4_model.specs.Refusals.{moment_refusal}
-use Rattle.s4_model.specs.Visible.{IsVisible, IsSeenBetween, is_hidden}
+use Rattle.s4_model.specs.Visible.{IsVisible, IsSeenBetween}
 use Rattle.s4_model.specs.Sound.{IsSound}
 use Rattle.codec.specs.Entry.{EntryFields}
 use Rattle.object_map.specs.declared.map.Row.{Row}
@@ -15,25 +15,18 @@ use Rattle.time_read.specs.Orderly.{IsFromTo}
 use Rattle.version_store.specs.Store.{StoreFields, IsStore}
 use Rattle.version_store.specs.Versions.{entries_of_object, entries_of_row}
 use Rattle.std.specs.List.{AllByRecursion}
+use Rattle.drive.proofs.Told.{visible_not_refused}
 use Rattle.history_view.specs.Listing.{is_visible}
 use Rattle.history_view.proofs.Shown.{visible_then, then_visible, clock_is_visible}
 use Rattle.history_export.specs.Versions.{first_from, seen_from}
 
 -- ---- a moment that can be read is refused for want alone
 
-none_refused : (s : State) (o t : ℕ) → IsVisible s o t → moment_refusal s o t ≡ None
-none_refused s o t v =
-    let hidden : Option Refusal = cond (is_hidden s o t) (Some Flushed) None in
-    let lower : Option Refusal = cond (nat_lt t s.floor) (Some Expired) hidden in
-    cond-false (nat_lt s.clock t) (Some Future) lower (le-ltb s.clock t v.reached)
-    ∙ cond-false (nat_lt t s.floor) (Some Expired) hidden (le-ltb t s.floor v.kept)
-    ∙ cond-false (is_hidden s o t) (Some Flushed) None v.shown
-
 not_some : (x : Option Refusal) (e : Refusal) → x ≡ None → x ≡ Some e → ⊥
 not_some x e none some = absurd cc
 
 pub only_want : (s : State) (o t : ℕ) (e : Refusal) → IsVisible s o t → (moment_refusal s o t ≡ Some e) ⊎ (e ≡ NoMemory) ⊎ (e ≡ Busy) → (e ≡ NoMemory) ⊎ (e ≡ Busy)
-only_want s o t e v (inl refused) = absurd (not_some (moment_refusal s o t) e (none_refused s o t v) refused)
+only_want s o t e v (inl refused) = absurd (not_some (moment_refusal s o t) e (visible_not_refused s o t v) refused)
 only_want s o t e v (inr want) = want
 
 -- ---- the earliest moment

@@ -2,15 +2,11 @@
 use Rattle.std.proofs.Common.{◌≡◌, ◌∙◌, ◌+◌, ◌/◌, ◌%◌, ◌≤◌, ◌&&◌, ◌==◌, ℕ, true, false, not, List, [], ◌∷◌, flat_map, nat_lt, refl, ap, arith}
 use Rattle.std.specs.List.{list_all, AllByRecursion}
 use Rattle.std.specs.Str.{chars}
-use Rattle.std.proofs.lemmas.Bool.{cond_both, cond-false, and_parts, and_from, not-true, not_from_false, false_from_ne_true, eqb-true}
+use Rattle.std.proofs.lemmas.Bool.{cond_both, cond-false, and_parts, and_from, not-true, not_from_false, ne_eqb}
 use Rattle.std.proofs.lemmas.List.Folds.{list_all-append}
 use lib.Utf8.{encode}
 use Rattle.history_report.specs.Page.{Escaped, escaped_char, is_shown, part_text, shown}
 use Rattle.history_report.specs.Markup.{Text, Name, Tag, Value, read, is_harmless, DataIsHarmless}
-
--- a number that isn't another one
-apart : (b n : ℕ) → (b ≡ n → ⊥) → (b == n) ≡ false
-apart b n differs = false_from_ne_true (b == n) (λ is. differs (eqb-true b n is))
 
 -- such a byte, by its four tests
 harmless_by : (b : ℕ) → (b == 60) ≡ false → (b == 62) ≡ false → (b == 34) ≡ false → (b == 39) ≡ false → is_harmless b ≡ true
@@ -21,7 +17,7 @@ harmless_by b less greater double single =
 
 -- a byte that isn't ASCII is harmless
 high : (b : ℕ) → 128 ≤ b → is_harmless b ≡ true
-high b up = harmless_by b (apart b 60 (λ is. omega (arith, up, is))) (apart b 62 (λ is. omega (arith, up, is))) (apart b 34 (λ is. omega (arith, up, is))) (apart b 39 (λ is. omega (arith, up, is)))
+high b up = harmless_by b (ne_eqb b 60 (λ is. omega (arith, up, is))) (ne_eqb b 62 (λ is. omega (arith, up, is))) (ne_eqb b 34 (λ is. omega (arith, up, is))) (ne_eqb b 39 (λ is. omega (arith, up, is)))
 
 all_high : (bytes : List ℕ) → AllByRecursion (λ b. 128 ≤ b) bytes → list_all is_harmless bytes ≡ true
 all_high [] all = refl

@@ -1,5 +1,5 @@
 -- The text of parts that follow each other.
-use Rattle.std.proofs.Common.{◌≡◌, ◌∙◌, ◌+◌, ◌<◌, ◌++◌, ℕ, List, [], ◌∷◌, length, take, get_or, Option, Result, Ok, Err, OnOk, IfOk, String, string_bytes, decimal, refl, sym, ap, ap₂, subst, append_assoc}
+use Rattle.std.proofs.Common.{◌≡◌, ◌∙◌, ◌+◌, ◌<◌, ◌++◌, ℕ, List, [], ◌∷◌, length, take, get_or, Option, Result, IfOk, String, string_bytes, decimal, refl, sym, ap, ap₂, subst, append_assoc}
 use Rattle.std.specs.List.{flat_map}
 use Rattle.std.specs.Io.KnownBytes.{Appends}
 use Rattle.std.proofs.KnownBytes.{Appends-trans}
@@ -41,11 +41,6 @@ pub page_five : (a b c d e : List Part) → page_text ((((a ++ b) ++ c) ++ d) ++
 page_five a b c d e =
     page_two (((a ++ b) ++ c) ++ d) e
     ∙ ap (λ l. l ++ page_text e) (page_two ((a ++ b) ++ c) d ∙ ap (λ l. l ++ page_text d) (page_two (a ++ b) c ∙ ap (λ l. l ++ page_text c) (page_two a b)))
-
--- what follows from what a call did follows where it did it
-pub on_ok : {T E P Q : Type 0} → (r : Result T E) → (P → Q) → OnOk r P → OnOk r Q
-on_ok (Ok x) f p = f p
-on_ok (Err e) f p = tt
 
 -- ---- texts in place of parts
 

@@ -6,6 +6,7 @@ use Rattle.std.proofs.lemmas.Bool.{true≢false}
 use Rattle.std.proofs.lemmas.List.{take_all}
 use Rattle.s4_types.specs.declared.versions.Version.{Version}
 use Rattle.s4_types.specs.declared.versions.Version.TheVariants.{Absent, Live}
+use Rattle.lemmas.proofs.List.{all_weaker}
 use Rattle.s4_model.specs.State.{State}
 use Rattle.s4_model.specs.VersionAt.{version_of}
 use Rattle.s4_model.specs.Refusals.{present}
@@ -18,7 +19,6 @@ use Rattle.history_restore.specs.Content.{Content, content_of, holding}
 use Rattle.history_restore.specs.Keeping.{LeavesPast}
 use Rattle.history_restore.specs.Plans.{IsChangesOf, IsCut, IsPatch, IsPlan, IsPlanBetween, IsWritten, is_idle}
 use Rattle.history_restore.specs.Whole.{IsRestored}
-use Rattle.history_restore.proofs.Each.{all_weaker}
 
 -- nothing is cut of bytes that are the same
 no_cut : (bytes : List ℕ) (cut : Option ℕ) → IsCut bytes bytes cut → is_none cut ≡ true

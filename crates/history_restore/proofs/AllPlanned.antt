@@ -2,6 +2,8 @@
 use Rattle.std.proofs.Common.{◌≡◌, ◌∙◌, ◌+◌, ◌++◌, ℕ, List, [], ◌∷◌, refl, sym, ap, subst, arith}
 use Rattle.std.specs.List.{AllByRecursion}
 use Rattle.std.proofs.lemmas.List.{map_push}
+use Rattle.std.proofs.SliceLists.{all_by_recursion_push}
+use Rattle.lemmas.proofs.List.{all_weaker}
 use Rattle.s4_model.specs.State.{State}
 use Rattle.version_store.specs.Store.{StoreFields}
 use Rattle.history_restore.specs.declared.aims.Aim.{Aim}
@@ -12,7 +14,7 @@ use Rattle.history_restore.specs.Plans.{change_count}
 use Rattle.history_restore.specs.Aims.{AreAims, AreAskedAims}
 use Rattle.history_restore.specs.Planning.{IsPlanned, PlansEach, aims_planned, changes_planned}
 use Rattle.history_restore.specs.Whole.{IsRestored, PlansAll, PlansAsked, RestoresEach, aims_of, plans_of, planned_of}
-use Rattle.history_restore.proofs.Each.{all_push, all_weaker, map_all}
+use Rattle.history_restore.proofs.Each.{map_all}
 
 pub plans_none : (s : State) (at : ℕ) → PlansEach s at [] []
 plans_none s at = record { aims_are = refl; each = tt }
@@ -21,7 +23,7 @@ plans_none s at = record { aims_are = refl; each = tt }
 pub plans_more : (s : State) (at : ℕ) (a : Aim) (aims : List Aim) (plans : List ObjectPlan) (p : ObjectPlan) → PlansEach s at aims plans → p.aim ≡ a → IsPlanned s at p → PlansEach s at (aims ++ a ∷ []) (plans ++ p ∷ [])
 plans_more s at a aims plans p before is planned = record {
   aims_are = map_push (λ (q : ObjectPlan). q.aim) plans p ∙ ap (λ l. l ++ p.aim ∷ []) before.aims_are ∙ ap (λ (x : Aim). aims ++ x ∷ []) is;
-  each = all_push (IsPlanned s at) plans p before.each planned;
+  each = all_by_recursion_push (IsPlanned s at) plans p before.each planned;
 }
 
 pub plans_all : (s : State) (store : StoreFields) (at : ℕ) (stand_ins : List StandIn) (aims : List Aim) (plans : List ObjectPlan) → AreAims s store at stand_ins aims → PlansEach s at aims plans → PlansAll s store at stand_ins plans

@@ -1,17 +1,17 @@
 -- What is left to refuse of a change of an object that is there, within the limits.
-use Rattle.std.proofs.Common.{◌≡◌, ℕ, true, Option, inl, inr, refl, ap, subst}
+use Rattle.std.proofs.Common.{◌≡◌, ℕ, Option, inl, inr, refl, ap, subst}
 use Rattle.s4_types.specs.History.{History}
 use Rattle.s4_types.specs.declared.requests.Role.{Role}
 use Rattle.s4_types.specs.declared.requests.Request.{Request}
 use Rattle.s4_types.specs.declared.requests.Request.TheVariants.{Update, Query, Control}
 use Rattle.s4_types.specs.declared.refusals.Refusal.{Refusal}
-use Rattle.s4_types.specs.declared.refusals.Refusal.TheVariants.{NoSpace, NoMemory, ChainFull, Busy}
 use Rattle.s4_types.specs.declared.replies.Reply.{Reply}
 use Rattle.s4_types.specs.declared.replies.Reply.TheVariants.{Refused}
 use Rattle.s4_model.specs.State.{State, state_of}
 use Rattle.s4_model.specs.Refusals.{first_refusal}
-use Rattle.s4_model.specs.Step.{Step, Refuses, Serves, MayRefuse, AsFirst, ForMemory, AsOpen, IsLeftOpen, judged}
+use Rattle.s4_model.specs.Step.{Step, Refuses, Serves, MayRefuse, AsFirst, ForMemory, AsOpen, judged}
 use Rattle.s4_model.specs.Laws.{is_of_want}
+use Rattle.s4_model.proofs.TotalLaws.{open_lacks_resource}
 use Rattle.history_restore.specs.Asking.{IsGiven}
 use Rattle.history_restore.proofs.Stepping.{IsOfVersions, IsNoRead, no_read, accepts_none}
 
@@ -23,17 +23,10 @@ judged_as_was h (Update update) now of = refl
 judged_as_was h (Query question) now of = absurd of
 judged_as_was h (Control control) now of = refl
 
-want_of_open : (e : Refusal) → IsLeftOpen e → is_of_want e ≡ true
-want_of_open ChainFull is = refl
-want_of_open NoSpace is = refl
-want_of_open Busy is = refl
-want_of_open NoMemory is = refl
-want_of_open _ is = absurd is
-
 may_is_given : (first : Option Refusal) (request : Request) (e : Refusal) → MayRefuse first request e → IsGiven first e
 may_is_given first request e (AsFirst is) = inr is
 may_is_given first request e (ForMemory is wants) = inl (ap is_of_want is)
-may_is_given first request e (AsOpen none is) = inl (want_of_open e is)
+may_is_given first request e (AsOpen none is) = inl (open_lacks_resource e is)
 
 -- what a step of a request that is judged so is refused for
 pub given_as_was : (h after : History) (role : Role) (request : Request) (now : ℕ) (reply : Reply) (e : Refusal) → judged h request now ≡ state_of h → reply ≡ Refused e → Step h role request now reply after → IsNoRead request

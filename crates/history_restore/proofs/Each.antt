@@ -2,8 +2,10 @@
 use Rattle.std.proofs.Common.{◌≡◌, ◌≢◌, ◌⊎◌, ◌∙◌, ◌+◌, ◌++◌, ◌<◌, ◌≤◌, ℕ, zero, suc, List, [], ◌∷◌, length, take, get_or, map, inl, inr, refl, sym, ap, subst, arith}
 use Rattle.std.specs.List.{AllByRecursion}
 use Rattle.std.proofs.lemmas.List.{map_push, take_more}
+use Rattle.std.proofs.SliceLists.{all_by_recursion_push}
 use Rattle.s4_types.specs.declared.versions.Version.{Version}
 use Rattle.s4_types.specs.declared.versions.Version.TheVariants.{Absent, Live}
+use Rattle.lemmas.proofs.List.{all_weaker}
 use Rattle.s4_model.specs.State.{State}
 use Rattle.s4_model.specs.VersionAt.{version_of}
 use Rattle.s4_model.specs.Visible.{IsVisible}
@@ -34,18 +36,10 @@ all_front P [] (suc n) all = tt
 all_front P (x ∷ xs) zero all = tt
 all_front P (x ∷ xs) (suc n) all = (all.0, all_front P xs n all.1)
 
-pub all_push : {X : Type 0} (P : X → Type 0) (xs : List X) (x : X) → AllByRecursion P xs → P x → AllByRecursion P (xs ++ x ∷ [])
-all_push P [] x all here = (here, tt)
-all_push P (y ∷ xs) x all here = (all.0, all_push P xs x all.1 here)
-
 -- the last of a list that is one longer
 all_last : {X : Type 0} (P : X → Type 0) (xs : List X) (x : X) → AllByRecursion P (xs ++ x ∷ []) → AllByRecursion P xs × P x
 all_last P [] x all = (tt, all.0)
 all_last P (y ∷ xs) x all = let rest = all_last P xs x all.1 in ((all.0, rest.0), rest.1)
-
-pub all_weaker : {X : Type 0} (P Q : X → Type 0) (xs : List X) → ((x : X) → P x → Q x) → AllByRecursion P xs → AllByRecursion Q xs
-all_weaker P Q [] f all = tt
-all_weaker P Q (x ∷ xs) f all = (f x all.0, all_weaker P Q xs f all.1)
 
 -- two facts of all
 all_both : {X : Type 0} (P Q : X → Type 0) (xs : List X) → AllByRecursion P xs → AllByRecursion Q xs → AllByRecursion (λ x. P x × Q x) xs
@@ -166,8 +160,7 @@ read_by_clock s middle o at (inr le) visible = le
 each_stays : (s middle later : State) (a : Aim) (at : ℕ) (all : List Restored) → s.next ≤ middle.next → a.target < s.next → LeavesOthers (number_after middle a at) middle later
     → AllByRecursion (λ (r : Restored). a.target ≢ r.aim.target) all → AllByRecursion (IsPlaced s middle) all → AllByRecursion (IsRestored s middle at) all → AllByRecursion (IsRestored s later at) all
 each_stays s middle later a at all le lt others apart placed each =
-    all_weaker (λ (r : Restored). (a.target ≢ r.aim.target) × (IsPlaced s middle r × IsRestored s middle at r)) (IsRestored s later at) all
-    (λ r both. record {
+    all_weaker (λ (r : Restored). (a.target ≢ r.aim.target) × (IsPlaced s middle r × IsRestored s middle at r)) (IsRestored s later at) all (λ r both. record {
       visible = both.1.1.visible;
       planned = both.1.1.planned;
       content = ap content_of (others r.number (untouched_placed s middle a at r le lt both.0 both.1.0)) ∙ both.1.1.content;
@@ -228,9 +221,9 @@ goes_on s middle later at aims a all r before goes lt apart restores others past
     all_map (λ (p : Aim). a.target ≢ p.target) (λ (q : Restored). q.aim) all (subst (AllByRecursion (λ (p : Aim). a.target ≢ p.target)) (sym goes.aims_are) apart) in
     record {
       aims_are = map_push (λ (q : Restored). q.aim) all r ∙ ap (λ l. l ++ r.aim ∷ []) goes.aims_are ∙ ap (λ (x : Aim). aims ++ x ∷ []) restores.aim_is;
-      each = all_push (IsRestored s later at) all r (each_stays s middle later a at all more lt others others_apart goes.placed goes.each)
+      each = all_by_recursion_push (IsRestored s later at) all r (each_stays s middle later a at all more lt others others_apart goes.placed goes.each)
           (restored_next s middle later a at r le before.past (before.rest a.target lt apart) restores);
-      placed = all_push (IsPlaced s later) all r (placed_stays s middle later all past.next goes.placed) (placed_next s middle later a at r more lt past.next restores);
+      placed = all_by_recursion_push (IsPlaced s later) all r (placed_stays s middle later all past.next goes.placed) (placed_next s middle later a at r more lt past.next restores);
       numbered = numbered_push s.next all r goes.numbered (numbered_next s middle later a at all r goes.next restores);
       next = restores.next ∙ ap (next_by_plan r.plan) goes.next ∙ sym (next_push s.next all r);
       begun = inr le;

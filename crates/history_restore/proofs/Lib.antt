@@ -1,7 +1,6 @@
 pub mod Patching
 pub mod Contents
 pub mod Turning
-pub mod Settled
 pub mod Stepping
 pub mod Chained
 pub mod Readable

@@ -1,37 +1,24 @@
 -- Versions that can be read.
-use Rattle.std.proofs.Common.{◌≡◌, ◌⊎◌, ◌∙◌, ◌||◌, ◌==◌, ℕ, Bool, true, false, cond, List, [], ◌∷◌, None, Some, inl, inr, refl, sym, ap, subst, arith}
-use Rattle.std.specs.Prelude.{nat_lt, nat_le}
-use Rattle.std.specs.List.{AllByRecursion, list_any}
-use Rattle.std.proofs.lemmas.Bool.{le-ltb, lt-leb, and_right, or_from, cond-false}
+use Rattle.std.proofs.Common.{◌≡◌, ◌⊎◌, ◌∙◌, ℕ, Bool, true, false, cond, None, Some, inl, inr, sym, ap, subst, arith}
+use Rattle.std.specs.Prelude.{nat_lt}
+use Rattle.std.proofs.lemmas.Bool.{le-ltb, cond-false}
 use Rattle.std.proofs.lemmas.Option.{none-some}
 use Rattle.s4_types.specs.declared.refusals.Refusal.{Refusal}
 use Rattle.s4_types.specs.declared.refusals.Refusal.TheVariants.{Future, Expired, Flushed, NoMemory, Busy}
-use Rattle.s4_types.specs.declared.spans.Span.{Span}
 use Rattle.s4_types.specs.declared.versions.Version.{Version}
 use Rattle.s4_model.specs.State.{State}
-use Rattle.s4_model.specs.Visible.{IsVisible, is_hidden, hides, is_within, spans_of}
+use Rattle.s4_model.specs.Visible.{is_hidden, spans_of}
 use Rattle.s4_model.specs.Refusals.{moment_refusal}
-use Rattle.s4_model.specs.Sound.{EndsBefore, IsSound}
+use Rattle.s4_model.specs.Sound.{IsSound}
+use Rattle.s4_model.proofs.ClockLaws.{none_hides}
 use Rattle.history_restore.specs.Restoring.{IsUnread, flush_for}
-
--- no span hides a moment that all of them end before
-none_hide : (o t : ℕ) (spans : List Span) → AllByRecursion (EndsBefore t) spans → list_any (hides o t) spans ≡ false
-none_hide o t [] all = refl
-none_hide o t (span ∷ spans) all =
-    or_from (hides o t span) (list_any (hides o t) spans)
-    (and_right (span.object == 0 || span.object == o) (is_within span t) (and_right (nat_le span.first t) (nat_le t span.last) (lt-leb t span.last all.0)))
-    (none_hide o t spans all.1)
-
--- the clock's moment can be read
-pub clock_is_visible : (s : State) (o : ℕ) → IsSound s → IsVisible s o s.clock
-clock_is_visible s o sound = record { kept = sound.floor_reached; reached = omega arith; shown = none_hide o s.clock (spans_of s) sound.past }
 
 -- and isn't refused
 clock_is_free : (s : State) (o : ℕ) → IsSound s → moment_refusal s o s.clock ≡ None
 clock_is_free s o sound =
     cond-false (nat_lt s.clock s.clock) (Some Future) (cond (nat_lt s.clock s.floor) (Some Expired) (cond (is_hidden s o s.clock) (Some Flushed) None)) (le-ltb s.clock s.clock (omega arith))
     ∙ cond-false (nat_lt s.clock s.floor) (Some Expired) (cond (is_hidden s o s.clock) (Some Flushed) None) (le-ltb s.clock s.floor sound.floor_reached)
-    ∙ cond-false (is_hidden s o s.clock) (Some Flushed) None (none_hide o s.clock (spans_of s) sound.past)
+    ∙ cond-false (is_hidden s o s.clock) (Some Flushed) None (none_hides o s.clock (spans_of s) sound.past)
 
 -- so what isn't read of the present isn't for its moment
 unread_now : (s middle : State) (o n at : ℕ) (e : Refusal) → middle ≡ s → IsSound s → (moment_refusal middle n s.clock ≡ Some e) ⊎ ((e ≡ NoMemory) ⊎ (e ≡ Busy)) → IsUnread s o at e

@@ -1,10 +1,10 @@
 -- The objects that have a row.
 use Rattle.std.proofs.Common.{◌≡◌, ◌≢◌, ◌∙◌, ◌+◌, ◌++◌, ◌<◌, ◌≤◌, ℕ, zero, suc, List, [], ◌∷◌, length, drop, get_or, Option, None, inl, inr, sym, ap, subst, append_assoc, arith}
-use Rattle.std.specs.Prelude.{IsSome, is_some}
 use Rattle.std.specs.List.{AllByRecursion}
 use Rattle.std.proofs.lemmas.List.{append-nil, drop_all}
-use Rattle.std.proofs.lemmas.Bool.{cases_lt, true≢false}
+use Rattle.std.proofs.lemmas.Bool.{cases_lt}
 use Rattle.s4_types.specs.declared.versions.Version.TheVariants.{Absent}
+use Rattle.lemmas.proofs.Option.{none_not_some}
 use Rattle.s4_model.specs.State.{State}
 use Rattle.s4_model.specs.VersionAt.{version_of}
 use Rattle.s4_model.specs.Visible.{IsVisible}
@@ -32,15 +32,11 @@ first_more store rows last o whole next rest more = subst (AreRowsFrom store 0) 
 pub first_all : (store : StoreFields) (rows : List ℕ) (last : ℕ) → AreFirst store rows last → ((q : ℕ) → last < q → row_of store.rows q ≡ None) → AreRowsFrom store 0 rows
 first_all store rows last whole none = subst (AreRowsFrom store 0) (append-nil rows) (whole [] none)
 
--- what is there is not none
-there_not_none : (o : Option Row) → IsSome o → o ≡ None → ⊥
-there_not_none o there is = true≢false (sym there ∙ ap is_some is)
-
 -- they ascend, below a number from which on there are none
 pub rows_ascend : (store : StoreFields) (next after : ℕ) (objects : List ℕ) → NoneFrom next store → AreRowsFrom store after objects → AscendBelow after next objects
 rows_ascend store next after [] none are = tt
 rows_ascend store next after (o ∷ objects) none are =
-    let below : o < next = elim (cases_lt o next) [ inl lt ↦ lt | inr ge ↦ absurd (there_not_none (row_of store.rows o) are.0.there (none o ge)) ] in
+    let below : o < next = elim (cases_lt o next) [ inl lt ↦ lt | inr ge ↦ absurd (none_not_some (row_of store.rows o) (none o ge) are.0.there) ] in
     (are.0.above, below, rows_ascend store next o objects none are.1)
 
 -- an object that isn't among them has none

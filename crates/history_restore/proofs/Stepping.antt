@@ -24,11 +24,11 @@ use Rattle.s4_model.specs.Refusals.{present, size_of}
 use Rattle.s4_model.specs.Step.{Step, Refuses, Serves, Accepts, Alters, Reads, change_of, accepted_record, reply_to_change, reply_to_read, judged}
 use Rattle.s4_model.specs.Sound.{IsSound}
 use Rattle.s4_model.specs.Laws.{ActsAtItsMoment, AChangeActsAtItsMoment}
+use Rattle.s4_model.proofs.VersionLemmas.{version_of-settled}
 use Rattle.drive.specs.Later.{object_asked}
 use Rattle.history_restore.specs.Content.{content_of}
 use Rattle.history_restore.specs.Keeping.{LeavesPast, LeavesOthers}
 use Rattle.history_restore.specs.Asking.{Makes, Grants}
-use Rattle.history_restore.proofs.Settled.{settled}
 use Rattle.history_restore.proofs.Contents.{effects_alike}
 
 -- the state goes on so by a moment seen
@@ -53,7 +53,7 @@ past_of_seen s now = record {
 }
 
 pub present_of_seen : (s : State) (now : ℕ) → IsSound s → (q : ℕ) → present (seen s now) q ≡ present s q
-present_of_seen s now sound q = settled s q (max s.clock now) sound.stamped (omega arith)
+present_of_seen s now sound q = version_of-settled s q (max s.clock now) sound.stamped (omega arith)
 
 -- ---- a change taken
 

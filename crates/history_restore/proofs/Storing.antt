@@ -1,5 +1,5 @@
 -- What a request for a change of an object stores, when it is refused for a full journal, and how far it moves the clock.
-use Rattle.std.proofs.Common.{◌≡◌, ◌∙◌, ◌+◌, ◌≤◌, ℕ, max, Bool, true, false, cond, find, List, [], ◌∷◌, Option, None, Some, inl, inr, refl, sym, ap, subst, arith}
+use Rattle.std.proofs.Common.{◌≡◌, ◌∙◌, ◌+◌, ◌≤◌, ℕ, max, Bool, true, false, cond, Option, None, Some, inl, inr, refl, sym, ap, subst, arith}
 use Rattle.std.specs.Prelude.{option_and_then, MatchBool}
 use Rattle.std.specs.List.{AllByRecursion}
 use Rattle.std.proofs.lemmas.Option.{none-some, same_Some}
@@ -18,25 +18,19 @@ use Rattle.s4_types.specs.declared.replies.Reply.TheVariants.{Refused}
 use Rattle.s4_model.specs.State.{State, state_of, seen, took}
 use Rattle.s4_model.specs.Effect.{is_of_versions}
 use Rattle.s4_model.specs.Refusals.{applies, checks, first_refusal, present, size_of}
-use Rattle.s4_model.specs.Step.{Step, Refuses, Serves, Accepts, Alters, Reads, accepted_record, change_of, judged, reply_at, stamp}
+use Rattle.s4_model.specs.Step.{Step, Refuses, Serves, Accepts, Alters, Reads, accepted_record, change_of, judged, stamp}
+use Rattle.s4_model.proofs.StepLemmas.{found_passes}
 use Rattle.version_store.specs.Costs.{change_refusal}
 use Rattle.version_store.specs.Store.{StoreFields}
 use Rattle.drive.specs.Answering.{Leaves, StoresChange, StoresVersion, is_acceptance}
 use Rattle.drive.specs.Fields.{DriveFields, history_of, state_in, store_of}
 use Rattle.drive.specs.Refusing.{RefusesBy, RefusesExactly, or_then, refusal_of, storing_refusal, want_of}
+use Rattle.drive.proofs.Served.{accepts_change}
 use Rattle.history_restore.specs.Asking.{IsFullFor, IsWithinChanges, StoresAsked}
 use Rattle.history_restore.proofs.Denying.{judged_as_was}
 use Rattle.history_restore.proofs.Stepping.{IsOfVersions, BySeen, ByTook, IsNoRead, IsTaken, granted_took, no_read, refused_saw}
 
 -- ---- refused
-
-found_passes : (p : Refusal → Bool) (P : Refusal → Type 0) (xs : List Refusal) (r : Refusal) → AllByRecursion P xs → find p xs ≡ Some r → P r
-found_passes p P [] r all e = absurd (none-some r e)
-found_passes p P (x ∷ xs) r all e =
-    elim (p x) as (λ b. cond b (Some x) (find p xs) ≡ Some r → P r) [
-      | true ↦ λ is. subst P (same_Some x r is) all.0
-      | false ↦ λ is. found_passes p P xs r all.1 is
-    ] e
 
 -- no check is for a full journal
 abbrev IsOther : Refusal → Type 0
@@ -75,16 +69,6 @@ full_refused d later role request now reply e of refused exactly full c asked =
     (m, stored_full (is_of_versions c) (change_refusal store c m) (sym (ap (option_and_then (storing_refusal store m)) asked) ∙ want))
 
 -- ---- granted
-
-accepts_change : (c : Change) (m : ℕ) → is_acceptance (reply_at c m) ≡ true
-accepts_change (change.Create object attribute) m = refl
-accepts_change (change.Delete object) m = refl
-accepts_change (change.Write object offset bytes) m = refl
-accepts_change (change.Truncate object size) m = refl
-accepts_change (change.SetAttr object attribute) m = refl
-accepts_change (change.SetWindow window) m = refl
-accepts_change (change.Flush first last) m = refl
-accepts_change (change.FlushO object first last) m = refl
 
 accepts_by : (h : History) (request : Request) (now : ℕ) (reply : Reply) (r : Record) → IsNoRead request → Accepts h request now reply r → is_acceptance reply ≡ true
 accepts_by h request now reply r unread (Alters c asked is r_is) = ap is_acceptance is ∙ accepts_change c (stamp (state_of h) now)

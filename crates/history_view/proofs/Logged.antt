@@ -2,10 +2,10 @@
 use Rattle.std.proofs.Common.{◌≡◌, ◌∙◌, ◌+◌, ◌<◌, ◌++◌, ℕ, List, [], ◌∷◌, length, map, get_or, take, Option, Some, None, sym, ap, append_assoc}
 use Rattle.std.specs.Prelude.{option_to_list}
 use Rattle.std.specs.List.{flat_map}
+use Rattle.lemmas.proofs.List.{flat_map_take_next}
 use Rattle.s4_model.specs.State.{state_of}
 use Rattle.segment_word.specs.AcceptViews.{Ledger}
 use Rattle.version_store.specs.Store.{StoreFields}
-use Rattle.version_store.proofs.Gathering.{flat_take}
 use Rattle.drive.specs.Fields.{DriveFields, state_in, store_of}
 use Rattle.history_view.specs.declared.changes.ObjectChange.{ObjectChange}
 use Rattle.history_view.specs.declared.logs.LogQuery.{LogQuery}
@@ -33,7 +33,7 @@ rows_on d e since until objects i o before rows grown changes ledger store lt he
     let f = rows_of (state_in e) (store_of e) since until in
     let same : map (Changed o) changes ≡ f o = ap (λ (cs : List ObjectChange). map (Changed o) cs) (are ∙ changes_as_before d e o since until ledger store) in
     is ∙ ap (λ (l : List LogRow). l ++ map (Changed o) changes) so_far ∙ ap (λ (l : List LogRow). (before ++ flat_map f (take i objects)) ++ l) same
-    ∙ append_assoc before (flat_map f (take i objects)) (f o) ∙ ap (λ (l : List LogRow). before ++ l) (sym (flat_take f objects i o lt here))
+    ∙ append_assoc before (flat_map f (take i objects)) (f o) ∙ ap (λ (l : List LogRow). before ++ l) (sym (flat_map_take_next f objects i o lt here))
 
 -- what one object more comes to is added
 pub stats_on : (d e : DriveFields) (query : LogQuery) (objects : List ℕ) (i o : ℕ) (stats grown : List ObjectStat) (found : Option ObjectStat) → d.ledger ≡ e.ledger → store_of d ≡ store_of e → i < length objects → o ≡ get_or objects i o
@@ -42,4 +42,4 @@ pub stats_on : (d e : DriveFields) (query : LogQuery) (objects : List ℕ) (i o 
 stats_on d e query objects i o stats grown found ledger store lt here is so_far more =
     let f : ℕ → List ObjectStat = λ p. option_to_list (stat_in (state_in e) (store_of e) query p) in
     let same : option_to_list found ≡ f o = ap (λ (x : Option ObjectStat). option_to_list x) (is ∙ stat_as_before d e query o ledger store) in
-    more ∙ ap (λ (l : List ObjectStat). l ++ option_to_list found) so_far ∙ ap (λ (l : List ObjectStat). flat_map f (take i objects) ++ l) same ∙ sym (flat_take f objects i o lt here)
+    more ∙ ap (λ (l : List ObjectStat). l ++ option_to_list found) so_far ∙ ap (λ (l : List ObjectStat). flat_map f (take i objects) ++ l) same ∙ sym (flat_map_take_next f objects i o lt here)

@@ -1,13 +1,14 @@
 -- Which blocks an entry leaves as they are.
-use Rattle.std.proofs.Common.{◌≡◌, ◌≢◌, ◌∙◌, ◌+◌, ◌<◌, ◌≤◌, ◌==◌, ◌&&◌, ◌||◌, ℕ, true, not, List, [], ◌∷◌, Option, nat_le, nat_lt, inl, inr, refl, sym, ap, arith}
+use Rattle.std.proofs.Common.{◌≡◌, ◌≢◌, ◌∙◌, ◌+◌, ◌<◌, ◌≤◌, ◌==◌, ◌&&◌, ℕ, true, not, List, [], ◌∷◌, Option, nat_le, nat_lt, inl, inr, refl, sym, ap, arith}
 use Rattle.std.proofs.lemmas.Bool.{leb-true, and_parts, cond-false, ne_eqb}
 use Rattle.s4_types.specs.Pointer.{Place}
-use Rattle.s4_types.specs.declared.limits.TheConstants.{OBJECT_BLOCKS, OBJECT_BYTES}
+use Rattle.s4_types.specs.declared.limits.TheConstants.{OBJECT_BLOCKS}
 use Rattle.codec.specs.Checkpoint.{pointer_at}
 use Rattle.codec.specs.declared.entries.Status.{Status}
 use Rattle.codec.specs.declared.entries.Triple.{Triple}
-use Rattle.codec.specs.Entry.{EntryFields, entry_rules, ascend_from, same_slot, was_nothing, changes_now, differs}
+use Rattle.codec.specs.Entry.{ascend_from, same_slot}
 use Rattle.undo_redo.specs.Linked.{pointer_after}
+use Rattle.time_read.proofs.Undone.{triples_ascend}
 use Rattle.history_view.specs.Changes.{last_index, blocks_of, IsOutside, AllElseStays, SizesAreTold}
 
 -- ascending indices begin with one that isn't below the given one, and go on after it
@@ -48,20 +49,8 @@ outside_stays (t ∷ triples) n p ascends (inl below) =
     let on = ascends_on 0 t triples ascends in left_by t triples n p (λ same. absurd (omega (arith, same, below))) (below_stays (t.index + 1) triples n p on.1 (omega (arith, below)))
 outside_stays (t ∷ triples) n p ascends (inr beyond) = beyond_stays 0 0 (t ∷ triples) n p ascends beyond
 
--- the indices of an entry's pointers ascend
-entry_ascends : (e : EntryFields) → entry_rules e ≡ true → ascend_from 0 e.triples ≡ true
-unfolding entry_rules
-entry_ascends e rules =
-    let one = and_parts (nat_le 1 e.moment) ((e.before.alive || e.after.alive) && (nat_le e.before.size OBJECT_BYTES && (nat_le e.after.size OBJECT_BYTES && (was_nothing e.before && (changes_now e && (differs e.pair && ascend_from 0 e.triples)))))) rules in
-    let two = and_parts (e.before.alive || e.after.alive) (nat_le e.before.size OBJECT_BYTES && (nat_le e.after.size OBJECT_BYTES && (was_nothing e.before && (changes_now e && (differs e.pair && ascend_from 0 e.triples))))) one.1 in
-    let three = and_parts (nat_le e.before.size OBJECT_BYTES) (nat_le e.after.size OBJECT_BYTES && (was_nothing e.before && (changes_now e && (differs e.pair && ascend_from 0 e.triples)))) two.1 in
-    let four = and_parts (nat_le e.after.size OBJECT_BYTES) (was_nothing e.before && (changes_now e && (differs e.pair && ascend_from 0 e.triples))) three.1 in
-    let five = and_parts (was_nothing e.before) (changes_now e && (differs e.pair && ascend_from 0 e.triples)) four.1 in
-    let six = and_parts (changes_now e) (differs e.pair && ascend_from 0 e.triples) five.1 in
-    (and_parts (differs e.pair) (ascend_from 0 e.triples) six.1).1
-
 pub all_else_stays : AllElseStays
-all_else_stays i j e linked rules n below outside = linked.forth n below ∙ outside_stays e.triples n (pointer_at i n) (entry_ascends e rules) outside
+all_else_stays i j e linked rules n below outside = linked.forth n below ∙ outside_stays e.triples n (pointer_at i n) (triples_ascend e rules) outside
 
 pub sizes_are_told : SizesAreTold
 sizes_are_told i j e linked = (sym (ap (λ (s : Status). s.size) linked.status_before), sym (ap (λ (s : Status). s.size) linked.status_after))

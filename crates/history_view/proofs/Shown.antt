@@ -1,20 +1,19 @@
 -- What is listed of an object at a moment, against the history.
-use Rattle.std.proofs.Common.{◌≡◌, ◌∙◌, ◌+◌, ◌&&◌, ◌||◌, ◌<◌, ◌≤◌, ◌==◌, ℕ, Bool, true, false, not, cond, List, [], ◌∷◌, length, Option, Some, None, nat_le, inl, inr, refl, sym, ap, subst, arith}
+use Rattle.std.proofs.Common.{◌≡◌, ◌∙◌, ◌+◌, ◌&&◌, ◌<◌, ◌≤◌, ◌==◌, ℕ, Bool, true, false, not, cond, List, length, Option, Some, None, nat_le, inl, inr, refl, sym, ap, subst, arith}
 use Rattle.std.specs.Prelude.{MatchBool}
-use Rattle.std.specs.List.{AllByRecursion, list_any}
-use Rattle.std.proofs.lemmas.Bool.{leb-true, le-leb, lt-leb, and_parts, and_from, and_right, or_from, or_parts, not-true, not_from_false, cond-true, cond-false, true≢false, false_from_ne_true, cases_lt, cases_eq}
-use Rattle.s4_types.specs.declared.spans.Span.{Span}
+use Rattle.std.proofs.lemmas.Bool.{leb-true, le-leb, and_parts, and_from, or_parts, not-true, not_from_false, cond-true, cond-false, true≢false, false_from_ne_true, cases_lt, cases_eq}
 use Rattle.s4_types.specs.declared.versions.Version.{Version}
 use Rattle.s4_types.specs.declared.versions.Version.TheVariants.{Absent, Live}
 use Rattle.s4_types.specs.Pointer.{Place}
 use Rattle.s4_model.specs.State.{State}
 use Rattle.s4_model.specs.VersionAt.{version_of}
-use Rattle.s4_model.specs.Visible.{IsVisible, IsSeenBetween, is_hidden, hides, is_within, spans_of}
-use Rattle.s4_model.specs.Sound.{EndsBefore, IsSound}
+use Rattle.s4_model.specs.Visible.{IsVisible, IsSeenBetween, is_hidden, spans_of}
+use Rattle.s4_model.specs.Sound.{IsSound}
 use Rattle.codec.specs.declared.inodes.Inode.{Inode}
 use Rattle.inode.specs.Contents.{contents_of, bytes_of, byte_of, meaning}
 use Rattle.inode.proofs.Listing.{listed-length}
 use Rattle.object_map.specs.Rows.{row_of}
+use Rattle.s4_model.proofs.ClockLaws.{none_hides}
 use Rattle.version_store.specs.Store.{StoreFields}
 use Rattle.version_store.specs.Versions.{inode_in, inode_by, version_by}
 use Rattle.drive.specs.Keeping.{DecodesWhereVisible}
@@ -47,17 +46,9 @@ pub is_visible_by : (b : Bool) (s : State) (o t : ℕ) → MatchBool b (IsSeenBe
 is_visible_by true s o t seen = sym (then_visible s o t (seen_here s o t seen))
 is_visible_by false s o t never = sym (false_from_ne_true (is_visible s o t) (λ is. never (seen_if_visible s o t (visible_then s o t is))))
 
--- no span hides a moment that all of them end before
-none_hide : (o t : ℕ) (spans : List Span) → AllByRecursion (EndsBefore t) spans → list_any (hides o t) spans ≡ false
-none_hide o t [] all = refl
-none_hide o t (span ∷ spans) all =
-    or_from (hides o t span) (list_any (hides o t) spans)
-    (and_right (span.object == 0 || span.object == o) (is_within span t) (and_right (nat_le span.first t) (nat_le t span.last) (lt-leb t span.last all.0)))
-    (none_hide o t spans all.1)
-
 -- the clock's moment can be read
 pub clock_is_visible : (s : State) (o : ℕ) → IsSound s → IsVisible s o s.clock
-clock_is_visible s o sound = record { kept = sound.floor_reached; reached = omega arith; shown = none_hide o s.clock (spans_of s) sound.past }
+clock_is_visible s o sound = record { kept = sound.floor_reached; reached = omega arith; shown = none_hides o s.clock (spans_of s) sound.past }
 
 -- ---- what is listed
 

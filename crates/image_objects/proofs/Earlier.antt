@@ -1,76 +1,20 @@
 -- An entry's values before are those of an inode where each of its tests says so.
-use Rattle.std.proofs.Common.{◌≡◌, ℕ, ◌+◌, ◌<◌, ◌≤◌, ◌==◌, ◌&&◌, Bool, true, false, leb, ltb, cond, inl, inr, List, [], ◌∷◌, length, take, get_or, Option, Some, None, refl, sym, ap, ◌∙◌, arith}
-use Rattle.std.specs.Prelude.{not, ◌||◌}
-use Rattle.std.specs.List.{All, AllByRecursion, list_all}
-use Rattle.std.proofs.lemmas.List.Elements.{All-from_recursion}
+use Rattle.std.proofs.Common.{◌≡◌, ℕ, ◌+◌, ◌<◌, ◌≤◌, ◌==◌, ◌&&◌, Bool, true, false, leb, ltb, cond, inl, inr, List, [], ◌∷◌, length, take, get_or, Option, refl, sym, ap, ◌∙◌, arith}
+use Rattle.std.specs.Prelude.{not}
+use Rattle.std.specs.List.{list_all}
 use Rattle.std.proofs.lemmas.List.Folds.{list_all_more, list_all_at}
 use Rattle.std.proofs.lemmas.List.{take_all}
-use Rattle.std.proofs.lemmas.Bool.{cases_Bool, false≢true, and_parts, and_from, leb-true, ltb-true, eqb-true, ne_eqb, eq-eqb}
+use Rattle.std.proofs.lemmas.Bool.{cases_Bool, and_parts, and_from, leb-true, ltb-true, eqb-true, ne_eqb, eq-eqb}
 use Rattle.s4_types.specs.Pointer.{Place}
-use Rattle.s4_types.specs.declared.limits.TheConstants.{OBJECT_BLOCKS, OBJECT_BYTES}
+use Rattle.s4_types.specs.declared.limits.TheConstants.{OBJECT_BLOCKS}
 use Rattle.codec.specs.declared.inodes.Inode.{Inode}
 use Rattle.codec.specs.declared.entries.Triple.{Triple}
 use Rattle.codec.specs.Checkpoint.{pointer_at}
-use Rattle.codec.specs.Entry.{EntryFields, same_slot, ascend_from, was_nothing, changes_now, differs, entry_rules}
+use Rattle.codec.specs.Entry.{same_slot, ascend_from}
 use Rattle.undo_redo.specs.Linked.{pointer_before}
+use Rattle.undo_redo.proofs.Slots.{same_slot_itself, one_slot}
+use Rattle.undo_redo.proofs.Indices.{ascend_parts}
 use Rattle.image_objects.specs.private.Standing.{is_earlier}
-
--- ---- one slot
-
-slot_itself : (p : Option Place) → same_slot p p ≡ true
-slot_itself None = refl
-slot_itself (Some p) =
-    and_from (p.frame == p.frame) (p.block == p.block && p.generation == p.generation) (eq-eqb p.frame p.frame refl)
-    (and_from (p.block == p.block) (p.generation == p.generation) (eq-eqb p.block p.block refl) (eq-eqb p.generation p.generation refl))
-
-place_of : ℕ → ℕ → ℕ → Place
-place_of frame block generation = record { frame = frame; block = block; generation = generation }
-
-same_places : (p q : Place) → p.frame ≡ q.frame → p.block ≡ q.block → p.generation ≡ q.generation → p ≡ q
-unfolding place_of
-same_places p q f b g =
-    ap (λ n. place_of n p.block p.generation) f ∙ ap (λ n. place_of q.frame n p.generation) b ∙ ap (λ n. place_of q.frame q.block n) g
-
-pub one_slot : (p q : Option Place) → same_slot p q ≡ true → p ≡ q
-one_slot None None h = refl
-one_slot None (Some q) h = absurd (false≢true h)
-one_slot (Some p) None h = absurd (false≢true h)
-one_slot (Some p) (Some q) h =
-    let first = and_parts (p.frame == q.frame) (p.block == q.block && p.generation == q.generation) h in
-    let second = and_parts (p.block == q.block) (p.generation == q.generation) first.1 in
-    ap Some (same_places p q (eqb-true p.frame q.frame first.0) (eqb-true p.block q.block second.0) (eqb-true p.generation q.generation second.1))
-
--- ---- the indices of an entry ascend, below OBJECT_BLOCKS
-
-pub ascends : (e : EntryFields) → entry_rules e ≡ true → ascend_from 0 e.triples ≡ true
-unfolding entry_rules
-ascends e h =
-    let last = differs e.pair && ascend_from 0 e.triples in
-    let now = changes_now e && last in
-    let nothing = was_nothing e.before && now in
-    let later = leb e.after.size OBJECT_BYTES && nothing in
-    let earlier = leb e.before.size OBJECT_BYTES && later in
-    let a = and_parts (leb 1 e.moment) ((e.before.alive || e.after.alive) && earlier) h in
-    let b = and_parts (e.before.alive || e.after.alive) earlier a.1 in
-    let c = and_parts (leb e.before.size OBJECT_BYTES) later b.1 in
-    let d = and_parts (leb e.after.size OBJECT_BYTES) nothing c.1 in
-    let f = and_parts (was_nothing e.before) now d.1 in
-    let g = and_parts (changes_now e) last f.1 in
-    (and_parts (differs e.pair) (ascend_from 0 e.triples) g.1).1
-
-ascend_parts : (low : ℕ) (t : Triple) (triples : List Triple) → ascend_from low (t ∷ triples) ≡ true → ((leb low t.index && (ltb t.index OBJECT_BLOCKS && not (same_slot t.before t.after))) ≡ true) × (ascend_from (t.index + 1) triples ≡ true)
-unfolding ascend_from
-ascend_parts low t triples h = and_parts (leb low t.index && (ltb t.index OBJECT_BLOCKS && not (same_slot t.before t.after))) (ascend_from (t.index + 1) triples) h
-
-low_all : (low : ℕ) (triples : List Triple) → ascend_from low triples ≡ true → AllByRecursion (λ t. t.index < OBJECT_BLOCKS) triples
-low_all low [] h = tt
-low_all low (t ∷ triples) h =
-    let parts = ascend_parts low t triples h in
-    let tests = and_parts (leb low t.index) (ltb t.index OBJECT_BLOCKS && not (same_slot t.before t.after)) parts.0 in
-    (ltb-true t.index OBJECT_BLOCKS (and_parts (ltb t.index OBJECT_BLOCKS) (not (same_slot t.before t.after)) tests.1).0, low_all (t.index + 1) triples parts.1)
-
-pub are_low : (e : EntryFields) → entry_rules e ≡ true → All (λ t. t.index < OBJECT_BLOCKS) e.triples
-are_low e h = All-from_recursion (λ t. t.index < OBJECT_BLOCKS) e.triples (low_all 0 e.triples (ascends e h))
 
 -- ---- pointers
 
@@ -108,7 +52,7 @@ are_told i low (t ∷ triples) h all =
       | inl is ↦ (let same : t.index ≡ n = eqb-true t.index n is in sym (untold (t.index + 1) n triples (pointer_at i n) parts.1 (omega (arith, same))))
       | inr ne ↦ all n lt ∙ ap (λ b. pointer_before triples n (cond b t.before (pointer_at i n))) ne
     ] in
-    and_from (is_earlier i t) (list_all (is_earlier i) triples) (ap (λ (p : Option Place). same_slot p t.before) here ∙ slot_itself t.before) (are_told i (t.index + 1) triples parts.1 others)
+    and_from (is_earlier i t) (list_all (is_earlier i) triples) (ap (λ (p : Option Place). same_slot p t.before) here ∙ same_slot_itself t.before) (are_told i (t.index + 1) triples parts.1 others)
 
 -- ---- a test of each triple, one after another
 

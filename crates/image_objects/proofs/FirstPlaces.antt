@@ -9,6 +9,7 @@ use Rattle.codec.specs.Fields.{Reads}
 use Rattle.codec.specs.FirstBlock.{FirstNumbers}
 use Rattle.codec.specs.declared.first_blocks.FirstBlock.{FirstBlock}
 use Rattle.checkpoint.specs.Held.{of_checkpoints, first_in, part_place, places_named, places_in as checkpoint_places_in}
+use Rattle.checkpoint.proofs.Dropping.{reads_is}
 use Rattle.journal_chain.specs.Chain.{BlockView}
 use Rattle.image_objects.specs.declared.rows.ImageRow.{ImageRow}
 use Rattle.image_objects.specs.Inodes.{checkpoint_places_used}
@@ -40,13 +41,9 @@ first_last : (f : Option FirstBlock) (p : Place) → IfSome f FirstNumbers → p
 first_last None p numbers = refl
 first_last (Some f) p numbers = parts_first f.parts p numbers.count_parts
 
-read_is : (f found : Option FirstBlock) → Reads (λ first. first) f found → found ≡ f
-read_is None found reads = reads
-read_is (Some f) found reads = reads
-
 places_are : (view : BlockView) (p : Place) (f : Option FirstBlock) → Reads (λ first. first) f (first_in view p) → IfSome f FirstNumbers → places_of_parts f ++ p ∷ [] ≡ checkpoint_places_in view p
 unfolding checkpoint_places_in
-places_are view p f reads numbers = first_last f p numbers ∙ ap (λ (found : Option FirstBlock). with_first found p) (sym (read_is f (first_in view p) reads))
+places_are view p f reads numbers = first_last f p numbers ∙ ap (λ (found : Option FirstBlock). with_first found p) (sym (reads_is f (first_in view p) reads))
 
 -- what adding the parts' places and then the first block's makes of a list
 pub places_pushed : (used : Place → Option Stored) (row : ImageRow) (p : Place) (f : Option FirstBlock) (before between items : List Place) → row.checkpoint ≡ Some p → Reads (λ first. first) f (first_in (of_checkpoints row.object used) p) → IfSome f FirstNumbers

@@ -3,7 +3,8 @@ use Rattle.std.proofs.Common.{◌≡◌, ℕ, ◌+◌, List, [], ◌∷◌, ◌+
 use Rattle.std.proofs.lemmas.List.{reverse-append}
 use Rattle.codec.specs.Entry.{EntryFields, entry_length_by, entries_length_by}
 use Rattle.codec.specs.declared.versions.ImageVersion.{ImageVersion}
-use Rattle.image_objects.proofs.Bytes.{by_none, by_push}
+use Rattle.codec.proofs.JournalEntries.{by_none}
+use Rattle.image_objects.proofs.Bytes.{by_push}
 
 -- the bytes of the first entry, or the number given where there is none
 abbrev pub first_or : ImageVersion → List EntryFields → ℕ → ℕ

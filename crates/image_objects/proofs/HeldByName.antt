@@ -7,6 +7,7 @@ use Rattle.s4_types.specs.Pointer.{Place}
 use Rattle.block_log.specs.Log.{Stored, of_kind, seen_as, same_kind}
 use Rattle.block_log.specs.declared.kinds.BlockKind.{BlockKind}
 use Rattle.block_log.specs.declared.kinds.BlockKind.TheVariants.{Journal, Checkpoint, Data, Pointers}
+use Rattle.block_log.proofs.BlockKinds.{same_kind_itself, one_kind}
 use Rattle.journal_chain.specs.Chain.{BlockView, chain_places, times}
 use Rattle.image_objects.specs.declared.rows.ImageRow.{ImageRow}
 use Rattle.image_objects.specs.Chains.{chain_view}
@@ -20,30 +21,6 @@ use Rattle.image_objects.specs.Rows.{RowsAscend}
 use Rattle.image_objects.proofs.Listed.{one_row}
 
 -- ---- a block that is seen as one of a kind and of an object
-
-pub one_kind : (k l : BlockKind) → same_kind k l ≡ true → l ≡ k
-one_kind Journal Journal h = refl
-one_kind Journal Checkpoint h = absurd (false≢true h)
-one_kind Journal Data h = absurd (false≢true h)
-one_kind Journal Pointers h = absurd (false≢true h)
-one_kind Checkpoint Journal h = absurd (false≢true h)
-one_kind Checkpoint Checkpoint h = refl
-one_kind Checkpoint Data h = absurd (false≢true h)
-one_kind Checkpoint Pointers h = absurd (false≢true h)
-one_kind Data Journal h = absurd (false≢true h)
-one_kind Data Checkpoint h = absurd (false≢true h)
-one_kind Data Data h = refl
-one_kind Data Pointers h = absurd (false≢true h)
-one_kind Pointers Journal h = absurd (false≢true h)
-one_kind Pointers Checkpoint h = absurd (false≢true h)
-one_kind Pointers Data h = absurd (false≢true h)
-one_kind Pointers Pointers h = refl
-
-kind_itself : (k : BlockKind) → same_kind k k ≡ true
-kind_itself Journal = refl
-kind_itself Checkpoint = refl
-kind_itself Data = refl
-kind_itself Pointers = refl
 
 pub record Seen (k : BlockKind) (o : ℕ) (found : Option Stored) (bytes : List ℕ) : Type 0 where
   pub block : Stored
@@ -61,7 +38,7 @@ seen k o (Some block) bytes h =
           record {
             block = block;
             there = refl;
-            kind = one_kind k block.kind parts.0;
+            kind = (sym (one_kind k block.kind parts.0));
             object = eqb-true block.object o parts.1;
             same = same_Some block.bytes bytes (sym (cond-true test (Some block.bytes) None is) ∙ h);
           })
@@ -72,7 +49,7 @@ pub seen_here : (k : BlockKind) (o : ℕ) (found : Option Stored) (block : Store
 seen_here k o found block there kind object =
     ap (seen_as k o) there
     ∙ cond-true (same_kind k block.kind && block.object == o) (Some block.bytes) None
-    (and_from (same_kind k block.kind) (block.object == o) (ap (same_kind k) kind ∙ kind_itself k) (eq-eqb block.object o object))
+    (and_from (same_kind k block.kind) (block.object == o) (ap (same_kind k) kind ∙ same_kind_itself k) (eq-eqb block.object o object))
 
 -- ---- of an object's blocks of a kind, those are held that the row names
 

@@ -1,29 +1,27 @@
 -- A chain that is is held where its blocks alone are.
-use Rattle.std.proofs.Common.{◌≡◌, ℕ, zero, suc, ◌+◌, ◌<◌, ◌≤◌, ◌==◌, ◌&&◌, true, leb, ltb, cond, inl, inr, List, [], ◌∷◌, ◌++◌, length, Option, Some, None, IsSome, is_some, unwrap_or, refl, sym, ap, ◌∙◌, subst, arith}
-use Rattle.std.proofs.lemmas.Bool.{cases_Bool, false≢true, and_from, leb-true, leb-false, lt-ltb, ltb-true, ltb-false, eq-eqb}
+use Rattle.std.proofs.Common.{◌≡◌, ℕ, zero, suc, ◌+◌, ◌<◌, ◌≤◌, true, leb, ltb, cond, inl, inr, List, [], ◌∷◌, length, Option, Some, None, IsSome, is_some, unwrap_or, refl, sym, ap, ◌∙◌, subst, arith}
+use Rattle.std.proofs.lemmas.Bool.{cases_Bool, false≢true, leb-true, leb-false, lt-ltb, ltb-true, ltb-false}
 use Rattle.std.proofs.lemmas.Option.{none-some, same_Some}
 use Rattle.s4_types.specs.Pointer.{Place}
 use Rattle.s4_types.specs.declared.limits.TheConstants.{CHAIN_BLOCKS, JOURNAL_ENTRY_BYTES}
+use Rattle.lemmas.proofs.Option.{value_there}
 use Rattle.block_log.specs.Log.{Stored, of_kind, same_place}
 use Rattle.block_log.specs.declared.kinds.BlockKind.TheVariants.{Journal}
+use Rattle.block_log.proofs.Places.{same_place_itself}
 use Rattle.codec.specs.Fields.{◌>>=◌, bit}
 use Rattle.codec.specs.Entry.{EntryFields, entries_length}
 use Rattle.codec.specs.Journal.{JournalFields}
+use Rattle.codec.proofs.Exact.{bind_some}
 use Rattle.journal_chain.specs.Packing.{joined, packed, AllFit, KeepsTheRule}
 use Rattle.journal_chain.specs.Chain.{BlockView, Link, linked, links_from, chain_links, chain_places, chain_entries, journal_in, journal_of, places_of, blocks_of, times, Holds}
+use Rattle.journal_chain.proofs.Loops.{all_fit-append}
+use Rattle.journal_chain.proofs.Spelled.{bind_is}
 use Rattle.image_objects.specs.declared.rows.ImageRow.{ImageRow}
 use Rattle.image_objects.specs.Chains.{ChainStands, blocks_used, entries_used, chain_fields, chain_view}
-use Rattle.image_objects.proofs.Walking.{bind_some, bind_is}
-use Rattle.image_objects.proofs.Judging.{some_links}
 
 -- places that the test finds to be one are equal
 abbrev pub OneName : Type 0
 OneName = (p q : Place) → same_place p q ≡ true → p ≡ q
-
-pub place_itself : (p : Place) → same_place p p ≡ true
-place_itself p =
-    and_from (p.frame == p.frame) (p.block == p.block && p.generation == p.generation) (eq-eqb p.frame p.frame refl)
-    (and_from (p.block == p.block) (p.generation == p.generation) (eq-eqb p.block p.block refl) (eq-eqb p.generation p.generation refl))
 
 -- ---- one step of a walk
 
@@ -37,8 +35,8 @@ record Step (n : ℕ) (blocks : Place → Option JournalFields) (q : Place) (lin
 step : (n : ℕ) (blocks : Place → Option JournalFields) (q : Place) (links : List Link) → links_from (suc n) blocks (Some q) ≡ Some links → Step n blocks q links
 unfolding links_from
 step n blocks q links h =
-    let (b, (here, on)) = bind_some (blocks q) (λ b. links_from n blocks b.previous >>= λ older. Some (linked q b older)) links h in
-    let (older, (walk, made)) = bind_some (links_from n blocks b.previous) (λ older. Some (linked q b older)) links on in
+    let (b, here, on) = bind_some (blocks q) (λ b. links_from n blocks b.previous >>= λ older. Some (linked q b older)) links h in
+    let (older, walk, made) = bind_some (links_from n blocks b.previous) (λ older. Some (linked q b older)) links on in
     record { block = b; older = older; here = here; walk = walk; made = same_Some (linked q b older) links made }
 
 no_links : (n : ℕ) (blocks : Place → Option JournalFields) (links : List Link) → links_from n blocks None ≡ Some links → [] ≡ links
@@ -46,9 +44,9 @@ unfolding links_from
 no_links zero blocks links h = same_Some [] links h
 no_links (suc n) blocks links h = same_Some [] links h
 
-no_fuel : (blocks : Place → Option JournalFields) (q : Place) (links : List Link) → links_from zero blocks (Some q) ≡ Some links → ⊥
+pub no_link_without_fuel : (blocks : Place → Option JournalFields) (q : Place) (links : List Link) → links_from zero blocks (Some q) ≡ Some links → ⊥
 unfolding links_from
-no_fuel blocks q links h = none-some links h
+no_link_without_fuel blocks q links h = none-some links h
 
 -- how often a place is among a step's places
 counted : (n : ℕ) (blocks : Place → Option JournalFields) (q : Place) (links : List Link) (s : Step n blocks q links) (p : Place) → times p (places_of links) ≡ bit (same_place p q) + times p (places_of s.older)
@@ -68,8 +66,8 @@ longer n blocks q links s =
 
 same_links : (n m : ℕ) (blocks : Place → Option JournalFields) (from : Option Place) (xs ys : List Link) → links_from n blocks from ≡ Some xs → links_from m blocks from ≡ Some ys → xs ≡ ys
 same_links n m blocks None xs ys h k = sym (no_links n blocks xs h) ∙ no_links m blocks ys k
-same_links zero m blocks (Some q) xs ys h k = absurd (no_fuel blocks q xs h)
-same_links (suc n) zero blocks (Some q) xs ys h k = absurd (no_fuel blocks q ys k)
+same_links zero m blocks (Some q) xs ys h k = absurd (no_link_without_fuel blocks q xs h)
+same_links (suc n) zero blocks (Some q) xs ys h k = absurd (no_link_without_fuel blocks q ys k)
 same_links (suc n) (suc m) blocks (Some q) xs ys h k =
     let s : Step n blocks q xs = step n blocks q xs h in
     let t : Step m blocks q ys = step m blocks q ys k in
@@ -88,7 +86,7 @@ found_at : OneName → (n : ℕ) (blocks : Place → Option JournalFields) (from
 found_at names n blocks None links p h some =
     let none : times p (places_of []) ≡ times p (places_of links) = ap (λ (l : List Link). times p (places_of l)) (no_links n blocks links h) in
     absurd (omega (arith, counted_none p, none, some))
-found_at names zero blocks (Some q) links p h some = absurd (no_fuel blocks q links h)
+found_at names zero blocks (Some q) links p h some = absurd (no_link_without_fuel blocks q links h)
 found_at names (suc n) blocks (Some q) links p h some =
     let s : Step n blocks q links = step n blocks q links h in
     elim (cases_Bool (same_place p q)) [
@@ -110,7 +108,7 @@ at_most_once : OneName → (n : ℕ) (blocks : Place → Option JournalFields) (
 at_most_once names n blocks None links p h =
     let none : times p (places_of []) ≡ times p (places_of links) = ap (λ (l : List Link). times p (places_of l)) (no_links n blocks links h) in
     omega (arith, counted_none p, none)
-at_most_once names zero blocks (Some q) links p h = absurd (no_fuel blocks q links h)
+at_most_once names zero blocks (Some q) links p h = absurd (no_link_without_fuel blocks q links h)
 at_most_once names (suc n) blocks (Some q) links p h =
     let s : Step n blocks q links = step n blocks q links h in
     elim (cases_Bool (same_place p q)) [
@@ -122,7 +120,7 @@ at_most_once names (suc n) blocks (Some q) links p h =
     ]
 
 begins_with : (n : ℕ) (blocks : Place → Option JournalFields) (p : Place) (links : List Link) → links_from n blocks (Some p) ≡ Some links → IsSome (blocks p)
-begins_with zero blocks p links h = absurd (no_fuel blocks p links h)
+begins_with zero blocks p links h = absurd (no_link_without_fuel blocks p links h)
 begins_with (suc n) blocks p links h = let s : Step n blocks p links = step n blocks p links h in ap is_some s.here
 
 is_there : OneName → (n : ℕ) (blocks : Place → Option JournalFields) (from : Option Place) (links : List Link) (p : Place) → links_from n blocks from ≡ Some links → 1 ≤ times p (places_of links) → IsSome (blocks p)
@@ -144,10 +142,10 @@ step_back n blocks q b older here walk =
 
 kept_walk : (n : ℕ) (blocks others : Place → Option JournalFields) (from : Option Place) (links : List Link) → links_from n blocks from ≡ Some links → ((p : Place) → 1 ≤ times p (places_of links) → others p ≡ blocks p) → links_from n others from ≡ Some links
 kept_walk n blocks others None links h agree = links_none n others ∙ ap Some (no_links n blocks links h)
-kept_walk zero blocks others (Some q) links h agree = absurd (no_fuel blocks q links h)
+kept_walk zero blocks others (Some q) links h agree = absurd (no_link_without_fuel blocks q links h)
 kept_walk (suc n) blocks others (Some q) links h agree =
     let s : Step n blocks q links = step n blocks q links h in
-    let here : bit (same_place q q) ≡ 1 = ap bit (place_itself q) in
+    let here : bit (same_place q q) ≡ 1 = ap bit (same_place_itself q) in
     let there : others q ≡ Some s.block = agree q (omega (arith, counted n blocks q links s q, here)) ∙ s.here in
     let rest : links_from n others s.block.previous ≡ Some s.older = kept_walk n blocks others s.block.previous s.older s.walk (λ p some. agree p (omega (arith, counted n blocks q links s p, some))) in
     step_back n others q s.block s.older there rest ∙ ap Some s.made
@@ -159,14 +157,10 @@ unfolding entries_length
 block_fits [] le = tt
 block_fits (e ∷ entries) le = (omega arith, block_fits entries (omega arith))
 
-both_fit : (xs ys : List EntryFields) → AllFit xs → AllFit ys → AllFit (xs ++ ys)
-both_fit [] ys a b = b
-both_fit (x ∷ xs) ys a b = (a.0, both_fit xs ys a.1 b)
-
 all_fit : (blocks : List (List EntryFields)) → KeepsTheRule blocks → AllFit (joined blocks)
 unfolding joined
 all_fit [] h = tt
-all_fit (newest ∷ older) h = both_fit (joined older) newest (all_fit older h.2) (block_fits newest h.0.few)
+all_fit (newest ∷ older) h = all_fit-append (joined older) newest (all_fit older h.2) (block_fits newest h.0.few)
 
 -- ---- the chain is held
 
@@ -219,7 +213,7 @@ holds names again used held row clock s only =
     let o = row.object in
     let view = of_kind Journal o used in
     let others = of_kind Journal o held in
-    let (links, there) = some_links (chain_links view o row.head) s.walk in
+    let (links, there) = value_there (chain_links view o row.head) s.walk in
     let t : Told used row links = told used row links there in
     let rule : KeepsTheRule (blocks_of links) = subst (λ (b : List (List EntryFields)). KeepsTheRule b) t.blocks s.packing in
     let places : chain_places view o row.head ≡ places_of links = ap (λ (found : Option (List Link)). places_of (unwrap_or found [])) there in

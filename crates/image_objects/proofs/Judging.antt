@@ -1,10 +1,11 @@
 -- What a walk and the tests of its entries say of a row's chain in an image of a version.
 use Rattle.std.proofs.Common.{◌≡◌, ℕ, ◌+◌, ◌≤◌, ◌&&◌, true, false, leb, List, [], ◌∷◌, Option, Some, None, map, IsSome, is_some, unwrap_or, option_map, refl, sym, ap, ◌∙◌, subst, arith}
 use Rattle.std.specs.List.{AllByRecursion, list_all}
-use Rattle.std.proofs.lemmas.Bool.{both_ways, false≢true, and_parts, and_from, leb-true, le-leb}
+use Rattle.std.proofs.lemmas.Bool.{both_ways, and_parts, and_from, leb-true, le-leb}
 use Rattle.std.proofs.lemmas.Option.{none-some, cond_some}
 use Rattle.s4_types.specs.Pointer.{Place}
 use Rattle.s4_types.specs.declared.limits.TheConstants.{JOURNAL_ENTRY_BYTES}
+use Rattle.lemmas.proofs.Option.{value_there}
 use Rattle.block_log.specs.Log.{Stored}
 use Rattle.codec.specs.Fields.{◌>>=◌, kept}
 use Rattle.codec.specs.Entry.{EntryFields, entry_length, entries_length_by}
@@ -101,17 +102,13 @@ head_is after bytes items entries is same =
 
 -- ---- a chain that isn't read
 
-pub some_links : (o : Option (List Link)) → IsSome o → (links : List Link) × (o ≡ Some links)
-some_links None h = absurd (false≢true h)
-some_links (Some links) h = (links, refl)
-
 any_room : (v : ImageVersion) (blocks : List (List EntryFields)) → NoRoom v (JOURNAL_ENTRY_BYTES + 1) blocks
 any_room v [] = tt
 any_room v (newest ∷ older) = omega arith
 
 pub walk_is : (v : ImageVersion) (used : Place → Option Stored) (row : ImageRow) (clock : ℕ) → ChainStandsBy v used row clock → WalkOf v used row ≡ Some (entries_used_by v used row)
 walk_is v used row clock s =
-    let (links, there) = some_links (links_used_by v used row) s.walk in
+    let (links, there) = value_there (links_used_by v used row) s.walk in
     let t : Told v used row links = told v used row links there in
     let rule : KeepsTheRuleBy v (blocks_of links) = subst (λ (b : List (List EntryFields)). KeepsTheRuleBy v b) t.blocks s.packing in
     walked_since v (chain_blocks_by v) (JOURNAL_ENTRY_BYTES + 1) (journal_used_by v used row.object) row.head links there (any_room v (blocks_of links)) rule ∙ ap Some (sym t.entries)

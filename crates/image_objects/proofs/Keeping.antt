@@ -11,14 +11,15 @@ use Rattle.codec.specs.declared.inodes.Inode.{Inode}
 use Rattle.codec.specs.Entry.{EntryFields}
 use Rattle.codec.specs.Checkpoint.{CheckpointFields}
 use Rattle.undo_redo.specs.Redone.{undone}
-use Rattle.undo_redo.specs.Runs.{Run, blank, undone_all, entries_by, inode_after}
+use Rattle.undo_redo.specs.Runs.{Run, undone_all, entries_by, inode_after}
 use Rattle.undo_redo.specs.Groups.{grouped}
 use Rattle.checkpoint.specs.Held.{checkpoint_held, checkpoint_places, of_checkpoints, places_named, is_one_of}
 use Rattle.journal_chain.specs.Packing.{joined, packed, KeepsTheRule}
 use Rattle.journal_chain.specs.Chain.{BlockView, ChainFields, Holds, entries_held}
-use Rattle.object_map.specs.declared.map.Row.{Row}
 use Rattle.time_read.specs.Rows.{IsRow, inode_before, entries_of, checkpoint_of, first_of, inode_of}
 use Rattle.time_read.specs.Orderly.{IsFromTo, BeginsDead, IsOrderlyChain, IsOrderly}
+use Rattle.time_read.proofs.Reading.{inode_of_first}
+use Rattle.row_changes.proofs.Fresh.{blank_made}
 use Rattle.image_objects.specs.declared.rows.ImageRow.{ImageRow}
 use Rattle.image_objects.specs.Chains.{entries_used, chain_fields, chain_view}
 use Rattle.image_objects.specs.Inodes.{CheckpointStands, first_before, first_used, checkpoint_places_used}
@@ -78,14 +79,10 @@ all_undone_created : (entries : List EntryFields) (j : Inode) → (undone_all en
 all_undone_created [] j = refl
 all_undone_created (e ∷ entries) j = undone_created e (undone_all entries j) ∙ all_undone_created entries j
 
-blank_created : (created : ℕ) → (blank created).created ≡ created
-unfolding blank
-blank_created created = refl
-
 created_none : (used : Place → Option Stored) (row : ImageRow) (entries : List EntryFields) → row.checkpoint ≡ None → (first_before used row entries).created ≡ row.created
 unfolding inode_before
 created_none used row entries names =
-    ap (λ (o : Option CheckpointFields). (inode_before row.created row.checkpoint_moment entries o).created) (ap (λ (q : Option Place). q >>= checkpoint_held used row.object) names) ∙ blank_created row.created
+    ap (λ (o : Option CheckpointFields). (inode_before row.created row.checkpoint_moment entries o).created) (ap (λ (q : Option Place). q >>= checkpoint_held used row.object) names) ∙ blank_made row.created
 
 -- ---- the beginning, by whether a checkpoint is named
 
@@ -133,10 +130,6 @@ same names rests again its used held row clock stamp h journal checkpoints =
           ∙ ap (λ (o : Option CheckpointFields). inode_before row.created row.checkpoint_moment (entries_used used row) o) (same_found rests used held row.object row.checkpoint checkpoints);
     }
 
-current : (held : Place → Option Stored) (o : ℕ) (row : Row) (t : ℕ) → inode_of held o row t ≡ inode_after (first_of held o row) (entries_of held o row) t
-unfolding inode_of
-current held o row t = refl
-
 pub is_row : OneName → RestsOnBlocks → OnePacking → ItsEntries → (used held : Place → Option Stored) (row : ImageRow) (clock stamp : ℕ) → 1 ≤ row.object → VersionChainStands used row clock
     → ((p : Place) → of_kind Journal row.object held p ≡ chain_view used row p) → ((p : Place) → of_checkpoints row.object held p ≡ checkpoint_view used row p) → IsRow held row.object (kept_row used row stamp)
 is_row names rests again its used held row clock stamp object h journal checkpoints =
@@ -144,7 +137,7 @@ is_row names rests again its used held row clock stamp object h journal checkpoi
     let kept = kept_row used row stamp in
     let es = entries_of held row.object kept in
     let now : inode_of held row.object kept row.checkpoint_moment ≡ inode_after (first_used used row) (entries_used used row) row.checkpoint_moment =
-    current held row.object kept row.checkpoint_moment ∙ ap (λ (i : Inode). inode_after i es row.checkpoint_moment) s.first ∙ ap (λ (l : List EntryFields). inode_after (first_used used row) l row.checkpoint_moment) s.entries in
+    inode_of_first held row.object kept row.checkpoint_moment ∙ ap (λ (i : Inode). inode_after i es row.checkpoint_moment) s.first ∙ ap (λ (l : List EntryFields). inode_after (first_used used row) l row.checkpoint_moment) s.entries in
     record {
       object = object;
       chain = subst (λ (l : List EntryFields). Holds held (chain_fields used row) l) (sym s.entries) s.chain;

@@ -8,13 +8,14 @@ use Rattle.std.proofs.lemmas.Bool.{cases_Bool, cond-true, cond-false, eq-eqb, eq
 use Rattle.std.proofs.lemmas.List.Elements.{All-contains, All-from_recursion, Contains-append_left, Contains-append_right}
 use Rattle.std.proofs.lemmas.Option.{none-some, same_Some}
 use Rattle.s4_types.specs.Pointer.{Place}
+use Rattle.lemmas.proofs.Contains.{contains_none, contains_cases}
 use Rattle.block_log.specs.Log.{Stored}
 use Rattle.object_map.specs.declared.map.Row.{Row}
 use Rattle.object_map.specs.Rows.{row_of}
 use Rattle.image_objects.specs.declared.rows.ImageRow.{ImageRow}
 use Rattle.image_objects.specs.VersionChain.{kept_row}
 use Rattle.image_objects.specs.Rows.{RowsAscend, kept_rows}
-use Rattle.image_objects.proofs.Listed.{none_listed, listed_cases, above}
+use Rattle.image_objects.proofs.Listed.{above}
 
 -- a row is found by its own object
 at_is : (o k : ℕ) → is_at (nat_cmp o) k ≡ (o == k)
@@ -40,8 +41,8 @@ row_found used (x ∷ rows) o found h = elim (cases_Bool (x.object == o)) [
 ]
 
 pub row_there : (used : Place → Option Stored) (clock low made : ℕ) (rows : List ImageRow) (row : ImageRow) → RowsAscend clock low made rows → Contains rows row → row_of (kept_rows used rows) row.object ≡ Some (kept_row used row 0)
-row_there used clock low made [] row ascend there = absurd (none_listed row there)
-row_there used clock low made (x ∷ rows) row ascend there = elim (listed_cases x rows row there) [
+row_there used clock low made [] row ascend there = absurd (contains_none row there)
+row_there used clock low made (x ∷ rows) row ascend there = elim (contains_cases x rows row there) [
   | inl is ↦ found_here (kept_rows used rows) row.object x.object (kept_row used x 0) (ap (λ (r : ImageRow). r.object) is) ∙ ap (λ (r : ImageRow). Some (kept_row used r 0)) is
   | inr behind ↦
       let later = above clock x.object x.created rows row ascend.3 behind in

@@ -6,11 +6,11 @@ pub mod Named
 mod HeldByName
 mod Kept
 mod Listed
-mod MomentsOnce
+pub mod MomentsOnce
 mod Pointing
 mod Checkpoints
 mod FirstPlaces
-mod SavedObject
+pub mod SavedObject
 mod SavedRows
 mod SavedStore
 mod Saving

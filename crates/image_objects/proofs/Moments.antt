@@ -1,14 +1,12 @@
 -- The inodes of a chain that are current at some moment, one after another.
-use Rattle.std.proofs.Common.{◌≡◌, ℕ, ◌+◌, ◌<◌, ◌≤◌, true, leb, cond, inl, inr, List, [], ◌∷◌, length, drop, get_or, set, refl, sym, ap, ◌∙◌, subst, arith}
+use Rattle.std.proofs.Common.{◌≡◌, ℕ, ◌+◌, ◌<◌, ◌≤◌, true, leb, cond, inl, inr, List, [], ◌∷◌, length, drop, get_or, refl, sym, ap, ◌∙◌, subst, arith}
 use Rattle.std.specs.List.{filter}
 use Rattle.std.proofs.lemmas.Bool.{cases_Bool, and_parts, leb-true, leb-false, le-leb, lt-leb}
-use Rattle.std.proofs.lemmas.List.{drop_more, drop_all, length-set}
-use Rattle.s4_types.specs.Pointer.{Place}
+use Rattle.std.proofs.lemmas.List.{drop_all}
 use Rattle.codec.specs.declared.inodes.Inode.{Inode}
-use Rattle.codec.specs.declared.entries.Triple.{Triple}
 use Rattle.codec.specs.Entry.{EntryFields}
-use Rattle.std.specs.Prelude.{Option}
-use Rattle.undo_redo.specs.Redone.{redone, with_after}
+use Rattle.lemmas.proofs.List.{drop_next}
+use Rattle.undo_redo.specs.Redone.{redone}
 use Rattle.undo_redo.specs.Runs.{entry_is_by, inode_after, redone_all, moments_ascend_from}
 
 -- P holds of each inode that is current at some moment from a first one on, where that is this inode's, and these entries
@@ -59,9 +57,6 @@ pub record Judged (P : Inode → Type 0) (start : Inode) (entries : List EntryFi
   pub is : HoldsFrom P first inode (drop i entries) → HoldsFrom P 0 start entries
   pub only : HoldsFrom P 0 start entries → HoldsFrom P first inode (drop i entries)
 
-next_is : (entries : List EntryFields) (i : ℕ) (e : EntryFields) → i < length entries → e ≡ get_or entries i e → drop i entries ≡ e ∷ drop (i + 1) entries
-next_is entries i e lt is = drop_more entries i e lt ∙ ap (λ (x : EntryFields). x ∷ drop (i + 1) entries) (sym is)
-
 pub begun : (P : Inode → Type 0) (start : Inode) (entries : List EntryFields) (first : ℕ) → first ≡ 0 → Judged P start entries 0 first start
 begun P start entries first zero_is = record {
   is = subst (λ n. HoldsFrom P n start entries → HoldsFrom P 0 start entries) (sym zero_is) (λ h. h);
@@ -72,7 +67,7 @@ pub judged_more : (P : Inode → Type 0) (start : Inode) (entries : List EntryFi
     → (first < e.moment → P inode) → Judged P start entries (i + 1) e.moment next
 judged_more P start entries i first inode next e lt is made j here =
     let rest = drop (i + 1) entries in
-    let step : drop i entries ≡ e ∷ rest = next_is entries i e lt is in
+    let step : drop i entries ≡ e ∷ rest = drop_next entries i e lt is in
     record {
       is = λ h. j.is (subst (λ (es : List EntryFields). HoldsFrom P first inode es) (sym step) (here, subst (λ (n : Inode). HoldsFrom P e.moment n rest) made h));
       only = λ h. subst (λ (n : Inode). HoldsFrom P e.moment n rest) (sym made) (subst (λ (es : List EntryFields). HoldsFrom P first inode es) step (j.only h)).1;
@@ -82,7 +77,7 @@ judged_more P start entries i first inode next e lt is made j here =
 pub next_holds : (P : Inode → Type 0) (start : Inode) (entries : List EntryFields) (i first : ℕ) (inode : Inode) (e : EntryFields) → i < length entries → e ≡ get_or entries i e → moments_ascend_from 0 entries ≡ true → Judged P start entries i first inode
     → ((t : ℕ) → P (inode_after start entries t)) → first < e.moment → P inode
 next_holds P start entries i first inode e lt is ascend j all =
-    (subst (λ (es : List EntryFields). HoldsFrom P first inode es) (next_is entries i e lt is) (j.only (from_each P 0 start entries ascend (λ t from. all t)))).0
+    (subst (λ (es : List EntryFields). HoldsFrom P first inode es) (drop_next entries i e lt is) (j.only (from_each P 0 start entries ascend (λ t from. all t)))).0
 
 -- and of the last
 pub last_holds : (P : Inode → Type 0) (start : Inode) (entries : List EntryFields) (i first : ℕ) (inode : Inode) → length entries ≤ i → moments_ascend_from 0 entries ≡ true → Judged P start entries i first inode
@@ -94,13 +89,3 @@ pub all_hold : (P : Inode → Type 0) (start : Inode) (entries : List EntryField
     → P inode → (t : ℕ) → P (inode_after start entries t)
 all_hold P start entries i first inode end ascend j last t =
     at_each P 0 start entries ascend (j.is (subst (λ (es : List EntryFields). HoldsFrom P first inode es) (sym (drop_all i entries end)) last)) t (omega arith)
-
--- ---- the count of pointers
-
-same_count : (triples : List Triple) (pointers : List (Option Place)) → length (with_after triples pointers) ≡ length pointers
-same_count [] pointers = refl
-same_count (t ∷ triples) pointers = same_count triples (set pointers t.index t.after) ∙ length-set pointers t.index t.after
-
-pub redone_count : (e : EntryFields) (i : Inode) → length (redone e i).pointers ≡ length i.pointers
-unfolding redone
-redone_count e i = same_count e.triples i.pointers

@@ -3,19 +3,23 @@ use Rattle.std.proofs.Common.{◌≡◌, ℕ, zero, suc, ◌+◌, ◌<◌, ◌==
 use Rattle.std.specs.Prelude.{◌⊎◌}
 use Rattle.std.specs.List.{Contains}
 use Rattle.std.specs.Option.{option_to_list}
-use Rattle.std.proofs.lemmas.Bool.{cases_Bool, cases_lt, cond-false, false≢true, and_from, and_parts, eq-eqb, eqb-true}
+use Rattle.std.proofs.lemmas.Bool.{cases_Bool, cases_lt, cond-false, false≢true, and_parts, eqb-true}
 use Rattle.std.proofs.lemmas.List.Elements.{Contains-append_left, Contains-append_right, Contains-append_cases, Contains-push_cases, All-contains}
 use Rattle.std.proofs.lemmas.List.Folds.{list_any_at}
 use Rattle.std.proofs.lemmas.List.Sums.{sum_by-cons}
 use Rattle.s4_types.specs.Pointer.{Place}
+use Rattle.lemmas.proofs.Contains.{contains_none}
 use Rattle.block_log.specs.Log.{Stored, of_kind, seen_as, same_kind, same_place, is_data}
 use Rattle.block_log.specs.declared.kinds.BlockKind.{BlockKind}
 use Rattle.block_log.specs.declared.kinds.BlockKind.TheVariants.{Journal, Checkpoint, Data, Pointers}
+use Rattle.block_log.proofs.Places.{same_place_itself, same_place_turned}
+use Rattle.block_log.proofs.BlockKinds.{one_kind, seen_is_some}
 use Rattle.codec.specs.Fields.{bit}
 use Rattle.codec.specs.Entry.{EntryFields}
 use Rattle.journal_chain.specs.Chain.{times}
 use Rattle.checkpoint.specs.Held.{checkpoint_held, is_one_of, of_checkpoints, HasItsBlocks}
 use Rattle.checkpoint.proofs.OwnBlocks.{IsOwn, seen_own, has_some, own_no_data}
+use Rattle.journal_chain.proofs.Places.{times-cons, times-none}
 use Rattle.time_read.specs.Orderly.{BeginsDead}
 use Rattle.version_store.specs.Store.{IsLed, is_at, times_led}
 use Rattle.image_objects.specs.declared.rows.ImageRow.{ImageRow}
@@ -24,8 +28,8 @@ use Rattle.image_objects.specs.Inodes.{CheckpointStands, checkpoint_places_used}
 use Rattle.image_objects.specs.Objects.{ObjectStands, pointers_used}
 use Rattle.image_objects.specs.Naming.{NamesUsed}
 use Rattle.image_objects.specs.private.Places.{places_in, places_of_chain, places_named}
-use Rattle.image_objects.proofs.RowWalk.{in_none, place_there}
-use Rattle.image_objects.proofs.HeldByName.{one_kind, own_named}
+use Rattle.image_objects.proofs.RowWalk.{place_there}
+use Rattle.image_objects.proofs.HeldByName.{own_named}
 
 -- ---- what is listed
 
@@ -33,13 +37,13 @@ here_alone : (p : Place) → Contains (p ∷ []) p
 here_alone p = (0, omega arith, refl)
 
 only_itself : (p q : Place) → Contains (q ∷ []) p → q ≡ p
-only_itself p q listed = elim (Contains-push_cases [] q p listed) [ inl none ↦ absurd (in_none p none) | inr same ↦ same ]
+only_itself p q listed = elim (Contains-push_cases [] q p listed) [ inl none ↦ absurd (contains_none p none) | inr same ↦ same ]
 
 in_slot : (slot : Option Place) (p : Place) → slot ≡ Some p → Contains (option_to_list slot) p
 in_slot slot p is = subst (λ (s : Option Place). Contains (option_to_list s) p) (sym is) (here_alone p)
 
 of_slot : (slot : Option Place) (p : Place) → Contains (option_to_list slot) p → slot ≡ Some p
-of_slot None p listed = absurd (in_none p listed)
+of_slot None p listed = absurd (contains_none p listed)
 of_slot (Some q) p listed = ap Some (only_itself p q listed)
 
 slot_listed : (slots : List (Option Place)) (k : ℕ) (p : Place) → k < length slots → get_or slots k (Some p) ≡ Some p → Contains (places_in slots) p
@@ -48,7 +52,7 @@ slot_listed (s ∷ slots) zero p lt is = Contains-append_left (option_to_list s)
 slot_listed (s ∷ slots) (suc k) p lt is = Contains-append_right (option_to_list s) (places_in slots) p (slot_listed slots k p (omega (arith, lt)) is)
 
 listed_slot : (slots : List (Option Place)) (p : Place) → Contains (places_in slots) p → Contains slots (Some p)
-listed_slot [] p listed = absurd (in_none p listed)
+listed_slot [] p listed = absurd (contains_none p listed)
 listed_slot (s ∷ slots) p listed = elim (Contains-append_cases (option_to_list s) (places_in slots) p listed) [
   | inl here ↦ Contains-append_left (s ∷ []) slots (Some p) (0, omega arith, of_slot s p here)
   | inr later ↦ Contains-append_right (s ∷ []) slots (Some p) (listed_slot slots p later)
@@ -59,39 +63,26 @@ listed_slot (s ∷ slots) p listed = elim (Contains-append_cases (option_to_list
 abbrev pub OneName : Type 0
 OneName = (p q : Place) → same_place p q ≡ true → p ≡ q
 
-place_itself : (p : Place) → same_place p p ≡ true
-place_itself p =
-    and_from (p.frame == p.frame) (p.block == p.block && p.generation == p.generation) (eq-eqb p.frame p.frame refl)
-    (and_from (p.block == p.block) (p.generation == p.generation) (eq-eqb p.block p.block refl) (eq-eqb p.generation p.generation refl))
-
-counted : (p q : Place) (places : List Place) → times p (q ∷ places) ≡ bit (same_place p q) + times p places
-unfolding times
-counted p q places = refl
-
-counted_none : (p : Place) → times p [] ≡ 0
-unfolding times
-counted_none p = refl
-
 once_there : (places : List Place) (k : ℕ) (p : Place) → k < length places → get_or places k p ≡ p → 0 < times p places
 once_there [] k p lt is = absurd (omega (arith, lt))
 once_there (q ∷ places) zero p lt is =
-    let one : bit (same_place p q) ≡ 1 = ap bit (ap (same_place p) is ∙ place_itself p) in
-    omega (arith, counted p q places, one)
+    let one : bit (same_place p q) ≡ 1 = ap bit (ap (same_place p) is ∙ same_place_itself p) in
+    omega (arith, times-cons p q places, one)
 once_there (q ∷ places) (suc k) p lt is =
     let some : 0 < times p places = once_there places k p (omega (arith, lt)) is in
-    omega (arith, counted p q places, some)
+    omega (arith, times-cons p q places, some)
 
 pub there_once : OneName → (places : List Place) (p : Place) → 0 < times p places → Contains places p
-there_once names [] p some = absurd (omega (arith, some, counted_none p))
+there_once names [] p some = absurd (omega (arith, some, times-none p))
 there_once names (q ∷ places) p some = elim (cases_Bool (same_place p q)) [
   | inl same ↦ Contains-append_left (q ∷ []) places p (0, omega arith, sym (names p q same))
   | inr other ↦ (let none : bit (same_place p q) ≡ 0 = ap bit other in
-      Contains-append_right (q ∷ []) places p (there_once names places p (omega (arith, counted p q places, none, some))))
+      Contains-append_right (q ∷ []) places p (there_once names places p (omega (arith, times-cons p q places, none, some))))
 ]
 
 -- a place that is listed is found by the test, and one that the test finds is listed
 listed_one : (places : List Place) (p : Place) → Contains places p → is_one_of places p ≡ true
-listed_one places p listed = let (n, below, at) = listed in list_any_at (λ q. same_place q p) places n p below (ap (λ q. same_place q p) at ∙ place_itself p)
+listed_one places p listed = let (n, below, at) = listed in list_any_at (λ q. same_place q p) places n p below (ap (λ q. same_place q p) at ∙ same_place_itself p)
 
 one_listed : OneName → (places : List Place) (p : Place) → is_one_of places p ≡ true → Contains places p
 one_listed names [] p is = absurd (false≢true is)
@@ -156,39 +147,26 @@ named_is_used names used row clock Checkpoint p stands named = named.1
 named_is_used names used row clock Data p stands named = All-contains (IsLed used row.object) (pointers_used used row) (Some p) stands.led named
 named_is_used names used row clock Pointers p stands named = named.1
 
-pub is_used : (kind : BlockKind) (o : ℕ) (block : Option Stored) → IsSome (seen_as kind o block) → IsSome block
-is_used kind o None h = absurd (false≢true h)
-is_used kind o (Some block) h = refl
-
 -- ---- how often a row names data
 
 times_joined : (p : Place) (front back : List Place) → times p (front ++ back) ≡ times p front + times p back
-times_joined p [] back = let none = counted_none p in omega (arith, none)
+times_joined p [] back = let none = times-none p in omega (arith, none)
 times_joined p (q ∷ front) back =
-    let whole : times p (q ∷ (front ++ back)) ≡ bit (same_place p q) + times p (front ++ back) = counted p q (front ++ back) in
-    let first : times p (q ∷ front) ≡ bit (same_place p q) + times p front = counted p q front in
+    let whole : times p (q ∷ (front ++ back)) ≡ bit (same_place p q) + times p (front ++ back) = times-cons p q (front ++ back) in
+    let first : times p (q ∷ front) ≡ bit (same_place p q) + times p front = times-cons p q front in
     let rest = times_joined p front back in
     omega (arith, whole, first, rest)
 
-same_back : OneName → (p q : Place) → same_place p q ≡ same_place q p
-same_back names p q = elim (cases_Bool (same_place p q)) [
-  | inl is ↦ let e = names p q is in ap (λ (r : Place). same_place p r) (sym e) ∙ ap (λ (r : Place). same_place r p) e
-  | inr isnt ↦ elim (cases_Bool (same_place q p)) [
-    | inl back ↦ let e = names q p back in ap (λ (r : Place). same_place p r) e ∙ ap (λ (r : Place). same_place r p) (sym e)
-    | inr neither ↦ isnt ∙ sym neither
-  ]
-]
-
 -- as often as slots refer to a place, it is listed among the places that they refer to
 slots_counted : OneName → (p : Place) (slots : List (Option Place)) → times p (places_in slots) ≡ times_led p slots
-slots_counted names p [] = counted_none p
+slots_counted names p [] = times-none p
 slots_counted names p (None ∷ slots) =
     let first : times_led p (None ∷ slots) ≡ 0 + times_led p slots = sum_by-cons (λ (x : Option Place). cond (is_at x p) 1 0) None slots in
     slots_counted names p slots ∙ omega (arith, first)
 slots_counted names p (Some q ∷ slots) =
     let first : times_led p (Some q ∷ slots) ≡ bit (same_place q p) + times_led p slots = sum_by-cons (λ (x : Option Place). cond (is_at x p) 1 0) (Some q) slots in
-    let listed : times p (q ∷ places_in slots) ≡ bit (same_place p q) + times p (places_in slots) = counted p q (places_in slots) in
-    let same : bit (same_place p q) ≡ bit (same_place q p) = ap bit (same_back names p q) in
+    let listed : times p (q ∷ places_in slots) ≡ bit (same_place p q) + times p (places_in slots) = times-cons p q (places_in slots) in
+    let same : bit (same_place p q) ≡ bit (same_place q p) = ap bit (same_place_turned p q) in
     let rest = slots_counted names p slots in
     omega (arith, first, listed, same, rest)
 
@@ -210,7 +188,7 @@ seen_parts k o block some =
 -- a block of data is seen as data alone
 seen_of_data : (k : BlockKind) (o : ℕ) (found : Option Stored) → IsSome (seen_as k o found) → is_data found ≡ true → same_kind k Data ≡ true
 seen_of_data k o None some is = absurd (false≢true some)
-seen_of_data k o (Some block) some is = let parts = seen_parts k o block some in ap (same_kind k) (one_kind block.kind Data is) ∙ parts.0
+seen_of_data k o (Some block) some is = let parts = seen_parts k o block some in ap (same_kind k) ((sym (one_kind block.kind Data is))) ∙ parts.0
 
 never_listed : OneName → (places : List Place) (p : Place) → (Contains places p → ⊥) → times p places ≡ 0
 never_listed names places p never = elim (cases_lt 0 (times p places)) [
@@ -257,7 +235,7 @@ all_kept used row before items is p old = subst (λ (l : List Place). Contains l
 pub only_used : OneName → HasBlocks → (used : Place → Option Stored) (row : ImageRow) (clock : ℕ) (before items : List Place) → ObjectStands used row clock → items ≡ before ++ places_named used row → (p : Place) → Contains items p → Contains before p ⊎ IsSome (used p)
 only_used names has used row clock before items stands is p listed = elim (only_named has used row clock before items stands is p listed) [
   | inl old ↦ inl old
-  | inr new ↦ inr (is_used new.0 row.object (used p) (named_is_used names used row clock new.0 p stands new.1))
+  | inr new ↦ inr (seen_is_some new.0 row.object (used p) (named_is_used names used row clock new.0 p stands new.1))
 ]
 
 pub data_counted : OneName → HasBlocks → (used : Place → Option Stored) (row : ImageRow) (clock : ℕ) (before items : List Place) → ObjectStands used row clock → items ≡ before ++ places_named used row → (p : Place) → is_data (used p) ≡ true

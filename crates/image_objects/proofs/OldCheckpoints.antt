@@ -15,9 +15,10 @@ use Rattle.codec.specs.SmallCheckpoint.{small_checkpoint_in}
 use Rattle.codec.specs.declared.first_blocks.FirstBlock.{FirstBlock}
 use Rattle.codec.specs.declared.pointer_blocks.PointerBlock.{PointerBlock}
 use Rattle.codec.specs.declared.versions.TheConstants.{FIRST_OBJECT_BYTES}
+use Rattle.codec.proofs.Exact.{bind_some}
 use Rattle.checkpoint.specs.Held.{checkpoint_held, checkpoint_in, checkpoint_of, of_checkpoints, or_others, begun_by, first_in, part_in}
+use Rattle.journal_chain.proofs.Spelled.{bind_is}
 use Rattle.image_objects.specs.OldCheckpoints.{AnOldCheckpointIsOneBlock}
-use Rattle.image_objects.proofs.Walking.{bind_some, bind_is}
 
 -- what the crates below say of blocks of checkpoints
 pub record Laws : Type 0 where
@@ -58,7 +59,7 @@ mapped_some (Some bytes) block is = (bytes, (refl, same_Some (begun_by Checkpoin
 
 no_part : Laws → (k : Option (List ℕ)) (f : FirstBlock) (part : ℕ) (pointers : List (Option Place)) → (option_map (begun_by Checkpoint) k >>= told_in f part) ≡ Some pointers → ⊥
 no_part laws k f part pointers is =
-    let (block, (there, tells)) = bind_some (option_map (begun_by Checkpoint) k) (told_in f part) pointers is in
+    let (block, there, tells) = bind_some (option_map (begun_by Checkpoint) k) (told_in f part) pointers is in
     let (bytes, (here, same)) = mapped_some k block there in
     let t : TellsPart f part block pointers = laws.part f part block pointers tells in
     let four : slice_index (begun_by Checkpoint bytes) 0 ≡ 4 = ap (λ (b : List ℕ). slice_index b 0) same ∙ laws.part_begins block t.found t.read in
@@ -119,8 +120,8 @@ record Small (bytes : List ℕ) (c : CheckpointFields) : Type 0 where
 small_is : (bytes : List ℕ) (c : CheckpointFields) → small_checkpoint_in bytes ≡ Some c → Small bytes c
 unfolding small_checkpoint_in
 small_is bytes c is =
-    let (f, (read, rest)) = bind_some (all_of first_at bytes) (λ g. kept (leb g.size FIRST_OBJECT_BYTES && are_holes g.parts) g >>= λ h. alone h) c is in
-    let (g, (test, made)) = bind_some (kept (leb f.size FIRST_OBJECT_BYTES && are_holes f.parts) f) (λ h. alone h) c rest in
+    let (f, read, rest) = bind_some (all_of first_at bytes) (λ g. kept (leb g.size FIRST_OBJECT_BYTES && are_holes g.parts) g >>= λ h. alone h) c is in
+    let (g, test, made) = bind_some (kept (leb f.size FIRST_OBJECT_BYTES && are_holes f.parts) f) (λ h. alone h) c rest in
     let t = cond_some (leb f.size FIRST_OBJECT_BYTES && are_holes f.parts) f g test in
     let both = and_parts (leb f.size FIRST_OBJECT_BYTES) (are_holes f.parts) t.0 in
     record {
@@ -138,10 +139,10 @@ to_small : Laws → (used : Place → Option Stored) (o : ℕ) (p : Place) (c : 
 unfolding checkpoint_in
 to_small laws used o p c none is small =
     let view : View = of_checkpoints o used in
-    let (f, (there, rest)) = bind_some (first_in view p) (checkpoint_of view) c is in
-    let (one, (has_one, rest_one)) = bind_some (part_in view f 1 (get_or f.parts 0 None)) (λ x. part_in view f 2 (get_or f.parts 1 None) >>= λ y. part_in view f 3 (get_or f.parts 2 None) >>= λ z. joined f x y z) c rest in
-    let (two, (has_two, rest_two)) = bind_some (part_in view f 2 (get_or f.parts 1 None)) (λ y. part_in view f 3 (get_or f.parts 2 None) >>= λ z. joined f one y z) c rest_one in
-    let (three, (has_three, made)) = bind_some (part_in view f 3 (get_or f.parts 2 None)) (λ z. joined f one two z) c rest_two in
+    let (f, there, rest) = bind_some (first_in view p) (checkpoint_of view) c is in
+    let (one, has_one, rest_one) = bind_some (part_in view f 1 (get_or f.parts 0 None)) (λ x. part_in view f 2 (get_or f.parts 1 None) >>= λ y. part_in view f 3 (get_or f.parts 2 None) >>= λ z. joined f x y z) c rest in
+    let (two, has_two, rest_two) = bind_some (part_in view f 2 (get_or f.parts 1 None)) (λ y. part_in view f 3 (get_or f.parts 2 None) >>= λ z. joined f one y z) c rest_one in
+    let (three, has_three, made) = bind_some (part_in view f 3 (get_or f.parts 2 None)) (λ z. joined f one two z) c rest_two in
     let first = hole_told laws used o none f 1 (get_or f.parts 0 None) one has_one in
     let second = hole_told laws used o none f 2 (get_or f.parts 1 None) two has_two in
     let third = hole_told laws used o none f 3 (get_or f.parts 2 None) three has_three in
@@ -149,7 +150,7 @@ to_small laws used o p c none is small =
     ap (λ (x : List (Option Place)). joined f x (holes 48) (holes 48)) (sym first.1)
     ∙ ap (λ (y : List (Option Place)). joined f one y (holes 48)) (sym second.1)
     ∙ ap (λ (z : List (Option Place)). joined f one two z) (sym third.1) ∙ made in
-    let (block, (at, read)) = bind_some (view p) (all_of first_at) f there in
+    let (block, at, read) = bind_some (view p) (all_of first_at) f there in
     let (bytes, (here, same)) = mapped_some (of_kind Checkpoint o used p) block (sym (seen used o p (none p)) ∙ at) in
     let two_first : slice_index (begun_by Checkpoint bytes) 0 ≡ 2 = ap (λ (b : List ℕ). slice_index b 0) same ∙ laws.first_begins block f read in
     let begins : slice_index bytes 0 ≡ 2 = (begun bytes 2 two_first (omega arith) (λ e. omega (arith, e))).0 in
@@ -167,7 +168,7 @@ from_small : Laws → (used : Place → Option Stored) (o : ℕ) (p : Place) (c 
 unfolding checkpoint_in
 from_small laws used o p c none is =
     let view : View = of_checkpoints o used in
-    let (bytes, (here, encodes)) = bind_some (of_kind Checkpoint o used p) small_checkpoint_in c is in
+    let (bytes, here, encodes) = bind_some (of_kind Checkpoint o used p) small_checkpoint_in c is in
     let s : Small bytes c = small_is bytes c encodes in
     let f = s.first in
     let at : view p ≡ Some bytes = seen used o p (none p) ∙ ap (λ (b : Option (List ℕ)). option_map (begun_by Checkpoint) b) here ∙ ap Some (begun_whole bytes (laws.first_begins bytes f s.read)) in

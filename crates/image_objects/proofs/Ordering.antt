@@ -1,8 +1,7 @@
 -- The inodes of a chain, one after another: what is known of those that were looked at.
 use Rattle.std.proofs.Common.{◌≡◌, ℕ, ◌+◌, ◌<◌, ◌≤◌, Bool, true, false, ◌||◌, leb, ltb, inl, inr, List, [], ◌∷◌, ◌++◌, length, take, get_or, refl, sym, ap, ◌∙◌, subst, arith}
-use Rattle.std.specs.Prelude.{◌⊎◌}
 use Rattle.std.specs.List.{AllByRecursion}
-use Rattle.std.proofs.lemmas.Bool.{cases_Bool, both_ways, leb-true, leb-false, ltb-true, ltb-false}
+use Rattle.std.proofs.lemmas.Bool.{cases_Bool, both_ways, leb-true, leb-false, ltb-true, ltb-false, or_cases, or_parts}
 use Rattle.std.proofs.lemmas.List.{take_more, take_all}
 use Rattle.codec.specs.declared.inodes.Inode.{Inode}
 use Rattle.codec.specs.Entry.{EntryFields}
@@ -43,14 +42,6 @@ behind_next : (first : Inode) (entries : List EntryFields) (i : ℕ) (e : EntryF
 behind_next first entries i e lt is =
     ap (λ (es : List EntryFields). redone_all es first) (take_more entries i e lt ∙ ap (λ (x : EntryFields). take i entries ++ x ∷ []) (sym is)) ∙ redone_last (take i entries) e first
 
-either_live : (one other : Bool) → (one || other) ≡ true → (one ≡ true) ⊎ (other ≡ true)
-either_live true other h = inl refl
-either_live false other h = inr h
-
-neither_live : (one other : Bool) → (one || other) ≡ false → (one ≡ false) × (other ≡ false)
-neither_live true other h = absurd (both_ways true h refl)
-neither_live false other h = (refl, h)
-
 -- the inode after one entry more
 pub seen_more : (created clock : ℕ) (first : Inode) (entries : List EntryFields) (i left : ℕ) (inode next : Inode) (live now : Bool) (e : EntryFields)
     → SeenTo created clock first entries i inode live → i < length entries → e ≡ get_or entries i e → left + (i + 1) ≡ length entries → next ≡ redone e inode
@@ -69,12 +60,12 @@ seen_more created clock first entries i left inode next live now e s lt is left_
         | inl low ↦ (let less : n < i + 1 = ltb-true n (i + 1) low in s.between n some (omega (arith, less)) inside)
         | inr past ↦ (let high : i + 1 ≤ n = ltb-false n (i + 1) past in ap (λ (j : Inode). j.alive) (sym (at_next n le past)) ∙ stands (omega (arith, high, inside, left_is)))
       ];
-      seen = λ alive. elim (either_live live next.alive (sym now_is ∙ alive)) [
+      seen = λ alive. elim (or_cases live next.alive (sym now_is ∙ alive)) [
         | inl before ↦ s.seen before
         | inr here ↦ (i + 1, ap (λ (j : Inode). j.alive) (sym at) ∙ here)
       ];
       none = λ dead n le alive. (
-          let parts = neither_live live next.alive (sym now_is ∙ dead) in
+          let parts = or_parts live next.alive (sym now_is ∙ dead) in
           elim (cases_Bool (ltb n (i + 1))) [
             | inl low ↦ (let less : n < i + 1 = ltb-true n (i + 1) low in s.none parts.0 n (omega (arith, less)) alive)
             | inr past ↦ both_ways next.alive parts.1 (ap (λ (j : Inode). j.alive) (at_next n le past) ∙ alive)

@@ -1,18 +1,22 @@
 -- A walk back along a row's chain, block by block, that adds each block's place to others.
-use Rattle.std.proofs.Common.{◌≡◌, ℕ, zero, suc, inl, inr, List, [], ◌∷◌, ◌++◌, Option, Some, None, IsSome, is_some, unwrap_or, refl, sym, ap, ◌∙◌, subst, append_assoc, append-nil, arith}
+use Rattle.std.proofs.Common.{◌≡◌, ℕ, zero, suc, inl, inr, List, [], ◌∷◌, ◌++◌, Option, Some, None, IsSome, is_some, unwrap_or, refl, sym, ap, ◌∙◌, subst, append_assoc, append-nil}
 use Rattle.std.specs.List.{Contains}
 use Rattle.std.proofs.lemmas.Bool.{false≢true}
 use Rattle.std.proofs.lemmas.List.Elements.{Contains-append_cases, Contains-push_cases}
-use Rattle.std.proofs.lemmas.Option.{none-some, same_Some}
+use Rattle.std.proofs.lemmas.Option.{same_Some}
 use Rattle.s4_types.specs.Pointer.{Place}
 use Rattle.s4_types.specs.declared.limits.TheConstants.{CHAIN_BLOCKS}
+use Rattle.lemmas.proofs.Option.{value_there}
+use Rattle.lemmas.proofs.Contains.{contains_none}
 use Rattle.block_log.specs.Log.{Stored, of_kind}
 use Rattle.block_log.specs.declared.kinds.BlockKind.TheVariants.{Journal}
 use Rattle.codec.specs.Fields.{◌>>=◌}
 use Rattle.codec.specs.Journal.{JournalFields}
+use Rattle.codec.proofs.Exact.{bind_some}
 use Rattle.journal_chain.specs.Chain.{Link, linked, links_from, chain_links, journal_of, journal_held, places_of}
 use Rattle.image_objects.specs.declared.rows.ImageRow.{ImageRow}
 use Rattle.image_objects.specs.private.Places.{places_of_chain}
+use Rattle.image_objects.proofs.Holding.{no_link_without_fuel}
 
 -- the places of the blocks from here on
 abbrev pub places_left : ℕ → (Place → Option JournalFields) → Option Place → List Place
@@ -91,10 +95,6 @@ missing m n blocks from p items whole fuel at none l =
 
 -- ---- each place of a chain has a block
 
-bind_parts : {A B : Type 0} (o : Option A) (f : A → Option B) (y : B) → (o >>= f) ≡ Some y → (x : A) × ((o ≡ Some x) × (f x ≡ Some y))
-bind_parts None f y h = absurd (none-some y h)
-bind_parts (Some x) f y h = (x, (refl, h))
-
 has_source : {A B : Type 0} (o : Option A) (f : A → Option B) → IsSome (o >>= f) → IsSome o
 has_source None f h = absurd (false≢true h)
 has_source (Some x) f h = refl
@@ -104,33 +104,23 @@ unfolding links_from
 no_links zero blocks links h = same_Some [] links h
 no_links (suc n) blocks links h = same_Some [] links h
 
-never_linked : (blocks : Place → Option JournalFields) (p : Place) (links : List Link) → links_from zero blocks (Some p) ≡ Some links → ⊥
-never_linked blocks p links h = no_fuel blocks p (ap is_some h)
-
 onward_parts : (n : ℕ) (blocks : Place → Option JournalFields) (p : Place) (block : JournalFields) (links : List Link) → onward n blocks p block ≡ Some links → (older : List Link) × ((links_from n blocks block.previous ≡ Some older) × (linked p block older ≡ links))
 unfolding onward
 onward_parts n blocks p block links h =
-    let (older, (walk, made)) = bind_parts (links_from n blocks block.previous) (λ older. Some (linked p block older)) links h in
+    let (older, walk, made) = bind_some (links_from n blocks block.previous) (λ older. Some (linked p block older)) links h in
     (older, (walk, same_Some (linked p block older) links made))
 
-some_links : (o : Option (List Link)) → IsSome o → (links : List Link) × (o ≡ Some links)
-some_links None h = absurd (false≢true h)
-some_links (Some links) h = (links, refl)
-
-pub in_none : {A : Type 0} (x : A) → Contains [] x → ⊥
-in_none x (k, lt, is) = omega (arith, lt)
-
 block_there : (n : ℕ) (blocks : Place → Option JournalFields) (from : Option Place) (links : List Link) (p : Place) → links_from n blocks from ≡ Some links → Contains (places_of links) p → IsSome (blocks p)
-block_there n blocks None links p walk listed = absurd (in_none p (subst (λ (l : List Link). Contains (places_of l) p) (sym (no_links n blocks links walk)) listed))
-block_there zero blocks (Some q) links p walk listed = absurd (never_linked blocks q links walk)
+block_there n blocks None links p walk listed = absurd (contains_none p (subst (λ (l : List Link). Contains (places_of l) p) (sym (no_links n blocks links walk)) listed))
+block_there zero blocks (Some q) links p walk listed = absurd (no_link_without_fuel blocks q links walk)
 block_there (suc n) blocks (Some q) links p walk listed =
-    let first = bind_parts (blocks q) (onward n blocks q) links (sym (opened n blocks q) ∙ walk) in
+    let first = bind_some (blocks q) (onward n blocks q) links (sym (opened n blocks q) ∙ walk) in
     let block : JournalFields = first.0 in
-    let rest : (older : List Link) × ((links_from n blocks block.previous ≡ Some older) × (linked q block older ≡ links)) = onward_parts n blocks q block links first.1.1 in
+    let rest : (older : List Link) × ((links_from n blocks block.previous ≡ Some older) × (linked q block older ≡ links)) = onward_parts n blocks q block links first.2 in
     elim (Contains-append_cases (q ∷ []) (places_of rest.0) p (subst (λ (l : List Link). Contains (places_of l) p) (sym rest.1.1) listed)) [
       | inl here ↦ (elim (Contains-push_cases [] q p here) [
-        | inl none ↦ absurd (in_none p none)
-        | inr same ↦ subst (λ (r : Place). IsSome (blocks r)) same (ap is_some first.1.0)
+        | inl none ↦ absurd (contains_none p none)
+        | inr same ↦ subst (λ (r : Place). IsSome (blocks r)) same (ap is_some first.1)
       ])
       | inr later ↦ block_there n blocks block.previous rest.0 p rest.1.0 later
     ]
@@ -138,6 +128,6 @@ block_there (suc n) blocks (Some q) links p walk listed =
 pub place_there : (used : Place → Option Stored) (row : ImageRow) (p : Place) → IsSome (chain_links (of_kind Journal row.object used) row.object row.head) → Contains (places_of_chain used row) p → IsSome (of_kind Journal row.object used p)
 unfolding chain_links
 place_there used row p there listed =
-    let (links, walk) = some_links (links_from CHAIN_BLOCKS (journal_held used row.object) row.head) there in
+    let (links, walk) = value_there (links_from CHAIN_BLOCKS (journal_held used row.object) row.head) there in
     has_source (of_kind Journal row.object used p) (journal_of row.object)
     (block_there CHAIN_BLOCKS (journal_held used row.object) row.head links p walk (subst (λ (o : Option (List Link)). Contains (places_of (unwrap_or o [])) p) walk listed))

@@ -2,9 +2,9 @@
 use Rattle.std.proofs.Common.{◌≡◌, ℕ, ◌≤◌, List, get_or, Option, Some, None, IsSome, is_some, refl, sym, ap, ◌∙◌, subst}
 use Rattle.std.specs.Prelude.{MatchOption}
 use Rattle.std.specs.List.{All, AllByRecursion}
-use Rattle.std.proofs.lemmas.Bool.{false≢true}
 use Rattle.s4_types.specs.declared.limits.TheConstants.{CHAIN_ENTRY_BYTES}
 use Rattle.s4_types.specs.Pointer.{Place}
+use Rattle.lemmas.proofs.Option.{value_there}
 use Rattle.block_log.specs.Log.{Stored, of_kind}
 use Rattle.block_log.specs.declared.kinds.BlockKind.TheVariants.{Data}
 use Rattle.codec.specs.Fields.{◌>>=◌}
@@ -108,23 +108,19 @@ version_chain_stands laws used held o row clock holds same stands orderly =
 
 -- ---- the data
 
-some_there : {X : Type 0} (found : Option X) → IsSome found → (x : X) × (found ≡ Some x)
-some_there None some = absurd (false≢true some)
-some_there (Some x) some = (x, refl)
-
 slot_led : (used held : Place → Option Stored) (o : ℕ) (slot : Option Place) → HoldsUsed used held → IsLed held o slot → IsLed used o slot
 slot_led used held o None holds led = tt
 slot_led used held o (Some p) holds led =
-    let (bytes, is) = some_there (of_kind Data o held p) led in
+    let (bytes, is) = value_there (of_kind Data o held p) led in
     ap (λ (b : Option (List ℕ)). is_some b) (used_too used held Data o p bytes holds is)
 
 all_led : (used held : Place → Option Stored) (o : ℕ) (slots : List (Option Place)) → HoldsUsed used held → All (IsLed held o) slots → All (IsLed used o) slots
 all_led used held o slots holds led = λ k d below. slot_led used held o (get_or slots k d) holds (led k d below)
 
 -- a data block that is held has the same bytes where it is used
-same_bytes : (used held : Place → Option Stored) (o : ℕ) (p : Place) → HoldsUsed used held → IsSome (of_kind Data o held p) → contents_of used p ≡ contents_of held p
+pub same_bytes : (used held : Place → Option Stored) (o : ℕ) (p : Place) → HoldsUsed used held → IsSome (of_kind Data o held p) → contents_of used p ≡ contents_of held p
 same_bytes used held o p holds some =
-    let (bytes, is) = some_there (of_kind Data o held p) some in
+    let (bytes, is) = value_there (of_kind Data o held p) some in
     let block : Seen Data o (held p) bytes = seen Data o (held p) bytes is in
     ap bytes_stored (holds p block.block block.there ∙ sym block.there)
 

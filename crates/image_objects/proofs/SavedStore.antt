@@ -1,9 +1,11 @@
 -- The rows of a store are in the image that it is saved as.
-use Rattle.std.proofs.Common.{◌≡◌, ◌⊎◌, inl, inr, ℕ, ◌+◌, ◌<◌, ◌≤◌, true, false, Bool, List, [], ◌∷◌, Option, Some, None, IsSome, is_some, refl, sym, ap, ◌∙◌, subst, arith}
+use Rattle.std.proofs.Common.{◌≡◌, ◌⊎◌, inl, inr, ℕ, ◌+◌, ◌<◌, ◌≤◌, true, Bool, List, [], ◌∷◌, Option, Some, IsSome, is_some, refl, sym, ap, ◌∙◌, subst, arith}
 use Rattle.std.specs.List.{Contains, AllByRecursion}
-use Rattle.std.proofs.lemmas.Bool.{or_cases, or_left, false≢true}
+use Rattle.std.proofs.lemmas.Bool.{or_cases, or_left}
 use Rattle.std.proofs.lemmas.List.Folds.{list_any-append}
 use Rattle.s4_types.specs.Pointer.{Place}
+use Rattle.lemmas.proofs.Option.{value_there}
+use Rattle.lemmas.proofs.Contains.{contains_first, contains_later}
 use Rattle.block_log.specs.Log.{Stored, of_kind, seen_as, same_place}
 use Rattle.block_log.specs.declared.kinds.BlockKind.{BlockKind}
 use Rattle.block_log.specs.declared.kinds.BlockKind.TheVariants.{Journal, Checkpoint, Data, Pointers}
@@ -13,6 +15,7 @@ use Rattle.codec.specs.Fields.{bit}
 use Rattle.journal_chain.specs.Chain.{times, chain_places}
 use Rattle.object_map.specs.declared.map.Row.{Row}
 use Rattle.object_map.specs.Rows.{row_of}
+use Rattle.codec.proofs.Fronts.{bit_most}
 use Rattle.time_read.specs.Rows.{IsRow, inode_of, entries_of, all_places_of, checkpoint_places_of, side_places}
 use Rattle.time_read.specs.Orderly.{IsOrderly}
 use Rattle.version_store.specs.Across.{ShareNoMoment}
@@ -26,7 +29,7 @@ use Rattle.image_objects.specs.Naming.{NamesUsed, IsNamedBy}
 use Rattle.image_objects.specs.Rows.{RowsAscend, RowsShareNoMoment, RowsStand}
 use Rattle.image_objects.specs.Saved.{HoldsUsed, HoldsWhatIsSaved, IsAside, IsSavedAsHeld, ObjectsAscend, saved_row, saved_rows}
 use Rattle.image_objects.proofs.HeldByName.{Seen, seen, kind_named}
-use Rattle.image_objects.proofs.SavedRows.{first_listed, listed_behind, object_from, listed_found, found_listed, is_saved, was_saved, all_saved, saved_ascend}
+use Rattle.image_objects.proofs.SavedRows.{object_from, listed_found, found_listed, is_saved, was_saved, all_saved, saved_ascend}
 use Rattle.checkpoint.specs.Held.{of_checkpoints, is_checkpoint_kind, is_one_of, HasItsBlocks}
 use Rattle.checkpoint.proofs.OwnBlocks.{IsOwn, seen_own, has_some}
 use Rattle.image_objects.proofs.Checkpoints.{CheckpointLaws, blocks_at, same_checkpoint_places}
@@ -46,8 +49,8 @@ saved_apart : (used : Place → Option Stored) (low : ℕ) (rows : List (ℕ × 
 saved_apart used low [] ascend apart = tt
 saved_apart used low (x ∷ rows) ascend apart =
     let P : ImageRow → Type 0 = λ other. ShareNoMoment (entries_used used (saved_row x.0 x.1)) (entries_used used other) in
-    let first : AllByRecursion P (saved_rows rows) = all_saved P rows (λ e there. let from = object_from (x.0 + 1) rows e ascend.1 there in apart x e (first_listed x rows) (listed_behind x rows e there) (omega (arith, from))) in
-    (first, saved_apart used (x.0 + 1) rows ascend.1 (λ a b one other less. apart a b (listed_behind x rows a one) (listed_behind x rows b other) less))
+    let first : AllByRecursion P (saved_rows rows) = all_saved P rows (λ e there. let from = object_from (x.0 + 1) rows e ascend.1 there in apart x e (contains_first x rows) (contains_later x rows e there) (omega (arith, from))) in
+    (first, saved_apart used (x.0 + 1) rows ascend.1 (λ a b one other less. apart a b (contains_later x rows a one) (contains_later x rows b other) less))
 
 -- a row that is listed tells over the used blocks what it told
 same_listed : CheckpointLaws → (used : Place → Option Stored) (s : StoreFields) (low : ℕ) (e : ℕ × Row) → IsStore s → HoldsUsed used s.log.held → ObjectsAscend low s.rows → Contains s.rows e → IsSavedAsHeld used s.log.held e.0 e.1
@@ -83,18 +86,10 @@ store_ascends used s low clock store by holds ascend =
 
 -- ---- what is held is what the rows name
 
-at_most_one : (b : Bool) → bit b ≤ 1
-at_most_one true = omega arith
-at_most_one false = omega arith
-
-some_there : {X : Type 0} (found : Option X) → IsSome found → (x : X) × (found ≡ Some x)
-some_there None some = absurd (false≢true some)
-some_there (Some x) some = (x, refl)
-
 -- a block of a checkpoint that is held is used as that
 used_here : (used held : Place → Option Stored) (k : BlockKind) (o : ℕ) (p : Place) → HoldsUsed used held → IsSome (of_kind k o held p) → IsSome (of_kind k o used p)
 used_here used held k o p holds some =
-    let (bytes, is) = some_there (of_kind k o held p) some in
+    let (bytes, is) = value_there (of_kind k o held p) some in
     ap is_some (used_too used held k o p bytes holds is)
 
 -- what a row names of what is held it names of what is used, but for the blocks of older checkpoints
@@ -142,7 +137,7 @@ names_held laws used held o row Journal p holds stands names =
     let count : times p (chain_places (of_kind Journal o used) o row.head) ≡ times p (chain_places (of_kind Journal o held) o row.head) = ap (λ (ps : List Place). times p ps) places in
     let there : Bool = is_some (of_kind Journal o held p) in
     let once : times p (chain_places (of_kind Journal o held) o row.head) ≡ bit there = stands.chain.once p in
-    let few = at_most_one there in
+    let few = bit_most there in
     omega (arith, names, count, once, few)
 names_held laws used held o row Checkpoint p holds stands names = checkpoint_held_too laws used held o row Checkpoint p holds stands names.0 names.1
 names_held laws used held o row Data p holds stands names = subst (λ (slots : List (Option Place)). Contains slots (Some p)) (saved_as_held laws used held o row holds stands).pointers names
@@ -168,7 +163,7 @@ held_of : CheckpointLaws → HeldIsWhatRowsName → (used : Place → Option Sto
 held_of laws law used s low e p block store holds ascend there here names =
     let found : row_of s.rows e.0 ≡ Some e.1 = listed_found low s.rows e ascend there in
     let n : IsNamed s e.0 block.kind p = record { row = e.1; there = found; names = names_held laws used s.log.held e.0 e.1 block.kind p holds (store.objects e.0 e.1 found).stands names } in
-    let (bytes, is) = some_there (of_kind block.kind e.0 s.log.held p) ((law s e.0 block.kind p store).1 n) in
+    let (bytes, is) = value_there (of_kind block.kind e.0 s.log.held p) ((law s e.0 block.kind p store).1 n) in
     let b : Seen block.kind e.0 (s.log.held p) bytes = seen block.kind e.0 (s.log.held p) bytes is in
     b.there ∙ sym (holds p b.block b.there) ∙ here
 

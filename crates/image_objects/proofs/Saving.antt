@@ -1,5 +1,5 @@
 -- Over the used blocks a row that is saved tells what it tells over those that are held.
-use Rattle.std.proofs.Common.{◌≡◌, ℕ, zero, suc, List, [], ◌++◌, Option, Some, None, unwrap_or, refl, sym, ap, ◌∙◌}
+use Rattle.std.proofs.Common.{◌≡◌, ℕ, zero, suc, List, [], ◌++◌, Option, Some, None, unwrap_or, sym, ap, ◌∙◌}
 use Rattle.std.proofs.lemmas.Option.{none-some}
 use Rattle.s4_types.specs.Pointer.{Place}
 use Rattle.s4_types.specs.declared.limits.TheConstants.{CHAIN_BLOCKS}
@@ -14,6 +14,8 @@ use Rattle.undo_redo.specs.Runs.{inode_after}
 use Rattle.journal_chain.specs.Packing.{joined, packed, filled_bytes}
 use Rattle.journal_chain.specs.Chain.{Link, linked, links_from, chain_links, chain_places, chain_entries, journal_in, journal_of, places_of, blocks_of}
 use Rattle.object_map.specs.declared.map.Row.{Row}
+use Rattle.codec.proofs.Exact.{bind_some}
+use Rattle.journal_chain.proofs.Spelled.{bind_is}
 use Rattle.time_read.specs.Rows.{IsRow, inode_before, entries_of, checkpoint_of, first_of, inode_of}
 use Rattle.version_store.specs.Store.{pointers_kept, sides_told, pointers_of}
 use Rattle.image_objects.specs.Chains.{blocks_used, entries_used}
@@ -23,13 +25,6 @@ use Rattle.image_objects.specs.Objects.{pointers_used, inode_used}
 use Rattle.image_objects.specs.Saved.{saved_row, HoldsUsed, IsSavedAsHeld}
 use Rattle.image_objects.proofs.Checkpoints.{CheckpointLaws, same_checkpoint}
 use Rattle.image_objects.proofs.Using.{used_too}
-
-bind_some : {A B : Type 0} (o : Option A) (f : A → Option B) (y : B) → (o >>= f) ≡ Some y → (x : A) × ((o ≡ Some x) × (f x ≡ Some y))
-bind_some None f y h = absurd (none-some y h)
-bind_some (Some x) f y h = (x, (refl, h))
-
-bind_is : {A B : Type 0} (o : Option A) (f : A → Option B) (x : A) → o ≡ Some x → (o >>= f) ≡ f x
-bind_is o f x h = ap (λ p. p >>= f) h
 
 -- ---- the chain
 
@@ -43,15 +38,15 @@ walks_on zero blocks others None links shows h = h
 walks_on (suc n) blocks others None links shows h = h
 walks_on zero blocks others (Some q) links shows h = absurd (none-some links h)
 walks_on (suc n) blocks others (Some q) links shows h =
-    let (b, (here, on)) = bind_some (blocks q) (λ b. links_from n blocks b.previous >>= λ older. Some (linked q b older)) links h in
-    let (older, (walk, made)) = bind_some (links_from n blocks b.previous) (λ older. Some (linked q b older)) links on in
+    let (b, here, on) = bind_some (blocks q) (λ b. links_from n blocks b.previous >>= λ older. Some (linked q b older)) links h in
+    let (older, walk, made) = bind_some (links_from n blocks b.previous) (λ older. Some (linked q b older)) links on in
     bind_is (others q) (λ b. links_from n others b.previous >>= λ older. Some (linked q b older)) b (shows q b here)
     ∙ bind_is (links_from n others b.previous) (λ older. Some (linked q b older)) older (walks_on n blocks others b.previous older shows walk)
     ∙ made
 
 shows_used : (used held : Place → Option Stored) (o : ℕ) → HoldsUsed used held → Shows (journal_in o (of_kind Journal o held)) (journal_in o (of_kind Journal o used))
 shows_used used held o holds p j h =
-    let (bytes, (here, spelled)) = bind_some (of_kind Journal o held p) (journal_of o) j h in
+    let (bytes, here, spelled) = bind_some (of_kind Journal o held p) (journal_of o) j h in
     bind_is (of_kind Journal o used p) (journal_of o) bytes (used_too used held Journal o p bytes holds here) ∙ spelled
 
 links_too : (used held : Place → Option Stored) (o : ℕ) (head : Option Place) (links : List Link) → HoldsUsed used held → chain_links (of_kind Journal o held) o head ≡ Some links → chain_links (of_kind Journal o used) o head ≡ Some links
@@ -67,7 +62,7 @@ pub record Walked (used held : Place → Option Stored) (o : ℕ) (row : Row) : 
 
 pub walked : (used held : Place → Option Stored) (o : ℕ) (row : Row) → HoldsUsed used held → IsRow held o row → Walked used held o row
 walked used held o row holds stands =
-    let (links, (found, made)) = bind_some (chain_links (of_kind Journal o held) o row.head) (λ (ls : List Link). Some (blocks_of ls)) (packed (entries_of held o row)) stands.chain.blocks in
+    let (links, found, made) = bind_some (chain_links (of_kind Journal o held) o row.head) (λ (ls : List Link). Some (blocks_of ls)) (packed (entries_of held o row)) stands.chain.blocks in
     record { links = links; is_held = found; is_used = links_too used held o row.head links holds found }
 
 pub same_places : (used held : Place → Option Stored) (o : ℕ) (row : Row) → Walked used held o row → chain_places (of_kind Journal o used) o row.head ≡ chain_places (of_kind Journal o held) o row.head

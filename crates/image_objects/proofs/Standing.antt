@@ -1,9 +1,10 @@
 -- An object that is in an image is held as it stands, where just what rows name is held.
 use Rattle.std.proofs.Common.{◌≡◌, ℕ, ◌≤◌, true, List, ◌++◌, get_or, Option, Some, None, IsSome, is_some, refl, sym, ap, ◌∙◌, subst, append-nil}
 use Rattle.std.specs.List.{All, Contains}
-use Rattle.std.proofs.lemmas.Bool.{false≢true, cond-true}
+use Rattle.std.proofs.lemmas.Bool.{cond-true}
 use Rattle.std.proofs.lemmas.List.Elements.{All-contains, All-from_recursion, Contains-get_or}
 use Rattle.s4_types.specs.Pointer.{Place}
+use Rattle.lemmas.proofs.Option.{value_there}
 use Rattle.block_log.specs.Log.{Stored, of_kind}
 use Rattle.block_log.specs.declared.kinds.BlockKind.TheVariants.{Journal, Data}
 use Rattle.codec.specs.Fields.{◌>>=◌}
@@ -111,10 +112,6 @@ same_present laws used held row clock stamp s =
 
 -- ---- the data that the row refers to
 
-pub some_there : {X : Type 0} (found : Option X) → IsSome found → (x : X) × (found ≡ Some x)
-some_there None some = absurd (false≢true some)
-some_there (Some x) some = (x, refl)
-
 -- a block that the row refers to is held as it is used
 record LeadsTo (used held : Place → Option Stored) (o : ℕ) (p : Place) : Type 0 where
   there : IsSome (of_kind Data o held p)
@@ -124,7 +121,7 @@ leads_to : (used held : Place → Option Stored) (rows : List ImageRow) (row : I
     → (p : Place) → Contains (pointers_used used row) (Some p) → LeadsTo used held row.object p
 leads_to used held rows row clock holds there s p led =
     let some : IsSome (of_kind Data row.object used p) = All-contains (IsLed used row.object) (pointers_used used row) (Some p) s.led led in
-    let (bytes, is) = some_there (of_kind Data row.object used p) some in
+    let (bytes, is) = value_there (of_kind Data row.object used p) some in
     let here : of_kind Data row.object held p ≡ Some bytes = named_held used held rows row Data p bytes holds there is led in
     let block : Seen Data row.object (held p) bytes = seen Data row.object (held p) bytes here in
     record {
@@ -142,7 +139,7 @@ all_led used held o pointers leads = λ k d below. slot_led used held o pointers
 data_named : (used held : Place → Option Stored) (rows : List ImageRow) (row : ImageRow) (clock : ℕ) → RowsAscend clock 0 0 rows → HoldsWhatIsNamed used held rows → Contains rows row
     → (p : Place) → IsSome (of_kind Data row.object held p) → Contains (pointers_used used row) (Some p)
 data_named used held rows row clock ascend holds there p some =
-    let (bytes, is) = some_there (of_kind Data row.object held p) some in
+    let (bytes, is) = value_there (of_kind Data row.object held p) some in
     (held_named used held rows clock row Data p bytes ascend holds there is).1
 
 -- ---- the object

@@ -1,5 +1,5 @@
 -- The moments of a chain, told entry by entry.
-use Rattle.std.proofs.Common.{◌≡◌, inl, inr, ℕ, ◌≤◌, cond, List, [], ◌∷◌, ◌++◌, map, refl, sym, ap, ◌∙◌, arith}
+use Rattle.std.proofs.Common.{◌≡◌, inl, inr, ℕ, ◌≤◌, cond, List, [], ◌∷◌, ◌++◌, map, sym, ap, ◌∙◌, arith}
 use Rattle.std.specs.Prelude.{nat_eq}
 use Rattle.std.specs.List.{dedup_from}
 use Rattle.std.proofs.lemmas.Bool.{cases_Bool, eqb-true, ne_eqb}
@@ -43,7 +43,3 @@ pub one_more : (entries : List EntryFields) (e : EntryFields) → 1 ≤ e.moment
 unfolding from moments
 one_more [] e some = sym (ap (λ b. cond b [] (e.moment ∷ [])) (ne_eqb e.moment 0 (λ (is : e.moment ≡ 0). omega (arith, some, is))))
 one_more (x ∷ entries) e some = from_more x.moment entries e
-
-pub last_is : (given : ℕ) (entries : List EntryFields) (e : EntryFields) → last_moment given (entries ++ e ∷ []) ≡ e.moment
-last_is given [] e = refl
-last_is given (x ∷ entries) e = last_is x.moment entries e

@@ -1,15 +1,17 @@
 -- How often the pointers of rows that are in order refer to a place: those of one row alone do, that of the object whose data is there.
-use Rattle.std.proofs.Common.{◌≡◌, inl, inr, ℕ, ◌<◌, ◌≤◌, true, false, List, [], ◌∷◌, length, Option, Some, None, IsSome, is_some, refl, sym, ap, ◌∙◌, subst, append-nil, arith}
+use Rattle.std.proofs.Common.{◌≡◌, inl, inr, ℕ, ◌<◌, ◌≤◌, false, List, [], ◌∷◌, length, Option, Some, None, IsSome, is_some, refl, sym, ap, ◌∙◌, subst, append-nil, arith}
 use Rattle.std.specs.List.{All, AllByRecursion, Contains}
 use Rattle.std.proofs.lemmas.Bool.{cases_Bool, cases_lt, cond-true, cond-false, false≢true}
 use Rattle.std.proofs.lemmas.List.Elements.{All-contains, Contains-append_left, Contains-append_right}
 use Rattle.std.proofs.lemmas.List.Sums.{count_by-le-length}
 use Rattle.s4_types.specs.Pointer.{Place}
 use Rattle.s4_types.specs.declared.limits.TheConstants.{ROW_POINTERS}
-use Rattle.block_log.specs.Log.{Log, Stored, of_kind, seen_as, same_kind, is_data}
-use Rattle.block_log.specs.declared.kinds.BlockKind.{BlockKind}
+use Rattle.lemmas.proofs.Option.{value_there}
+use Rattle.lemmas.proofs.Contains.{contains_none, contains_cases}
+use Rattle.block_log.specs.Log.{Log, Stored, of_kind, seen_as}
 use Rattle.block_log.specs.declared.kinds.BlockKind.TheVariants.{Data}
 use Rattle.object_map.specs.declared.map.Row.{Row}
+use Rattle.block_log.proofs.BlockKinds.{seen_is_data}
 use Rattle.version_store.specs.Laws.{RowsHaveFewPointers}
 use Rattle.version_store.specs.Store.{IsLed, IsNamedBy, is_at, times_led, pointers_of, pointers_named}
 use Rattle.image_objects.specs.declared.rows.ImageRow.{ImageRow}
@@ -18,17 +20,12 @@ use Rattle.image_objects.specs.Objects.{ObjectStands, pointers_used}
 use Rattle.image_objects.specs.Naming.{HoldsWhatIsNamed, NamesAreCounted, times_told}
 use Rattle.image_objects.specs.Rows.{RowsAscend, RowsStand}
 use Rattle.image_objects.specs.Laws.{IsHeldAsUsed}
-use Rattle.image_objects.proofs.Listed.{none_listed, listed_cases, above}
-use Rattle.image_objects.proofs.HeldByName.{one_kind, held_named}
+use Rattle.image_objects.proofs.Listed.{above}
+use Rattle.image_objects.proofs.HeldByName.{held_named}
 use Rattle.image_objects.proofs.Named.{OneName, led_there, seen_parts}
-use Rattle.image_objects.proofs.Standing.{CheckpointIsTold, named_as_used, some_there}
+use Rattle.image_objects.proofs.Standing.{CheckpointIsTold, named_as_used}
 
 -- ---- a place that a row refers to
-
--- an object's data is data, and of no other object
-data_there : (o : ℕ) (found : Option Stored) → IsSome (seen_as Data o found) → is_data found ≡ true
-data_there o None some = absurd (false≢true some)
-data_there o (Some block) some = let parts = seen_parts Data o block some in ap (λ (k : BlockKind). same_kind k Data) (one_kind Data block.kind parts.0)
 
 one_object : (o q : ℕ) (found : Option Stored) → IsSome (seen_as Data o found) → IsSome (seen_as Data q found) → o ≡ q
 one_object o q None first second = absurd (false≢true first)
@@ -62,8 +59,8 @@ none_told names used clock low made (x ∷ rows) o p upto there ascend stand =
 -- to an object's data its own row leads alone
 one_told : OneName → (used : Place → Option Stored) (clock low made : ℕ) (rows : List ImageRow) (row : ImageRow) (p : Place) → IsSome (of_kind Data row.object used p) → RowsAscend clock low made rows → AllByRecursion (λ row. ObjectStands used row clock) rows
     → Contains rows row → times_told used rows p ≡ times_led p (pointers_used used row)
-one_told names used clock low made [] row p there ascend stand listed = absurd (none_listed row listed)
-one_told names used clock low made (x ∷ rows) row p there ascend stand listed = elim (listed_cases x rows row listed) [
+one_told names used clock low made [] row p there ascend stand listed = absurd (contains_none row listed)
+one_told names used clock low made (x ∷ rows) row p there ascend stand listed = elim (contains_cases x rows row listed) [
   | inl is ↦
       let object : x.object ≡ row.object = ap (λ (r : ImageRow). r.object) is in
       let here : times_led p (pointers_used used x) ≡ times_led p (pointers_used used row) = ap (λ (r : ImageRow). times_led p (pointers_used used r)) is in
@@ -126,11 +123,11 @@ row_counted names told used rows clock log row ascend stand holds counted there 
     let is : slots ≡ pointers_used used row = named_as_used told used log.held rows row clock 0 ascend holds there as_used in
     elim (cases_Bool (is_some (of_kind Data o log.held p))) [
       | inl some ↦
-          let (bytes, at) = some_there (of_kind Data o log.held p) some in
+          let (bytes, at) = value_there (of_kind Data o log.held p) some in
           let held = held_named used log.held rows clock row Data p bytes ascend holds there at in
           let seen : IsSome (of_kind Data o used p) = ap (λ (b : Option (List ℕ)). is_some b) held.0 in
           cond-true (is_some (of_kind Data o log.held p)) (log.named p) 0 some
-          ∙ counted p (data_there o (used p) seen)
+          ∙ counted p (seen_is_data o (used p) seen)
           ∙ one_told names used clock 0 0 rows row p seen ascend stand.objects there
           ∙ sym (ap (times_led p) is)
       | inr none ↦

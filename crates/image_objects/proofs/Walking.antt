@@ -8,17 +8,12 @@ use Rattle.codec.specs.Fields.{◌>>=◌, kept}
 use Rattle.codec.specs.Entry.{EntryFields, entries_length_by}
 use Rattle.codec.specs.Journal.{JournalFields, journal_rules_by}
 use Rattle.codec.specs.declared.versions.ImageVersion.{ImageVersion}
+use Rattle.codec.proofs.Exact.{bind_some}
 use Rattle.journal_chain.specs.Packing.{joined}
 use Rattle.image_objects.specs.Versions.{first_length_by, IsBlockBy, IsBehindBy, KeepsTheRuleBy}
 use Rattle.journal_chain.specs.Chain.{Link, linked, links_from, blocks_of}
+use Rattle.journal_chain.proofs.Spelled.{bind_is}
 use Rattle.image_objects.specs.private.Walked.{stands_before, walked, reached}
-
-pub bind_some : {A B : Type 0} (o : Option A) (f : A → Option B) (y : B) → (o >>= f) ≡ Some y → (x : A) × ((o ≡ Some x) × (f x ≡ Some y))
-bind_some None f y h = absurd (none-some y h)
-bind_some (Some x) f y h = (x, (refl, h))
-
-pub bind_is : {A B : Type 0} (o : Option A) (f : A → Option B) (x : A) → o ≡ Some x → (o >>= f) ≡ f x
-bind_is o f x h = ap (λ p. p >>= f) h
 
 bind_none : {A B : Type 0} (o : Option A) (f : A → Option B) → o ≡ None → (o >>= f) ≡ None
 bind_none o f h = ap (λ p. p >>= f) h
@@ -179,10 +174,10 @@ found v zero size blocks None entries h = record { links = []; walk = refl; room
 found v (suc left) size blocks None entries h = record { links = []; walk = refl; room = tt; rule = tt; entries_are = sym (same_Some [] entries h) }
 found v zero size blocks (Some p) entries h = absurd (none-some entries h)
 found v (suc left) size blocks (Some p) entries h =
-    let (j, (here, on)) = bind_some (blocks p) (OnFrom v left blocks size) entries h in
-    let (xs, (keeps, goes_on)) = bind_some (kept (stands_before v size j.entries) j.entries) (λ xs. walked v left blocks (first_length_by v xs) j.previous >>= λ older. Some (older ++ xs)) entries on in
+    let (j, here, on) = bind_some (blocks p) (OnFrom v left blocks size) entries h in
+    let (xs, keeps, goes_on) = bind_some (kept (stands_before v size j.entries) j.entries) (λ xs. walked v left blocks (first_length_by v xs) j.previous >>= λ older. Some (older ++ xs)) entries on in
     let (stands, same) = cond_some (stands_before v size j.entries) j.entries xs keeps in
-    let (older, (walk, made)) = bind_some (walked v left blocks (first_length_by v xs) j.previous) (λ older. Some (older ++ xs)) entries goes_on in
+    let (older, walk, made) = bind_some (walked v left blocks (first_length_by v xs) j.previous) (λ older. Some (older ++ xs)) entries goes_on in
     let f : Found v left (first_length_by v xs) blocks j.previous older = found v left (first_length_by v xs) blocks j.previous older walk in
     let t : Tested v size j.entries = tested v size j.entries stands in
     let room : NoRoom v (first_length_by v j.entries) (blocks_of f.links) = subst (λ (l : List EntryFields). NoRoom v (first_length_by v l) (blocks_of f.links)) (sym same) f.room in
@@ -201,8 +196,8 @@ walked_since v zero size blocks None links h room rule = ap (λ (l : List Link).
 walked_since v (suc left) size blocks None links h room rule = ap (λ (l : List Link). Some (joined (blocks_of l))) (same_Some [] links h)
 walked_since v zero size blocks (Some p) links h room rule = absurd (none-some links h)
 walked_since v (suc left) size blocks (Some p) links h room rule =
-    let (b, (here, on)) = bind_some (blocks p) (λ b. links_from left blocks b.previous >>= λ older. Some (linked p b older)) links h in
-    let (older, (walk, made)) = bind_some (links_from left blocks b.previous) (λ older. Some (linked p b older)) links on in
+    let (b, here, on) = bind_some (blocks p) (λ b. links_from left blocks b.previous >>= λ older. Some (linked p b older)) links h in
+    let (older, walk, made) = bind_some (links_from left blocks b.previous) (λ older. Some (linked p b older)) links on in
     let same : linked p b older ≡ links = same_Some (linked p b older) links made in
     let behind : JOURNAL_ENTRY_BYTES < entries_length_by v b.entries + size = subst (λ (l : List Link). NoRoom v size (blocks_of l)) (sym same) room in
     let keeps : KeepsTheRuleBy v (b.entries ∷ blocks_of older) = subst (λ (l : List Link). KeepsTheRuleBy v (blocks_of l)) (sym same) rule in

@@ -1,7 +1,7 @@
 -- An object of an image of any version can be written anew.
-use Rattle.std.proofs.Common.{◌≡◌, ℕ, ◌*◌, ◌≤◌, Bool, true, false, cond, List, [], ◌∷◌, ◌++◌, get_or, Option, Some, None, option_map, refl, sym, ap, ◌∙◌, subst, arith}
+use Rattle.std.proofs.Common.{◌≡◌, ℕ, ◌*◌, ◌≤◌, Bool, true, false, List, [], ◌++◌, get_or, Option, Some, None, option_map, refl, sym, ap, ◌∙◌, subst, arith}
 use Rattle.std.specs.Prelude.{IfSome, MatchOption}
-use Rattle.std.specs.List.{All, AllByRecursion}
+use Rattle.std.specs.List.{All}
 use Rattle.std.proofs.lemmas.Option.{cond_some}
 use Rattle.s4_types.specs.Pointer.{Place}
 use Rattle.s4_types.specs.declared.limits.TheConstants.{CHAIN_ENTRY_BYTES}
@@ -15,20 +15,21 @@ use Rattle.codec.specs.Versions.{chain_entry_bytes_by}
 use Rattle.codec.specs.declared.first_blocks.FirstBlock.{FirstBlock}
 use Rattle.codec.specs.declared.versions.ImageVersion.{ImageVersion}
 use Rattle.codec.specs.declared.versions.ImageVersion.TheVariants.{First, Second}
-use Rattle.undo_redo.specs.Runs.{Run, redone_all, undone_all, entry_is_by, entries_by, inode_after, blank}
+use Rattle.codec.proofs.Exact.{bind_some}
+use Rattle.undo_redo.specs.Runs.{Run, redone_all, undone_all, entries_by, inode_after, blank}
 use Rattle.checkpoint.specs.Held.{checkpoint_held, checkpoint_in, checkpoint_of, of_checkpoints, first_in, part_in}
 use Rattle.time_read.specs.Rows.{inode_before}
 use Rattle.time_read.specs.Orderly.{IsFromTo, BeginsDead}
 use Rattle.chain_rewriting.specs.Apart.{Passes, ToldWithin}
 use Rattle.chain_rewriting.specs.CleaningLaws.{PointsWithin, TellsWithin}
 use Rattle.chain_rewriting.specs.Places.{WhatIsToldIsListed, AChainIsToldFromEitherEnd}
+use Rattle.chain_rewriting.proofs.Told.{by_within}
 use Rattle.row_changes.specs.Moving.{checkpoint_made, first_kept}
 use Rattle.version_store.specs.Store.{pointers_kept, sides_told}
 use Rattle.image_objects.specs.declared.rows.ImageRow.{ImageRow}
 use Rattle.image_objects.specs.Inodes.{TellsTheRow, HasItsPlace, CheckpointStands, first_before, checkpoint_used}
 use Rattle.image_objects.specs.Versions.{entries_used_by, first_used_by}
 use Rattle.image_objects.specs.Writing.{inode_kept_in, is_data_of, AnObjectOfAVersionCanBeWritten}
-use Rattle.image_objects.proofs.Walking.{bind_some}
 use Rattle.image_objects.proofs.Keeping.{same_fields, created_is, first_undone}
 use Rattle.image_objects.proofs.Grouping.{groups_of_a_version}
 
@@ -58,15 +59,15 @@ rules_of f one two three c is =
 
 rules_in : (view : Place → Option (List ℕ)) (f : FirstBlock) (c : CheckpointFields) → checkpoint_of view f ≡ Some c → checkpoint_rules c ≡ true
 rules_in view f c is =
-    let (one, (first, rest)) = bind_some (part_in view f 1 (get_or f.parts 0 None)) (λ one. part_in view f 2 (get_or f.parts 1 None) >>= λ two. part_in view f 3 (get_or f.parts 2 None) >>= λ three. joined f one two three) c is in
-    let (two, (second, more)) = bind_some (part_in view f 2 (get_or f.parts 1 None)) (λ two. part_in view f 3 (get_or f.parts 2 None) >>= λ three. joined f one two three) c rest in
-    let (three, (third, made)) = bind_some (part_in view f 3 (get_or f.parts 2 None)) (λ three. joined f one two three) c more in
+    let (one, first, rest) = bind_some (part_in view f 1 (get_or f.parts 0 None)) (λ one. part_in view f 2 (get_or f.parts 1 None) >>= λ two. part_in view f 3 (get_or f.parts 2 None) >>= λ three. joined f one two three) c is in
+    let (two, second, more) = bind_some (part_in view f 2 (get_or f.parts 1 None)) (λ two. part_in view f 3 (get_or f.parts 2 None) >>= λ three. joined f one two three) c rest in
+    let (three, third, made) = bind_some (part_in view f 3 (get_or f.parts 2 None)) (λ three. joined f one two three) c more in
     rules_of f one two three c made
 
 rules_held : (used : Place → Option Stored) (o : ℕ) (p : Place) (c : CheckpointFields) → checkpoint_held used o p ≡ Some c → checkpoint_rules c ≡ true
 unfolding checkpoint_in
 rules_held used o p c is =
-    let (f, (there, rest)) = bind_some (first_in (of_checkpoints o used) p) (checkpoint_of (of_checkpoints o used)) c is in
+    let (f, there, rest) = bind_some (first_in (of_checkpoints o used) p) (checkpoint_of (of_checkpoints o used)) c is in
     rules_in (of_checkpoints o used) f c rest
 
 -- ---- the beginning, by the checkpoint that is found
@@ -119,14 +120,6 @@ beginning_kept row clock entries first None b = b.1
 beginning_kept row clock entries first (Some c) b = b.1.within
 
 -- ---- what the entries and the first inode point to
-
-all_cond : (P : EntryFields → Type 0) (b : Bool) (e : EntryFields) (entries : List EntryFields) → P e → AllByRecursion P entries → AllByRecursion P (cond b (e ∷ entries) entries)
-all_cond P true e entries is h = (is, h)
-all_cond P false e entries is h = h
-
-by_within : (P : EntryFields → Type 0) (t : ℕ) (entries : List EntryFields) → AllByRecursion P entries → AllByRecursion P (entries_by t entries)
-by_within P t [] h = tt
-by_within P t (e ∷ entries) h = all_cond P (entry_is_by t e) e (entries_by t entries) h.0 (by_within P t entries h.1)
 
 -- an inode without any pointers, beside which the sides of entries are all that is told
 abbrev bare : Inode

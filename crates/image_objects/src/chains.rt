@@ -34,7 +34,7 @@ pub struct ImageChain {
 
 /// How many bytes entries have. None where they are more than those of a chain of the version may
 /// have.
-#[tactic(auto, using(crate::proofs::Bytes::by_none, crate::proofs::Bytes::by_next))]
+#[tactic(auto, using(codec::proofs::JournalEntries::by_none, codec::proofs::JournalEntries::by_next))]
 fn bytes_of(version: ImageVersion, entries: &[Entry]) -> Option<usize>
     ensures { result
         ≡ kept (nat_le (entries_length_by version entries.now) (chain_entry_bytes_by version))

@@ -59,7 +59,7 @@ fn are_same_slots(one: &[Option<Ptr>], other: &[Option<Ptr>]) -> bool
 }
 
 /// Whether two inodes are the same.
-#[tactic(auto, using(crate::proofs::Undoing::same_inode))]
+#[tactic(auto, using(undo_redo::proofs::LinkLaws::same_inode))]
 pub(crate) fn is_same_inode(one: &Inode, other: &Inode) -> bool
     requires one { length one.now.pointers ≡ OBJECT_BLOCKS }
     requires other { length other.now.pointers ≡ OBJECT_BLOCKS }

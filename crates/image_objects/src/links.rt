@@ -69,7 +69,7 @@ fn has_attribute(inode: &Inode, pair: Option<Pair>) -> bool
 }
 
 /// Whether an entry's values before are those of an inode.
-#[tactic(auto, using(crate::proofs::Earlier::are_low))]
+#[tactic(auto, using(undo_redo::proofs::Indices::are_low))]
 pub(crate) fn stands_before(inode: &Inode, entry: &Entry) -> bool
     requires { length inode.now.pointers ≡ OBJECT_BLOCKS }
     ensures stands { result ≡ true → StandsBefore inode.now entry.now }

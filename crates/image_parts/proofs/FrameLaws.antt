@@ -5,11 +5,12 @@ use Rattle.std.specs.List.{flat_map, AllByRecursion}
 use Rattle.std.proofs.Math.Seq.{take-add}
 use Rattle.std.proofs.lemmas.List.{take_at, drop_at, drop-drop, length-take}
 use Rattle.std.proofs.lemmas.List.Concat.{flat_map-cons}
+use Rattle.lemmas.proofs.Bytes.{bytes_before, bytes_after, IsBytes}
 use Rattle.codec.specs.Fields.{number}
-use Rattle.image_parts.proofs.Bytes.{IsBytes, bytes_before, bytes_after}
+use Rattle.codec.proofs.Lengths.{long_length}
 use Rattle.image_parts.specs.Header.{number_in}
 use Rattle.image_parts.specs.Frames.{FrameFields, IsFrame, contents_length, frame_bytes, frame_in, frame_length, frames_in, frames_length}
-use Rattle.image_parts.proofs.NumberLaws.{long_again, long_behind, long_length, long_back, long_below}
+use Rattle.image_parts.proofs.NumberLaws.{long_again, long_behind, long_back, long_below}
 
 -- ---- what is read is encoded
 

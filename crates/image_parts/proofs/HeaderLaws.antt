@@ -4,10 +4,10 @@ use Rattle.std.specs.Int.{Width, w16, w32, w64, byte_len, from_be_bytes}
 use Rattle.std.proofs.lemmas.List.{take-append-le, drop-append-le}
 use Rattle.std.proofs.lemmas.Nat.{from_be_bytes-to_be_bytes_2, from_be_bytes-to_be_bytes_4, from_be_bytes-to_be_bytes_8}
 use Rattle.codec.specs.Fields.{number, zeros}
-use Rattle.image_parts.proofs.Zeros.{zeros_length}
 use Rattle.image_parts.specs.Header.{number_in, header_bytes_by, header_in, digit_of, HasHeaderBy}
 use Rattle.codec.specs.declared.versions.ImageVersion.{ImageVersion}
 use Rattle.codec.specs.declared.versions.ImageVersion.TheVariants.{First, Second}
+use Rattle.codec.proofs.Zeros.{zeros_length}
 use Rattle.image_parts.specs.declared.headers.Header.{Header}
 
 -- the numbers of a header are in their ranges

@@ -1,15 +1,14 @@
 -- Bytes that no test refuses encode the image that is read from them, and what encodes an image is read as that image.
-use Rattle.std.proofs.Common.{◌≡◌, ℕ, zero, suc, ◌+◌, ◌-◌, ◌*◌, ◌≤◌, List, ◌++◌, length, take, drop, None, refl, sym, ap, subst, ◌∙◌, arith, inl, inr, append_assoc, length-append, length-drop}
-use Rattle.std.specs.Prelude.{slice_index}
-use Rattle.std.specs.Int.{w32, to_be_bytes}
+use Rattle.std.proofs.Common.{◌≡◌, ℕ, ◌+◌, ◌-◌, ◌*◌, ◌≤◌, List, ◌++◌, length, take, drop, None, refl, sym, ap, subst, ◌∙◌, arith, inl, inr, append_assoc, length-append, length-drop}
 use Rattle.std.specs.List.{flat_map}
 use Rattle.std.proofs.Math.Seq.{take-add}
 use Rattle.std.proofs.lemmas.List.{take-append-drop, take_at, drop_at}
-use Rattle.sha2.specs.Sha256.{sha256, digest_bytes, final_hash, initial_hash_256}
+use Rattle.sha2.specs.Sha256.{sha256}
 use Rattle.s4_types.specs.declared.spans.Span.{Span}
-use Rattle.image_parts.proofs.Bytes.{IsBytes, bytes_after}
+use Rattle.lemmas.proofs.Bytes.{bytes_after, IsBytes}
 use Rattle.image_parts.specs.Header.{header_bytes_by, header_in, KeepsHeaderRulesBy, HasHeaderBy}
 use Rattle.codec.specs.declared.versions.ImageVersion.{ImageVersion}
+use Rattle.codec.proofs.SummaryLaws.{digest_length}
 use Rattle.image_parts.specs.Frames.{FrameFields, frame_bytes, frames_in, frames_length, KeepFrameRulesBy}
 use Rattle.image_parts.specs.Rows.{row_bytes, rows_in, KeepRowRules}
 use Rattle.image_parts.specs.Spans.{span_bytes, spans_in, KeepSpanRules}
@@ -24,15 +23,6 @@ use Rattle.image_parts.proofs.FrameLists.{frames_count}
 use Rattle.image_parts.proofs.FrameLaws.{AllRead, frames_back, frames_are, frames_again}
 use Rattle.image_parts.proofs.RowLists.{rows_count, spans_count}
 use Rattle.image_parts.proofs.RowLaws.{rows_back, rows_are, rows_again, rows_length, spans_back, spans_are, spans_again, spans_length}
-
-words_length : (h : List ℕ) (n : ℕ) → length (digest_bytes h n) ≡ 4 * n
-unfolding digest_bytes
-words_length h zero = refl
-words_length h (suc n) = omega (arith, length-append (digest_bytes h n) (to_be_bytes w32 (slice_index h n)), words_length h n)
-
-digest_length : (m : List ℕ) → length (sha256 m) ≡ 32
-unfolding sha256
-digest_length m = words_length (final_hash initial_hash_256 m) 8
 
 -- ---- bytes that no test refuses
 

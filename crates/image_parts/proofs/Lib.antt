@@ -1,5 +1,3 @@
-pub mod Bytes
-pub mod Zeros
 pub mod FrameLists
 pub mod RowLists
 pub mod RowRules

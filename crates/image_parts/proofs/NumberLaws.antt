@@ -3,8 +3,8 @@ use Rattle.std.proofs.Common.{◌≡◌, ℕ, ◌^◌, ◌<◌, ◌≤◌, List,
 use Rattle.std.specs.Int.{w32, w64}
 use Rattle.std.proofs.lemmas.List.{length-take}
 use Rattle.std.proofs.lemmas.Nat.{be_bytes_8, from_be_bytes-to_be_bytes_8}
+use Rattle.lemmas.proofs.Bytes.{bytes_before, IsBytes}
 use Rattle.codec.specs.Fields.{number}
-use Rattle.image_parts.proofs.Bytes.{IsBytes, bytes_before}
 use Rattle.image_parts.specs.Header.{number_in}
 
 pub long_again : (n : ℕ) (rest : List ℕ) → n < 2 ^ 64 → number_in w64 (number w64 n ++ rest) ≡ n
@@ -14,10 +14,6 @@ long_again n rest lt = from_be_bytes-to_be_bytes_8 n lt
 pub long_behind : (n : ℕ) (rest : List ℕ) → drop 8 (number w64 n ++ rest) ≡ rest
 unfolding number
 long_behind n rest = refl
-
-pub long_length : (n : ℕ) → length (number w64 n) ≡ 8
-unfolding number
-long_length n = refl
 
 pub long_back : (bytes : List ℕ) → IsBytes bytes → 8 ≤ length bytes → number w64 (number_in w64 bytes) ≡ take 8 bytes
 unfolding number number_in

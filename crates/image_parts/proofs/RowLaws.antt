@@ -7,8 +7,8 @@ use Rattle.std.proofs.lemmas.List.{drop-drop}
 use Rattle.std.proofs.lemmas.List.Concat.{flat_map-cons}
 use Rattle.std.proofs.lemmas.Nat.{from_be_bytes-to_be_bytes_8}
 use Rattle.s4_types.specs.declared.spans.Span.{Span}
+use Rattle.lemmas.proofs.Bytes.{bytes_after, IsBytes}
 use Rattle.codec.specs.Fields.{number}
-use Rattle.image_parts.proofs.Bytes.{IsBytes, bytes_after}
 use Rattle.image_parts.specs.Header.{number_in}
 use Rattle.image_parts.specs.Rows.{IsRow, row_bytes, row_in, rows_in}
 use Rattle.image_parts.specs.Spans.{IsSpan, span_bytes, span_in, spans_in}

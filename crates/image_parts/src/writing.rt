@@ -44,7 +44,7 @@ pub(crate) fn put_long(out: &mut Writing, n: u64)
     put(out, &n.to_be_bytes());
 }
 
-#[tactic(auto, using(crate::proofs::Zeros::zeros_push, crate::proofs::Zeros::zeros_none))]
+#[tactic(auto, using(codec::proofs::Zeros::zeros_push, codec::proofs::Zeros::zeros_none))]
 pub(crate) fn put_zeros(out: &mut Writing, count: usize)
     requires { length out.old.items + count ≤ 512 }
     ensures items { out.new.items ≡ out.old.items ++ zeros count }

@@ -1,6 +1,6 @@
 -- The used blocks of the whole frames of an image that isn't damaged are those of the image.
-use Rattle.std.proofs.Common.{◌≡◌, ◌≢◌, ◌⊎◌, inl, inr, ℕ, zero, suc, ◌+◌, ◌<◌, ◌≤◌, ◌==◌, ◌||◌, ◌&&◌, if◌then◌else◌, Bool, true, false, cond, eqb, List, [], ◌∷◌, length, map, get_or, Option, Some, None, refl, sym, ap, subst, ◌∙◌, arith}
-use Rattle.std.specs.Prelude.{option_map, slice_get, ◌↔◌}
+use Rattle.std.proofs.Common.{◌≡◌, ◌≢◌, ◌⊎◌, inl, inr, ℕ, zero, suc, ◌+◌, ◌<◌, ◌≤◌, ◌==◌, ◌||◌, ◌&&◌, if◌then◌else◌, Bool, true, false, cond, eqb, List, [], ◌∷◌, length, map, get_or, Option, None, refl, sym, ap, subst, ◌∙◌, arith}
+use Rattle.std.specs.Prelude.{option_map, ◌↔◌}
 use Rattle.std.specs.List.{Contains}
 use std.Path.{fun_ext}
 use Rattle.std.proofs.lemmas.Bool.{cases_lt, ne_eqb}
@@ -18,6 +18,7 @@ use Rattle.segment_table.specs.Table.{Table, slots_at}
 use Rattle.segment_table.specs.Used.{used_slot, with_bytes, used_block, used_at}
 use Rattle.segment_table.specs.Sealing.{summary_of}
 use Rattle.verifier.specs.Tables.{no_part, IsFrameOf, IsTableOf}
+use Rattle.verifier.proofs.Retold.{same_used_slot}
 use Rattle.image_salvage.specs.Frames.{IsWhole, HasBlocksOf, IsSeen, Sees, AreLostOf}
 use Rattle.image_salvage.proofs.Seeing.{OneSummaryASpelling}
 
@@ -33,23 +34,6 @@ roles_in slots = map (λ slot. slot.role) slots
 roles_unheld : (roles : List BlockRole) → roles_in (unheld roles) ≡ roles
 roles_unheld [] = refl
 roles_unheld (role ∷ roles) = ap (λ (l : List BlockRole). role ∷ l) (roles_unheld roles)
-
-same_slot : (slots others : List Slot) (bytes more : List ℕ) (b : ℕ) → roles_in slots ≡ roles_in others → (b < length slots → bytes ≡ more) → option_map (with_bytes bytes) (slice_get slots b) ≡ option_map (with_bytes more) (slice_get others b)
-same_slot [] [] bytes more b e h = refl
-same_slot [] (y ∷ others) bytes more b e h = absurd (cc)
-same_slot (x ∷ slots) [] bytes more b e h = absurd (cc)
-same_slot (x ∷ slots) (y ∷ others) bytes more zero e h =
-    let part : x.role ≡ y.role = cc in
-    let all : bytes ≡ more = h (omega arith) in
-    ap (λ (l : List ℕ). Some (with_bytes l x)) all ∙ ap (λ (q : BlockRole). Some (record { kind = q.kind; object = q.object; bytes = more })) part
-same_slot (x ∷ slots) (y ∷ others) bytes more (suc b) e h =
-    let rest : roles_in slots ≡ roles_in others = cc in
-    same_slot slots others bytes more b rest (λ low. h (omega arith))
-
-same_used_slot : (slots others : List Slot) (contents other : List ℕ) (b : ℕ) → roles_in slots ≡ roles_in others → ((n : ℕ) → 1 ≤ n → n ≤ length slots → block_bytes contents n ≡ block_bytes other n)
-    → option_map (with_bytes (block_bytes contents b)) (used_slot slots b) ≡ option_map (with_bytes (block_bytes other b)) (used_slot others b)
-same_used_slot slots others contents other zero e h = refl
-same_used_slot slots others contents other (suc b) e h = same_slot slots others (block_bytes contents (suc b)) (block_bytes other (suc b)) b e (λ low. h (suc b) (omega arith) (omega arith))
 
 -- ---- by phases
 

@@ -1,25 +1,11 @@
 -- The blocks that are gone, counted one by one.
-use Rattle.std.proofs.Common.{◌≡◌, ℕ, zero, suc, ◌+◌, Bool, cond, count_by, Option, refl, sym, ap, ◌∙◌, arith}
+use Rattle.std.proofs.Common.{◌≡◌, ℕ, suc, ◌+◌, Bool, cond, count_by, Option, refl, sym, ap, ◌∙◌, arith}
 use Rattle.std.specs.List.{range_with_len}
-use Rattle.std.proofs.lemmas.List.Sums.{sum_by-cons}
 use Rattle.s4_types.specs.Pointer.{Place}
+use Rattle.lemmas.proofs.Range.{count_last, tally}
 use Rattle.block_log.specs.Log.{Stored}
 use Rattle.codec.specs.declared.inodes.Inode.{Inode}
 use Rattle.image_salvage.specs.Contents.{is_gone, gone_below}
-
-abbrev tally : Bool → ℕ
-tally b = cond b 1 0
-
-count_first : (p : ℕ → Bool) (a n : ℕ) → count_by p (range_with_len a (suc n)) ≡ tally (p a) + count_by p (range_with_len (a + 1) n)
-count_first p a n = sum_by-cons (λ (x : ℕ). tally (p x)) a (range_with_len (a + 1) n)
-
-count_last : (p : ℕ → Bool) (a n : ℕ) → count_by p (range_with_len a (suc n)) ≡ count_by p (range_with_len a n) + tally (p (a + n))
-count_last p a zero =
-    let here : tally (p (a + 0)) ≡ tally (p a) = ap (λ (m : ℕ). tally (p m)) (omega arith) in
-    omega (arith, count_first p a 0, here)
-count_last p a (suc n) =
-    let here : tally (p (a + 1 + n)) ≡ tally (p (a + suc n)) = ap (λ (m : ℕ). tally (p m)) (omega arith) in
-    omega (arith, count_first p a (suc n), count_last p (a + 1) n, count_first p a n, here)
 
 pub none_gone : (used : Place → Option Stored) (o : ℕ) (i : Inode) → 0 ≡ gone_below used o i 0
 unfolding gone_below

@@ -3,6 +3,7 @@ use Rattle.std.proofs.Common.{◌≡◌, ◌⊎◌, inl, inr, ℕ, List, [], ◌
 use Rattle.std.specs.Option.{option_to_list}
 use Rattle.std.specs.Prelude.{IfNone, MatchOption}
 use Rattle.s4_types.specs.Pointer.{Place}
+use Rattle.lemmas.proofs.Option.{one_value, some_not_none}
 use Rattle.block_log.specs.Log.{Stored, seen_as}
 use Rattle.block_log.specs.declared.kinds.BlockKind.{BlockKind}
 use Rattle.block_log.specs.declared.kinds.BlockKind.TheVariants.{Journal, Checkpoint, Data, Pointers}
@@ -17,12 +18,6 @@ use Rattle.image_objects.specs.declared.rows.ImageRow.{ImageRow}
 use Rattle.image_salvage.specs.declared.newest.Note.{Note}
 use Rattle.image_salvage.specs.Heads.{checkpoint_note, MakesByCheckpoint, row_from, row_alone, LeadsOn, blocks_kept, CountsKept, MakesRow, head_note, last_of, MakesByJournal, MakesHead}
 
-one_of : {A : Type 0} (x y : A) (found : Option A) → found ≡ Some x → found ≡ Some y → y ≡ x
-one_of x y found is other = (let same : ◌≡◌ {A = Option _} (Some y) (Some x) = sym other ∙ is in cc)
-
-some_none : {A P : Type 0} (x : A) (found : Option A) → found ≡ Some x → found ≡ None → P
-some_none x found is none = absurd (let clash : ◌≡◌ {A = Option _} (Some x) None = sym is ∙ none in cc)
-
 -- ---- checkpoints
 
 pub checkpoint_used : (used : Place → Option Stored) (p : Place) (note : Note) → MakesByCheckpoint used p note → (block : Stored) × (used p ≡ Some block)
@@ -30,19 +25,19 @@ checkpoint_used used p note makes = (makes.block, makes.held)
 
 pub one_checkpoint : (used : Place → Option Stored) (p : Place) (note other : Note) → MakesByCheckpoint used p note → MakesByCheckpoint used p other → other ≡ note
 one_checkpoint used p note other a b =
-    let block : b.block ≡ a.block = one_of a.block b.block (used p) a.held b.held in
+    let block : b.block ≡ a.block = one_value a.block b.block (used p) a.held b.held in
     let object : b.block.object ≡ a.block.object = ap (λ (s : Stored). s.object) block in
-    let found : b.found ≡ a.found = one_of a.found b.found (checkpoint_held used a.block.object p) a.decodes (subst (λ (o : ℕ). checkpoint_held used o p ≡ Some b.found) object b.decodes) in
+    let found : b.found ≡ a.found = one_value a.found b.found (checkpoint_held used a.block.object p) a.decodes (subst (λ (o : ℕ). checkpoint_held used o p ≡ Some b.found) object b.decodes) in
     b.is ∙ ap (λ (o : ℕ). checkpoint_note used o p b.found) object ∙ ap (λ (c : CheckpointFields). checkpoint_note used a.block.object p c) found ∙ sym a.is
 
 pub no_owner : (used : Place → Option Stored) (p : Place) → used p ≡ None → (note : Note) → MakesByCheckpoint used p note → ⊥
-no_owner used p none note makes = some_none makes.block (used p) makes.held none
+no_owner used p none note makes = some_not_none makes.block (used p) makes.held none
 
 pub no_checkpoint : (used : Place → Option Stored) (p : Place) (object : ℕ) (block : Stored) → used p ≡ Some block → block.object ≡ object → checkpoint_held used object p ≡ None → (note : Note) → MakesByCheckpoint used p note → ⊥
 no_checkpoint used p object block held of none note makes =
-    let same : makes.block ≡ block = one_of block makes.block (used p) held makes.held in
+    let same : makes.block ≡ block = one_value block makes.block (used p) held makes.held in
     let own : makes.block.object ≡ object = ap (λ (s : Stored). s.object) same ∙ of in
-    some_none makes.found (checkpoint_held used object p) (subst (λ (o : ℕ). checkpoint_held used o p ≡ Some makes.found) own makes.decodes) none
+    some_not_none makes.found (checkpoint_held used object p) (subst (λ (o : ℕ). checkpoint_held used o p ≡ Some makes.found) own makes.decodes) none
 
 pub makes_checkpoint : (used : Place → Option Stored) (p : Place) (object : ℕ) (block : Stored) (found : CheckpointFields) (note : Note) → used p ≡ Some block → block.object ≡ object → Some found ≡ checkpoint_held used object p
     → note ≡ checkpoint_note used object p found → MakesByCheckpoint used p note
@@ -109,33 +104,33 @@ journal_used used checkpoints p note makes = (makes.block, makes.held)
 same_journal : (used : Place → Option Stored) (checkpoints : ℕ → Option Note) (p : Place) (object : ℕ) (block : Stored) (found : JournalFields) (note : Note) (makes : MakesByJournal used checkpoints p note) → used p ≡ Some block → block.object ≡ object
     → journal_held used object p ≡ Some found → makes.found ≡ found
 same_journal used checkpoints p object block found note makes held of decodes =
-    let same : makes.block ≡ block = one_of block makes.block (used p) held makes.held in
+    let same : makes.block ≡ block = one_value block makes.block (used p) held makes.held in
     let own : makes.block.object ≡ object = ap (λ (s : Stored). s.object) same ∙ of in
-    one_of found makes.found (journal_held used object p) decodes (subst (λ (o : ℕ). journal_held used o p ≡ Some makes.found) own makes.decodes)
+    one_value found makes.found (journal_held used object p) decodes (subst (λ (o : ℕ). journal_held used o p ≡ Some makes.found) own makes.decodes)
 
 pub one_journal : (used : Place → Option Stored) (checkpoints : ℕ → Option Note) (p : Place) (note other : Note) → MakesByJournal used checkpoints p note → MakesByJournal used checkpoints p other → other ≡ note
 one_journal used checkpoints p note other a b =
-    let block : b.block ≡ a.block = one_of a.block b.block (used p) a.held b.held in
+    let block : b.block ≡ a.block = one_value a.block b.block (used p) a.held b.held in
     let found : b.found ≡ a.found = same_journal used checkpoints p a.block.object a.block a.found other b a.held refl a.decodes in
-    let newest : b.newest ≡ a.newest = one_of a.newest b.newest (last_of a.found.entries) a.last (subst (λ (j : JournalFields). last_of j.entries ≡ Some b.newest) found b.last) in
+    let newest : b.newest ≡ a.newest = one_value a.newest b.newest (last_of a.found.entries) a.last (subst (λ (j : JournalFields). last_of j.entries ≡ Some b.newest) found b.last) in
     let both = made_once used (checkpoints a.block.object) a.block.object p a.row b.row a.kept b.kept a.makes (subst (λ (s : Stored). MakesRow used (checkpoints s.object) s.object p b.row b.kept) block b.makes) in
     b.is ∙ ap (λ (e : EntryFields). head_note p e b.row b.kept) newest ∙ ap (λ (r : ImageRow). head_note p a.newest r b.kept) both.0 ∙ ap (λ (k : ℕ). head_note p a.newest a.row k) both.1 ∙ sym a.is
 
 pub no_journal_owner : (used : Place → Option Stored) (checkpoints : ℕ → Option Note) (p : Place) → used p ≡ None → (note : Note) → MakesByJournal used checkpoints p note → ⊥
-no_journal_owner used checkpoints p none note makes = some_none makes.block (used p) makes.held none
+no_journal_owner used checkpoints p none note makes = some_not_none makes.block (used p) makes.held none
 
 pub no_journal : (used : Place → Option Stored) (checkpoints : ℕ → Option Note) (p : Place) (object : ℕ) (block : Stored) → used p ≡ Some block → block.object ≡ object → journal_held used object p ≡ None
     → (note : Note) → MakesByJournal used checkpoints p note → ⊥
 no_journal used checkpoints p object block held of none note makes =
-    let same : makes.block ≡ block = one_of block makes.block (used p) held makes.held in
+    let same : makes.block ≡ block = one_value block makes.block (used p) held makes.held in
     let own : makes.block.object ≡ object = ap (λ (s : Stored). s.object) same ∙ of in
-    some_none makes.found (journal_held used object p) (subst (λ (o : ℕ). journal_held used o p ≡ Some makes.found) own makes.decodes) none
+    some_not_none makes.found (journal_held used object p) (subst (λ (o : ℕ). journal_held used o p ≡ Some makes.found) own makes.decodes) none
 
 pub no_entry : (used : Place → Option Stored) (checkpoints : ℕ → Option Note) (p : Place) (object : ℕ) (block : Stored) (found : JournalFields) → used p ≡ Some block → block.object ≡ object → journal_held used object p ≡ Some found
     → last_of found.entries ≡ None → (note : Note) → MakesByJournal used checkpoints p note → ⊥
 no_entry used checkpoints p object block found held of decodes none note makes =
     let same : makes.found ≡ found = same_journal used checkpoints p object block found note makes held of decodes in
-    some_none makes.newest (last_of found.entries) (subst (λ (j : JournalFields). last_of j.entries ≡ Some makes.newest) same makes.last) none
+    some_not_none makes.newest (last_of found.entries) (subst (λ (j : JournalFields). last_of j.entries ≡ Some makes.newest) same makes.last) none
 
 pub makes_journal : (used : Place → Option Stored) (checkpoints : ℕ → Option Note) (p : Place) (object : ℕ) (block : Stored) (found : JournalFields) (newest : EntryFields) (row : ImageRow) (kept : ℕ) (note : Note) → used p ≡ Some block
     → block.object ≡ object → journal_held used object p ≡ Some found → last_of found.entries ≡ Some newest → MakesRow used (checkpoints object) object p row kept → note ≡ head_note p newest row kept → MakesByJournal used checkpoints p note
@@ -169,8 +164,8 @@ seen_once o (Some block) = kinds block.kind o block
 one_kind : {P : Type 0} → (used : Place → Option Stored) (o : ℕ) (p : Place) (journal : JournalFields) (checkpoint : CheckpointFields) → journal_held used o p ≡ Some journal → checkpoint_held used o p ≡ Some checkpoint → P
 unfolding checkpoint_in
 one_kind used o p journal checkpoint one other = elim (seen_once o (used p)) [
-  | inl none ↦ some_none journal (journal_held used o p) one (ap (λ (bytes : Option (List ℕ)). bytes >>= journal_of o) none)
-  | inr none ↦ some_none checkpoint (checkpoint_held used o p) other (ap (λ (bytes : Option (List ℕ)). (bytes >>= all_of first_at) >>= checkpoint_of (of_checkpoints o used)) none)
+  | inl none ↦ some_not_none journal (journal_held used o p) one (ap (λ (bytes : Option (List ℕ)). bytes >>= journal_of o) none)
+  | inr none ↦ some_not_none checkpoint (checkpoint_held used o p) other (ap (λ (bytes : Option (List ℕ)). (bytes >>= all_of first_at) >>= checkpoint_of (of_checkpoints o used)) none)
 ]
 
 pub head_used : (used : Place → Option Stored) (checkpoints : ℕ → Option Note) (p : Place) (note : Note) → MakesHead used checkpoints p note → (block : Stored) × (used p ≡ Some block)
@@ -179,7 +174,7 @@ head_used used checkpoints p note (inr makes) = journal_used used checkpoints p 
 
 both_kinds : {P : Type 0} → (used : Place → Option Stored) (checkpoints : ℕ → Option Note) (p : Place) (note other : Note) → MakesByCheckpoint used p note → MakesByJournal used checkpoints p other → P
 both_kinds used checkpoints p note other a b =
-    let block : b.block ≡ a.block = one_of a.block b.block (used p) a.held b.held in
+    let block : b.block ≡ a.block = one_value a.block b.block (used p) a.held b.held in
     one_kind used a.block.object p b.found a.found (subst (λ (s : Stored). journal_held used s.object p ≡ Some b.found) block b.decodes) a.decodes
 
 pub one_head : (used : Place → Option Stored) (checkpoints : ℕ → Option Note) (p : Place) (note other : Note) → MakesHead used checkpoints p note → MakesHead used checkpoints p other → other ≡ note

@@ -11,5 +11,4 @@ pub mod Generations
 pub mod Noting
 pub mod Heading
 pub mod Passing
-pub mod Redoing
 pub mod Believing

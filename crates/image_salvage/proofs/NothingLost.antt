@@ -3,7 +3,7 @@ use Rattle.std.proofs.Common.{◌≡◌, inl, inr, ℕ, zero, suc, ◌+◌, ◌-
 use Rattle.std.specs.Prelude.{MatchOption}
 use Rattle.std.specs.List.{AllZip}
 use Rattle.std.specs.Cmp.Lexicographic.{pointwise}
-use Rattle.std.proofs.lemmas.Bool.{and_parts, eqb-true, cases_lt}
+use Rattle.std.proofs.lemmas.Bool.{and_parts, eqb-true, cases_lt, not-true}
 use Rattle.std.proofs.lemmas.List.{nil_from_length}
 use Rattle.std.proofs.Math.Nat.{min-eq_left, min-eq_right}
 use Rattle.s4_types.specs.Pointer.{Place}
@@ -155,16 +155,12 @@ whole_keeps used part unlisted files whole = record {
 
 -- ---- the image
 
-not_true : (b : Bool) → not b ≡ true → b ≡ false
-not_true true is = absurd (cc)
-not_true false is = refl
-
 whole_counts : (g : GivenOut) → is_whole g ≡ true → IsNothingLost g
 whole_counts g whole =
     let halves = and_parts (not g.damaged && g.blocks_gone == 0) (g.lost_objects == 0 && g.lost_frames == 0) whole in
     let front = and_parts (not g.damaged) (g.blocks_gone == 0) halves.0 in
     let back = and_parts (g.lost_objects == 0) (g.lost_frames == 0) halves.1 in
-    (not_true g.damaged front.0, eqb-true g.blocks_gone 0 front.1, eqb-true g.lost_objects 0 back.0, eqb-true g.lost_frames 0 back.1)
+    (not-true g.damaged front.0, eqb-true g.blocks_gone 0 front.1, eqb-true g.lost_objects 0 back.0, eqb-true g.lost_frames 0 back.1)
 
 none_there : (fault : Option Cause) → is_some fault ≡ false → fault ≡ None
 none_there None is = refl

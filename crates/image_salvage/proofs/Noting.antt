@@ -1,5 +1,5 @@
 -- The newest notes, block by block.
-use Rattle.std.proofs.Common.{◌≡◌, inl, inr, ℕ, ◌+◌, ◌*◌, ◌<◌, ◌≤◌, ◌==◌, ◌&&◌, not, if◌then◌else◌, Bool, true, false, List, [], ◌∷◌, get_or, Option, Some, None, Result, Ok, Err, OnOk, refl, sym, ap, subst, ◌∙◌, arith}
+use Rattle.std.proofs.Common.{◌≡◌, inl, inr, ℕ, ◌+◌, ◌*◌, ◌<◌, ◌≤◌, ◌==◌, ◌&&◌, not, if◌then◌else◌, Bool, true, false, List, [], ◌∷◌, get_or, Option, Some, None, refl, sym, ap, subst, ◌∙◌, arith}
 use Rattle.std.specs.Prelude.{MatchOption}
 use Rattle.std.proofs.lemmas.Bool.{cases_eq, cases_Bool, both_ways, eqb-true, eqb-false}
 use Rattle.std.proofs.lemmas.Bool.Decides.{nat_tests}
@@ -169,8 +169,3 @@ newest_here Makes used generations n notes later place note known there once are
     (λ p other of at makes. (let block = there p other makes in
     once place note other made (subst (λ (q : Place). Makes q other) (only_place generations n p place of is (at_place used generations n p block.0 known at block.1) here) makes)))
     taken
-
--- what a call gives where it succeeds
-pub if_ok : {A E P Q : Type 0} → (result : Result A E) → (P → Q) → OnOk result P → OnOk result Q
-if_ok (Ok value) f fact = f fact
-if_ok (Err error) f fact = tt

@@ -4,6 +4,7 @@ use Rattle.std.specs.List.{Contains}
 use Rattle.std.proofs.lemmas.Bool.{cases_eq, cases_lt, eq-eqb, ne_eqb, both_ways}
 use Rattle.std.proofs.lemmas.List.Elements.{Contains-push, Contains-push_cases, Contains-append_left}
 use Rattle.s4_types.specs.Pointer.{Place}
+use Rattle.lemmas.proofs.Option.{one_value, some_not_none}
 use Rattle.block_log.specs.Log.{Stored}
 use Rattle.codec.specs.declared.inodes.Inode.{Inode}
 use Rattle.object_map.specs.Objects.{IsNextAbove, value_of, without_value}
@@ -93,15 +94,9 @@ none_found_yet used heads found none = subst (FoundTo used heads 0) (sym none) (
   ascend = omega arith;
 })
 
-some_none : {A P : Type 0} (x : A) (found : Option A) → found ≡ Some x → found ≡ None → P
-some_none x found is none = absurd (let clash : ◌≡◌ {A = Option _} (Some x) None = sym is ∙ none in cc)
-
-one_of : {A : Type 0} (x y : A) (found : Option A) → found ≡ Some x → found ≡ Some y → y ≡ x
-one_of x y found is other = (let same : ◌≡◌ {A = Option _} (Some y) (Some x) = sym other ∙ is in cc)
-
 -- what is found of an object is one
 same_head : (used : Place → Option Stored) (heads : ℕ → Option Note) (u v : Unlisted) → v.object ≡ u.object → (a : IsFound used heads u) (b : IsFound used heads v) → b.head ≡ a.head
-same_head used heads u v object a b = one_of a.head b.head (heads u.object) a.is (subst (λ (o : ℕ). heads o ≡ Some b.head) object b.is)
+same_head used heads u v object a b = one_value a.head b.head (heads u.object) a.is (subst (λ (o : ℕ). heads o ≡ Some b.head) object b.is)
 
 one_found : (used : Place → Option Stored) (heads : ℕ → Option Note) (u v : Unlisted) → v.object ≡ u.object → IsFound used heads u → IsFound used heads v → v ≡ u
 one_found used heads u v object a b =
@@ -117,7 +112,7 @@ found_low : (entries : List (ℕ × Note)) (last next : ℕ) (used : Place → O
 found_low entries last next used u is low found = elim (cases_eq u.object next) [
   | inl at ↦ inr at
   | inr ne ↦ (elim (cases_lt last u.object) [
-    | inl above ↦ some_none found.head (value_of entries u.object) found.is (is.least u.object above (omega (arith, low, ne)))
+    | inl above ↦ some_not_none found.head (value_of entries u.object) found.is (is.least u.object above (omega (arith, low, ne)))
     | inr past ↦ inl past
   ])
 ]
@@ -156,7 +151,7 @@ found_all used heads last found to none = record {
   all = λ u. (
     (λ has. (to.only u has).1),
     (λ is. elim (cases_lt last u.object) [
-      | inl above ↦ some_none is.head (heads u.object) is.is (none u.object above)
+      | inl above ↦ some_not_none is.head (heads u.object) is.is (none u.object above)
       | inr low ↦ to.each u low is
     ]),
   );
@@ -166,10 +161,10 @@ found_all used heads last found to none = record {
 -- ---- one object
 
 head_at : (used : Place → Option Stored) (heads : ℕ → Option Note) (o : ℕ) (head : Note) (u : Unlisted) → heads o ≡ Some head → u.object ≡ o → (is : IsFound used heads u) → is.head ≡ head
-head_at used heads o head u has object is = one_of head is.head (heads o) has (subst (λ (n : ℕ). heads n ≡ Some is.head) object is.is)
+head_at used heads o head u has object is = one_value head is.head (heads o) has (subst (λ (n : ℕ). heads n ≡ Some is.head) object is.is)
 
 pub nothing_there : (used : Place → Option Stored) (heads : ℕ → Option Note) (o : ℕ) (found : List Unlisted) → heads o ≡ None → AddsFound used heads o found found
-nothing_there used heads o found none = inr ((λ u object is. some_none is.head (heads o) (subst (λ (n : ℕ). heads n ≡ Some is.head) object is.is) none), refl)
+nothing_there used heads o found none = inr ((λ u object is. some_not_none is.head (heads o) (subst (λ (n : ℕ). heads n ≡ Some is.head) object is.is) none), refl)
 
 pub gives_none : (used : Place → Option Stored) (heads : ℕ → Option Note) (o : ℕ) (head : Note) (found : List Unlisted) → heads o ≡ Some head → (LeadsOn used head.row → ⊥) → AddsFound used heads o found found
 gives_none used heads o head found has nowhere = inr ((λ u object is. nowhere (subst (λ (n : Note). LeadsOn used n.row) (head_at used heads o head u has object is) is.leads)), refl)
@@ -214,7 +209,7 @@ finds_unlisted used there rows checkpoints heads left found newest latest believ
   believed = believed;
   all = λ u. (
     (λ has. (let is = (are.all u).0 has in elim (out u.object) [
-      | inl listed ↦ some_none is.head (left u.object) is.is listed.1
+      | inl listed ↦ some_not_none is.head (left u.object) is.is listed.1
       | inr unlisted ↦ (unlisted.0, found_left used left heads u (sym unlisted.1) is)
     ])),
     (λ is. (are.all u).1 (elim (out u.object) [

@@ -1,5 +1,5 @@
 -- What was given out so far, row by row.
-use Rattle.std.proofs.Common.{◌≡◌, ◌∙◌, ◌+◌, ◌<◌, ◌≤◌, ◌++◌, ℕ, zero, suc, List, [], ◌∷◌, drop, length, get_or, slice_get, Option, Some, None, Result, Ok, Err, OnOk, IfErr, refl, sym, ap, subst, arith, append_assoc}
+use Rattle.std.proofs.Common.{◌≡◌, ◌∙◌, ◌+◌, ◌<◌, ◌≤◌, ◌++◌, ℕ, zero, suc, List, [], ◌∷◌, drop, length, get_or, slice_get, Option, Some, None, refl, sym, ap, subst, arith, append_assoc}
 use Rattle.std.specs.List.{AllZip}
 use Rattle.std.specs.Option.{option_map}
 use Rattle.std.proofs.lemmas.List.{append-nil, drop_all, drop_more}
@@ -7,11 +7,9 @@ use Rattle.s4_types.specs.Pointer.{Place}
 use Rattle.block_log.specs.Log.{Stored}
 use Rattle.segment_table.specs.Used.{used_at}
 use Rattle.image_parts.specs.declared.rows.RowPart.{RowPart}
-use Rattle.history_export.specs.declared.faults.ExportError.{ExportError}
-use Rattle.history_export.specs.declared.faults.ExportError.TheVariants.{NotEmpty, CannotRead, CannotWrite, Refused}
 use Rattle.history_export.specs.Folders.{NamedFile, AreFiles, with_file}
 use Rattle.history_export.specs.Manifest.{manifest_name}
-use Rattle.history_export.specs.Exports.{Explains, IsOfWriting}
+use Rattle.history_export.proofs.Files.{files_become}
 use Rattle.image_salvage.specs.declared.rows.Salvaged.{Salvaged}
 use Rattle.image_salvage.specs.declared.giving.GivenOut.{GivenOut}
 use Rattle.image_salvage.specs.declared.giving.Fate.{Fate}
@@ -21,11 +19,6 @@ use Rattle.image_salvage.specs.Rows.{IsSalvagedBy}
 use Rattle.image_salvage.specs.Salvaging.{SalvageFields}
 
 -- ---- files
-
--- files that become others
-files_become : (change : List NamedFile → List NamedFile) (known later : Option (List NamedFile)) (files : List NamedFile) → AreFiles known files → later ≡ option_map change known → AreFiles later (change files)
-files_become change None later files are becomes = subst (λ x. AreFiles x (change files)) (sym becomes) tt
-files_become change (Some known) later files are becomes = subst (λ x. AreFiles x (change files)) (sym becomes) (ap change are)
 
 -- one change after another is one
 pub changes_join : (f g h : List NamedFile → List NamedFile) (a b c : Option (List NamedFile)) → b ≡ option_map f a → c ≡ option_map g b → ((files : List NamedFile) → g (f files) ≡ h files) → c ≡ option_map h a
@@ -121,22 +114,6 @@ gives_out s given first begun told files later empty begins tells gives unlisted
       (files_become (with_rows (used_at s.table) (none_given s) gives.rows) told files (with_frames s.lost (with_file manifest_name [] []))
       (files_become (with_frames s.lost) begun told (with_file manifest_name [] []) (files_become (with_file manifest_name []) first begun [] empty begins) tells) gives.becomes) unlisted;
 }
-
--- an error of what is written explains itself
-writing_explains : (files : Option (List NamedFile)) (e : ExportError) → IsOfWriting e → Explains files e
-writing_explains files NotEmpty of = absurd of
-writing_explains files CannotRead of = absurd of
-writing_explains files (CannotWrite file) of = tt
-writing_explains files (Refused refusal) of = of
-
--- what a call gives where it succeeds
-pub for_ok : {A E P Q : Type 0} → (result : Result A E) → (P → Q) → OnOk result P → OnOk result Q
-for_ok (Ok value) f fact = f fact
-for_ok (Err error) f fact = tt
-
-pub if_writing_explains : {A : Type 0} → (files : Option (List NamedFile)) (result : Result A ExportError) → IfErr result IsOfWriting → IfErr result (Explains files)
-if_writing_explains files (Ok value) of = tt
-if_writing_explains files (Err e) of = writing_explains files e of
 
 -- ---- the objects that no row refers to
 

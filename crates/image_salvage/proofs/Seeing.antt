@@ -1,7 +1,7 @@
 -- The frames of an image, seen one by one.
 use Rattle.std.proofs.Common.{◌≡◌, ◌≢◌, inl, inr, ℕ, suc, ◌+◌, ◌<◌, ◌≤◌, List, [], ◌∷◌, ◌++◌, length, get_or, set, drop, replicate, refl, sym, ap, subst, ◌∙◌, arith}
 use Rattle.std.proofs.lemmas.Bool.{cases_eq}
-use Rattle.std.proofs.lemmas.List.{get_or-set_same, get_or-set_other, length-set, get_or-replicate, length-replicate, get_or-drop, drop-drop}
+use Rattle.std.proofs.lemmas.List.{get_or-set_other, length-set, get_or-replicate, length-replicate, get_or-drop, drop-drop}
 use Rattle.std.specs.List.{Contains}
 use Rattle.std.proofs.lemmas.List.Elements.{Contains-push, Contains-push_cases, Contains-append_left}
 use Rattle.codec.specs.Summary.{SummaryFields, SpellsSummary}
@@ -31,9 +31,6 @@ pub summary_number : OneSummaryASpelling → (number : ℕ) (f : FrameFields) (s
 summary_number one number f s whole spelled =
     let has : HasSummary number f = whole.rules.summary (whole_used number f whole) in
     ap (λ (x : SummaryFields). x.frame) (one _ _ s has.summary spelled has.spelled) ∙ has.frame
-
-pub slots_there : (old new : List (List Slot)) (n : ℕ) (slots : List Slot) → n < length old → new ≡ set old n slots → slots_at new n ≡ slots
-slots_there old new n slots inside is = ap (λ (l : List (List Slot)). slots_at l n) is ∙ get_or-set_same old n slots [] inside
 
 -- ---- the loop
 

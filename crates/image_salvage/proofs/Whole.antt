@@ -30,7 +30,9 @@ use Rattle.image_salvage.specs.Contents.{data_of}
 use Rattle.image_salvage.specs.Rows.{last_moment, IsLost, IsPresentOf, IsSalvagedBy}
 use Rattle.s4_types.specs.declared.refusals.Cause.{Cause}
 use Rattle.segment_table.specs.Table.{Table}
-use Rattle.image_parts.specs.Causes.{FirstSplitCause}
+use Rattle.time_read.proofs.Ordering.{all_by_last}
+use Rattle.verifier.proofs.Faults.{split_fault}
+use Rattle.verifier.proofs.OpenedRows.{one_row}
 use Rattle.image_salvage.specs.Frames.{Sees, AreLostOf}
 use Rattle.image_salvage.specs.Salvaging.{SalvageFields, HasFault, SeesBy, IsSalvageOfParts, IsSalvageOfBytes, IsSalvageOf}
 use Rattle.image_salvage.specs.declared.unlisted.Unlisted.{Unlisted}
@@ -38,7 +40,7 @@ use Rattle.image_salvage.specs.Unlisted.{FindsUnlistedBy}
 use Rattle.image_salvage.specs.Laws.{salvaged_version, IsSalvagedWhole, HasAll}
 use Rattle.image_salvage.proofs.Seeing.{OneSummaryASpelling}
 use Rattle.image_salvage.proofs.Alike.{RulesOfASummary, used_alike, none_lost_of}
-use Rattle.image_salvage.proofs.Later.{stands_later, all_by}
+use Rattle.image_salvage.proofs.Later.{stands_later}
 
 -- what laws tell
 abbrev pub OnePointerASpelling : Type 0
@@ -68,27 +70,14 @@ led_by used o all p each (k, h, e) = subst (IsLed used o) e (All-get_or (IsLed u
 
 -- ---- one row
 
-same_row : OnePointerASpelling → (part : RowPart) (row other : ImageRow) → SpellsRow part row → SpellsRow part other → row ≡ other
-same_row one part row other a b =
-    let checkpoint : row.checkpoint ≡ other.checkpoint = one _ row.checkpoint other.checkpoint a.checkpoint b.checkpoint in
-    let head : row.head ≡ other.head = one _ row.head other.head a.head b.head in
-    let object : row.object ≡ other.object = a.object ∙ sym b.object in
-    let created : row.created ≡ other.created = a.created ∙ sym b.created in
-    let moment : row.checkpoint_moment ≡ other.checkpoint_moment = a.checkpoint_moment ∙ sym b.checkpoint_moment in
-    ap (λ (n : ℕ). record row { object = n }) object
-    ∙ ap (λ (n : ℕ). record { object = other.object; created = n; checkpoint = row.checkpoint; checkpoint_moment = row.checkpoint_moment; head = row.head }) created
-    ∙ ap (λ (p : Option Place). record { object = other.object; created = other.created; checkpoint = p; checkpoint_moment = row.checkpoint_moment; head = row.head }) checkpoint
-    ∙ ap (λ (n : ℕ). record { object = other.object; created = other.created; checkpoint = other.checkpoint; checkpoint_moment = n; head = row.head }) moment
-    ∙ ap (λ (p : Option Place). record { object = other.object; created = other.created; checkpoint = other.checkpoint; checkpoint_moment = other.checkpoint_moment; head = p }) head
-
 present_whole : OnePointerASpelling → AllEntriesAreDone → InodesUsedPointToWhatRowsLeadTo → OnlyItsBlocksMatter → (used seen : Place → Option Stored) (clock : ℕ) (part : RowPart) (row : ImageRow) (salvaged : Salvaged) (found : Option Inode)
     → seen ≡ used → clock ≤ last_moment → SpellsRow part row → ObjectStands used row clock → salvaged.object ≡ part.object → salvaged.present ≡ found → MatchOption found (IsLost used part) (IsPresentOf used part)
     → IsSalvagedWhole used clock row seen salvaged
 present_whole one done points only used seen clock part row salvaged None same later spelled stands object is lost =
     absurd (lost row spelled (stands_later used row clock last_moment later stands.versions))
 present_whole one done points only used seen clock part row salvaged (Some inode) same later spelled stands object is present =
-    let rows : present.row ≡ row = same_row one part present.row row present.spelled spelled in
-    let by : AllBy clock (entries_used used row) = all_by row.created clock (entries_used used row) stands.versions.chain.moments in
+    let rows : present.row ≡ row = one_row one part present.row row present.spelled spelled in
+    let by : AllBy clock (entries_used used row) = all_by_last row.created clock (entries_used used row) stands.versions.chain.moments in
     let current : inode ≡ inode_used used row clock = present.present ∙ ap (present_used used) rows ∙ sym (done (first_used used row) (entries_used used row) clock by) in
     let led : (k : ℕ) (p : Place) → pointer_at (inode_used used row clock) k ≡ Some p → IsSome (of_kind Data row.object used p) =
     (λ k p at. led_by used row.object (pointers_used used row) p stands.led (points used row clock k p at)) in
@@ -122,13 +111,6 @@ stands_at P (row ∷ rows) zero r all h = all.0
 stands_at P (row ∷ rows) (suc k) r all h = stands_at P rows k r all.1 (omega arith)
 
 -- ---- the image
-
--- bytes that can't be split have that fault
-pub split_fault : (bytes : List ℕ) (cause : Cause) → FirstSplitCause bytes (Some cause) → FirstFault bytes (Some cause)
-split_fault bytes cause (inl short) = inl short
-split_fault bytes cause (inr (long, inl none)) = inr (long, inl none)
-split_fault bytes cause (inr (long, inr (header, inl apart))) = inr (long, inr (header, inl apart))
-split_fault bytes cause (inr (long, inr (header, inr (filled, is)))) = absurd (let clash : Some cause ≡ None = is in cc)
 
 -- what laws of images tell
 abbrev pub NoFaultIsThere : Type 0

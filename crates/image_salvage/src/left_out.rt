@@ -60,7 +60,7 @@ fn cut_at(ends: bool, entries: &[Entry]) -> Option<Moment>
 }
 
 /// Does the entries up to a moment again, the first one first.
-#[tactic(auto, using(crate::proofs::Redoing::redone_here, crate::proofs::Redoing::redone_past))]
+#[tactic(auto, using(image_objects::proofs::Undoing::redone_here, image_objects::proofs::Undoing::redone_past))]
 fn redo_by(entries: &[Entry], at: Moment, inode: &mut Inode)
     ensures { inode.new ≡ redone_all (entries_by at entries.now) inode.old }
 {

@@ -2,9 +2,9 @@
 use Rattle.std.proofs.Common.{◌≡◌, ℕ, ◌+◌, ◌/◌, ◌%◌, cond, List, get_or, Option, Some, None, IsSome, refl, ap, ◌∙◌}
 use Rattle.s4_types.specs.Pointer.{Place}
 use Rattle.s4_types.specs.declared.versions.Version.TheVariants.{Absent, Live}
-use Rattle.block_log.specs.Log.{Stored, seen_as}
-use Rattle.block_log.specs.declared.kinds.BlockKind.{BlockKind}
+use Rattle.block_log.specs.Log.{Stored}
 use Rattle.block_log.specs.declared.kinds.BlockKind.TheVariants.{Data}
+use Rattle.block_log.proofs.BlockKinds.{seen_is_some}
 use Rattle.codec.specs.Checkpoint.{pointer_at}
 use Rattle.codec.specs.declared.inodes.Inode.{Inode}
 use Rattle.inode.specs.Contents.{byte_in, byte_of, bytes_of, meaning, contents_of, bytes_stored}
@@ -33,12 +33,8 @@ tidy-same contents others i agree tidy = record {
   zeros = λ n le. byte_of-same contents others i n agree ∙ tidy.zeros n le;
 }
 
-is_held : (kind : BlockKind) (o : ℕ) (block : Option Stored) → IsSome (seen_as kind o block) → IsSome block
-is_held kind o None h = h
-is_held kind o (Some block) h = refl
-
 pub lead : (held : Place → Option Stored) (object : ℕ) (i : Inode) → PointersHeld held object i → PointersLead held i
-lead held object i all k p e = is_held Data object (held p) (all k p e)
+lead held object i all k p e = seen_is_some Data object (held p) (all k p e)
 
 -- where all that was held is as it was, contents agree wherever the pointers lead
 pub kept-agree : (before after : Place → Option Stored) (i : Inode) → ((p : Place) → IsSome (before p) → after p ≡ before p) → PointersLead before i → AgreeAt (contents_of before) (contents_of after) i

@@ -1,36 +1,26 @@
 -- Data blocks appended one by one.
-use Rattle.std.proofs.Common.{◌≡◌, ℕ, zero, suc, ◌+◌, ◌-◌, ◌<◌, ◌==◌, true, false, ◌&&◌, List, [], ◌∷◌, ◌++◌, length, take, drop, slice_get, Option, Some, None, IsSome, inl, inr, refl, ap, sym, ◌∙◌, subst, arith}
-use Rattle.std.proofs.lemmas.Bool.{cases_lt, cases_Bool, and_parts, and_from, eqb-true, eq-eqb, cond-true, cond-false, false≢true}
+use Rattle.std.proofs.Common.{◌≡◌, ℕ, zero, suc, ◌+◌, ◌-◌, ◌<◌, ◌==◌, false, ◌&&◌, List, [], ◌∷◌, ◌++◌, length, take, drop, slice_get, Option, Some, None, IsSome, inl, inr, refl, ap, sym, ◌∙◌, subst, arith}
+use Rattle.std.proofs.lemmas.Bool.{cases_lt, cases_Bool, cond-true, cond-false, false≢true}
 use Rattle.std.specs.List.{Contains}
 use Rattle.std.proofs.lemmas.List.{length-append, length-drop, drop-drop}
 use Rattle.std.proofs.lemmas.List.Elements.{Contains-append_left, Contains-append_right}
 use Rattle.std.proofs.Math.Seq.{take-add}
 use Rattle.std.proofs.lemmas.Option.{slice_get_within, same_Some, none-some}
 use Rattle.s4_types.specs.Pointer.{Place}
+use Rattle.lemmas.proofs.Option.{none_before}
 use Rattle.block_log.specs.Log.{Log, Stored, with_held, with_more, seen_as, same_kind, same_place}
 use Rattle.block_log.specs.Taken.{TakesPlaces}
 use Rattle.block_log.specs.declared.kinds.BlockKind.{BlockKind}
 use Rattle.block_log.specs.declared.kinds.BlockKind.TheVariants.{Data}
+use Rattle.block_log.proofs.Places.{same_place_itself, one_place}
 use Rattle.inode.specs.Growth.{data_block, log_grown, grown_at, with_data, GrowsBy}
 
 pub with_data-push : (object : ℕ) (blocks : List (List ℕ)) (bytes : List ℕ) (log : Log) → with_data object (blocks ++ bytes ∷ []) log ≡ log_grown (with_data object blocks log) (data_block object bytes)
 with_data-push object [] bytes log = refl
 with_data-push object (first ∷ blocks) bytes log = with_data-push object blocks bytes (log_grown log (data_block object first))
 
-same_place-self : (p : Place) → same_place p p ≡ true
-same_place-self p = and_from (p.frame == p.frame) (p.block == p.block && p.generation == p.generation) (eq-eqb p.frame p.frame refl) (and_from (p.block == p.block) (p.generation == p.generation) (eq-eqb p.block p.block refl) (eq-eqb p.generation p.generation refl))
-
-same_record : (f g b c m n : ℕ) → f ≡ g → b ≡ c → m ≡ n → ◌≡◌ {A = Place} (record { frame = f; block = b; generation = m }) (record { frame = g; block = c; generation = n })
-same_record f g b c m n e1 e2 e3 = cc
-
-same_place-eq : (p q : Place) → same_place p q ≡ true → p ≡ q
-same_place-eq p q e =
-    let parts = and_parts (p.frame == q.frame) (p.block == q.block && p.generation == q.generation) e in
-    let rest = and_parts (p.block == q.block) (p.generation == q.generation) parts.1 in
-    same_record p.frame q.frame p.block q.block p.generation q.generation (eqb-true p.frame q.frame parts.0) (eqb-true p.block q.block rest.0) (eqb-true p.generation q.generation rest.1)
-
 held_here : (held : Place → Option Stored) (p : Place) (block : Stored) → with_held held p block p ≡ Some block
-held_here held p block = cond-true (same_place p p) (Some block) (held p) (same_place-self p)
+held_here held p block = cond-true (same_place p p) (Some block) (held p) (same_place_itself p)
 
 none_is_some : (o : Option Stored) → o ≡ None → IsSome o → ⊥
 none_is_some None e h = false≢true h
@@ -40,7 +30,7 @@ none_is_some (Some block) e h = none-some block (sym e)
 held_beside : (held : Place → Option Stored) (p q : Place) (block : Stored) → held p ≡ None → IsSome (held q) → with_held held p block q ≡ held q
 held_beside held p q block free taken =
     elim (cases_Bool (same_place p q)) [
-      | inl e ↦ absurd (none_is_some (held q) (ap held (sym (same_place-eq p q e)) ∙ free) taken)
+      | inl e ↦ absurd (none_is_some (held q) (ap held (sym (one_place p q e)) ∙ free) taken)
       | inr e ↦ cond-false (same_place p q) (Some block) (held q) e
     ]
 
@@ -58,7 +48,7 @@ kind_beside held p q object bytes kind o free other =
       | inl e ↦
           ap (seen_as kind o) (cond-true (same_place p q) (Some (data_block object bytes)) (held q) e)
           ∙ not_seen kind o object bytes other
-          ∙ sym (ap (seen_as kind o) (ap held (sym (same_place-eq p q e)) ∙ free))
+          ∙ sym (ap (seen_as kind o) (ap held (sym (one_place p q e)) ∙ free))
       | inr e ↦ ap (seen_as kind o) (cond-false (same_place p q) (Some (data_block object bytes)) (held q) e)
     ]
 
@@ -117,10 +107,6 @@ taken_more object blocks bytes before mid q grows first free n p found at_n is_f
           ap (with_held mid.held q (data_block object bytes)) (sym here) ∙ held_here mid.held q (data_block object bytes) ∙ ap (λ b. Some (data_block object b)) same
     ]
 
-is_free : (before after : Option Stored) → (IsSome before → after ≡ before) → after ≡ None → before ≡ None
-is_free None after kept free = refl
-is_free (Some block) after kept free = sym (kept refl) ∙ free
-
 fresh_more : (object : ℕ) (blocks : List (List ℕ)) (bytes : List ℕ) (before mid : Log) (q : Place) → GrowsBy object blocks before mid → slice_get mid.ahead 0 ≡ Some q → mid.held q ≡ None
     → (n : ℕ) (p : Place) → n < length (blocks ++ bytes ∷ []) → slice_get before.ahead n ≡ Some p → before.held p ≡ None
 fresh_more object blocks bytes before mid q grows first free n p lt at_n =
@@ -129,7 +115,7 @@ fresh_more object blocks bytes before mid q grows first free n p lt at_n =
       | inl below ↦ grows.fresh n p below at_n
       | inr past ↦
           let here : q ≡ p = same_Some q p (sym first ∙ ap (λ a. slice_get a 0) grows.takes.ahead ∙ slice_get-drop before.ahead (length blocks) 0 n (omega arith) ∙ at_n) in
-          is_free (before.held p) (mid.held p) (grows.kept p) (ap mid.held (sym here) ∙ free)
+          none_before (before.held p) (mid.held p) (grows.kept p) (ap mid.held (sym here) ∙ free)
     ]
 
 drop_one_more : (before mid : List Place) (n m : ℕ) → mid ≡ drop n before → n + 1 ≡ m → drop 1 mid ≡ drop m before
@@ -144,7 +130,7 @@ among_one_more : (before mid : Log) (n m : ℕ) (q : Place) (block : Stored) →
     → (p : Place) → before.held p ≡ None → IsSome (with_held mid.held q block p) → Contains (take m before.ahead) p
 among_one_more before mid n m q block takes more first p none some =
     subst (λ places. Contains places p) (sym (take_one_more before.ahead mid.ahead n m q takes.ahead more first)) (elim (cases_Bool (same_place q p)) [
-      | inl e ↦ Contains-append_right (take n before.ahead) (q ∷ []) p (subst (λ r. Contains (q ∷ []) r) (same_place-eq q p e) (0, omega arith, refl))
+      | inl e ↦ Contains-append_right (take n before.ahead) (q ∷ []) p (subst (λ r. Contains (q ∷ []) r) (one_place q p e) (0, omega arith, refl))
       | inr e ↦ Contains-append_left (take n before.ahead) (q ∷ []) p (takes.among p none (subst (λ (there : Option Stored). IsSome there) (cond-false (same_place q p) (Some block) (mid.held p) e) some))
     ])
 
@@ -162,7 +148,7 @@ first_names_more : (object : ℕ) (blocks : List (List ℕ)) (block : Stored) (b
 first_names_more object blocks block before mid q grows free p none some =
     elim (cases_Bool (same_place q p)) [
       | inl here ↦
-          let empty : mid.held p ≡ None = ap mid.held (sym (same_place-eq q p here)) ∙ free in
+          let empty : mid.held p ≡ None = ap mid.held (sym (one_place q p here)) ∙ free in
           cond-true (same_place q p) (1 + mid.named p) (mid.named p) here ∙ ap (λ (n : ℕ). 1 + n) (grows.names_kept p (empty ∙ sym none))
       | inr beside ↦
           cond-false (same_place q p) (1 + mid.named p) (mid.named p) beside
@@ -175,7 +161,7 @@ names_kept_more : (object : ℕ) (blocks : List (List ℕ)) (block : Stored) (be
 names_kept_more object blocks block before mid q grows free p same =
     elim (cases_Bool (same_place q p)) [
       | inl here ↦
-          let empty : before.held p ≡ None = is_free (before.held p) (mid.held p) (grows.kept p) (ap mid.held (sym (same_place-eq q p here)) ∙ free) in
+          let empty : before.held p ≡ None = none_before (before.held p) (mid.held p) (grows.kept p) (ap mid.held (sym (one_place q p here)) ∙ free) in
           absurd (none-some block (sym empty ∙ sym same ∙ cond-true (same_place q p) (Some block) (mid.held p) here))
       | inr beside ↦
           cond-false (same_place q p) (1 + mid.named p) (mid.named p) beside

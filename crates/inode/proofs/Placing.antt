@@ -1,9 +1,10 @@
 -- The bytes of a write in a block, and in an object.
 use Rattle.std.proofs.Common.{◌≡◌, ℕ, ◌+◌, ◌-◌, ◌*◌, ◌<◌, ◌≤◌, min, max, ◌&&◌, true, cond, nat_le, nat_lt, List, [], ◌∷◌, ◌++◌, length, get_or, take, drop, replicate, inl, inr, refl, ap, sym, ◌∙◌, arith}
 use Rattle.std.proofs.lemmas.Bool.{cases_lt, and_from, and_left, and_right, le-leb, lt-ltb, lt-leb, le-ltb, cond-true, cond-false}
-use Rattle.std.proofs.lemmas.List.{get_or_append_left, get_or-append_right, get_or-take, get_or-drop, get_or-replicate, get_or_past, length-append, length-take, length-drop, length-replicate}
+use Rattle.std.proofs.lemmas.List.{get_or_append_left, get_or-append_right, get_or-take, get_or-drop, get_or-replicate, get_or_past, length-append, length-take, length-drop}
 use Rattle.s4_types.specs.Pointer.{Place}
 use Rattle.s4_model.specs.Effect.{resized, written}
+use Rattle.s4_model.proofs.PlainLemmas.{length-resized}
 use Rattle.codec.specs.declared.inodes.Inode.{Inode}
 use Rattle.inode.specs.Contents.{byte_of}
 use Rattle.inode.specs.Changed.{byte_written, block_of}
@@ -48,10 +49,6 @@ covered_block contents i k offset bytes was now low high len each =
     ∙ cond-true (nat_le offset (512 * k + n) && nat_lt (512 * k + n) (offset + length bytes)) (get_or bytes (512 * k + n - offset) 0) (get_or was n 0) inside
     ∙ sym (cond-true (nat_le offset (512 * k + n) && nat_lt (512 * k + n) (offset + length bytes)) (get_or bytes (512 * k + n - offset) 0) (byte_of contents i (512 * k + n)) inside))
 
-pub resized-length : (size : ℕ) (xs : List ℕ) → length (resized size xs) ≡ size
-resized-length size xs =
-    length-append (take size xs) (replicate (size - length xs) 0) ∙ ap (λ n. n + length {A = ℕ} (replicate (size - length xs) 0)) (length-take size xs) ∙ ap (λ n. min size (length xs) + n) (length-replicate {A = ℕ} (size - length xs) 0) ∙ omega arith
-
 pub resized-at : (size : ℕ) (xs : List ℕ) (n : ℕ) → n < size → get_or (resized size xs) n 0 ≡ get_or xs n 0
 resized-at size xs n lt =
     let front : length (take size xs) ≡ min size (length xs) = length-take size xs in
@@ -69,14 +66,14 @@ written-parts offset (b ∷ bytes) content lt = refl
 
 pub written-length : (offset : ℕ) (bytes content : List ℕ) → 0 < length bytes → length (written offset bytes content) ≡ max (length content) (offset + length bytes)
 written-length offset bytes content lt =
-    let one : length (resized offset content) ≡ offset = resized-length offset content in
+    let one : length (resized offset content) ≡ offset = length-resized offset content in
     let two : length (resized offset content ++ bytes) ≡ length (resized offset content) + length bytes = length-append (resized offset content) bytes in
     let three : length (drop (offset + length bytes) content) ≡ length content - (offset + length bytes) = length-drop (offset + length bytes) content in
     ap length (written-parts offset bytes content lt) ∙ length-append (resized offset content ++ bytes) (drop (offset + length bytes) content) ∙ omega arith
 
 pub written-before : (offset : ℕ) (bytes content : List ℕ) (n : ℕ) → 0 < length bytes → n < offset → get_or (written offset bytes content) n 0 ≡ get_or content n 0
 written-before offset bytes content n some lt =
-    let one : length (resized offset content) ≡ offset = resized-length offset content in
+    let one : length (resized offset content) ≡ offset = length-resized offset content in
     let two : length (resized offset content ++ bytes) ≡ length (resized offset content) + length bytes = length-append (resized offset content) bytes in
     ap (λ l. get_or l n 0) (written-parts offset bytes content some)
     ∙ get_or_append_left (resized offset content ++ bytes) (drop (offset + length bytes) content) 0 n (omega arith)
@@ -85,7 +82,7 @@ written-before offset bytes content n some lt =
 
 pub written-in : (offset : ℕ) (bytes content : List ℕ) (n : ℕ) → offset ≤ n → n < offset + length bytes → get_or (written offset bytes content) n 0 ≡ get_or bytes (n - offset) 0
 written-in offset bytes content n low high =
-    let one : length (resized offset content) ≡ offset = resized-length offset content in
+    let one : length (resized offset content) ≡ offset = length-resized offset content in
     let two : length (resized offset content ++ bytes) ≡ length (resized offset content) + length bytes = length-append (resized offset content) bytes in
     ap (λ l. get_or l n 0) (written-parts offset bytes content (omega arith))
     ∙ get_or_append_left (resized offset content ++ bytes) (drop (offset + length bytes) content) 0 n (omega arith)
@@ -93,7 +90,7 @@ written-in offset bytes content n low high =
 
 pub written-behind : (offset : ℕ) (bytes content : List ℕ) (n : ℕ) → 0 < length bytes → offset + length bytes ≤ n → get_or (written offset bytes content) n 0 ≡ get_or content n 0
 written-behind offset bytes content n some le =
-    let one : length (resized offset content) ≡ offset = resized-length offset content in
+    let one : length (resized offset content) ≡ offset = length-resized offset content in
     let two : length (resized offset content ++ bytes) ≡ length (resized offset content) + length bytes = length-append (resized offset content) bytes in
     ap (λ l. get_or l n 0) (written-parts offset bytes content some)
     ∙ get_or-append_right (resized offset content ++ bytes) (drop (offset + length bytes) content) (offset + length bytes) n 0 (omega arith) le

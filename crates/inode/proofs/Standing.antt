@@ -12,7 +12,7 @@ use Rattle.codec.specs.declared.inodes.Inode.{Inode}
 use Rattle.inode.specs.Contents.{listed, byte_in, byte_of, bytes_of, meaning}
 use Rattle.inode.specs.Tidiness.{Tidy}
 
-replicate_hole : (count k : ℕ) → get_or {A = Option Place} (replicate count None) k None ≡ None
+pub replicate_hole : (count k : ℕ) → get_or {A = Option Place} (replicate count None) k None ≡ None
 replicate_hole count k =
     elim (cases_lt k count) [
       | inl below ↦ get_or-replicate {A = Option Place} count k None None below

@@ -9,6 +9,7 @@ use Rattle.s4_types.specs.declared.versions.Version.TheVariants.{Absent, Live}
 use Rattle.s4_types.specs.declared.limits.TheConstants.{OBJECT_BYTES, OBJECT_BLOCKS}
 use Rattle.s4_model.specs.Effect.{effect, resized}
 use Rattle.block_log.specs.Log.{Log}
+use Rattle.s4_model.proofs.PlainLemmas.{length-resized}
 use Rattle.codec.specs.Checkpoint.{pointer_at}
 use Rattle.codec.specs.declared.inodes.Inode.{Inode}
 use Rattle.inode.specs.Contents.{byte_of, bytes_of, contents_of, meaning}
@@ -19,7 +20,7 @@ use Rattle.inode.specs.Changed.{byte_cut, blocks_cut, listed_blocks, block_of, T
 use Rattle.inode.proofs.Listing.{listed-is, listed-at}
 use Rattle.inode.proofs.Bytes.{bytes_of-at}
 use Rattle.inode.proofs.Standing.{byte_of-hole}
-use Rattle.inode.proofs.Placing.{resized-length, resized-at}
+use Rattle.inode.proofs.Placing.{resized-at}
 use Rattle.inode.proofs.Growing.{grows-none, grows-more}
 use Rattle.inode.proofs.Following.{byte_of-new, byte_of-old, held-new, held-old}
 
@@ -123,7 +124,7 @@ byte_of-truncate object moment size i j before after grows inode tidy leads n =
 
 bytes_of-truncate : (contents after : Place → List ℕ) (size : ℕ) (i j : Inode) → j.size ≡ size → Tidy contents i → ((n : ℕ) → byte_of after j n ≡ byte_cut contents i size n) → bytes_of after j ≡ resized size (bytes_of contents i)
 bytes_of-truncate contents after size i j is_size tidy each =
-    sym (listed-is (byte_of after j) 0 j.size (resized size (bytes_of contents i)) (resized-length size (bytes_of contents i) ∙ sym is_size)
+    sym (listed-is (byte_of after j) 0 j.size (resized size (bytes_of contents i)) (length-resized size (bytes_of contents i) ∙ sym is_size)
     (λ n lt. resized-at size (bytes_of contents i) n (omega arith) ∙ bytes_of-at contents i n tidy ∙ sym (byte_cut-kept contents i size n (omega arith)) ∙ sym (each n) ∙ ap (byte_of after j) (omega arith)))
 
 live_or_absent : (alive was : Bool) (bytes old attribute old_attribute : List ℕ) (created old_created changed old_changed moment object size : ℕ) → alive ≡ was → bytes ≡ resized size old → attribute ≡ old_attribute → created ≡ old_created → changed ≡ moment

@@ -5,21 +5,9 @@ use Rattle.std.proofs.lemmas.Bool.{cases_Bool}
 use Rattle.std.proofs.lemmas.List.Sums.{sum_by-cons}
 use Rattle.std.proofs.lemmas.Grind.{common_steps}
 use Rattle.codec.specs.Entry.{EntryFields, entry_length, entries_length}
+use Rattle.codec.proofs.JournalEntries.{entries_one, entries_push}
 use Rattle.journal_chain.specs.Sizes.{fits, filled_with, filled_after}
 use Rattle.journal_chain.specs.Packing.{packed_with, added, joined, filled_bytes}
-
--- the bytes of joined entries add up
-pub bytes-append : (xs ys : List EntryFields) → entries_length (xs ++ ys) ≡ entries_length xs + entries_length ys
-unfolding entries_length
-bytes-append [] ys = omega arith
-bytes-append (x ∷ xs) ys = omega (arith, bytes-append xs ys)
-
-pub bytes-one : (e : EntryFields) → entries_length (e ∷ []) ≡ entry_length e
-unfolding entries_length
-bytes-one e = omega arith
-
-pub bytes-push : (xs : List EntryFields) (e : EntryFields) → entries_length (xs ++ e ∷ []) ≡ entries_length xs + entry_length e
-bytes-push xs e = bytes-append xs (e ∷ []) ∙ ap (λ n. entries_length xs + n) (bytes-one e)
 
 pub bytes-sum : (entries : List EntryFields) → sum (map entry_length entries) ≡ entries_length entries
 unfolding entries_length
@@ -76,10 +64,10 @@ joined-packed entries = joined-added [] entries
 
 filled_step : (blocks : List (List EntryFields)) (e : EntryFields) → filled_bytes (packed_with blocks e) ≡ filled_with (filled_bytes blocks) (entry_length e)
 unfolding filled_bytes
-filled_step [] e = ap filled_bytes (first_entry e) ∙ bytes-one e ∙ sym (filled-none (entry_length e))
+filled_step [] e = ap filled_bytes (first_entry e) ∙ entries_one e ∙ sym (filled-none (entry_length e))
 filled_step (newest ∷ older) e = elim (cases_Bool (fits (entries_length newest) (entry_length e))) [
-  | inl h ↦ ap filled_bytes (entry_fits newest older e h) ∙ bytes-push newest e ∙ sym (filled-fits (entries_length newest) (entry_length e) h)
-  | inr h ↦ ap filled_bytes (entry_begins newest older e h) ∙ bytes-one e ∙ sym (filled-begins (entries_length newest) (entry_length e) h)
+  | inl h ↦ ap filled_bytes (entry_fits newest older e h) ∙ entries_push newest e ∙ sym (filled-fits (entries_length newest) (entry_length e) h)
+  | inr h ↦ ap filled_bytes (entry_begins newest older e h) ∙ entries_one e ∙ sym (filled-begins (entries_length newest) (entry_length e) h)
 ]
 
 pub filled-added : (blocks : List (List EntryFields)) (entries : List EntryFields) → filled_bytes (added blocks entries) ≡ filled_after (filled_bytes blocks) (map entry_length entries)

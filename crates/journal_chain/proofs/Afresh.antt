@@ -10,11 +10,11 @@ use Rattle.block_log.specs.Log.{Log, Stored, of_kind, without, dropped}
 use Rattle.codec.specs.Fields.{bit}
 use Rattle.codec.specs.Entry.{EntryFields, entries_length}
 use Rattle.codec.specs.Journal.{JournalFields}
+use Rattle.codec.proofs.Exact.{bind_some}
 use Rattle.journal_chain.specs.Packing.{packed, joined, packed_with, filled_bytes, AllFit}
 use Rattle.journal_chain.specs.Chain.{ChainFields, Holds, OnlyJournalChanged, chain_links, chain_places, places_of, blocks_of, times}
 use Rattle.journal_chain.specs.Writing.{Standing, Finished, Unfinished, Put}
 use Rattle.journal_chain.specs.Back.{links_back, places_back}
-use Rattle.journal_chain.proofs.Spelled.{bind_some}
 use Rattle.journal_chain.proofs.Tables.{only-refl, only-trans, dropped_journal}
 use Rattle.journal_chain.proofs.Chains.{held_of, put_finished, put_changes_only, drop_finished, stale_there, drop_changes_only}
 use Rattle.journal_chain.proofs.Backwards.{back_of_chain}
@@ -29,7 +29,7 @@ pub old_blocks : (held : Place → Option Stored) (chain : ChainFields) (entries
 unfolding times
 old_blocks held chain entries c =
     let view = of_kind Journal chain.object held in
-    let (links, (walk, same)) = bind_some (chain_links view chain.object chain.head) (λ links. Some (blocks_of links)) (packed entries) c.blocks in
+    let (links, walk, same) = bind_some (chain_links view chain.object chain.head) (λ links. Some (blocks_of links)) (packed entries) c.blocks in
     let back : links_back held chain.head ≡ Some links = back_of_chain held chain.object chain.head links walk in
     let places : chain_places view chain.object chain.head ≡ places_back held chain.head =
     ap (λ l. places_of (unwrap_or l [])) walk ∙ sym (ap (λ l. places_of (unwrap_or l [])) back) in

@@ -8,11 +8,12 @@ use Rattle.block_log.specs.declared.kinds.BlockKind.TheVariants.{Journal}
 use Rattle.block_log.specs.Log.{Log, Stored, of_kind}
 use Rattle.codec.specs.Fields.{◌>>=◌}
 use Rattle.codec.specs.Journal.{JournalFields}
+use Rattle.codec.proofs.Exact.{bind_some}
 use Rattle.journal_chain.specs.Packing.{joined}
 use Rattle.journal_chain.specs.Chain.{Link, linked, links_from, chain_links, chain_entries, chain_places, journal_in, places_of, blocks_of}
 use Rattle.journal_chain.specs.Writing.{spelled_journal}
 use Rattle.journal_chain.specs.Back.{BackFields, links_back, entries_left, left, places_back}
-use Rattle.journal_chain.proofs.Spelled.{bind_some, bind_is}
+use Rattle.journal_chain.proofs.Spelled.{bind_is}
 use Rattle.journal_chain.proofs.Calls.{spelled_since, some_is}
 
 -- a walk that gets so far gets farther
@@ -22,8 +23,8 @@ more_fuel zero blocks None links h = h
 more_fuel (suc fuel) blocks None links h = h
 more_fuel zero blocks (Some p) links h = absurd (none-some links h)
 more_fuel (suc fuel) blocks (Some p) links h =
-    let (b, (there, after)) = bind_some (blocks p) (λ b. links_from fuel blocks b.previous >>= λ older. Some (linked p b older)) links h in
-    let (older, (walk, made)) = bind_some (links_from fuel blocks b.previous) (λ older. Some (linked p b older)) links after in
+    let (b, there, after) = bind_some (blocks p) (λ b. links_from fuel blocks b.previous >>= λ older. Some (linked p b older)) links h in
+    let (older, walk, made) = bind_some (links_from fuel blocks b.previous) (λ older. Some (linked p b older)) links after in
     bind_is (blocks p) (λ b. links_from (suc fuel) blocks b.previous >>= λ older. Some (linked p b older)) b there
     ∙ bind_is (links_from (suc fuel) blocks b.previous) (λ older. Some (linked p b older)) older (more_fuel fuel blocks b.previous older walk)
     ∙ made
@@ -39,8 +40,8 @@ pub record Step (blocks : Place → Option JournalFields) (fuel : ℕ) (p : Plac
 step : (fuel : ℕ) (blocks : Place → Option JournalFields) (p : Place) (links : List Link) → links_from (suc fuel) blocks (Some p) ≡ Some links → Step blocks fuel p links
 unfolding links_from
 step fuel blocks p links h =
-    let (b, (there, after)) = bind_some (blocks p) (λ b. links_from fuel blocks b.previous >>= λ older. Some (linked p b older)) links h in
-    let (older, (walk, made)) = bind_some (links_from fuel blocks b.previous) (λ older. Some (linked p b older)) links after in
+    let (b, there, after) = bind_some (blocks p) (λ b. links_from fuel blocks b.previous >>= λ older. Some (linked p b older)) links h in
+    let (older, walk, made) = bind_some (links_from fuel blocks b.previous) (λ older. Some (linked p b older)) links after in
     record { block = b; older = older; here = there; behind = more_fuel fuel blocks b.previous older walk; made = same_Some (linked p b older) links made }
 
 -- a walk of an object's journal blocks is one of journal blocks
@@ -53,8 +54,8 @@ plain_walk zero o held (Some p) links h = absurd (none-some links h)
 plain_walk (suc fuel) o held (Some p) links h =
     let blocks = journal_in o (of_kind Journal o held) in
     let plain : Place → Option JournalFields = λ q. spelled_journal (held q) in
-    let (b, (there, after)) = bind_some (blocks p) (λ b. links_from fuel blocks b.previous >>= λ older. Some (linked p b older)) links h in
-    let (older, (walk, made)) = bind_some (links_from fuel blocks b.previous) (λ older. Some (linked p b older)) links after in
+    let (b, there, after) = bind_some (blocks p) (λ b. links_from fuel blocks b.previous >>= λ older. Some (linked p b older)) links h in
+    let (older, walk, made) = bind_some (links_from fuel blocks b.previous) (λ older. Some (linked p b older)) links after in
     bind_is (plain p) (λ b. links_from fuel plain b.previous >>= λ older. Some (linked p b older)) b (spelled_since (held p) o b there)
     ∙ bind_is (links_from fuel plain b.previous) (λ older. Some (linked p b older)) older (plain_walk fuel o held b.previous older walk)
     ∙ made
@@ -69,7 +70,7 @@ pub reader_begins : (held : Place → Option Stored) (o : ℕ) (head : Option Pl
 unfolding chain_entries
 reader_begins held o head there =
     let (entries, whole) = some_is (chain_entries held o head) there in
-    let (links, (walk, made)) = bind_some (chain_links (of_kind Journal o held) o head) (λ links. Some (joined (blocks_of links))) entries whole in
+    let (links, walk, made) = bind_some (chain_links (of_kind Journal o held) o head) (λ links. Some (joined (blocks_of links))) entries whole in
     bind_is (links_back held head) (λ links. Some (joined (blocks_of links) ++ [])) links (back_of_chain held o head links walk)
     ∙ ap Some (append-nil (joined (blocks_of links)))
     ∙ sym (bind_is (chain_links (of_kind Journal o held) o head) (λ links. Some (joined (blocks_of links))) links walk)
@@ -80,7 +81,7 @@ pub chain_goes_back : (held : Place → Option Stored) (o : ℕ) (head : Option 
 unfolding chain_entries
 chain_goes_back held o head there =
     let (entries, whole) = some_is (chain_entries held o head) there in
-    let (links, (walk, made)) = bind_some (chain_links (of_kind Journal o held) o head) (λ links. Some (joined (blocks_of links))) entries whole in
+    let (links, walk, made) = bind_some (chain_links (of_kind Journal o held) o head) (λ links. Some (joined (blocks_of links))) entries whole in
     let back : links_back held head ≡ Some links = back_of_chain held o head links walk in (
       ap is_some back,
       ap (λ (found : Option (List Link)). places_of (unwrap_or found [])) (back ∙ sym walk),
@@ -99,7 +100,7 @@ back_behind held p links s = s.behind
 links_there : (held : Place → Option Stored) (back : BackFields) → IsSome (entries_left held back) → (links : List Link) × (links_back held back.previous ≡ Some links)
 links_there held back there =
     let (entries, whole) = some_is (entries_left held back) there in
-    let (links, (walk, made)) = bind_some (links_back held back.previous) (λ links. Some (joined (blocks_of links) ++ back.entries)) entries whole in
+    let (links, walk, made) = bind_some (links_back held back.previous) (λ links. Some (joined (blocks_of links) ++ back.entries)) entries whole in
     (links, walk)
 
 pub turn_reads : (held : Place → Option Stored) (back : BackFields) (p : Place) → IsSome (entries_left held back) → back.previous ≡ Some p → IsSome (spelled_journal (held p))
@@ -160,8 +161,8 @@ few_links zero blocks None links h = subst (λ l. length l ≤ 0) (same_Some [] 
 few_links (suc fuel) blocks None links h = subst (λ l. length l ≤ suc fuel) (same_Some [] links h) (omega arith)
 few_links zero blocks (Some p) links h = absurd (none-some links h)
 few_links (suc fuel) blocks (Some p) links h =
-    let (b, (there, after)) = bind_some (blocks p) (λ b. links_from fuel blocks b.previous >>= λ older. Some (linked p b older)) links h in
-    let (older, (walk, made)) = bind_some (links_from fuel blocks b.previous) (λ older. Some (linked p b older)) links after in
+    let (b, there, after) = bind_some (blocks p) (λ b. links_from fuel blocks b.previous >>= λ older. Some (linked p b older)) links h in
+    let (older, walk, made) = bind_some (links_from fuel blocks b.previous) (λ older. Some (linked p b older)) links after in
     let le : length older ≤ fuel = few_links fuel blocks b.previous older walk in
     subst (λ l. length l ≤ suc fuel) (same_Some (linked p b older) links made) (omega arith)
 
@@ -172,10 +173,6 @@ few_places held from there =
     let le : length links ≤ CHAIN_BLOCKS = few_links CHAIN_BLOCKS (λ p. spelled_journal (held p)) from links walk in
     let e : length (places_of links) ≡ length links = length-map links (λ (l : Link). l.place) in
     subst (λ n. n ≤ CHAIN_BLOCKS) (sym (ap (λ o. length (places_of (unwrap_or o []))) walk ∙ e)) le
-
-pub nil_since : {A : Type 0} (xs : List A) → length xs ≡ 0 → xs ≡ []
-nil_since [] h = refl
-nil_since (x ∷ xs) h = absurd (omega arith)
 
 pub record NextPlace (held later : Place → Option Stored) (from after : Option Place) (p : Place) : Type 0 where
   pub places : places_back held from ≡ p ∷ places_back later after

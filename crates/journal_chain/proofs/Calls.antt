@@ -11,14 +11,16 @@ use Rattle.block_log.specs.Taken.{TakesPlaces}
 use Rattle.codec.specs.Fields.{◌>>=◌, all_of, kept, Reads}
 use Rattle.codec.specs.Entry.{EntryFields, entry_length, entries_length}
 use Rattle.codec.specs.Journal.{JournalFields, journal_at, journal_spelling}
+use Rattle.codec.proofs.JournalEntries.{entries_push}
+use Rattle.codec.proofs.Exact.{bind_some}
 use Rattle.journal_chain.specs.Sizes.{fits, filled_with, breaks}
 use Rattle.journal_chain.specs.Packing.{filled_bytes, packed, joined, AllFit}
 use Rattle.journal_chain.specs.Chain.{Link, ChainFields, journal_of, journal_in, blocks_of, Holds, OnlyJournalChanged}
 use Rattle.journal_chain.specs.Writing.{head_of, Finished, Unfinished, Put, spelled_journal, reopened}
-use Rattle.journal_chain.proofs.Spelled.{bind_some, bind_is}
+use Rattle.journal_chain.proofs.Spelled.{bind_is}
 use Rattle.journal_chain.proofs.Loops.{all_fit-append, AddUp}
 use Rattle.journal_chain.proofs.Tables.{append_holds, append_names, append_next, dropped_journal, only-trans}
-use Rattle.journal_chain.proofs.Chains.{entries_length-last, held_of, put_finished, put_changes_only, drop_finished, stale_there, drop_changes_only, entry_begins, finished_of, begins_head, head_there, reopens, head_reopened}
+use Rattle.journal_chain.proofs.Chains.{held_of, put_finished, put_changes_only, drop_finished, stale_there, drop_changes_only, entry_begins, finished_of, begins_head, head_there, reopens, head_reopened}
 
 -- ---- appending a block
 
@@ -50,7 +52,7 @@ put_since {E} log later r p block o bytes takes is took free object spells reads
 
 pub filled_fits : (before after : List EntryFields) (e : EntryFields) → after ≡ before ++ e ∷ [] → fits (entries_length before) (entry_length e) ≡ true
     → entries_length after ≡ filled_with (entries_length before) (entry_length e)
-filled_fits before after e is fit = ap entries_length is ∙ entries_length-last before e ∙ ap (λ t. cond t (entries_length before + entry_length e) (entry_length e)) (sym fit)
+filled_fits before after e is fit = ap entries_length is ∙ entries_push before e ∙ ap (λ t. cond t (entries_length before + entry_length e) (entry_length e)) (sym fit)
 
 pub filled_begins : (before after : List EntryFields) (e : EntryFields) → after ≡ e ∷ [] → fits (entries_length before) (entry_length e) ≡ false
     → entries_length after ≡ filled_with (entries_length before) (entry_length e)
@@ -104,9 +106,9 @@ pub spelled_since : (there : Option Stored) (o : ℕ) (j : JournalFields) → (s
 unfolding journal_of
 spelled_since None o j h = absurd (none-some j h)
 spelled_since (Some block) o j h =
-    let (bytes, (shows, spells)) = bind_some (seen_as Journal o (Some block)) (journal_of o) j h in
+    let (bytes, shows, spells) = bind_some (seen_as Journal o (Some block)) (journal_of o) j h in
     let same : block.bytes ≡ bytes = shown_bytes (same_kind Journal block.kind && block.object == o) block.bytes bytes shows in
-    let (k, (reads, keeps)) = bind_some (all_of journal_at bytes) (λ k. kept (k.object == o) k) j spells in
+    let (k, reads, keeps) = bind_some (all_of journal_at bytes) (λ k. kept (k.object == o) k) j spells in
     ap (all_of journal_at) same ∙ reads ∙ ap Some (cond_some (k.object == o) k j keeps).1
 
 -- the block that is read where a head is reopened

@@ -12,11 +12,12 @@ use Rattle.block_log.specs.Log.{Log, Stored, of_kind, with_held, without}
 use Rattle.codec.specs.Fields.{bit}
 use Rattle.codec.specs.Entry.{EntryFields, entry_length, entries_length}
 use Rattle.codec.specs.Journal.{JournalFields, journal_spelling}
+use Rattle.codec.proofs.Exact.{bind_some}
 use Rattle.journal_chain.specs.Sizes.{fits}
 use Rattle.journal_chain.specs.Packing.{packed, joined, packed_with, filled_bytes, AllFit}
 use Rattle.journal_chain.specs.Chain.{BlockView, Link, ChainFields, journal_of, journal_in, chain_links, chain_places, places_of, blocks_of, times, IsChain, Holds, OnlyJournalChanged}
 use Rattle.journal_chain.specs.Writing.{head_of, fields_of_block, Stands, Standing, Finished, Unfinished, Put, reopened}
-use Rattle.journal_chain.proofs.Spelled.{bind_some, bind_is, Found, walk_of_stands, stands_of_walk}
+use Rattle.journal_chain.proofs.Spelled.{bind_is, Found, walk_of_stands, stands_of_walk}
 use Rattle.journal_chain.proofs.Places.{times-here}
 use Rattle.journal_chain.proofs.Steps.{head_stale, block_put, stale_dropped}
 use Rattle.journal_chain.proofs.Tables.{put_changes, dropped_changes, free_in_view, put_only, dropped_only}
@@ -25,19 +26,13 @@ use Rattle.journal_chain.proofs.Tables.{put_changes, dropped_changes, free_in_vi
 pub packed_more : (entries : List EntryFields) (e : EntryFields) → packed (entries ++ e ∷ []) ≡ packed_with (packed entries) e
 packed_more entries e = fold-append packed_with [] entries (e ∷ [])
 
-pub entries_length-last : (entries : List EntryFields) (e : EntryFields) → entries_length (entries ++ e ∷ []) ≡ entries_length entries + entry_length e
-unfolding entries_length
-entries_length-last [] e = omega arith
-entries_length-last (f ∷ entries) e =
-    let h : entries_length (entries ++ e ∷ []) ≡ entries_length entries + entry_length e = entries_length-last entries e in omega arith
-
 -- ---- a chain that is held stands
 
 finished_view : (view : BlockView) (chain : ChainFields) (entries : List EntryFields) → IsChain view chain entries
     → (links : List Link) × (Standing chain.object view links [] × ((chain.head ≡ head_of links) × (packed entries ≡ blocks_of links)))
 unfolding chain_links
 finished_view view chain entries c =
-    let (links, (walk, same)) = bind_some (chain_links view chain.object chain.head) (λ links. Some (blocks_of links)) (packed entries) c.blocks in
+    let (links, walk, same) = bind_some (chain_links view chain.object chain.head) (λ links. Some (blocks_of links)) (packed entries) c.blocks in
     let found : Found CHAIN_BLOCKS chain.object view chain.head links = stands_of_walk CHAIN_BLOCKS chain.object view chain.head links walk in
     let places : chain_places view chain.object chain.head ≡ places_of links = ap (λ l. places_of (unwrap_or l [])) walk in (
       links,

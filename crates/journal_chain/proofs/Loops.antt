@@ -1,26 +1,20 @@
 -- Entries one after another: what is taken already, and what is left.
 use Rattle.std.proofs.Common.{◌≡◌, ℕ, ◌+◌, ◌-◌, ◌≤◌, ◌<◌, cond, List, [], ◌∷◌, ◌++◌, map, length, get_or, take, drop, sym, ap, ◌∙◌, subst, arith, length-drop}
-use Rattle.std.proofs.lemmas.List.{drop_more, drop_all}
+use Rattle.std.proofs.lemmas.List.{drop_all}
 use Rattle.std.proofs.lemmas.Grind.{take_at_read}
 use Rattle.s4_types.specs.Pointer.{Place}
 use Rattle.s4_types.specs.declared.limits.TheConstants.{JOURNAL_ENTRY_BYTES, LONGEST_ENTRY_BYTES}
+use Rattle.lemmas.proofs.List.{drop_next}
 use Rattle.block_log.specs.Log.{Log}
 use Rattle.block_log.specs.Taken.{TakesPlaces}
-use Rattle.codec.specs.Entry.{EntryFields, entry_length, entries_length}
+use Rattle.codec.specs.Entry.{EntryFields, entry_length}
 use Rattle.journal_chain.specs.Sizes.{fits, filled_with, breaks}
 use Rattle.journal_chain.specs.Packing.{AllFit}
-use Rattle.journal_chain.proofs.Chains.{entries_length-last}
 
 pub next_taken : (xs : List EntryFields) (i : ℕ) (e : EntryFields) → i < length xs → e ≡ get_or xs i e → take (i + 1) xs ≡ take i xs ++ e ∷ []
 next_taken xs i e lt is = (take_at_read xs i e lt).1 ∙ ap (λ x. take i xs ++ x ∷ []) (sym is)
 
-pub next_left : (xs : List EntryFields) (i : ℕ) (e : EntryFields) → i < length xs → e ≡ get_or xs i e → drop i xs ≡ e ∷ drop (i + 1) xs
-next_left xs i e lt is = drop_more xs i e lt ∙ ap (λ x. x ∷ drop (i + 1) xs) (sym is)
-
 -- ---- bytes
-
-pub bytes_more : (xs : List EntryFields) (i : ℕ) (e : EntryFields) → i < length xs → e ≡ get_or xs i e → entries_length (take (i + 1) xs) ≡ entries_length (take i xs) + entry_length e
-bytes_more xs i e lt is = ap entries_length (next_taken xs i e lt is) ∙ entries_length-last (take i xs) e
 
 all_fit-last : (xs : List EntryFields) (e : EntryFields) → AllFit xs → entry_length e ≤ JOURNAL_ENTRY_BYTES → AllFit (xs ++ e ∷ [])
 all_fit-last [] e a h = (h, tt)
@@ -32,8 +26,6 @@ fit_more xs i e lt is a h = subst AllFit (sym (next_taken xs i e lt is)) (all_fi
 pub all_fit-append : (xs ys : List EntryFields) → AllFit xs → AllFit ys → AllFit (xs ++ ys)
 all_fit-append [] ys a b = b
 all_fit-append (x ∷ xs) ys a b = (a.0, all_fit-append xs ys a.1 b)
-
--- ---- sizes
 
 -- ---- blocks begun
 
@@ -60,7 +52,7 @@ pub takes_more : (filled later : ℕ) (xs : List EntryFields) (i : ℕ) (e : Ent
     → AddUp → i < length xs → e ≡ get_or xs i e → later ≡ filled_with filled (entry_length e) → TakesPlaces (breaks filled (entry_length e ∷ [])) log between
     → TakesPlaces (breaks later (map entry_length (drop (i + 1) xs))) between after → TakesPlaces (breaks filled (map entry_length (drop i xs))) log after
 takes_more filled later xs i e log between after adds lt is filled_is one others =
-    takes_next filled later (drop i xs) (drop (i + 1) xs) e log between after adds (next_left xs i e lt is) filled_is one others
+    takes_next filled later (drop i xs) (drop (i + 1) xs) e log between after adds (drop_next xs i e lt is) filled_is one others
 
 pub room_next : (filled later : ℕ) (left rest : List EntryFields) (e : EntryFields) (ahead after : List Place)
     → left ≡ e ∷ rest → later ≡ filled_with filled (entry_length e) → after ≡ drop (breaks filled (entry_length e ∷ [])) ahead
@@ -84,7 +76,7 @@ room_one filled left rest e ahead is le =
 pub room_more : (filled later : ℕ) (xs : List EntryFields) (i : ℕ) (e : EntryFields) (ahead after : List Place)
     → i < length xs → e ≡ get_or xs i e → later ≡ filled_with filled (entry_length e) → after ≡ drop (breaks filled (entry_length e ∷ [])) ahead
     → breaks filled (map entry_length (drop i xs)) ≤ length ahead → breaks later (map entry_length (drop (i + 1) xs)) ≤ length after
-room_more filled later xs i e ahead after lt is filled_is after_is le = room_next filled later (drop i xs) (drop (i + 1) xs) e ahead after (next_left xs i e lt is) filled_is after_is le
+room_more filled later xs i e ahead after lt is filled_is after_is le = room_next filled later (drop i xs) (drop (i + 1) xs) e ahead after (drop_next xs i e lt is) filled_is after_is le
 
 -- no entry is left, so none takes a place
 pub takes_none : (filled : ℕ) (left : List EntryFields) (log : Log) → left ≡ [] → TakesPlaces 0 log log → TakesPlaces (breaks filled (map entry_length left)) log log

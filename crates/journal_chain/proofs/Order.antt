@@ -7,14 +7,15 @@ use Rattle.s4_types.specs.Pointer.{Place}
 use Rattle.s4_types.specs.declared.limits.TheConstants.{CHAIN_BLOCKS}
 use Rattle.block_log.specs.declared.kinds.BlockKind.TheVariants.{Journal}
 use Rattle.block_log.specs.Log.{Log, Stored, same_place, of_kind, with_held}
+use Rattle.block_log.proofs.Places.{one_place}
 use Rattle.codec.specs.Fields.{◌>>=◌}
 use Rattle.codec.specs.Entry.{EntryFields}
 use Rattle.codec.specs.Journal.{JournalFields, journal_spelling}
+use Rattle.codec.proofs.Exact.{bind_some}
 use Rattle.journal_chain.specs.Packing.{packed}
 use Rattle.journal_chain.specs.Chain.{BlockView, Link, ChainFields, Holds, journal_of, journal_in, links_from, chain_links, chain_places, places_of, blocks_of}
 use Rattle.journal_chain.specs.Writing.{head_of, fields_of_block, Stands, Follows, InOrder, Put, stored_journal}
-use Rattle.journal_chain.proofs.Places.{one_place}
-use Rattle.journal_chain.proofs.Spelled.{bind_some, Found, stands_of_walk}
+use Rattle.journal_chain.proofs.Spelled.{Found, stands_of_walk}
 use Rattle.journal_chain.proofs.Steps.{ChangedAt}
 use Rattle.journal_chain.proofs.Tables.{put_changes, free_in_view}
 
@@ -75,7 +76,7 @@ pub chain_in_order : (log : Log) (chain : ChainFields) (entries : List EntryFiel
 unfolding chain_links
 chain_in_order log chain entries all holds i =
     let view = of_kind Journal chain.object log.held in
-    let (links, (walk, same)) = bind_some (chain_links view chain.object chain.head) (λ links. Some (blocks_of links)) (packed entries) holds.blocks in
+    let (links, walk, same) = bind_some (chain_links view chain.object chain.head) (λ links. Some (blocks_of links)) (packed entries) holds.blocks in
     let found : Found CHAIN_BLOCKS chain.object view chain.head links = stands_of_walk CHAIN_BLOCKS chain.object view chain.head links walk in
     let places : chain_places view chain.object chain.head ≡ i.places =
     ap (λ (l : Option (List Link)). places_of (unwrap_or l [])) walk ∙ places_found chain.object view links chain.head i.places found.stands found.head_is i.follows in

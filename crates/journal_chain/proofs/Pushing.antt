@@ -4,9 +4,10 @@ use Rattle.std.proofs.lemmas.Bool.{cases_Bool, lt-ltb, le-ltb}
 use Rattle.std.proofs.lemmas.List.{drop-drop}
 use Rattle.std.proofs.lemmas.List.Sums.{fold-append}
 use Rattle.codec.specs.Entry.{EntryFields, entry_length, entries_length}
+use Rattle.codec.proofs.JournalEntries.{entries_one, entries_push}
 use Rattle.journal_chain.specs.Sizes.{fits, filled_with, breaks, blocks_needed}
 use Rattle.journal_chain.specs.Packing.{packed_with, added, packed, joined, filled_bytes, blocks_past, blocks_kept}
-use Rattle.journal_chain.proofs.Adding.{bytes-one, bytes-push, entry_fits, entry_begins, first_entry, filled-fits, filled-begins, filled-none, joined-packed}
+use Rattle.journal_chain.proofs.Adding.{entry_fits, entry_begins, first_entry, filled-fits, filled-begins, filled-none, joined-packed}
 
 breaks_fits : (filled size : ℕ) (sizes : List ℕ) → fits filled size ≡ true → breaks filled (size ∷ sizes) ≡ breaks (filled + size) sizes
 breaks_fits filled size sizes h =
@@ -53,12 +54,12 @@ from_block count newest older (e ∷ entries) lt =
     elim (cases_Bool (fits (entries_length newest) (entry_length e))) [
       | inl h ↦ (let rest = from_block count (newest ++ e ∷ []) older entries (omega (arith, length-append newest (e ∷ []))) in
           let same : breaks (entries_length (newest ++ e ∷ [])) sizes ≡ breaks (entries_length newest) (entry_length e ∷ sizes) =
-          ap (λ n. breaks n sizes) (bytes-push newest e) ∙ sym (breaks_fits (entries_length newest) (entry_length e) sizes h) in
+          ap (λ n. breaks n sizes) (entries_push newest e) ∙ sym (breaks_fits (entries_length newest) (entry_length e) sizes h) in
           subst (λ blocks. Pushed count (1 + breaks (entries_length newest) (entry_length e ∷ sizes)) older (added blocks entries)) (sym (entry_fits newest older e h)) (
           subst (λ n. Pushed count (1 + n) older (added ((newest ++ e ∷ []) ∷ older) entries)) same rest
           ))
       | inr h ↦ (let rest = from_block count (e ∷ []) (newest ∷ older) entries (none_before count newest older lt) in
-          let same : breaks (entries_length (e ∷ [])) sizes ≡ breaks (entry_length e) sizes = ap (λ n. breaks n sizes) (bytes-one e) in
+          let same : breaks (entries_length (e ∷ [])) sizes ≡ breaks (entry_length e) sizes = ap (λ n. breaks n sizes) (entries_one e) in
           let more : breaks (entries_length newest) (entry_length e ∷ sizes) ≡ 1 + breaks (entry_length e) sizes = breaks_begins (entries_length newest) (entry_length e) sizes h in
           subst (λ blocks. Pushed count (1 + breaks (entries_length newest) (entry_length e ∷ sizes)) older (added blocks entries)) (sym (entry_begins newest older e h)) (
           subst (λ n. Pushed count (1 + n) older (added ((e ∷ []) ∷ newest ∷ older) entries)) (ap (λ n. 1 + n) same ∙ sym more) (
@@ -87,7 +88,7 @@ pushed blocks [] = record { length_is = omega arith; kept_are = refl; past_is = 
 pushed [] (e ∷ entries) =
     let after = added ((e ∷ []) ∷ []) entries in
     let same : breaks (entries_length (e ∷ [])) (map entry_length entries) ≡ breaks (filled_with 0 (entry_length e)) (map entry_length entries) =
-    ap (λ n. breaks n (map entry_length entries)) (bytes-one e ∙ sym (filled-none (entry_length e))) in
+    ap (λ n. breaks n (map entry_length entries)) (entries_one e ∙ sym (filled-none (entry_length e))) in
     subst (λ blocks. Pushed 0 (needed_for [] (e ∷ entries)) [] (added blocks entries)) (sym (first_entry e)) (
     subst (λ n. Pushed 0 (1 + n) [] after) same (from_block 0 (e ∷ []) [] entries (omega arith))
     )
@@ -97,7 +98,7 @@ pushed (newest ∷ older) (e ∷ entries) =
     let both = length-append (joined older) newest in
     elim (cases_Bool (fits (entries_length newest) (entry_length e))) [
       | inl h ↦ (let same : breaks (entries_length (newest ++ e ∷ [])) sizes ≡ breaks (filled_with (entries_length newest) (entry_length e)) sizes =
-          ap (λ n. breaks n sizes) (bytes-push newest e ∙ sym (filled-fits (entries_length newest) (entry_length e) h)) in
+          ap (λ n. breaks n sizes) (entries_push newest e ∙ sym (filled-fits (entries_length newest) (entry_length e) h)) in
           let old : older ≡ blocks_kept (newest ∷ older) (e ∷ entries) = sym (ap (λ b. cond b older (newest ∷ older)) h) in
           subst (λ blocks. Pushed count (needed_for (newest ∷ older) (e ∷ entries)) (blocks_kept (newest ∷ older) (e ∷ entries)) (added blocks entries)) (sym (entry_fits newest older e h)) (
           subst (λ left. Pushed count (needed_for (newest ∷ older) (e ∷ entries)) left (added ((newest ++ e ∷ []) ∷ older) entries)) old (
@@ -107,7 +108,7 @@ pushed (newest ∷ older) (e ∷ entries) =
           )
           ))
       | inr h ↦ (let same : breaks (entries_length (e ∷ [])) sizes ≡ breaks (filled_with (entries_length newest) (entry_length e)) sizes =
-          ap (λ n. breaks n sizes) (bytes-one e ∙ sym (filled-begins (entries_length newest) (entry_length e) h)) in
+          ap (λ n. breaks n sizes) (entries_one e ∙ sym (filled-begins (entries_length newest) (entry_length e) h)) in
           let old : newest ∷ older ≡ blocks_kept (newest ∷ older) (e ∷ entries) = sym (ap (λ b. cond b older (newest ∷ older)) h) in
           subst (λ blocks. Pushed count (needed_for (newest ∷ older) (e ∷ entries)) (blocks_kept (newest ∷ older) (e ∷ entries)) (added blocks entries)) (sym (entry_begins newest older e h)) (
           subst (λ left. Pushed count (needed_for (newest ∷ older) (e ∷ entries)) left (added ((e ∷ []) ∷ newest ∷ older) entries)) old (

@@ -6,9 +6,10 @@ use Rattle.std.proofs.lemmas.List.Sums.{fold-append}
 use Rattle.std.proofs.lemmas.Grind.{common_steps}
 use Rattle.s4_types.specs.declared.limits.TheConstants.{JOURNAL_ENTRY_BYTES, CHAIN_ENTRY_BYTES, CHAIN_BLOCKS, SHORTEST_ENTRY_BYTES, LONGEST_ENTRY_BYTES}
 use Rattle.codec.specs.Entry.{EntryFields, IsEntry, entry_length, entries_length}
+use Rattle.codec.proofs.JournalEntries.{entries_append, entries_one, entries_push}
 use Rattle.journal_chain.specs.Sizes.{fits}
 use Rattle.journal_chain.specs.Packing.{packed_with, added, packed, joined, first_length, IsBlock, IsBehind, KeepsTheRule, AllFit}
-use Rattle.journal_chain.proofs.Adding.{joined-packed, bytes-append, bytes-one, bytes-push, entry_fits, entry_begins, first_entry}
+use Rattle.journal_chain.proofs.Adding.{joined-packed, entry_fits, entry_begins, first_entry}
 
 -- ---- packed entries keep the rule
 
@@ -21,14 +22,14 @@ stays_behind [] newest e some h = tt
 stays_behind (previous ∷ older) newest e some h = let same = first_stays newest e some in omega arith
 
 one_entry : (e : EntryFields) → entry_length e ≤ JOURNAL_ENTRY_BYTES → IsBlock (e ∷ [])
-one_entry e le = record { some = omega arith; few = omega (arith, bytes-one e) }
+one_entry e le = record { some = omega arith; few = omega (arith, entries_one e) }
 
 one_more : (blocks : List (List EntryFields)) (e : EntryFields) → KeepsTheRule blocks → entry_length e ≤ JOURNAL_ENTRY_BYTES → KeepsTheRule (packed_with blocks e)
 one_more [] e h le = subst KeepsTheRule (sym (first_entry e)) (one_entry e le, tt, tt)
 one_more (newest ∷ older) e h le = elim (cases_Bool (fits (entries_length newest) (entry_length e))) [
   | inl in_it ↦ (let room = leb-true _ _ in_it in
       subst KeepsTheRule (sym (entry_fits newest older e in_it)) (
-        record { some = omega (arith, length-append newest (e ∷ [])); few = omega (arith, bytes-push newest e) },
+        record { some = omega (arith, length-append newest (e ∷ [])); few = omega (arith, entries_push newest e) },
         stays_behind older newest e h.0.some h.1,
         h.2,
       ))
@@ -52,7 +53,7 @@ unfolding entries_length
 in_one entries older [] le = ap (λ xs. xs ∷ older) (grind (arith, common_steps))
 in_one entries older (e ∷ more) le =
     ap (λ blocks. added blocks more) (entry_fits entries older e (le-leb _ _ (omega arith)))
-    ∙ in_one (entries ++ e ∷ []) older more (omega (arith, bytes-push entries e))
+    ∙ in_one (entries ++ e ∷ []) older more (omega (arith, entries_push entries e))
     ∙ ap (λ xs. xs ∷ older) (append_assoc entries (e ∷ []) more)
 
 begins : (older : List (List EntryFields)) (e : EntryFields) (entries : List EntryFields) → IsBehind older (e ∷ entries) → packed_with older e ≡ (e ∷ []) ∷ older
@@ -63,7 +64,7 @@ block_again : (older : List (List EntryFields)) (newest : List EntryFields) → 
 unfolding entries_length
 block_again older [] is h = absurd (omega (arith, is.some))
 block_again older (e ∷ entries) is h =
-    ap (λ blocks. added blocks entries) (begins older e entries h) ∙ in_one (e ∷ []) older entries (omega (arith, bytes-one e, is.few))
+    ap (λ blocks. added blocks entries) (begins older e entries h) ∙ in_one (e ∷ []) older entries (omega (arith, entries_one e, is.few))
 
 pub packed_again : (blocks : List (List EntryFields)) → KeepsTheRule blocks → packed (joined blocks) ≡ blocks
 unfolding joined
@@ -91,7 +92,7 @@ by_pairs (block ∷ []) h = omega arith
 by_pairs (newer ∷ previous ∷ older) h =
     let two = neighbours newer previous older h in
     let others = by_pairs older h.2.2 in
-    omega (arith, bytes-append (joined older ++ previous) newer, bytes-append (joined older) previous)
+    omega (arith, entries_append (joined older ++ previous) newer, entries_append (joined older) previous)
 
 pub few_blocks : (blocks : List (List EntryFields)) → KeepsTheRule blocks → entries_length (joined blocks) ≤ CHAIN_ENTRY_BYTES → length blocks ≤ CHAIN_BLOCKS
 few_blocks blocks h le = let pairs = by_pairs blocks h in omega arith

@@ -5,13 +5,9 @@ use Rattle.std.proofs.lemmas.Option.{none-some, same_Some, cond_some}
 use Rattle.s4_types.specs.Pointer.{Place}
 use Rattle.codec.specs.Fields.{◌>>=◌, all_of, kept}
 use Rattle.codec.specs.Journal.{JournalFields, journal_at}
+use Rattle.codec.proofs.Exact.{bind_some}
 use Rattle.journal_chain.specs.Chain.{BlockView, Link, journal_of, journal_in, linked, links_from}
 use Rattle.journal_chain.specs.Writing.{head_of, fields_of_block, Stands}
-
--- what a chain of steps that may fail gives comes from each step
-pub bind_some : {A B : Type 0} (o : Option A) (f : A → Option B) (y : B) → (o >>= f) ≡ Some y → (x : A) × ((o ≡ Some x) × (f x ≡ Some y))
-bind_some None f y h = absurd (none-some y h)
-bind_some (Some x) f y h = (x, (refl, h))
 
 pub bind_is : {A B : Type 0} (o : Option A) (f : A → Option B) (x : A) → o ≡ Some x → (o >>= f) ≡ f x
 bind_is o f x h = ap (λ p. p >>= f) h
@@ -20,13 +16,13 @@ bind_is o f x h = ap (λ p. p >>= f) h
 pub of_object : (o : ℕ) (bytes : List ℕ) (j : JournalFields) → journal_of o bytes ≡ Some j → j.object ≡ o
 unfolding journal_of
 of_object o bytes j h =
-    let (k, (read, keeps)) = bind_some (all_of journal_at bytes) (λ k. kept (k.object == o) k) j h in
+    let (k, read, keeps) = bind_some (all_of journal_at bytes) (λ k. kept (k.object == o) k) j h in
     let (test, same) = cond_some (k.object == o) k j keeps in
     subst (λ k. k.object ≡ o) same (eqb-true k.object o test)
 
 pub of_object_in : (o : ℕ) (view : BlockView) (p : Place) (j : JournalFields) → journal_in o view p ≡ Some j → j.object ≡ o
 of_object_in o view p j h =
-    let (bytes, (there, spells)) = bind_some (view p) (journal_of o) j h in
+    let (bytes, there, spells) = bind_some (view p) (journal_of o) j h in
     of_object o bytes j spells
 
 -- the walk from the head of blocks that stand finds them
@@ -52,8 +48,8 @@ stands_of_walk zero o view None links h = let e : [] ≡ links = same_Some [] li
 stands_of_walk (suc fuel) o view None links h = let e : [] ≡ links = same_Some [] links h in subst (λ l. Found (suc fuel) o view None l) e (record { stands = tt; head_is = refl; short = omega arith })
 stands_of_walk zero o view (Some p) links h = absurd (none-some links h)
 stands_of_walk (suc fuel) o view (Some p) links h =
-    let (b, (there, after)) = bind_some (journal_in o view p) (λ b. links_from fuel (journal_in o view) b.previous >>= λ older. Some (linked p b older)) links h in
-    let (older, (walk, made)) = bind_some (links_from fuel (journal_in o view) b.previous) (λ older. Some (linked p b older)) links after in
+    let (b, there, after) = bind_some (journal_in o view p) (λ b. links_from fuel (journal_in o view) b.previous >>= λ older. Some (linked p b older)) links h in
+    let (older, walk, made) = bind_some (links_from fuel (journal_in o view) b.previous) (λ older. Some (linked p b older)) links after in
     let behind : Found fuel o view b.previous older = stands_of_walk fuel o view b.previous older walk in
     let whole : journal_in o view p ≡ Some (fields_of_block o (record { place = p; entries = b.entries }) older) =
     there ∙ ap (λ q. Some (record { object = b.object; previous = q; entries = b.entries })) behind.head_is ∙ ap (λ q. Some (record { object = q; previous = head_of older; entries = b.entries })) (of_object_in o view p b there) in

@@ -3,11 +3,13 @@ use Rattle.std.proofs.Common.{◌≡◌, inl, inr, ℕ, ◌+◌, ◌≤◌, ◌<
 use Rattle.std.proofs.lemmas.Bool.{cases_Bool, false_from_ne_true}
 use Rattle.s4_types.specs.Pointer.{Place}
 use Rattle.block_log.specs.Log.{same_place}
+use Rattle.block_log.proofs.Places.{one_place}
 use Rattle.codec.specs.Fields.{◌>>=◌, bit}
 use Rattle.codec.specs.Entry.{EntryFields}
+use Rattle.codec.proofs.Fronts.{bit_most}
 use Rattle.journal_chain.specs.Chain.{BlockView, Link, journal_of, places_of, times}
 use Rattle.journal_chain.specs.Writing.{fields_of_block, Stands, Standing}
-use Rattle.journal_chain.proofs.Places.{one_place, other_either_way, times-here, times-other, times-cons, bit-most}
+use Rattle.journal_chain.proofs.Places.{other_either_way, times-here, times-other, times-cons}
 
 -- the views agree wherever one of these blocks is
 abbrev pub AgreeOn : List Link → BlockView → BlockView → Type 0
@@ -72,7 +74,7 @@ stale_dropped o view later links stale p s changed =
     let none : bit (is_some (later p)) ≡ 0 = ap (λ b. bit (is_some b)) changed.0 in
     let here : times p (p ∷ stale) ≡ 1 + times p stale = times-here p stale in
     let at_p = s.once p in
-    let most : bit (is_some (view p)) ≤ 1 = bit-most (is_some (view p)) in
+    let most : bit (is_some (view p)) ≤ 1 = bit_most (is_some (view p)) in
     record {
       stands = stands-agree o view later links
           (λ q more. changed.1 q (false_from_ne_true (same_place p q) (λ (e : same_place p q ≡ true).

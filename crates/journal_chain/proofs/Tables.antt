@@ -6,8 +6,8 @@ use Rattle.s4_types.specs.Pointer.{Place}
 use Rattle.block_log.specs.declared.kinds.BlockKind.{BlockKind}
 use Rattle.block_log.specs.declared.kinds.BlockKind.TheVariants.{Journal, Checkpoint, Data, Pointers}
 use Rattle.block_log.specs.Log.{Log, Stored, same_place, same_kind, with_held, without, named_with, is_data, dropped, dropped_by, appended, appended_at, seen_as, of_kind}
+use Rattle.block_log.proofs.Places.{same_place_itself, one_place}
 use Rattle.journal_chain.specs.Chain.{OnlyJournalChanged}
-use Rattle.journal_chain.proofs.Places.{one_place, same_as_itself}
 use Rattle.journal_chain.proofs.Steps.{ChangedAt}
 
 append_at : (log later : Log) (block : Stored) (ahead : List Place) (p : Place) → appended_at log block ahead ≡ Some (p, later) → (later.held ≡ with_held log.held p block) × ((later.named ≡ named_with block.kind log.named p) × (ahead ≡ p ∷ later.ahead))
@@ -67,12 +67,12 @@ journal_block o bytes = record { kind = Journal; object = o; bytes = bytes }
 
 pub put_changes : (held : Place → Option Stored) (p : Place) (o : ℕ) (bytes : List ℕ) → ChangedAt (of_kind Journal o held) (of_kind Journal o (with_held held p (journal_block o bytes))) p (Some bytes)
 put_changes held p o bytes = (
-  put_sees held p p (journal_block o bytes) Journal o true (same_as_itself p) ∙ shown o bytes,
+  put_sees held p p (journal_block o bytes) Journal o true (same_place_itself p) ∙ shown o bytes,
   λ q ne. put_sees held p q (journal_block o bytes) Journal o false ne,
 )
 
 pub dropped_changes : (held : Place → Option Stored) (p : Place) (o : ℕ) → ChangedAt (of_kind Journal o held) (of_kind Journal o (without held p)) p None
-dropped_changes held p o = (dropped_sees held p p Journal o true (same_as_itself p), λ q ne. dropped_sees held p q Journal o false ne)
+dropped_changes held p o = (dropped_sees held p p Journal o true (same_place_itself p), λ q ne. dropped_sees held p q Journal o false ne)
 
 pub free_in_view : (held : Place → Option Stored) (p : Place) (kind : BlockKind) (o : ℕ) → held p ≡ None → of_kind kind o held p ≡ None
 free_in_view held p kind o h = ap (seen_as kind o) h

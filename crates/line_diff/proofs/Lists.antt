@@ -1,13 +1,8 @@
 -- Lists whose elements are seen as something else, and parts of lists.
-use Rattle.std.proofs.Common.{◌≡◌, ◌∙◌, ◌+◌, ◌-◌, ◌<◌, ◌≤◌, ◌++◌, ◌||◌, ℕ, suc, Bool, true, false, cond, List, [], ◌∷◌, length, get_or, take, drop, map, filter, flat_map, count_by, refl, ap, sym, append-nil, append_assoc, take-add, arith}
+use Rattle.std.proofs.Common.{◌≡◌, ◌∙◌, ◌+◌, ◌-◌, ◌<◌, ◌≤◌, ◌++◌, ◌||◌, ℕ, suc, Bool, true, false, cond, List, [], ◌∷◌, length, get_or, take, drop, map, filter, count_by, refl, ap, sym, take-add, arith}
 use Rattle.std.specs.List.{list_any}
-use Rattle.std.proofs.lemmas.List.{map_more, take_more, drop_more, take-map, drop-map}
-use Rattle.std.proofs.lemmas.List.Concat.{flat_map-append}
+use Rattle.std.proofs.lemmas.List.{drop_more, take-map, drop-map}
 use Rattle.std.proofs.lemmas.List.Sums.{length-filter}
-
--- one element more is seen
-pub seen_more : {X Y : Type 0} (f : X → Y) (xs : List X) (i : ℕ) (x : X) → i < length xs → x ≡ get_or xs i x → map f (take (i + 1) xs) ≡ map f (take i xs) ++ f x ∷ []
-seen_more f xs i x lt is = map_more f xs i x lt ∙ ap (λ y. map f (take i xs) ++ f y ∷ []) (sym is)
 
 -- the elements up to one place, and then those up to another
 pub joined : {X : Type 0} (xs : List X) (a b : ℕ) → a ≤ b → take a xs ++ take (b - a) (drop a xs) ≡ take b xs
@@ -37,14 +32,3 @@ count_seen p f xs = sym (length-filter (λ x. p (f x)) xs) ∙ kept p f xs
     kept : {X Y : Type 0} (p : Y → Bool) (f : X → Y) (xs : List X) → length (filter (λ x. p (f x)) xs) ≡ length (filter p (map f xs))
     kept p f [] = refl
     kept p f (x ∷ xs) = one_seen (p (f x)) x (f x) (filter (λ y. p (f y)) xs) (filter p (map f xs)) (kept p f xs)
-
--- one text more
-pub text_took : {X Y : Type 0} (f : X → List Y) (xs : List X) (i : ℕ) (x : X) (before text after : List Y) → i < length xs → x ≡ get_or xs i x → text ≡ before ++ flat_map f (take i xs) → after ≡ text ++ f x → after ≡ before ++ flat_map f (take (i + 1) xs)
-text_took f xs i x before text after lt is so_far grown =
-    let next : flat_map f (take i xs) ++ f x ≡ flat_map f (take (i + 1) xs) = sym (ap (flat_map f) (take_more xs i x lt) ∙ flat_map-append f (take i xs) (get_or xs i x ∷ []) ∙ ap (λ l. flat_map f (take i xs) ++ l) (append-nil (f (get_or xs i x)) ∙ ap f (sym is))) in
-    grown ∙ ap (λ t. t ++ f x) so_far ∙ append_assoc before (flat_map f (take i xs)) (f x) ∙ ap (λ t. before ++ t) next
-
--- what the elements of a seen list give
-pub flat_seen : {X Y A : Type 0} (g : Y → List A) (f : X → Y) (xs : List X) → flat_map g (map f xs) ≡ flat_map (λ x. g (f x)) xs
-flat_seen g f [] = refl
-flat_seen g f (x ∷ xs) = ap (λ l. g (f x) ++ l) (flat_seen g f xs)

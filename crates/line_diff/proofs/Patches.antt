@@ -1,9 +1,9 @@
 -- The hunks of a script, applied to the old lines, give the new ones.
-use Rattle.std.proofs.Common.{◌≡◌, ◌∙◌, ◌+◌, ◌-◌, ◌<◌, ◌≤◌, ◌++◌, ◌||◌, ℕ, min, Bool, true, false, List, [], ◌∷◌, length, get_or, take, drop, map, inl, inr, refl, ap, ap₂, sym, subst, subst₂, true≢false, take-append-drop, take_all, length-take-le, length-drop, get_or-take, get_or-drop, arith}
+use Rattle.std.proofs.Common.{◌≡◌, ◌∙◌, ◌+◌, ◌-◌, ◌<◌, ◌≤◌, ◌++◌, ℕ, min, true, false, List, [], ◌∷◌, length, get_or, take, drop, map, inl, inr, refl, ap, ap₂, sym, subst, subst₂, true≢false, take-append-drop, take_all, length-take-le, length-drop, get_or-take, get_or-drop, arith}
 use Rattle.std.specs.List.{list_any}
 use Rattle.std.proofs.Math.Nat.{le-min, min-le_left}
 use Rattle.std.proofs.Math.Seq.{take-append_seam, drop-append_seam}
-use Rattle.std.proofs.lemmas.Bool.{cases_Bool}
+use Rattle.std.proofs.lemmas.Bool.{cases_Bool, or_parts}
 use Rattle.std.proofs.lemmas.List.{drop-drop, get_or_default}
 use Rattle.std.proofs.lemmas.List.Folds.{list_any_none, list_any-from_Any}
 use Rattle.line_diff.specs.declared.script.Sign.{Sign}
@@ -25,10 +25,6 @@ script_turns old new rows s =
 
 -- ---- rows that change nothing
 
-neither : (a b : Bool) → (a || b) ≡ false → (a ≡ false) × (b ≡ false)
-neither true b none = absurd (true≢false none)
-neither false b none = (refl, none)
-
 one_more : (sign : Sign) (line : List ℕ) (rows : List TextRow) → is_change_sign sign ≡ false → old_lines rows ≡ new_lines rows → old_lines (row_with sign line ∷ rows) ≡ new_lines (row_with sign line ∷ rows)
 one_more Kept line rows none same = ap (λ (l : List (List ℕ)). line ∷ l) same
 one_more Removed line rows none same = absurd (true≢false none)
@@ -38,7 +34,7 @@ one_more Added line rows none same = absurd (true≢false none)
 unchanged : (rows : List TextRow) → list_any is_change rows ≡ false → old_lines rows ≡ new_lines rows
 unchanged [] none = refl
 unchanged (row ∷ rows) none =
-    let parts = neither (is_change row) (list_any is_change rows) none in
+    let parts = or_parts (is_change row) (list_any is_change rows) none in
     one_more row.sign row.line rows parts.0 (unchanged rows parts.1)
 
 -- rows from one to another, none of which is a change

@@ -9,7 +9,8 @@ use Rattle.line_diff.specs.declared.script.Row.{Row}
 use Rattle.line_diff.specs.Script.{line_at}
 use Rattle.line_diff.specs.Script.{TextRow, row_of, row_with, is_old, is_new, line_of, old_lines, new_lines, Turns}
 use Rattle.line_diff.specs.private.Reaching.{change_rows, IsReached, IsNextMatch}
-use Rattle.line_diff.proofs.Lists.{seen_more, joined, at_place}
+use Rattle.line_diff.proofs.Lists.{joined, at_place}
+use Rattle.lemmas.proofs.List.{map_take_next}
 
 -- one row more has the next line
 pub rows_more : {S : Type 0} (bytes : S → List ℕ) (sign : Sign) (base : List TextRow) (rows after : List Row) (row : Row) (lines : List S) (i : ℕ) (line : S) → i < length lines → line ≡ get_or lines i line
@@ -18,7 +19,7 @@ pub rows_more : {S : Type 0} (bytes : S → List ℕ) (sign : Sign) (base : List
 rows_more bytes sign base rows after row lines i line lt is before grown gives =
     let so_far = map (row_with sign) (map bytes (take i lines)) in
     let next : so_far ++ row_of row ∷ [] ≡ map (row_with sign) (map bytes (take (i + 1) lines)) =
-    ap (λ (r : TextRow). so_far ++ r ∷ []) gives ∙ sym (map_push (row_with sign) (map bytes (take i lines)) (bytes line)) ∙ ap (map (row_with sign)) (sym (seen_more bytes lines i line lt is)) in
+    ap (λ (r : TextRow). so_far ++ r ∷ []) gives ∙ sym (map_push (row_with sign) (map bytes (take i lines)) (bytes line)) ∙ ap (map (row_with sign)) (sym (map_take_next bytes lines i line lt is)) in
     ap (map row_of) grown ∙ map_push row_of rows row ∙ ap (λ (l : List TextRow). l ++ row_of row ∷ []) before ∙ append_assoc base so_far (row_of row ∷ []) ∙ ap (λ (l : List TextRow). base ++ l) next
 
 -- ---- what rows turn into what

@@ -10,11 +10,11 @@ use Rattle.block_log.specs.Log.{Log, Stored, of_kind, same_place, seen_as}
 use Rattle.block_log.specs.Growth.{Puts}
 use Rattle.block_log.specs.Taken.{TakesPlaces}
 use Rattle.block_log.specs.declared.kinds.BlockKind.TheVariants.{Data}
+use Rattle.block_log.proofs.Places.{same_place_back}
 use Rattle.checkpoint.specs.Held.{is_one_of}
 use Rattle.migration.specs.declared.moves.Move.{Move}
 use Rattle.migration.specs.Moves.{moves_to, new_places}
 use Rattle.migration.specs.private.Copying.{Copying, IsCopied, AreApart}
-use Rattle.migration.proofs.Ascending.{same_turned}
 use Rattle.migration.proofs.Moving.{OnePlace}
 
 abbrev pub PlacesAddUp : Type 0
@@ -54,7 +54,7 @@ apart_push [] q apart none = (refl, tt)
 apart_push (p ∷ places) q apart none =
     let parts = or_parts (same_place p q) (is_one_of places q) none in
     let back : same_place q p ≡ false = elim (cases_Bool (same_place q p)) [
-      | inl same ↦ absurd (both_ways (same_place p q) parts.0 (same_turned q p same))
+      | inl same ↦ absurd (both_ways (same_place p q) parts.0 (same_place_back q p same))
       | inr other ↦ other
     ] in
     (list_any-append (λ r. same_place r p) places (q ∷ []) ∙ or_from (is_one_of places p) (same_place q p || false) apart.0 (or_from (same_place q p) false back refl), apart_push places q apart.1 parts.1)

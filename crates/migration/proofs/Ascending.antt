@@ -2,9 +2,10 @@
 use Rattle.std.proofs.Common.{◌≡◌, ◌⊎◌, ◌<◌, Bool, true, false, cond, List, [], ◌∷◌, Option, Some, None, inl, inr, refl, sym, ◌∙◌, arith}
 use Rattle.std.specs.Prelude.{nat_lt, ◌==◌, ◌&&◌}
 use Rattle.std.specs.List.{AllByRecursion}
-use Rattle.std.proofs.lemmas.Bool.{cases_Bool, cond-true, cond-false, cond_both, cases_order, eqb-true, eq-eqb, ne_eqb, ltb-true, lt-ltb, or_from, and_left, and_right, and_from, and_parts, both_ways}
+use Rattle.std.proofs.lemmas.Bool.{cases_Bool, cond-true, cond-false, cond_both, cases_order, eqb-true, eq-eqb, ne_eqb, ltb-true, lt-ltb, or_from, and_left, and_right, and_from, both_ways}
 use Rattle.s4_types.specs.Pointer.{Place}
 use Rattle.block_log.specs.Log.{same_place}
+use Rattle.block_log.proofs.Places.{same_place_back}
 use Rattle.checkpoint.specs.Held.{is_one_of}
 use Rattle.migration.specs.Places.{Ascend, Before, is_before, put_place, with_places}
 use Rattle.migration.specs.private.Copying.{AreApart}
@@ -64,13 +65,6 @@ either p q = elim (cases_order p.frame q.frame) [
   ]
 ]
 
-pub same_turned : (p q : Place) → same_place p q ≡ true → same_place q p ≡ true
-same_turned p q is =
-    let frames = and_parts (p.frame == q.frame) (p.block == q.block && p.generation == q.generation) is in
-    let blocks = and_parts (p.block == q.block) (p.generation == q.generation) frames.1 in
-    and_from (q.frame == p.frame) (q.block == p.block && q.generation == p.generation) (eq-eqb q.frame p.frame (sym (eqb-true p.frame q.frame frames.0)))
-    (and_from (q.block == p.block) (q.generation == p.generation) (eq-eqb q.block p.block (sym (eqb-true p.block q.block blocks.0))) (eq-eqb q.generation p.generation (sym (eqb-true p.generation q.generation blocks.1))))
-
 otherwise : (p q : Place) → is_before q p ≡ false → same_place q p ≡ false → Before p q
 otherwise p q not other = elim (either q p) [
   | inl before ↦ absurd (both_ways (is_before q p) not (before_is q p before))
@@ -82,7 +76,7 @@ all_later : (p q : Place) (places : List Place) → Before p q → AllByRecursio
 all_later p q [] before all = tt
 all_later p q (r ∷ places) before all = (in_turn p q r before all.0, all_later p q places before all.1)
 
-all_put : (P : Place → Type 0) (p : Place) (places : List Place) → P p → AllByRecursion P places → AllByRecursion P (put_place p places)
+pub all_put : (P : Place → Type 0) (p : Place) (places : List Place) → P p → AllByRecursion P places → AllByRecursion P (put_place p places)
 all_put P p [] is all = (is, tt)
 all_put P p (q ∷ places) is all =
     cond_both (is_before q p) (q ∷ put_place p places) (cond (same_place q p) (q ∷ places) (p ∷ q ∷ places)) (λ x. AllByRecursion P x)
@@ -104,7 +98,7 @@ ascend_with places (Some p ∷ slots) all = ascend_with (put_place p places) slo
 
 turned : (p q : Place) → Before p q → same_place q p ≡ false
 turned p q before = elim (cases_Bool (same_place q p)) [
-  | inl same ↦ absurd (both_ways (same_place p q) (differs p q before) (same_turned q p same))
+  | inl same ↦ absurd (both_ways (same_place p q) (differs p q before) (same_place_back q p same))
   | inr other ↦ other
 ]
 

@@ -18,6 +18,7 @@ use Rattle.segment_table.specs.Changes.{IsAppended}
 use Rattle.segment_table.specs.Room.{log_of, new_places, places}
 use Rattle.segment_table.specs.Table.{Table}
 use Rattle.object_map.specs.declared.map.Row.{Row}
+use Rattle.segment_table.proofs.Ahead.{length-places}
 use Rattle.image_objects.specs.declared.rows.ImageRow.{ImageRow}
 use Rattle.migration.specs.Frames.{FillsFrames, IsFilled, fresh_log, frames_needed}
 use Rattle.migration.specs.Rows.{CopyRows, blocks_of_rows}
@@ -25,15 +26,10 @@ use Rattle.migration.proofs.Appending.{PlacesAddUp}
 
 -- ---- how many places a new table has
 
-length_places : (f g b n : ℕ) → length (places f g b n) ≡ n
-unfolding places
-length_places f g b zero = refl
-length_places f g b (suc n) = ap suc (length_places f g (b + 1) n)
-
 length_from : (first n : ℕ) → length (flat_map (λ f. places f 1 1 15) (range_with_len first n)) ≡ 15 * n
 length_from first zero = refl
 length_from first (suc n) =
-    let here = length_places first 1 1 15 in
+    let here = length-places first 1 1 15 in
     let rest = length_from (first + 1) n in
     let all = length-append (places first 1 1 15) (flat_map (λ f. places f 1 1 15) (range_with_len (first + 1) n)) in
     omega (arith, here, rest, all)
@@ -76,14 +72,14 @@ ranked : (first n k : ℕ) (p : Place) (rest : List Place) → drop k (flat_map 
 ranked first zero k p rest is = absurd (drop_none k p rest [] refl is)
 ranked first (suc n) k p rest is = elim (cases_lt k 15) [
   | inl low ↦ (let later : List Place = flat_map (λ f. places f 1 1 15) (range_with_len (first + 1) n) in
-      let fits : k ≤ length (places first 1 1 15) = (let count = length_places first 1 1 15 in omega (arith, count, low)) in
+      let fits : k ≤ length (places first 1 1 15) = (let count = length-places first 1 1 15 in omega (arith, count, low)) in
       let split : drop k (places first 1 1 15 ++ later) ≡ (record { frame = first; block = 1 + k; generation = 1 }) ∷ (drop (suc k) (places first 1 1 15) ++ later) =
       drop-append-le k (places first 1 1 15) later fits ∙ ap (λ (l : List Place). l ++ later) (drop_places first 1 1 k 15 low) in
       let here : p ≡ record { frame = first; block = 1 + k; generation = 1 } = head_is p (record { frame = first; block = 1 + k; generation = 1 }) rest (drop (suc k) (places first 1 1 15) ++ later) (sym is ∙ split) in
       subst (λ (q : Place). IsRanked q (15 * first + k)) (sym here) (record { rank_is = omega arith; least = omega arith; most = omega (arith, low) }))
   | inr high ↦ (let later : List Place = flat_map (λ f. places f 1 1 15) (range_with_len (first + 1) n) in
       let past : drop k (places first 1 1 15 ++ later) ≡ drop (k - 15) later = ap (λ m. drop m (places first 1 1 15 ++ later)) (let back : k ≡ 15 + (k - 15) = omega (arith, high) in back)
-      ∙ sym (drop-drop (k - 15) 15 (places first 1 1 15 ++ later)) ∙ ap (λ (l : List Place). drop (k - 15) l) (drop_at (places first 1 1 15) later 15 (length_places first 1 1 15)) in
+      ∙ sym (drop-drop (k - 15) 15 (places first 1 1 15 ++ later)) ∙ ap (λ (l : List Place). drop (k - 15) l) (drop_at (places first 1 1 15) later 15 (length-places first 1 1 15)) in
       let found = ranked (first + 1) n (k - 15) p rest (sym past ∙ is) in
       let rank = found.rank_is in
       record { rank_is = omega (arith, rank, high); least = found.least; most = found.most })

@@ -1,5 +1,5 @@
 mod Sorting
-mod Ascending
+pub mod Ascending
 mod Moving
 mod Appending
 mod Mapping

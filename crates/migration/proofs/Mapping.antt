@@ -1,15 +1,17 @@
 -- What is told of an object that is copied: of which places, and what becomes of it over the copies.
-use Rattle.std.proofs.Common.{◌≡◌, ℕ, zero, suc, ◌+◌, ◌<◌, ◌==◌, ◌&&◌, Bool, true, false, List, [], ◌∷◌, ◌++◌, length, map, get_or, Option, Some, None, IsSome, MatchOption, option_map, is_some, inl, inr, refl, sym, ap, subst, ◌∙◌, arith}
+use Rattle.std.proofs.Common.{◌≡◌, ℕ, ◌+◌, ◌==◌, ◌&&◌, Bool, true, false, List, [], ◌∷◌, ◌++◌, map, Option, Some, None, IsSome, MatchOption, option_map, is_some, inl, inr, refl, sym, ap, subst, ◌∙◌}
 use Rattle.std.specs.Prelude.{IfSome}
 use Rattle.std.specs.List.{All, AllByRecursion, Contains}
-use Rattle.std.proofs.lemmas.Bool.{cases_Bool, or_cases, and_from, and_parts, eq-eqb, eqb-true, cond-true, cond-false}
+use Rattle.std.proofs.lemmas.Bool.{cases_Bool, or_cases, and_parts, eqb-true, cond-true, cond-false}
 use Rattle.std.proofs.lemmas.Option.{none-some, same_Some}
-use Rattle.std.proofs.lemmas.List.{length-map}
 use Rattle.std.proofs.lemmas.List.Elements.{All-contains, All-contains_itself, All-from_recursion, recursion_from_All}
 use Rattle.s4_types.specs.Pointer.{Place}
+use Rattle.lemmas.proofs.Option.{IfSome_from}
 use Rattle.block_log.specs.Log.{Stored, of_kind, same_kind, same_place, seen_as}
 use Rattle.block_log.specs.declared.kinds.BlockKind.{BlockKind}
-use Rattle.block_log.specs.declared.kinds.BlockKind.TheVariants.{Journal, Checkpoint, Data, Pointers}
+use Rattle.block_log.specs.declared.kinds.BlockKind.TheVariants.{Data}
+use Rattle.block_log.proofs.Places.{same_place_itself}
+use Rattle.block_log.proofs.BlockKinds.{one_kind, seen_as_itself}
 use Rattle.codec.specs.Checkpoint.{pointer_at}
 use Rattle.codec.specs.Entry.{EntryFields, entry_length}
 use Rattle.codec.specs.declared.inodes.Inode.{Inode}
@@ -24,6 +26,7 @@ use Rattle.chain_rewriting.specs.Places.{WhatIsToldIsListed}
 use Rattle.chain_rewriting.specs.Mapping.{mapped_slot, mapped_entries, mapped_inode}
 use Rattle.chain_rewriting.specs.MappingLaws.{MappedEntriesTakeAsManyBytes}
 use Rattle.row_changes.specs.Moving.{checkpoint_kept, first_kept, kept_blocks, moved_blocks}
+use Rattle.row_changes.proofs.Mapped.{begins_dead}
 use Rattle.version_store.specs.Store.{HasNothing, IsLed, pointers_kept, sides_told}
 use Rattle.image_objects.specs.Saved.{HoldsUsed}
 use Rattle.version_store.proofs.Telling.{first_told}
@@ -32,7 +35,7 @@ use Rattle.migration.specs.declared.moves.Move.{Move}
 use Rattle.migration.specs.Moves.{is_moved}
 use Rattle.migration.specs.private.Copying.{IsUsedData}
 use Rattle.migration.proofs.Sorting.{all_with, with_has}
-use Rattle.migration.proofs.Moving.{OnePlace, same_itself, moved_is, old_places}
+use Rattle.migration.proofs.Moving.{OnePlace, moved_is, old_places}
 
 -- ---- of which places it tells
 
@@ -68,7 +71,7 @@ goes places moves (None ∷ slots) from all = (tt, goes places moves slots from 
 goes places moves (Some p ∷ slots) from all = (moved_is moves p ∙ ap (λ (x : List Place). is_one_of x p) from ∙ all.0, goes places moves slots from all.1)
 
 pub each_goes : (moves : List Move) (slots : List (Option Place)) → old_places moves ≡ with_places [] slots → All (GoesSomewhere moves) slots
-each_goes moves slots from = All-from_recursion (GoesSomewhere moves) slots (goes (with_places [] slots) moves slots from (with_has same_itself [] slots))
+each_goes moves slots from = All-from_recursion (GoesSomewhere moves) slots (goes (with_places [] slots) moves slots from (with_has same_place_itself [] slots))
 
 -- an inode of these pointers
 abbrev pub of_pointers : List (Option Place) → Inode
@@ -81,16 +84,12 @@ pub kept_pointers : (o m : ℕ) (kept : Option Inode) → pointers_kept (checkpo
 kept_pointers o m None = refl
 kept_pointers o m (Some i) = refl
 
-each_slot : (slot : Option Place) (Is : Place → Type 0) → ((p : Place) → slot ≡ Some p → Is p) → IfSome slot Is
-each_slot None Is h = tt
-each_slot (Some p) Is h = h p refl
-
 -- the first inode points to such places alone, too
 pub told_within : WhatIsToldIsListed → (moves : List Move) (o created m : ℕ) (kept : Option Inode) (entries : List EntryFields) → All (GoesSomewhere moves) (data_pointers kept entries) → ToldWithin (Passes (is_moved moves)) (first_kept o created m kept entries) entries
 told_within listed moves o created m kept entries all =
     let first : Inode = first_kept o created m kept entries in
     record {
-      pointers = λ k. each_slot (pointer_at first k) (Passes (is_moved moves))
+      pointers = λ k. IfSome_from (pointer_at first k) (Passes (is_moved moves))
           (λ p at. All-contains (GoesSomewhere moves) (data_pointers kept entries) (Some p) all
           (subst (λ (x : List (Option Place)). Contains (x ++ sides_told entries) (Some p)) (kept_pointers o m kept) (first_told created m entries (checkpoint_kept o m kept) k p at)));
       sides = sides_within listed moves kept entries all;
@@ -121,12 +120,8 @@ same_bytes o x y some same =
 
 -- ---- what it becomes
 
-pub begins_mapped : (f : Place → Place) (entries : List EntryFields) → BeginsDead entries → BeginsDead (mapped_entries f entries)
-begins_mapped f [] dead = dead
-begins_mapped f (e ∷ entries) dead = dead
-
 pub beginning_mapped : (f : Place → Place) (W : Type 0) (kept : Option Inode) (entries : List EntryFields) → MatchOption kept (BeginsDead entries) (λ i. W) → MatchOption (option_map (mapped_inode f) kept) (BeginsDead (mapped_entries f entries)) (λ i. W)
-beginning_mapped f W None entries begins = begins_mapped f entries begins
+beginning_mapped f W None entries begins = begins_dead f entries begins
 beginning_mapped f W (Some i) entries begins = begins
 
 pub mapped_pointers : (f : Place → Place) (kept : Option Inode) → pointers_in (option_map (mapped_inode f) kept) ≡ map (mapped_slot f) (pointers_in kept)
@@ -136,14 +131,6 @@ mapped_pointers f (Some i) = refl
 pub some_mapped : (f : Place → Place) (kept : Option Inode) → is_some (option_map (mapped_inode f) kept) ≡ is_some kept
 some_mapped f None = refl
 some_mapped f (Some i) = refl
-
-get_mapped : {X Y : Type 0} (f : X → Y) (xs : List X) (n : ℕ) (d : X) → n < length xs → get_or (map f xs) n (f d) ≡ f (get_or xs n d)
-get_mapped f [] n d l = absurd (omega (arith, l))
-get_mapped f (x ∷ xs) zero d l = refl
-get_mapped f (x ∷ xs) (suc n) d l = get_mapped f xs n d (omega (arith, l))
-
-pub contains_mapped : {X Y : Type 0} (f : X → Y) (xs : List X) (x : X) → Contains xs x → Contains (map f xs) (f x)
-contains_mapped f xs x (n, l, at) = (n, subst (λ k. n < k) (sym (length-map xs f)) l, get_mapped f xs n x l ∙ ap f at)
 
 -- ---- as many blocks
 
@@ -166,33 +153,6 @@ same_blocks holes f each kept entries =
 
 -- ---- what was held stays
 
-kind_is : (k j : BlockKind) → same_kind k j ≡ true → j ≡ k
-kind_is Journal Journal is = refl
-kind_is Journal Checkpoint is = absurd (cc)
-kind_is Journal Data is = absurd (cc)
-kind_is Journal Pointers is = absurd (cc)
-kind_is Checkpoint Journal is = absurd (cc)
-kind_is Checkpoint Checkpoint is = refl
-kind_is Checkpoint Data is = absurd (cc)
-kind_is Checkpoint Pointers is = absurd (cc)
-kind_is Data Journal is = absurd (cc)
-kind_is Data Checkpoint is = absurd (cc)
-kind_is Data Data is = refl
-kind_is Data Pointers is = absurd (cc)
-kind_is Pointers Journal is = absurd (cc)
-kind_is Pointers Checkpoint is = absurd (cc)
-kind_is Pointers Data is = absurd (cc)
-kind_is Pointers Pointers is = refl
-
-same_as_itself : (k : BlockKind) → same_kind k k ≡ true
-same_as_itself Journal = refl
-same_as_itself Checkpoint = refl
-same_as_itself Data = refl
-same_as_itself Pointers = refl
-
-seen_itself : (block : Stored) → seen_as block.kind block.object (Some block) ≡ Some block.bytes
-seen_itself block = cond-true (same_kind block.kind block.kind && block.object == block.object) (Some block.bytes) None (and_from (same_kind block.kind block.kind) (block.object == block.object) (same_as_itself block.kind) (eq-eqb block.object block.object refl))
-
 seen_whole : (x : Option Stored) (block : Stored) → seen_as block.kind block.object x ≡ Some block.bytes → x ≡ Some block
 seen_whole None block is = absurd (none-some block.bytes is)
 seen_whole (Some other) block is =
@@ -200,7 +160,7 @@ seen_whole (Some other) block is =
     elim (cases_Bool test) [
       | inl here ↦ (let parts = and_parts (same_kind block.kind other.kind) (other.object == block.object) here in
           let bytes : other.bytes ≡ block.bytes = same_Some other.bytes block.bytes (sym (cond-true test (Some other.bytes) None here) ∙ is) in
-          let kind : other.kind ≡ block.kind = kind_is block.kind other.kind parts.0 in
+          let kind : other.kind ≡ block.kind = (sym (one_kind block.kind other.kind parts.0)) in
           let object : other.object ≡ block.object = eqb-true other.object block.object parts.1 in
           ap (λ (k : BlockKind). Some (record { kind = k; object = other.object; bytes = other.bytes })) kind
           ∙ ap (λ (o : ℕ). Some (record { kind = block.kind; object = o; bytes = other.bytes })) object
@@ -210,7 +170,7 @@ seen_whole (Some other) block is =
 
 pub held_stays : (o : ℕ) (before after : Place → Option Stored) → HasNothing before o → ((kind : BlockKind) (other : ℕ) → (o == other) ≡ false → of_kind kind other after ≡ of_kind kind other before) → HoldsUsed after before
 held_stays o before after nothing others p block held =
-    let seen : of_kind block.kind block.object before p ≡ Some block.bytes = ap (seen_as block.kind block.object) held ∙ seen_itself block in
+    let seen : of_kind block.kind block.object before p ≡ Some block.bytes = ap (seen_as block.kind block.object) held ∙ seen_as_itself block in
     elim (cases_Bool (o == block.object)) [
       | inl same ↦ absurd (none-some block.bytes (sym (nothing block.kind p) ∙ ap (λ (n : ℕ). of_kind block.kind n before p) (eqb-true o block.object same) ∙ seen))
       | inr not ↦ seen_whole (after p) block (ap (λ (v : Place → Option (List ℕ)). v p) (others block.kind block.object not) ∙ seen)

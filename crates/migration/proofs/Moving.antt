@@ -2,10 +2,11 @@
 use Rattle.std.proofs.Common.{◌≡◌, ℕ, ◌≤◌, Bool, true, false, List, [], ◌∷◌, length, map, Option, inl, inr, refl, sym, ap, subst, ◌∙◌, arith}
 use Rattle.std.specs.Prelude.{◌||◌}
 use Rattle.std.specs.List.{AllByRecursion}
-use Rattle.std.proofs.lemmas.Bool.{cases_Bool, cond-true, cond-false, or_cases, or_left, or_right, both_ways, and_from, eq-eqb}
+use Rattle.std.proofs.lemmas.Bool.{cases_Bool, cond-true, cond-false, or_cases, or_left, or_right, both_ways}
 use Rattle.s4_types.specs.Pointer.{Place}
 use Rattle.block_log.specs.Log.{Stored, of_kind, same_place}
 use Rattle.block_log.specs.declared.kinds.BlockKind.TheVariants.{Data}
+use Rattle.block_log.proofs.Places.{same_place_itself}
 use Rattle.checkpoint.specs.Held.{is_one_of}
 use Rattle.chain_rewriting.specs.Apart.{Passes}
 use Rattle.chain_rewriting.specs.Mapping.{IsOneToOne}
@@ -15,9 +16,6 @@ use Rattle.migration.specs.private.Copying.{AreApart, IsCopied, IsUsedData}
 
 abbrev pub OnePlace : Type 0
 OnePlace = (p q : Place) → same_place p q ≡ true → p ≡ q
-
-pub same_itself : (p : Place) → same_place p p ≡ true
-same_itself p = and_from _ _ (eq-eqb p.frame p.frame refl) (and_from _ _ (eq-eqb p.block p.block refl) (eq-eqb p.generation p.generation refl))
 
 -- the places that blocks come from
 abbrev pub old_places : List Move → List Place
@@ -48,7 +46,7 @@ moved_rest m moves p is not = elim (or_cases (same_place m.from p) (is_moved mov
 pub goes_to_one : (moves : List Move) (p : Place) → is_moved moves p ≡ true → is_one_of (new_places moves) (moved_by moves p) ≡ true
 goes_to_one [] p is = absurd (cc)
 goes_to_one (m ∷ moves) p is = elim (cases_Bool (same_place m.from p)) [
-  | inl here ↦ subst (λ (q : Place). is_one_of (new_places (m ∷ moves)) q ≡ true) (sym (goes_here m moves p here)) (or_left (same_place m.to m.to) (is_one_of (new_places moves) m.to) (same_itself m.to))
+  | inl here ↦ subst (λ (q : Place). is_one_of (new_places (m ∷ moves)) q ≡ true) (sym (goes_here m moves p here)) (or_left (same_place m.to m.to) (is_one_of (new_places moves) m.to) (same_place_itself m.to))
   | inr not ↦ subst (λ (q : Place). is_one_of (new_places (m ∷ moves)) q ≡ true) (sym (goes_on m moves p not))
       (or_right (same_place m.to (moved_by moves p)) (is_one_of (new_places moves) (moved_by moves p)) (goes_to_one moves p (moved_rest m moves p is not)))
 ]
@@ -92,8 +90,8 @@ comes_from one [] q apart is = absurd (cc)
 comes_from one (m ∷ moves) q apart is = elim (or_cases (same_place m.to q) (is_one_of (new_places moves) q) is) [
   | inl here ↦ record {
     place = m.from;
-    moved = or_left (same_place m.from m.from) (is_moved moves m.from) (same_itself m.from);
-    goes = goes_here m moves m.from (same_itself m.from) ∙ one m.to q here;
+    moved = or_left (same_place m.from m.from) (is_moved moves m.from) (same_place_itself m.from);
+    goes = goes_here m moves m.from (same_place_itself m.from) ∙ one m.to q here;
   }
   | inr later ↦ (let rest = comes_from one moves q apart.1 later in
       let not : same_place m.from rest.place ≡ false = elim (cases_Bool (same_place m.from rest.place)) [

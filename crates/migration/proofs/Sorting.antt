@@ -8,6 +8,7 @@ use Rattle.block_log.specs.Log.{same_place}
 use Rattle.checkpoint.specs.Held.{is_one_of}
 use Rattle.migration.specs.Places.{is_before, put_place, with_places}
 use Rattle.migration.specs.private.Ranks.{rank_in}
+use Rattle.migration.proofs.Ascending.{all_put}
 
 rank_after : (p q : Place) (places : List Place) → is_before q p ≡ true → rank_in p (q ∷ places) ≡ suc (rank_in p places)
 rank_after p q places is = cond-true (is_before q p) (suc (rank_in p places)) 0 is
@@ -59,13 +60,6 @@ with_join places (None ∷ one) other = with_join places one other
 with_join places (Some p ∷ one) other = with_join (put_place p places) one other
 
 -- ---- what is of each of them
-
-all_put : (P : Place → Type 0) (p : Place) (places : List Place) → P p → AllByRecursion P places → AllByRecursion P (put_place p places)
-all_put P p [] is all = (is, tt)
-all_put P p (q ∷ places) is all =
-    cond_both (is_before q p) (q ∷ put_place p places) (cond (same_place q p) (q ∷ places) (p ∷ q ∷ places)) (λ x. AllByRecursion P x)
-    (λ before. (all.0, all_put P p places is all.1))
-    (λ not. cond_both (same_place q p) (q ∷ places) (p ∷ q ∷ places) (λ x. AllByRecursion P x) (λ same. all) (λ other. (is, all)))
 
 pub all_with : (P : Place → Type 0) (places : List Place) (slots : List (Option Place)) → AllByRecursion P places → AllByRecursion (λ s. IfSome s P) slots → AllByRecursion P (with_places places slots)
 all_with P places [] all told = all

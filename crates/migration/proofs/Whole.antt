@@ -1,13 +1,13 @@
 -- The new image, put together of its parts.
-use Rattle.std.proofs.Common.{◌≡◌, ℕ, suc, ◌+◌, ◌≤◌, List, [], ◌∷◌, length, get_or, Option, Some, None, inl, inr, refl, sym, ap, subst, ◌∙◌, arith}
+use Rattle.std.proofs.Common.{◌≡◌, ℕ, suc, ◌+◌, ◌≤◌, List, [], ◌∷◌, length, Option, Some, None, inl, inr, refl, sym, ap, subst, ◌∙◌, arith}
 use Rattle.std.specs.Prelude.{MatchOption}
 use Rattle.std.specs.Int.{w64}
 use Rattle.std.specs.List.{AllByRecursion}
-use Rattle.s4_types.specs.Pointer.{Place, IsPlace}
+use Rattle.s4_types.specs.Pointer.{Place}
 use Rattle.s4_types.specs.Sizes.{IsFrameCount}
 use Rattle.s4_types.specs.declared.spans.Span.{Span}
 use Rattle.block_log.specs.Log.{Stored}
-use Rattle.codec.specs.Fields.{number, slot, SpellsSlot}
+use Rattle.codec.specs.Fields.{number, SpellsSlot}
 use Rattle.codec.specs.declared.versions.ImageVersion.TheVariants.{First, Second}
 use Rattle.object_map.specs.declared.map.Row.{Row}
 use Rattle.time_read.specs.Orderly.{IsFromTo}
@@ -23,6 +23,7 @@ use Rattle.image_objects.specs.declared.rows.ImageRow.{ImageRow}
 use Rattle.image_objects.specs.Rows.{RowsStand}
 use Rattle.verifier.specs.Grammar.{SpellsDrive}
 use Rattle.verifier.specs.Rows.{SpellRows}
+use Rattle.verifier.proofs.SavedWhole.{no_pointer}
 use Rattle.earlier_images.specs.Images.{EarlierFields, IsEarlierOf}
 use Rattle.earlier_images.specs.Used.{used_in}
 use Rattle.migration.specs.Rows.{AscendAbove}
@@ -70,17 +71,6 @@ spans_follow h k before nth (s ∷ spans) next floor clock (rules, inr goes) = (
 spans_keep : (h k : Header) (spans : List Span) → h.next ≡ k.next → h.floor ≡ k.floor → h.clock ≡ k.clock → SpansKeep h spans → SpansKeep k spans
 spans_keep h k [] next floor clock keep = tt
 spans_keep h k (s ∷ spans) next floor clock (rules, follow) = (span_kept h k s next floor clock rules, spans_follow h k s 1 spans next floor clock follow)
-
-third : (frame block generation : ℕ) → get_or (slot (Some (record { frame = frame; block = block; generation = generation }))) 2 0 ≡ block
-unfolding slot number
-third frame block generation = refl
-
--- eight zeros are no pointer
-no_pointer : (p : Place) → IsPlace p → number w64 0 ≡ slot (Some p) → ⊥
-unfolding number
-no_pointer p is h =
-    let zero_there : 0 ≡ p.block = ap (λ (l : List ℕ). get_or l 2 0) h ∙ third p.frame p.block p.generation in
-    omega (arith, is.lowest_block)
 
 hole : (n m : ℕ) (none : Type 0) (kept : Place → Type 0) (q : Option Place) → SpellsSlot (number w64 n) q → MatchOption q ((m ≡ 0) × none) kept → n ≡ 0 → m ≡ 0
 hole n m none kept None spells known is = known.0

@@ -12,7 +12,9 @@ use Rattle.restore_search.specs.declared.surveys.Survey.{Survey}
 use Rattle.restore_search.specs.declared.turning.Turn.{Turn}
 use Rattle.restore_search.specs.declared.turning.Turn.TheVariants.{Again, Leave}
 use Rattle.std.proofs.lemmas.List.{map-append, take_more}
-use Rattle.restore_search.proofs.Each.{all_both, all_map, all_passing, all_push, split_one}
+use Rattle.std.proofs.SliceLists.{all_by_recursion_push}
+use Rattle.lemmas.proofs.List.{all_weaker, all_append}
+use Rattle.restore_search.proofs.Each.{all_passing, split_one}
 
 -- an element is one of its list
 pub one_at : {X : Type 0} (xs : List X) (i : ℕ) (x : X) → i < length xs → x ≡ get_or xs i x → IsOneOf x xs
@@ -27,7 +29,7 @@ pub each_in : {X : Type 0} (xs : List X) → AllByRecursion (λ (x : X). IsOneOf
 each_in [] = tt
 each_in (x ∷ xs) = (
   record { front = []; back = xs; is = refl },
-  all_map xs (λ y one. record { front = x ∷ one.front; back = one.back; is = ap (λ ys. x ∷ ys) one.is }) (each_in xs),
+  all_weaker _ _ xs (λ y one. record { front = x ∷ one.front; back = one.back; is = ap (λ ys. x ∷ ys) one.is }) (each_in xs),
 )
 
 -- an object whose journal is full is among those that are
@@ -40,7 +42,7 @@ full_one refused one o among object lack =
 pub turns_on : (flush : Bool) (hidings : List Hiding) (survey : Survey) (old : List Lacking) (h : Hiding) (turn : Turn) (kept : List Hiding) (lacking : List Lacking) (kept' : List Hiding) (lacking' : List Lacking)
     → IsOneOf h hidings → TurnsOne flush h survey.refused.items turn → TakesTurn h.object turn kept lacking kept' lacking' → Turns flush hidings survey old kept lacking → Turns flush hidings survey old kept' lacking'
 turns_on flush hidings survey old h (Again next) kept lacking kept' lacking' among turns takes before = record {
-  held = subst (AllByRecursion (IsOfHiding flush hidings survey.refused.items)) (sym takes.0) (all_push (IsOfHiding flush hidings survey.refused.items) kept next before.held (record { before = h; one = among; turned = turns }));
+  held = subst (AllByRecursion (IsOfHiding flush hidings survey.refused.items)) (sym takes.0) (all_by_recursion_push (IsOfHiding flush hidings survey.refused.items) kept next before.held (record { before = h; one = among; turned = turns }));
   more = before.more;
   lacking_are = takes.1 ∙ before.lacking_are;
   left = before.left;
@@ -51,7 +53,7 @@ turns_on flush hidings survey old h (Leave lack) kept lacking kept' lacking' amo
       held = subst (AllByRecursion (IsOfHiding flush hidings survey.refused.items)) (sym takes.0) before.held;
       more = before.more ++ one ∷ [];
       lacking_are = takes.1 ∙ ap (λ (l : List Lacking). l ++ one ∷ []) before.lacking_are ∙ append_assoc old before.more (one ∷ []);
-      left = all_push (WasSearched hidings) before.more one before.left (record { hiding = h; among = among; object = refl });
+      left = all_by_recursion_push (WasSearched hidings) before.more one before.left (record { hiding = h; among = among; object = refl });
     }
 
 -- room in the journal of an object
@@ -85,7 +87,7 @@ begins_on search middle later refused one among before here =
       | inr next ↦ record {
         begun = before.begun ++ next.begun ∷ [];
         hidings = next.hidings_are ∙ ap (λ (l : List Hiding). l ++ next.begun ∷ []) before.hidings ∙ append_assoc search.hidings.items before.begun (next.begun ∷ []);
-        each = all_push (IsBegun refused) before.begun next.begun before.each (next.least, full_one refused one next.begun.object among (sym next.object) next.full);
+        each = all_by_recursion_push (IsBegun refused) before.begun next.begun before.each (next.least, full_one refused one next.begun.object among (sym next.object) next.full);
         lacking = here.1 ∙ before.lacking;
       }
     ]
@@ -93,17 +95,17 @@ begins_on search middle later refused one among before here =
 -- what was turned is known
 pub learns_turned : (flush : Bool) (search : Search) (survey : Survey) (later : Search) → Turns flush search.hidings.items survey search.lacking.items later.hidings.items later.lacking.items → Learns flush search survey later
 learns_turned flush search survey later turns = record {
-  hidings = all_map later.hidings.items (λ h held. inl held) turns.held;
+  hidings = all_weaker _ _ later.hidings.items (λ h held. inl held) turns.held;
   more = turns.more;
   lacking = turns.lacking_are;
-  left = all_map turns.more (λ one was. inl was) turns.left;
+  left = all_weaker _ _ turns.more (λ one was. inl was) turns.left;
 }
 
 -- so is what was begun with besides
 pub learns_begun : (flush : Bool) (search : Search) (survey : Survey) (middle later : Search) → Learns flush search survey middle → Begins middle survey.refused.items later → Learns flush search survey later
 learns_begun flush search survey middle later before begins = record {
   hidings = subst (AllByRecursion (IsKnown flush search.hidings.items survey)) (sym begins.hidings)
-      (all_both (IsKnown flush search.hidings.items survey) middle.hidings.items begins.begun before.hidings (all_map begins.begun (λ h begun. inr begun) begins.each));
+      (all_append (IsKnown flush search.hidings.items survey) middle.hidings.items begins.begun before.hidings (all_weaker _ _ begins.begun (λ h begun. inr begun) begins.each));
   more = before.more;
   lacking = ap (λ v. v.items) begins.lacking ∙ before.lacking;
   left = before.left;
@@ -112,9 +114,9 @@ learns_begun flush search survey middle later before begins = record {
 -- what a trial found lacking is left out by it
 left_by : (hidings : List Hiding) (survey : Survey) → AllByRecursion (IsLeftBy hidings survey) (survey.hidden.items ++ survey.refused.items)
 left_by hidings survey =
-    all_both (IsLeftBy hidings survey) survey.hidden.items survey.refused.items
-    (all_map survey.hidden.items (λ one among. inr (inl among)) (each_in survey.hidden.items))
-    (all_map survey.refused.items (λ one among. inr (inr among)) (each_in survey.refused.items))
+    all_append (IsLeftBy hidings survey) survey.hidden.items survey.refused.items
+    (all_weaker _ _ survey.hidden.items (λ one among. inr (inl among)) (each_in survey.hidden.items))
+    (all_weaker _ _ survey.refused.items (λ one among. inr (inr among)) (each_in survey.refused.items))
 
 -- so is what was found lacking
 pub learns_left : (flush : Bool) (search : Search) (survey : Survey) (middle later : Search) → Learns flush search survey middle → LeavesRest middle survey later → Learns flush search survey later
@@ -124,5 +126,5 @@ learns_left flush search survey middle later before leaves = record {
   more = before.more ++ (survey.hidden.items ++ survey.refused.items);
   lacking = leaves.lacking ∙ ap (λ (l : List Lacking). l ++ (survey.hidden.items ++ survey.refused.items)) before.lacking
       ∙ append_assoc search.lacking.items before.more (survey.hidden.items ++ survey.refused.items);
-  left = all_both (IsLeftBy search.hidings.items survey) before.more (survey.hidden.items ++ survey.refused.items) before.left (left_by search.hidings.items survey);
+  left = all_append (IsLeftBy search.hidings.items survey) before.more (survey.hidden.items ++ survey.refused.items) before.left (left_by search.hidings.items survey);
 }

@@ -1,5 +1,6 @@
 -- How trials go on, object by object.
 use Rattle.std.proofs.Common.{◌≡◌, ℕ, List, [], ◌∷◌, ◌++◌, inr, ap, sym, refl, subst}
+use Rattle.std.proofs.SliceLists.{all_by_recursion_push}
 use Rattle.s4_types.specs.declared.refusals.Refusal.TheVariants.{ChainFull, NoSpace}
 use Rattle.drive.specs.Fields.{DriveFields, state_in, store_of}
 use Rattle.history_restore.specs.Restoring.{IsStopped, IsTooFull}
@@ -8,7 +9,6 @@ use Rattle.history_restore.specs.declared.failures.Failure.{Failure}
 use Rattle.restore_search.specs.declared.surveys.Lack.{Lack}
 use Rattle.restore_search.specs.declared.surveys.Lack.TheVariants.{Journal, Blocks}
 use Rattle.restore_search.specs.declared.surveys.Lacking.{Lacking}
-use Rattle.restore_search.proofs.Each.{all_push}
 use Rattle.restore_trials.specs.Trying.{AreTried, Carries, IsRefusedAfter, IsRefusedOver, IsTried, lack_of}
 
 -- one object more was tried
@@ -29,7 +29,7 @@ carries_tried at d later aim lacking here base earlier tried all = (all, earlier
 -- an object was refused
 carries_refused : (at : ℕ) (d later : DriveFields) (aim : Aim) (lacking : List Lacking) (one : Lacking) → IsTried d at aim later → IsRefusedOver d at one → Carries at d lacking later (lacking ++ one ∷ [])
 carries_refused at d later aim lacking one here refused base earlier tried all = (
-  all_push (IsRefusedAfter base at) lacking one all (record { earlier = earlier; before = d; tried = tried; refused = refused }),
+  all_by_recursion_push (IsRefusedAfter base at) lacking one all (record { earlier = earlier; before = d; tried = tried; refused = refused }),
   earlier ++ aim ∷ [],
   tried_more base at earlier aim d later tried here,
 )

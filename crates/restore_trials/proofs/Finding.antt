@@ -1,6 +1,7 @@
 -- What a trial finds of the drive that it is made over.
 use Rattle.std.proofs.Common.{◌≡◌, ◌⊎◌, ℕ, List, [], Option, Some, inl, inr, refl, subst}
 use Rattle.std.specs.List.{AllByRecursion}
+use Rattle.lemmas.proofs.List.{all_weaker}
 use Rattle.s4_model.specs.State.{State}
 use Rattle.drive.specs.Fields.{DriveFields, state_in, store_of}
 use Rattle.history_restore.specs.Planning.{IsPlanned}
@@ -9,7 +10,6 @@ use Rattle.history_restore.specs.declared.planning.ObjectPlan.{ObjectPlan}
 use Rattle.s4_images.specs.Moments.{moment_said}
 use Rattle.restore_search.specs.declared.surveys.Lacking.{Lacking}
 use Rattle.restore_search.specs.declared.surveys.Survey.{Survey}
-use Rattle.restore_search.proofs.Each.{all_map}
 use Rattle.restore_orders.specs.Means.{IsCompactedBy, IsSameDrive}
 use Rattle.restore_orders.specs.Reaching.{changes_ahead}
 use Rattle.restore_orders.specs.declared.orders.Order.{Order}
@@ -24,7 +24,7 @@ widens_now s later at widened now count ahead none is widens = subst (λ (n : �
 pub refused_from : (d : DriveFields) (order : Order) (at : ℕ) (chosen : List ObjectPlan) (widened : Option ℕ) (wide ready later : DriveFields) (refused : List Lacking) → Widens (state_in d) 0 at (changes_ahead chosen order.full.now) widened (state_in wide) → store_of wide ≡ store_of d
     → AreMade wide at order.full.now ready → Carries at ready [] later refused → AllByRecursion (IsRefusedFrom d order at chosen) refused
 refused_from d order at chosen widened wide ready later refused widens store made carries =
-    all_map refused (λ one here. record { widened = widened; wide = wide; widens = widens; store_stays = store; ready = ready; made = made; refused = here }) (carries ready [] refl tt).0
+    all_weaker _ _ refused (λ one here. record { widened = widened; wide = wide; widens = widens; store_stays = store; ready = ready; made = made; refused = here }) (carries ready [] refl tt).0
 
 -- an object can't be restored by an order to a moment
 abbrev IsLackingAt : DriveFields → Order → ℕ → Lacking → Type 0
@@ -35,6 +35,6 @@ pub finds_lacking : (d seen cleared : DriveFields) (order : Order) (at : ℕ) (c
     → AllByRecursion (IsHiddenAlone (state_in d) at) survey.hidden.items → AllByRecursion (IsRefusedFrom cleared order at chosen) survey.refused.items → Finds d order (Some survey)
 finds_lacking d seen cleared order at chosen survey said same planned compacted hidden refused =
     subst (λ (t : ℕ). AllByRecursion (IsLackingAt d order t) survey.hidden.items × AllByRecursion (IsLackingAt d order t) survey.refused.items) said (
-      all_map survey.hidden.items (λ one here. inl here) hidden,
-      all_map survey.refused.items (λ one here. inr (record { seen = seen; same = same; cleared = cleared; compacted = compacted; chosen = chosen; planned = planned; refused = here })) refused,
+      all_weaker _ _ survey.hidden.items (λ one here. inl here) hidden,
+      all_weaker _ _ survey.refused.items (λ one here. inr (record { seen = seen; same = same; cleared = cleared; compacted = compacted; chosen = chosen; planned = planned; refused = here })) refused,
     )

@@ -1,12 +1,14 @@
 -- What is restored where nothing is listed as lacking.
 use Rattle.std.proofs.Common.{◌≡◌, ◌∙◌, ◌⊎◌, ℕ, Bool, true, List, [], ◌∷◌, ◌++◌, Result, Ok, Err, IfOk, OnOk, inl, inr, ap, append_assoc, sym, refl, subst}
 use Rattle.std.specs.List.{AllByRecursion}
+use Rattle.std.proofs.SliceLists.{all_by_recursion_push}
+use Rattle.lemmas.proofs.List.{all_weaker}
 use Rattle.drive.specs.Fields.{DriveFields}
 use Rattle.history_restore.specs.declared.aims.Aim.{Aim}
 use Rattle.history_restore.specs.declared.planning.ObjectPlan.{ObjectPlan}
 use Rattle.restore_search.specs.Searching.{IsOneOf}
 use Rattle.restore_search.specs.declared.surveys.Lacking.{Lacking}
-use Rattle.restore_search.proofs.Each.{all_map, all_one, all_push}
+use Rattle.restore_search.proofs.Each.{all_one}
 use Rattle.restore_trials.specs.Trying.{AreTried, Carries, IsRefusedAfter, IsRestoredAfter, IsRestoredOver, PassesFine, RestoresAll, TriesFine}
 
 -- a list that something was added to has something
@@ -55,9 +57,9 @@ done_on d middle later at old lacking lacking' put_off put_off' wasted wasted' p
       done = λ base earlier tried.
           elim (passes.passed so.wasted_none) [
             | inl put ↦ subst (λ (off : List ObjectPlan). AllByRecursion (IsDone base at off) (plans ++ p ∷ [])) (sym put)
-                (all_push (IsDone base at (put_off ++ p ∷ [])) plans p (all_map plans (λ q here. more_done base at put_off p q here) (so.done base earlier tried)) (inl (record { front = put_off; back = []; is = refl })))
+                (all_by_recursion_push (IsDone base at (put_off ++ p ∷ [])) plans p (all_weaker _ _ plans (λ q here. more_done base at put_off p q here) (so.done base earlier tried)) (inl (record { front = put_off; back = []; is = refl })))
             | inr over ↦ subst (λ (off : List ObjectPlan). AllByRecursion (IsDone base at off) (plans ++ p ∷ [])) (sym over.0)
-                (all_push (IsDone base at put_off) plans p (so.done base earlier tried) (inr (restored_after base d middle later at earlier old lacking p.aim tried carries so.before over.1)))
+                (all_by_recursion_push (IsDone base at put_off) plans p (so.done base earlier tried) (inr (restored_after base d middle later at earlier old lacking p.aim tried carries so.before over.1)))
           ];
     }
 
@@ -69,7 +71,7 @@ deferred_on d middle later at old lacking lacking' plans p is_restored carries b
     let so = before tries.before in (
       so.0,
       λ base earlier tried.
-          all_push (λ (q : ObjectPlan). IsRestoredAfter base at q.aim) plans p (so.1 base earlier tried) (restored_after base d middle later at earlier old lacking p.aim tried carries so.0 (tries.restored refl).1),
+          all_by_recursion_push (λ (q : ObjectPlan). IsRestoredAfter base at q.aim) plans p (so.1 base earlier tried) (restored_after base d middle later at earlier old lacking p.aim tried carries so.0 (tries.restored refl).1),
     )
 
 -- all were restored, once what was put off was
@@ -77,8 +79,7 @@ pub all_restored : (d middle : DriveFields) (at : ℕ) (old lacking : List Lacki
 all_restored d middle at old lacking wasted put_off plans carries done rest base earlier tried =
     let went = carries base earlier tried (subst (AllByRecursion (IsRefusedAfter base at)) (sym done.before) tt) in
     let last = rest base went.1 went.2 in
-    all_map plans
-    (λ p here.
+    all_weaker _ _ plans (λ p here.
     elim here [
       | inl one ↦ all_one (λ (q : ObjectPlan). IsRestoredAfter base at q.aim) one.front p one.back (subst (AllByRecursion (λ (q : ObjectPlan). IsRestoredAfter base at q.aim)) one.is last)
       | inr over ↦ over

@@ -18,10 +18,10 @@ use Rattle.object_map.specs.declared.map.Row.{Row}
 use Rattle.object_map.specs.declared.sides.Side.{Side}
 use Rattle.time_read.specs.Rows.{IsRow, SidesAscend, chain_of, entries_of, checkpoint_of, checkpoint_places_of, side_places, inode_before, first_of, inode_of}
 use Rattle.time_read.specs.Orderly.{BeginsDead, IsFromTo, IsOrderlyChain, IsOrderly}
+use Rattle.time_read.proofs.Staying.{same_entries}
 use Rattle.row_changes.specs.Recent.{IsBy}
 use Rattle.row_changes.specs.Moved.{DropsSides}
 use Rattle.row_changes.proofs.Places.{CheckpointLaws, BlocksStay, held_there}
-use Rattle.row_changes.proofs.Recently.{same_entries}
 use Rattle.row_changes.proofs.Sides.{OneMoment, IsTold, at_index, before_index, first_of_all, one_append, side_append, sides_told, sides_older, beside_earlier}
 
 -- ---- one after another

@@ -1,7 +1,6 @@
 -- What a checkpoint that is written anew makes of an object's row.
-use Rattle.std.proofs.Common.{◌≡◌, ℕ, List, [], ◌∷◌, length, Option, Some, MatchOption, refl, sym, ap, subst, ◌∙◌, arith}
+use Rattle.std.proofs.Common.{◌≡◌, ℕ, List, length, Option, Some, MatchOption, refl, sym, ap, subst, ◌∙◌, arith}
 use Rattle.std.specs.Prelude.{option_map}
-use Rattle.std.proofs.lemmas.Bool.{cond-true}
 use Rattle.s4_types.specs.Pointer.{Place}
 use Rattle.block_log.specs.Log.{Stored, of_kind}
 use Rattle.block_log.specs.declared.kinds.BlockKind.TheVariants.{Journal}
@@ -9,19 +8,20 @@ use Rattle.codec.specs.Fields.{◌>>=◌}
 use Rattle.codec.specs.declared.inodes.Inode.{Inode}
 use Rattle.codec.specs.Entry.{EntryFields}
 use Rattle.codec.specs.Checkpoint.{CheckpointFields}
-use Rattle.undo_redo.specs.Runs.{Run, AllBy, entry_is_by, entries_by, inode_after, redone_all, undone_all}
+use Rattle.undo_redo.specs.Runs.{Run, AllBy, entries_by, inode_after, redone_all, undone_all}
 use Rattle.undo_redo.specs.Groups.{grouped}
 use Rattle.checkpoint.specs.Held.{checkpoint_held, checkpoint_places, checkpoint_blocks, DropsCheckpoint}
 use Rattle.object_map.specs.declared.map.Row.{Row}
 use Rattle.object_map.specs.declared.sides.Side.{Side}
+use Rattle.undo_redo.proofs.RunLaws.{by_all}
 use Rattle.journal_chain.specs.Chain.{BlockView, IsChain, Holds}
 use Rattle.time_read.specs.Rows.{chain_of, checkpoint_of, entries_of, inode_before, first_of, inode_of, IsRow, IsSide}
+use Rattle.time_read.proofs.Staying.{same_entries}
 use Rattle.row_changes.specs.Moving.{kept_blocks, inode_kept}
 use Rattle.row_changes.specs.Recent.{IsBy}
 use Rattle.row_changes.proofs.Places.{Put, put_journal, told_on}
 use Rattle.row_changes.proofs.Sides.{all_mapped}
 use Rattle.row_changes.proofs.SetAside.{IsKept, Keeps}
-use Rattle.row_changes.proofs.Recently.{same_entries}
 
 -- ---- the new one
 
@@ -58,15 +58,11 @@ written log between after o row p i m older kept r latest present s d keeps told
   keeps = keeps;
 }
 
-pub all_by : (t : ℕ) (entries : List EntryFields) → AllBy t entries → entries_by t entries ≡ entries
-all_by t [] h = refl
-all_by t (e ∷ entries) h = cond-true (entry_is_by t e) (e ∷ entries_by t entries) (entries_by t entries) h.0 ∙ ap (λ es. e ∷ es) (all_by t entries h.1)
-
 -- from the last inode of a run, all entries undone lead to the first
 undone : (laws : Laws) (first last i : Inode) (entries : List EntryFields) (m : ℕ) → Run first entries last → AllBy m entries → i ≡ inode_after first entries m → undone_all (entries_by m entries) i ≡ first
 undone laws first last i entries m run by present =
     let is : i ≡ last = present ∙ laws.done first entries m by ∙ sym (laws.end first last entries run) in
-    ap (λ es. undone_all es i) (all_by m entries by) ∙ ap (undone_all entries) is ∙ sym (laws.beginning first last entries run)
+    ap (λ es. undone_all es i) (by_all m entries by) ∙ ap (undone_all entries) is ∙ sym (laws.beginning first last entries run)
 
 pub told_before : (created t : ℕ) (entries : List EntryFields) (c : CheckpointFields) → inode_before created t entries (Some c) ≡ undone_all (entries_by t entries) c.inode
 unfolding inode_before

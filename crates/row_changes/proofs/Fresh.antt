@@ -23,7 +23,7 @@ pub blank_first : (held : Place → Option Stored) (o created : ℕ) → first_o
 unfolding inode_before
 blank_first held o created = refl
 
-blank_made : (created : ℕ) → (blank created).created ≡ created
+pub blank_made : (created : ℕ) → (blank created).created ≡ created
 unfolding blank
 blank_made created = refl
 

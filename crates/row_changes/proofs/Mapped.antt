@@ -136,7 +136,7 @@ row_begins_mapped : ARowBeginsWithWhatIsKept → ItsFirstInodeIsMapped → (f : 
 row_begins_mapped first begins f held o row r =
     begins f o row.created row.checkpoint_moment (inode_kept held o row) (entries_of held o row) ∙ ap (mapped_inode f) (first held o row r)
 
-begins_dead : (f : Place → Place) (entries : List EntryFields) → BeginsDead entries → BeginsDead (mapped_entries f entries)
+pub begins_dead : (f : Place → Place) (entries : List EntryFields) → BeginsDead entries → BeginsDead (mapped_entries f entries)
 begins_dead f [] dead = dead
 begins_dead f (e ∷ entries) dead = dead
 

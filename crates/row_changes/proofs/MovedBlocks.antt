@@ -7,9 +7,10 @@ use Rattle.std.proofs.lemmas.Option.{none-some, same_Some}
 use Rattle.s4_types.specs.Pointer.{Place}
 use Rattle.s4_types.specs.declared.limits.TheConstants.{CHAIN_ENTRIES, CHAIN_ENTRY_BYTES}
 use Rattle.block_log.specs.declared.kinds.BlockKind.{BlockKind}
-use Rattle.block_log.specs.declared.kinds.BlockKind.TheVariants.{Journal, Checkpoint, Data, Pointers}
+use Rattle.block_log.specs.declared.kinds.BlockKind.TheVariants.{Journal}
 use Rattle.block_log.specs.Log.{Log, Stored, of_kind, seen_as, same_kind}
 use Rattle.block_log.specs.Taken.{TakesPlaces}
+use Rattle.block_log.proofs.BlockKinds.{same_kind_itself, one_kind, seen_as_itself, seen_is_some}
 use Rattle.codec.specs.Fields.{◌>>=◌, bit}
 use Rattle.codec.specs.Entry.{EntryFields, entry_length, entries_length}
 use Rattle.journal_chain.specs.Chain.{ChainFields, Link, Holds, OnlyJournalChanged, times, places_of, blocks_of, chain_places, chain_links}
@@ -25,18 +26,18 @@ few_sizes rest older e all sizes gives whole few =
 
 -- ---- a chain of no entries has no blocks
 
-no_places : (found : Option (List Link)) → (found >>= λ links. Some (blocks_of links)) ≡ Some [] → places_of (unwrap_or found []) ≡ []
+pub no_places : (found : Option (List Link)) → (found >>= λ links. Some (blocks_of links)) ≡ Some [] → places_of (unwrap_or found []) ≡ []
 no_places None is = absurd (none-some [] is)
 no_places (Some []) is = refl
 no_places (Some (l ∷ links)) is =
     let count : length (blocks_of (l ∷ links)) ≡ 0 = ap length (same_Some (blocks_of (l ∷ links)) [] is) in
     absurd (omega (arith, count))
 
-none_seen : (seen : Option (List ℕ)) → bit (is_some seen) ≡ 0 → seen ≡ None
+pub none_seen : (seen : Option (List ℕ)) → bit (is_some seen) ≡ 0 → seen ≡ None
 none_seen None is = refl
 none_seen (Some bytes) is = absurd (omega (arith, is))
 
-no_times : (p : Place) (places : List Place) → places ≡ [] → times p places ≡ 0
+pub no_times : (p : Place) (places : List Place) → places ≡ [] → times p places ≡ 0
 unfolding times
 no_times p places none = ap (times p) none
 
@@ -52,32 +53,8 @@ no_bytes = omega arith
 
 -- ---- what is held that was not is at a place that was taken
 
-kind_is : (k i : BlockKind) → same_kind k i ≡ true → k ≡ i
-kind_is Journal Journal is = refl
-kind_is Journal Checkpoint is = absurd (false≢true is)
-kind_is Journal Data is = absurd (false≢true is)
-kind_is Journal Pointers is = absurd (false≢true is)
-kind_is Checkpoint Journal is = absurd (false≢true is)
-kind_is Checkpoint Checkpoint is = refl
-kind_is Checkpoint Data is = absurd (false≢true is)
-kind_is Checkpoint Pointers is = absurd (false≢true is)
-kind_is Data Journal is = absurd (false≢true is)
-kind_is Data Checkpoint is = absurd (false≢true is)
-kind_is Data Data is = refl
-kind_is Data Pointers is = absurd (false≢true is)
-kind_is Pointers Journal is = absurd (false≢true is)
-kind_is Pointers Checkpoint is = absurd (false≢true is)
-kind_is Pointers Data is = absurd (false≢true is)
-kind_is Pointers Pointers is = refl
-
-kind_itself : (k : BlockKind) → same_kind k k ≡ true
-kind_itself Journal = refl
-kind_itself Checkpoint = refl
-kind_itself Data = refl
-kind_itself Pointers = refl
-
 same_kinds : (k j i : BlockKind) → same_kind k i ≡ true → same_kind j i ≡ true → same_kind k j ≡ true
-same_kinds k j i a b = (λ t. same_kind (kind_is k i a t) (kind_is j i b t)) ∙ kind_itself i
+same_kinds k j i a b = (λ t. same_kind (one_kind k i a t) (one_kind j i b t)) ∙ same_kind_itself i
 
 -- a block that is seen as one of a kind and object is of that kind and object
 seen_is : (k : BlockKind) (o : ℕ) (block : Stored) → IsSome (seen_as k o (Some block)) → (same_kind k block.kind && block.object == o) ≡ true
@@ -94,15 +71,6 @@ seen_once k j o q (Some block) some too =
     let second = and_parts (same_kind j block.kind) (block.object == q) (seen_is j q block too) in
     and_from (same_kind k j) (o == q) (same_kinds k j block.kind first.0 second.0) (eq-eqb o q (sym (eqb-true block.object o first.1) ∙ eqb-true block.object q second.1))
 
--- each block is seen as what it is
-seen_itself : (block : Stored) → seen_as block.kind block.object (Some block) ≡ Some block.bytes
-seen_itself block =
-    ap (λ (b : Bool). if b then Some block.bytes else None) (and_from (same_kind block.kind block.kind) (block.object == block.object) (kind_itself block.kind) (eq-eqb block.object block.object refl))
-
-held_of : (k : BlockKind) (o : ℕ) (there : Option Stored) → IsSome (seen_as k o there) → IsSome there
-held_of k o None some = some
-held_of k o (Some block) some = refl
-
 -- where no journal block of the object was held, and its journal alone has changed, nothing was held where one is now
 unheld : (held later : Place → Option Stored) (o : ℕ) (p : Place) (there : Option Stored) → held p ≡ there → OnlyJournalChanged o held later → of_kind Journal o held p ≡ None → IsSome (of_kind Journal o later p) → held p ≡ None
 unheld held later o p None is only gone some = is
@@ -113,7 +81,7 @@ unheld held later o p (Some block) is only gone some = elim (cases_Bool (same_ki
       ap (seen_as Journal o) is ∙ ap (λ (b : Bool). if b then Some block.bytes else None) (and_from (same_kind Journal block.kind) (block.object == o) parts.0 (eq-eqb block.object o (sym (eqb-true o block.object parts.1)))) in
       absurd (none-some block.bytes (sym gone ∙ seen))
   | inr other ↦
-      let still : of_kind block.kind block.object later p ≡ Some block.bytes = ap (λ (v : Place → Option (List ℕ)). v p) (only block.kind block.object other) ∙ ap (seen_as block.kind block.object) is ∙ seen_itself block in
+      let still : of_kind block.kind block.object later p ≡ Some block.bytes = ap (λ (v : Place → Option (List ℕ)). v p) (only block.kind block.object other) ∙ ap (seen_as block.kind block.object) is ∙ seen_as_itself block in
       absurd (false≢true (sym other ∙ seen_once Journal block.kind o block.object (later p) some (ap is_some still)))
 ]
 
@@ -121,4 +89,4 @@ pub journal_among : (n : ℕ) (first between after : Log) (o : ℕ) → TakesPla
     → (p : Place) → IsSome (of_kind Journal o after.held p) → Contains (take n first.ahead) p
 journal_among n first between after o none only gone takes p some =
     subst (λ (places : List Place). Contains (take n places) p) none.ahead
-    (takes.among p (unheld between.held after.held o p (between.held p) refl only (gone p) some) (held_of Journal o (after.held p) some))
+    (takes.among p (unheld between.held after.held o p (between.held p) refl only (gone p) some) (seen_is_some Journal o (after.held p) some))

@@ -3,7 +3,7 @@ use Rattle.std.proofs.Common.{◌≡◌, inl, inr, ℕ, zero, suc, ◌+◌, ◌-
 use Rattle.std.specs.List.{AllByRecursion}
 use Rattle.std.proofs.Math.Seq.{take-append-add, take-length}
 use Rattle.std.proofs.lemmas.List.{take-append-le, length-append}
-use Rattle.std.proofs.lemmas.Bool.{cases_Bool, cases_lt, cond-true, and_parts, eq-eqb, eqb-true, leb-true, le-leb, false≢true}
+use Rattle.std.proofs.lemmas.Bool.{cases_Bool, cases_lt, cond-true, and_parts, eq-eqb, eqb-true, leb-true, false≢true}
 use Rattle.s4_types.specs.Pointer.{Place}
 use Rattle.s4_types.specs.declared.limits.TheConstants.{CHANGE_ENTRIES}
 use Rattle.block_log.specs.Log.{Stored}
@@ -19,10 +19,13 @@ use Rattle.checkpoint.specs.Held.{checkpoint_held}
 use Rattle.object_map.specs.declared.map.Row.{Row}
 use Rattle.object_map.specs.declared.sides.Side.{Side}
 use Rattle.object_map.specs.Rows.{fresh_row}
+use Rattle.undo_redo.proofs.RunLaws.{redone_all-append}
 use Rattle.time_read.specs.Rows.{IsRow, entries_of, first_of, inode_of}
 use Rattle.time_read.specs.Orderly.{inode_behind, IsFromTo, BeginsDead, IsOrderlyChain, IsOrderly}
+use Rattle.time_read.proofs.Staying.{same_entries}
+use Rattle.time_read.proofs.Ordering.{all_by_last}
+use Rattle.chain_rewriting.proofs.Growing.{all_of_one, blank_dead}
 use Rattle.row_changes.specs.Recent.{IsBy}
-use Rattle.row_changes.proofs.Recently.{same_entries}
 use Rattle.row_changes.proofs.Pushing.{Pushed, with_chain, first_stays, present_is}
 use Rattle.row_changes.proofs.Fresh.{no_entries, blank_first, fresh_inode}
 use Rattle.row_changes.proofs.CheckpointLemmas.{Laws, Written, with_checkpoint, written_first}
@@ -114,23 +117,15 @@ alive_after i j m dead lead = elim (cases_Bool j.alive) [
 
 -- ---- a creation
 
-all_at : (created m : ℕ) (entries : List EntryFields) → created ≤ m → AllAt m entries → AllByRecursion (λ e. IsFromTo created m e.moment) entries
-all_at created m [] le h = tt
-all_at created m (e ∷ entries) le h = (let is : e.moment ≡ m = h.0 in (omega (arith, is, le), omega (arith, is)), all_at created m entries le h.1)
-
-blank_is_dead : (created : ℕ) → (blank created).alive ≡ false
-unfolding blank
-blank_is_dead created = refl
-
 made_changed : End → (m : ℕ) (j : Inode) (new : List EntryFields) (n : ℕ) → Leading (blank m) j m new → (inode_behind (blank m) new n).alive ≡ true → IsFromTo m m (inode_behind (blank m) new n).changed
-made_changed end m j new zero p alive = absurd (false≢true (sym (blank_is_dead m) ∙ alive))
+made_changed end m j new zero p alive = absurd (false≢true (sym (blank_dead m) ∙ alive))
 made_changed end m j new (suc n) p alive =
     let is : (inode_behind (blank m) new (suc n)).changed ≡ m = turned_behind end (blank m) j m new (suc n) p (omega arith) alive in
     (omega (arith, is), omega (arith, is))
 
 made_chain : End → (m : ℕ) (j : Inode) (new : List EntryFields) → Leading (blank m) j m new → j.alive ≡ true → IsOrderlyChain m m (blank m) new
 made_chain end m j new p alive = record {
-  moments = all_at m m new (omega arith) p.moments;
+  moments = all_of_one m m new (omega arith) p.moments;
   changed = λ n. made_changed end m j new n p;
   between = λ n some lt. (turned_between end (blank m) j m new n p.run p.moments p.group some lt).0;
   beginning = λ dead. refl;
@@ -148,7 +143,7 @@ made_fresh end held later o h b f i j m new p lead =
     let entries : entries_of later o next ≡ new = p.chain.entries ∙ ap (λ (es : List EntryFields). es ++ new) (no_entries held o m) in
     let first : first_of later o next ≡ blank m = first_stays held later o (fresh_row m) h b f i j m new p ∙ blank_first held o m in
     let is : i ≡ blank m = p.before ∙ fresh_inode held o m (m - 1) in
-    let dead : i.alive ≡ false = ap (λ (k : Inode). k.alive) is ∙ blank_is_dead m in
+    let dead : i.alive ≡ false = ap (λ (k : Inode). k.alive) is ∙ blank_dead m in
     let alive : j.alive ≡ true = alive_after i j m dead lead in
     let leading : Leading (blank m) j m new = record { run = subst (λ (k : Inode). Run k new j) is p.run; moments = p.moments; group = p.group; changed = lead.changed } in
     let chain : IsOrderlyChain m m (blank m) (entries_of later o next) = subst (λ (es : List EntryFields). IsOrderlyChain m m (blank m) es) (sym entries) (made_chain end m j new leading alive) in
@@ -177,17 +172,13 @@ record Following (created m : ℕ) (first i j : Inode) (old new : List EntryFiel
 behind_front : (first : Inode) (old new : List EntryFields) (n : ℕ) → n ≤ length old → inode_behind first (old ++ new) n ≡ inode_behind first old n
 behind_front first old new n le = ap (λ (es : List EntryFields). redone_all es first) (take-append-le n old new le)
 
-joined : (i : Inode) (front back : List EntryFields) → redone_all (front ++ back) i ≡ redone_all back (redone_all front i)
-joined i [] back = refl
-joined i (e ∷ front) back = joined (redone e i) front back
-
 behind_back : (first i : Inode) (old new : List EntryFields) (n : ℕ) → i ≡ redone_all old first → length old ≤ n → inode_behind first (old ++ new) n ≡ inode_behind i new (n - length old)
 behind_back first i old new n is le =
     let k : ℕ = n - length old in
     let sum : n ≡ length old + k = omega (arith, le) in
     ap (λ x. inode_behind first (old ++ new) x) sum
     ∙ ap (λ (es : List EntryFields). redone_all es first) (take-append-add old new k)
-    ∙ joined first old (take k new)
+    ∙ redone_all-append first old (take k new)
     ∙ ap (λ (x : Inode). redone_all (take k new) x) (sym is)
 
 behind_old : (first i : Inode) (old : List EntryFields) → i ≡ redone_all old first → inode_behind first old (length old) ≡ i
@@ -227,7 +218,7 @@ grown_chain : End → (created m : ℕ) (first i j : Inode) (old new : List Entr
 grown_chain end created m first i j old new p =
     let made = p.made in
     record {
-      moments = grown_moments created m old new p.chain.moments (all_at created m new (omega (arith, made)) p.leading.moments);
+      moments = grown_moments created m old new p.chain.moments (all_of_one created m new (omega (arith, made)) p.leading.moments);
       changed = λ n. grown_changed end created m first i j old new n p;
       between = λ n. grown_between end created m first i j old new n p;
       beginning = p.chain.beginning;
@@ -285,16 +276,12 @@ written_orderly held later o row p i m latest kept laws w le was =
 
 -- ---- up to which moment a row tells
 
-all_by : (created latest : ℕ) (entries : List EntryFields) → AllByRecursion (λ e. IsFromTo created latest e.moment) entries → AllBy latest entries
-all_by created latest [] h = tt
-all_by created latest (e ∷ entries) h = (le-leb e.moment latest h.0.1, all_by created latest entries h.1)
-
 checkpoint_by : (N : Type 0) (P : Place → Type 0) (checkpoint : Option Place) (created latest t : ℕ) → MatchOption checkpoint (t ≡ 0) P → MatchOption checkpoint N (λ p. IsFromTo created latest t) → t ≤ latest
 checkpoint_by N P None created latest t none h = omega (arith, none)
 checkpoint_by N P (Some p) created latest t some h = h.1
 
 pub orderly_is_by : (held : Place → Option Stored) (o : ℕ) (row : Row) (latest : ℕ) → IsRow held o row → IsOrderly held o row latest → IsBy held o row latest
 orderly_is_by held o row latest r h = record {
-  entries = all_by row.created latest (entries_of held o row) h.chain.moments;
+  entries = all_by_last row.created latest (entries_of held o row) h.chain.moments;
   checkpoint = checkpoint_by (BeginsDead (entries_of held o row)) (λ p. checkpoint_held held o p ≡ Some (record { object = o; moment = row.checkpoint_moment; inode = inode_of held o row row.checkpoint_moment })) row.checkpoint row.created latest row.checkpoint_moment r.checkpoint h.checkpoint;
 }

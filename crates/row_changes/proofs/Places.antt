@@ -77,10 +77,6 @@ put_journal log between o p put = put.others Journal o refl
 pub journal_views : (o : ℕ) (held later : Place → Option Stored) → OnlyJournalChanged o held later → of_checkpoints o later ≡ of_checkpoints o held
 journal_views o held later only = same_checkpoints o held later (only Checkpoint o refl) (only Pointers o refl)
 
--- no journal has changed
-pub no_journal_yet : (o : ℕ) (held : Place → Option Stored) → OnlyJournalChanged o held held
-no_journal_yet o held kind other h = refl
-
 -- the places of the new checkpoint, where nothing was held, are none of a block that was there
 pub not_new : (log between : Place → Option Stored) (o : ℕ) (p q : Place) → PutsCheckpoint log o p between → IsSome (of_checkpoints o log q) → is_one_of (checkpoint_places between o p) q ≡ false
 not_new log between o p q put there = elim (cases_Bool (is_one_of (checkpoint_places between o p) q)) [

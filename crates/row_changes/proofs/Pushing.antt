@@ -1,10 +1,10 @@
 -- What a push of the entries of a later moment makes of an object's row.
-use Rattle.std.proofs.Common.{◌≡◌, inl, inr, ℕ, ◌-◌, ◌≤◌, ◌<◌, true, nat_le, if◌then◌else◌, List, [], ◌∷◌, ◌++◌, Option, Some, None, MatchOption, IsSome, refl, sym, ap, subst, ◌∙◌, arith}
+use Rattle.std.proofs.Common.{◌≡◌, inl, inr, ℕ, ◌-◌, ◌≤◌, ◌<◌, true, nat_le, if◌then◌else◌, List, [], ◌∷◌, ◌++◌, Option, Some, None, IsSome, refl, sym, ap, subst, ◌∙◌, arith}
 use Rattle.std.proofs.lemmas.List.{append-nil}
 use Rattle.std.proofs.lemmas.List.Elements.{filter-append}
 use Rattle.std.proofs.lemmas.Bool.{cases_Bool, cond-true, cond-false, leb-true, leb-false, le-leb, lt-leb}
-use Rattle.std.specs.List.{AllByRecursion}
 use Rattle.s4_types.specs.Pointer.{Place}
+use Rattle.lemmas.proofs.List.{all_weaker}
 use Rattle.block_log.specs.Log.{Stored, of_kind}
 use Rattle.codec.specs.Fields.{◌>>=◌}
 use Rattle.codec.specs.declared.inodes.Inode.{Inode}
@@ -15,21 +15,18 @@ use Rattle.undo_redo.specs.Groups.{grouped}
 use Rattle.checkpoint.specs.Held.{of_checkpoints, checkpoint_held, checkpoint_in, places_named, is_one_of}
 use Rattle.object_map.specs.declared.map.Row.{Row}
 use Rattle.object_map.specs.declared.sides.Side.{Side}
+use Rattle.undo_redo.proofs.RunLaws.{by_none, all_by_later}
 use Rattle.journal_chain.specs.Chain.{BlockView, ChainFields, Holds, entries_held}
 use Rattle.time_read.specs.Rows.{chain_of, entries_of, checkpoint_of, side_places, inode_before, first_of, inode_of, IsRow, IsSide}
+use Rattle.time_read.proofs.Staying.{match_moved}
 use Rattle.row_changes.specs.Recent.{IsBy}
 use Rattle.row_changes.specs.private.Joining.{LaterEntriesJoin}
-use Rattle.row_changes.proofs.Recently.{all_by_later}
 
 -- ---- entries and moments
 
-past_none : (t : ℕ) (entries : List EntryFields) → AllPast t entries → entries_by t entries ≡ []
-past_none t [] h = refl
-past_none t (e ∷ entries) h = cond-false (nat_le e.moment t) (e ∷ entries_by t entries) (entries_by t entries) h.0 ∙ past_none t entries h.1
-
 -- later entries are none of those up to a moment
 front_by : (t : ℕ) (front back : List EntryFields) → AllPast t back → entries_by t (front ++ back) ≡ entries_by t front
-front_by t front back past = filter-append (entry_is_by t) front back ∙ ap (λ es. entries_by t front ++ es) (past_none t back past) ∙ append-nil (entries_by t front)
+front_by t front back past = filter-append (entry_is_by t) front back ∙ ap (λ es. entries_by t front ++ es) (by_none t back past) ∙ append-nil (entries_by t front)
 
 at_past : (m t : ℕ) (entries : List EntryFields) → t < m → AllAt m entries → AllPast t entries
 at_past m t [] lt h = tt
@@ -86,7 +83,7 @@ pub record Pushed (held later : Place → Option Stored) (o : ℕ) (row next : R
   pub chain : Holding held later o row next new
   pub checkpoints : of_checkpoints o later ≡ of_checkpoints o held
 
-same_checkpoint : (held later : Place → Option Stored) (o : ℕ) (place : Option Place) → of_checkpoints o later ≡ of_checkpoints o held → (place >>= checkpoint_held later o) ≡ (place >>= checkpoint_held held o)
+pub same_checkpoint : (held later : Place → Option Stored) (o : ℕ) (place : Option Place) → of_checkpoints o later ≡ of_checkpoints o held → (place >>= checkpoint_held later o) ≡ (place >>= checkpoint_held held o)
 same_checkpoint held later o place same = ap (λ (v : BlockView). place >>= λ p. checkpoint_in v p) same
 
 before_stays : (created t : ℕ) (front back : List EntryFields) (c : Option CheckpointFields) → AllPast t back → inode_before created t (front ++ back) c ≡ inode_before created t front c
@@ -153,14 +150,6 @@ run_on held later o row next i j m new laws p =
     let last : p.stands.last ≡ i = laws.end first p.stands.last old p.stands.run ∙ sym (laws.done first old (m - 1) p.earlier.entries) ∙ sym (present_is held later o row next i j m new p) in
     laws.join first i j old new (subst (λ (k : Inode). Run first old k) last p.stands.run) p.run
 
-carried : (N : Type 0) (c : Option Place) (f g : Place → Option CheckpointFields) (x y : CheckpointFields) → ((p : Place) → g p ≡ f p) → y ≡ x → MatchOption c N (λ p. f p ≡ Some x) → MatchOption c N (λ p. g p ≡ Some y)
-carried N None f g x y same is h = h
-carried N (Some p) f g x y same is h = same p ∙ h ∙ sym (ap (λ (z : CheckpointFields). Some z) is)
-
-all_mapped : {A : Type 0} (P Q : A → Type 0) → ((x : A) → P x → Q x) → (xs : List A) → AllByRecursion P xs → AllByRecursion Q xs
-all_mapped P Q each [] h = tt
-all_mapped P Q each (x ∷ xs) h = (each x h.0, all_mapped P Q each xs h.1)
-
 -- an older checkpoint tells of a moment before the push
 side_stays : (held later : Place → Option Stored) (o : ℕ) (row : Row) (h : Option Place) (b f : ℕ) (i j : Inode) (m : ℕ) (new : List EntryFields) → LaterEntriesJoin → Pushed held later o row (with_chain row h b f) i j m new
     → (side : Side) → IsSide held o row side → IsSide later o (with_chain row h b f) side
@@ -186,8 +175,8 @@ pushed_row held later o row h b f i j m new laws p =
       last = j;
       run = subst (λ (es : List EntryFields). Run (first_of later o next) es j) (sym p.chain.entries) run;
       groups = ap grouped p.chain.entries ∙ laws.groups (m - 1) old new p.stands.groups p.group p.earlier.entries (at_past m (m - 1) new before p.moments);
-      checkpoint = carried (row.checkpoint_moment ≡ 0) row.checkpoint (checkpoint_held held o) (checkpoint_held later o) (record { object = o; moment = row.checkpoint_moment; inode = inode_of held o row row.checkpoint_moment }) (record { object = o; moment = row.checkpoint_moment; inode = inode_of later o next row.checkpoint_moment }) (λ q. ap (λ (v : BlockView). checkpoint_in v q) p.checkpoints) (ap (λ (k : Inode). record { object = o; moment = row.checkpoint_moment; inode = k }) inode) p.stands.checkpoint;
-      sides = all_mapped (IsSide held o row) (IsSide later o next) (side_stays held later o row h b f i j m new laws p) row.sides p.stands.sides;
+      checkpoint = match_moved (row.checkpoint_moment ≡ 0) row.checkpoint (checkpoint_held held o) (checkpoint_held later o) (record { object = o; moment = row.checkpoint_moment; inode = inode_of held o row row.checkpoint_moment }) (record { object = o; moment = row.checkpoint_moment; inode = inode_of later o next row.checkpoint_moment }) (λ q. ap (λ (v : BlockView). checkpoint_in v q) p.checkpoints) (ap (λ (k : Inode). record { object = o; moment = row.checkpoint_moment; inode = k }) inode) p.stands.checkpoint;
+      sides = all_weaker (IsSide held o row) (IsSide later o next) row.sides (side_stays held later o row h b f i j m new laws p) p.stands.sides;
       ascending = p.stands.ascending;
       only = λ q there. ap (λ (v : BlockView). is_one_of (places_named v row.checkpoint ++ side_places v row.sides) q) p.checkpoints ∙ p.stands.only q (subst (λ (v : BlockView). IsSome (v q)) p.checkpoints there);
       created = ap (λ (k : Inode). k.created) first ∙ p.stands.created;

@@ -1,6 +1,5 @@
 -- The moment up to which a row tells, when it grows and when blocks of others change.
-use Rattle.std.proofs.Common.{◌≡◌, ℕ, ◌≤◌, true, List, [], ◌∷◌, Option, unwrap_or, sym, ap, subst, ◌∙◌, arith}
-use Rattle.std.proofs.lemmas.Bool.{leb-true, le-leb}
+use Rattle.std.proofs.Common.{◌≡◌, ℕ, ◌≤◌, true, List, Option, sym, subst, ◌∙◌, arith}
 use Rattle.s4_types.specs.Pointer.{Place}
 use Rattle.block_log.specs.Log.{Stored, of_kind}
 use Rattle.block_log.specs.declared.kinds.BlockKind.TheVariants.{Journal}
@@ -9,23 +8,16 @@ use Rattle.codec.specs.Entry.{EntryFields}
 use Rattle.undo_redo.specs.Runs.{AllBy, Run, moments_ascend_from, entries_by, inode_after}
 use Rattle.undo_redo.specs.Groups.{grouped}
 use Rattle.object_map.specs.declared.map.Row.{Row}
-use Rattle.journal_chain.specs.Chain.{BlockView, chain_entries, entries_in}
+use Rattle.undo_redo.proofs.RunLaws.{all_by_later}
 use Rattle.time_read.specs.Rows.{entries_of, first_of, inode_of, IsRow}
+use Rattle.time_read.proofs.Staying.{same_entries}
 use Rattle.row_changes.specs.Recent.{IsBy}
-
-pub all_by_later : (a b : ℕ) (entries : List EntryFields) → a ≤ b → AllBy a entries → AllBy b entries
-all_by_later a b [] le h = tt
-all_by_later a b (e ∷ entries) le h = (let by : e.moment ≤ a = leb-true e.moment a h.0 in le-leb e.moment b (omega (arith, by, le)), all_by_later a b entries le h.1)
 
 pub by_later : (held : Place → Option Stored) (o : ℕ) (row : Row) (a b : ℕ) → a ≤ b → IsBy held o row a → IsBy held o row b
 by_later held o row a b le h = record {
   entries = all_by_later a b (entries_of held o row) le h.entries;
   checkpoint = omega (arith, h.checkpoint, le);
 }
-
-pub same_entries : (held later : Place → Option Stored) (o : ℕ) (row : Row) → of_kind Journal o later ≡ of_kind Journal o held → entries_of later o row ≡ entries_of held o row
-unfolding chain_entries
-same_entries held later o row same = ap (λ (v : BlockView). unwrap_or (entries_in v o row.head) []) same
 
 pub same_by : (held later : Place → Option Stored) (o : ℕ) (row : Row) (t : ℕ) → of_kind Journal o later ≡ of_kind Journal o held → IsBy held o row t → IsBy later o row t
 same_by held later o row t same h = record {

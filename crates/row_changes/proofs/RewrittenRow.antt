@@ -9,15 +9,16 @@ use Rattle.codec.specs.Checkpoint.{checkpoint_rules}
 use Rattle.undo_redo.specs.Runs.{Run, AllBy, inode_after, redone_all, undone_all}
 use Rattle.undo_redo.specs.Groups.{grouped}
 use Rattle.object_map.specs.declared.map.Row.{Row}
+use Rattle.undo_redo.proofs.RunLaws.{by_all}
 use Rattle.time_read.specs.Rows.{entries_of, first_of, last_inode}
 use Rattle.row_changes.specs.Recent.{IsBy}
 use Rattle.row_changes.specs.Moving.{CanWrite, checkpoint_made, first_kept}
-use Rattle.row_changes.proofs.CheckpointLemmas.{Laws, all_by, told_before}
+use Rattle.row_changes.proofs.CheckpointLemmas.{Laws, told_before}
 
 -- the inode before all entries
 pub first_is : (o created m : ℕ) (i : Inode) (entries : List EntryFields) → AllBy m entries → first_kept o created m (Some i) entries ≡ undone_all entries i
 first_is o created m i entries by =
-    told_before created m entries (checkpoint_made o m i) ∙ ap (λ (es : List EntryFields). undone_all es i) (all_by m entries by)
+    told_before created m entries (checkpoint_made o m i) ∙ ap (λ (es : List EntryFields). undone_all es i) (by_all m entries by)
 
 pub can_rewrite : (o created m : ℕ) (i : Inode) (entries : List EntryFields) → Laws → ((i j : Inode) (entries : List EntryFields) → Run i entries j → i.created ≡ j.created)
     → checkpoint_rules (checkpoint_made o m i) ≡ true → Run (undone_all entries i) entries i → grouped entries ≡ true → AllBy m entries → entries_length entries ≤ CHAIN_ENTRY_BYTES → i.created ≡ created

@@ -12,7 +12,7 @@ use Rattle.object_map.specs.declared.sides.Side.{Side}
 use Rattle.object_map.specs.Sides.{sides_named, sides_after, place_of}
 use Rattle.time_read.specs.Rows.{IsRow, SidesAscend, side_places, inode_of}
 use Rattle.row_changes.proofs.Places.{CheckpointLaws, BlocksStay, Put, not_new, held_there, older_is, new_is}
-use Rattle.row_changes.proofs.Sides.{OneMoment, IsTold, one_append, side_append, of_one, named_all, all_told, sides_older, ascend_all, all_before, beside_earlier}
+use Rattle.row_changes.proofs.Sides.{OneMoment, IsTold, one_append, side_append, of_one, named_all, sides_older, ascend_all, all_before, beside_earlier, each_side_decodes}
 
 -- ---- the parts
 
@@ -43,7 +43,7 @@ pub parted : (held : Place → Option Stored) (o : ℕ) (row : Row) (m : ℕ) (g
     → Parted held o row m gone kept
 parted held o row m gone kept r le newer all =
     split held o row m gone kept all
-    (subst (λ (sides : List Side). AllByRecursion (IsTold held o row) sides) (sym all) (all_told held o row r))
+    (subst (λ (sides : List Side). AllByRecursion (IsTold held o row) sides) (sym all) (each_side_decodes held o row r))
     (subst SidesAscend (sym all) (ascend_all row.sides row.checkpoint row.checkpoint_moment r.ascending (sides_older held o row r)))
     (subst (λ (sides : List Side). AllByRecursion (λ s. s.moment < m) sides) (sym all) (all_before row.sides row.checkpoint row.checkpoint_moment m (sides_older held o row r) le newer))
 

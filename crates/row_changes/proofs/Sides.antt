@@ -93,8 +93,8 @@ sides_told held o row r = all_mapped (IsSide held o row) (IsTold held o row) (λ
 pub sides_older : (held : Place → Option Stored) (o : ℕ) (row : Row) → IsRow held o row → AllByRecursion (λ s. s.moment < row.checkpoint_moment) row.sides
 sides_older held o row r = all_mapped (IsSide held o row) (λ s. s.moment < row.checkpoint_moment) (λ side is. is.older) row.sides r.sides
 
-pub all_told : (held : Place → Option Stored) (o : ℕ) (row : Row) → IsRow held o row → AllByRecursion (IsTold held o row) (sides_named row)
-all_told held o row r =
+pub each_side_decodes : (held : Place → Option Stored) (o : ℕ) (row : Row) → IsRow held o row → AllByRecursion (IsTold held o row) (sides_named row)
+each_side_decodes held o row r =
     all_both (IsTold held o row) row.sides (newest_side row.checkpoint row.checkpoint_moment) (sides_told held o row r)
     (newest_told (row.checkpoint_moment ≡ 0) held o row row.checkpoint row.checkpoint_moment r.checkpoint)
 

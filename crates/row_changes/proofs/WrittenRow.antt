@@ -2,11 +2,10 @@
 use Rattle.std.proofs.Common.{◌≡◌, ℕ, ◌+◌, ◌≤◌, Bool, true, false, ◌==◌, ◌&&◌, ◌||◌, List, [], ◌++◌, reverse, take, drop, Option, Some, None, IsSome, IfSome, is_some, MatchOption, refl, sym, ap, subst, ◌∙◌}
 use Rattle.std.specs.List.{Contains}
 use Rattle.std.proofs.lemmas.Bool.{false≢true}
-use Rattle.std.proofs.lemmas.List.Elements.{Contains-append_left, Contains-append_right}
+use Rattle.std.proofs.lemmas.List.Elements.{Contains-append_left}
 use Rattle.std.proofs.Math.Seq.{take-add}
 use Rattle.s4_types.specs.Pointer.{Place}
 use Rattle.block_log.specs.Log.{Log, Stored, of_kind, same_kind}
-use Rattle.block_log.specs.Taken.{TakesPlaces}
 use Rattle.block_log.specs.declared.kinds.BlockKind.{BlockKind}
 use Rattle.block_log.specs.declared.kinds.BlockKind.TheVariants.{Journal, Checkpoint, Data, Pointers}
 use Rattle.codec.specs.declared.inodes.Inode.{Inode}
@@ -133,7 +132,7 @@ no_journal Checkpoint same h = refl
 no_journal Data same h = refl
 no_journal Pointers same h = refl
 
-no_checkpoint : (kind : BlockKind) (same : Bool) → ((same_kind Journal kind || is_checkpoint_kind kind) && same) ≡ false → (is_checkpoint_kind kind && same) ≡ false
+pub no_checkpoint : (kind : BlockKind) (same : Bool) → ((same_kind Journal kind || is_checkpoint_kind kind) && same) ≡ false → (is_checkpoint_kind kind && same) ≡ false
 no_checkpoint Journal same h = refl
 no_checkpoint Checkpoint same h = h
 no_checkpoint Data same h = refl
@@ -146,11 +145,6 @@ metadata_alone held between later o checkpoints journal kind other h = journal k
 
 pub among_first : (n m : ℕ) (ahead : List Place) (p : Place) → Contains (take n ahead) p → Contains (take (n + m) ahead) p
 among_first n m ahead p at = subst (λ (places : List Place). Contains places p) (sym (take-add n m ahead)) (Contains-append_left (take n ahead) (take m (drop n ahead)) p at)
-
-pub among_later : (n m : ℕ) (first between : Log) (p : Place) → TakesPlaces n first between → Contains (take m between.ahead) p → Contains (take (n + m) first.ahead) p
-among_later n m first between p takes at =
-    subst (λ (places : List Place). Contains places p) (sym (take-add n m first.ahead))
-    (Contains-append_right (take n first.ahead) (take m (drop n first.ahead)) p (subst (λ (places : List Place). Contains (take m places) p) takes.ahead at))
 
 -- the checkpoint's places come first, and then those of the chain, the oldest first
 pub row_in_order : (o : ℕ) (ahead : List Place) (between after : Log) (p h head : Option Place) → ahead ≡ places_named (of_checkpoints o between.held) p ++ between.ahead

@@ -6,10 +6,11 @@ use Rattle.s4_types.specs.declared.limits.TheConstants.{READ_BYTES, ATTRIBUTE_BY
 use Rattle.s4_types.specs.declared.refusals.Refusal.{Refusal as Reason}
 use Rattle.s4_types.specs.declared.replies.Reply.{Reply}
 use Rattle.s4_types.specs.declared.replies.Reply.TheVariants.{Refused, Changed, Created, Data, Attr}
+use Rattle.lemmas.proofs.Bytes.{IsBytes}
 use Rattle.rpc.specs.Spelling.{long, word, wire_text, SpellsReply}
 use Rattle.rpc.specs.private.Reading.{◌>>=◌, ended_at, refusal_of_code, refused_at, changed_at, created_at, data_at, attr_at, wire_reply_at}
 use Rattle.rpc.proofs.Refusals.{refusal_found, refusal_again}
-use Rattle.rpc.proofs.Exact.{IsBytes, bytes_behind, bind_some, ended_nil, ended_end, Exact, Then, Last, then_exact, last_exact, tail_exact, word_field, long_field, text_field}
+use Rattle.rpc.proofs.Exact.{bytes_behind, bind_some, ended_nil, ended_end, Exact, Then, Last, then_exact, last_exact, tail_exact, word_field, long_field, text_field}
 use Rattle.rpc.proofs.RequestLaws.{kind_or_other, IsLong, IsWord}
 
 -- ---- each kind, field by field

@@ -8,9 +8,10 @@ use Rattle.s4_types.specs.declared.requests.Request.TheVariants.{Update, Query, 
 use Rattle.s4_types.specs.declared.requests.Question.TheVariants.{Read, GetAttr}
 use Rattle.s4_types.specs.declared.requests.ObjectRequest.TheVariants.{Create, Delete, Write, Append, Truncate, SetAttr}
 use Rattle.s4_types.specs.declared.requests.AdminRequest.TheVariants.{SetWindow, Flush, FlushO}
+use Rattle.lemmas.proofs.Bytes.{IsBytes}
 use Rattle.rpc.specs.Spelling.{long, word, wire_text, at, SpellsRequest}
 use Rattle.rpc.specs.private.Reading.{create_at, delete_at, read_at, write_at, append_at, truncate_at, get_attr_at, set_attr_at, set_window_at, flush_at, flush_object_at, request_at}
-use Rattle.rpc.proofs.Exact.{IsBytes, bytes_behind, Exact, Then, Last, then_exact, last_exact, tail_exact, word_field, long_field, text_field, moment_field}
+use Rattle.rpc.proofs.Exact.{bytes_behind, Exact, Then, Last, then_exact, last_exact, tail_exact, word_field, long_field, text_field, moment_field}
 
 abbrev pub IsLong : ℕ → Type 0
 IsLong n = n < 2 ^ 64

@@ -33,8 +33,3 @@ among_own kinds (refusal.Both one other) h = tt
 among_own kinds (refusal.Neither one other) h = tt
 among_own kinds refusal.Unspelled h = tt
 among_own kinds refusal.NoMemory h = tt
-
--- what holds of a failure holds of it in other words
-pub if_err : {A E : Type 0} {P Q : E → Type 0} → (r : Result A E) → ((e : E) → P e → Q e) → IfErr r P → IfErr r Q
-if_err (Ok a) on p = tt
-if_err (Err e) on p = on e p

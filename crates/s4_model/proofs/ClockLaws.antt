@@ -47,7 +47,7 @@ accepted_is_later h role request now reply a step =
 hides_late : (o t : ℕ) (span : Span) → span.last < t → hides o t span ≡ false
 hides_late o t span lt = and_right (span.object == 0 || span.object == o) (is_within span t) (and_right (leb span.first t) (leb t span.last) (lt-leb t span.last lt))
 
-none_hides : (o t : ℕ) (spans : List Span) → AllByRecursion (EndsBefore t) spans → list_any (hides o t) spans ≡ false
+pub none_hides : (o t : ℕ) (spans : List Span) → AllByRecursion (EndsBefore t) spans → list_any (hides o t) spans ≡ false
 none_hides o t [] past = refl
 none_hides o t (span ∷ spans) past = ap (λ b. b || list_any (hides o t) spans) (hides_late o t span past.0) ∙ none_hides o t spans past.1
 

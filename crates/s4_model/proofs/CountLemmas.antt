@@ -1,33 +1,10 @@
 -- Counting the numbers below a bound that pass a test, by a list of them.
-use Rattle.std.proofs.Common.{◌≡◌, ◌⊎◌, inl, inr, ℕ, zero, suc, Bool, true, false, not, ◌==◌, ◌+◌, ◌<◌, ◌&&◌, cond, List, [], ◌∷◌, ◌++◌, length, count_by, refl, sym, ap, ◌∙◌, zero-add, arith}
-use Rattle.std.specs.List.{range_with_len, AllByRecursion}
+use Rattle.std.proofs.Common.{◌≡◌, ◌⊎◌, inl, inr, ℕ, zero, suc, Bool, true, false, not, ◌==◌, ◌+◌, ◌<◌, ◌&&◌, cond, List, [], ◌∷◌, length, refl, sym, ap, ◌∙◌, arith}
+use Rattle.std.specs.List.{AllByRecursion}
 use Rattle.s4_model.specs.RunCounting.{has}
-use Rattle.std.proofs.lemmas.Bool.{false≢true, and_parts, or_cases, or_parts, eqb-true, eq-eqb}
-use Rattle.std.proofs.lemmas.Bool.Decides.{nat_tests}
-use Rattle.std.proofs.lemmas.List.Sums.{sum_by-append}
-
--- how many numbers below n pass
-abbrev pub below : (ℕ → Bool) → ℕ → ℕ
-below p zero = 0
-below p (suc n) = below p n + cond (p n) 1 0
-
--- a range with one more number
-pub range-push : (a n : ℕ) → range_with_len a (suc n) ≡ range_with_len a n ++ (a + n) ∷ []
-range-push a zero = ap (λ x. x ∷ []) (omega arith)
-range-push a (suc n) = ap (λ xs. a ∷ xs) (range-push (a + 1) n ∙ ap (λ x. range_with_len (a + 1) n ++ x ∷ []) (omega arith))
-
-count_one : (p : ℕ → Bool) (n : ℕ) → count_by p (n ∷ []) ≡ cond (p n) 1 0
-count_one p n = zero-add (cond (p n) 1 0)
-
--- the count over a range
-pub count_by-range : (p : ℕ → Bool) (n : ℕ) → count_by p (range_with_len 0 n) ≡ below p n
-count_by-range p zero = refl
-count_by-range p (suc n) =
-    let pushed : count_by p (range_with_len 0 (suc n)) ≡ count_by p (range_with_len 0 n ++ (0 + n) ∷ []) = ap (λ xs. count_by p xs) (range-push 0 n) in
-    let split : count_by p (range_with_len 0 n ++ (0 + n) ∷ []) ≡ count_by p (range_with_len 0 n) + count_by p ((0 + n) ∷ []) = sum_by-append (λ x. cond (p x) 1 0) (range_with_len 0 n) ((0 + n) ∷ []) in
-    let last : count_by p ((0 + n) ∷ []) ≡ cond (p n) 1 0 = ap (λ x. count_by p (x ∷ [])) (zero-add n) ∙ count_one p n in
-    let before : count_by p (range_with_len 0 n) ≡ below p n = count_by-range p n in
-    pushed ∙ split ∙ ap (λ k. k + count_by p ((0 + n) ∷ [])) before ∙ ap (λ k. below p n + k) last
+use Rattle.std.proofs.lemmas.Bool.{false≢true, and_parts, or_cases, or_parts, eqb-true, eq-eqb, ne_eqb}
+use Rattle.lemmas.proofs.Bool.{and_false}
+use Rattle.lemmas.proofs.Range.{below}
 
 below-none : (p : ℕ → Bool) (n : ℕ) → ((t : ℕ) → t < n → p t ≡ false) → below p n ≡ 0
 below-none p zero none = refl
@@ -40,19 +17,12 @@ below-none p (suc n) none =
 abbrev without : ℕ → (ℕ → Bool) → ℕ → Bool
 without x p t = p t && not (t == x)
 
-not_other : (t x : ℕ) → (t ≡ x → ⊥) → (t == x) ≡ false
-not_other t x ne = grind (arith, nat_tests)
-
 and_true : (b : Bool) → (b && true) ≡ b
 and_true true = refl
 and_true false = refl
 
 without-other : (x : ℕ) (p : ℕ → Bool) (t : ℕ) → (t ≡ x → ⊥) → without x p t ≡ p t
-without-other x p t ne = ap (λ b. p t && not b) (not_other t x ne) ∙ and_true (p t)
-
-and_false : (b : Bool) → (b && false) ≡ false
-and_false true = refl
-and_false false = refl
+without-other x p t ne = ap (λ b. p t && not b) (ne_eqb t x ne) ∙ and_true (p t)
 
 without-same : (x : ℕ) (p : ℕ → Bool) → without x p x ≡ false
 without-same x p = ap (λ b. p x && not b) (eq-eqb x x refl) ∙ and_false (p x)
@@ -107,12 +77,12 @@ in_rest : (a b : Bool) → (a ≡ true → ⊥) → (a ≡ true) ⊎ (b ≡ true
 in_rest a b never (inl e) = absurd (never e)
 in_rest a b never (inr e) = e
 
-not_both : (b : Bool) → b ≡ true → not b ≡ true → ⊥
-not_both true e f = false≢true f
-not_both false e f = false≢true e
+pub not_both_ways : (b : Bool) → b ≡ true → not b ≡ true → ⊥
+not_both_ways true e f = false≢true f
+not_both_ways false e f = false≢true e
 
 still_has : (xs : List ℕ) (x t : ℕ) {P : Type 0} → P × (not (t == x) ≡ true) → has (x ∷ xs) t ≡ true → has xs t ≡ true
-still_has xs x t other here = in_rest (x == t) (has xs t) (λ e. not_both (t == x) (eq-eqb t x (sym (eqb-true x t e))) other.1) (or_cases (x == t) (has xs t) here)
+still_has xs x t other here = in_rest (x == t) (has xs t) (λ e. not_both_ways (t == x) (eq-eqb t x (sym (eqb-true x t e))) other.1) (or_cases (x == t) (has xs t) here)
 
 -- a list of all that pass, none twice, counts them
 pub below-length : (xs : List ℕ) (p : ℕ → Bool) (n : ℕ) → IsWithoutRepeats xs → Passes p n xs → ((t : ℕ) → t < n → p t ≡ true → has xs t ≡ true) → below p n ≡ length xs

@@ -4,7 +4,6 @@ use Rattle.std.proofs.lemmas.List.Folds.{list_any-append}
 use Rattle.std.specs.List.{list_any, cons_option}
 use Rattle.s4_types.specs.History.{History, Took}
 use Rattle.s4_types.specs.declared.changes.Accepted.{Accepted}
-use Rattle.s4_types.specs.declared.changes.Change.{Change}
 use Rattle.s4_types.specs.declared.changes.Change.TheVariants as change
 use Rattle.s4_types.specs.declared.replies.Reply.{Reply}
 use Rattle.s4_types.specs.declared.requests.Role.{Role}
@@ -20,7 +19,7 @@ use Rattle.s4_model.specs.Sound.{IsSound}
 use Rattle.s4_model.specs.Laws.{LeavesVersions}
 use Rattle.s4_model.proofs.StateLemmas.{state_of-took}
 use Rattle.s4_model.proofs.OutcomeLemmas.{IsTaken, taken_of}
-use Rattle.s4_model.proofs.GrantedLemmas.{granted_object_is_no_zero}
+use Rattle.s4_model.proofs.GrantedLemmas.{granted_object_is_no_zero, asked_change}
 use Rattle.s4_model.proofs.SoundLemmas.{IsSound-took, moment_is_later, spans_of-took}
 use Rattle.s4_model.proofs.VersionLemmas.{version_of-other, version_of-settled}
 use Rattle.s4_model.proofs.ClockLaws.{clock_is_not_hidden}
@@ -44,9 +43,6 @@ LeavesVersions-took s a sound after later other = record {
   shown = λ o. clock_is_not_hidden (took s a) o after;
 }
 
-change_is : (P : Change → Type 0) (asks takes : Change) → Some asks ≡ Some takes → P asks → P takes
-change_is P asks takes e p = let same : asks ≡ takes = cc in subst P same p
-
 LeavesVersions-step : (h : History) (role : Role) (request : Request) (now : ℕ) (reply : Reply) (a : Accepted) → IsSound (state_of h) → Step h role request now reply (grown h (Took a)) → ((o : ℕ) → is_change_of o a.change ≡ false) → LeavesVersions (state_of h) (state_of (grown h (Took a)))
 LeavesVersions-step h role request now reply a sound step other =
     let taken : IsTaken (state_of h) role request now reply a = taken_of step in
@@ -56,15 +52,15 @@ LeavesVersions-step h role request now reply a sound step other =
 pub flush_hides : (h : History) (role : Role) (first last now : ℕ) (reply : Reply) (a : Accepted) → IsSound (state_of h) → Step h role (Control (Flush first last)) now reply (grown h (Took a)) → ((o t : ℕ) → is_hidden (state_of (grown h (Took a))) o t ≡ (is_hidden (state_of h) o t || (leb first t && leb t last))) × LeavesVersions (state_of h) (state_of (grown h (Took a)))
 flush_hides h role first last now reply a sound step =
     let taken : IsTaken (state_of h) role (Control (Flush first last)) now reply a = taken_of step in (
-      λ o t. ap (λ k. is_hidden k o t) (state_of-took h a) ∙ is_hidden-took (state_of h) a (record { object = 0; first = first; last = last }) o t (change_is (λ c. span_by c ≡ Some (record { object = 0; first = first; last = last })) (change.Flush first last) a.change taken.asked_for refl),
-      LeavesVersions-step h role (Control (Flush first last)) now reply a sound step (λ o. change_is (λ c. is_change_of o c ≡ false) (change.Flush first last) a.change taken.asked_for refl),
+      λ o t. ap (λ k. is_hidden k o t) (state_of-took h a) ∙ is_hidden-took (state_of h) a (record { object = 0; first = first; last = last }) o t (asked_change (λ c. span_by c ≡ Some (record { object = 0; first = first; last = last })) (change.Flush first last) a.change taken.asked_for refl),
+      LeavesVersions-step h role (Control (Flush first last)) now reply a sound step (λ o. asked_change (λ c. is_change_of o c ≡ false) (change.Flush first last) a.change taken.asked_for refl),
     )
 
 pub flush_of_object_hides : (h : History) (role : Role) (object first last now : ℕ) (reply : Reply) (a : Accepted) → IsSound (state_of h) → Step h role (Control (FlushO object first last)) now reply (grown h (Took a)) → ((o t : ℕ) → is_hidden (state_of (grown h (Took a))) o t ≡ (is_hidden (state_of h) o t || (object == o && (leb first t && leb t last)))) × LeavesVersions (state_of h) (state_of (grown h (Took a)))
 flush_of_object_hides h role object first last now reply a sound step =
     let taken : IsTaken (state_of h) role (Control (FlushO object first last)) now reply a = taken_of step in (
       λ o t. ap (λ k. is_hidden k o t) (state_of-took h a)
-          ∙ is_hidden-took (state_of h) a (record { object = object; first = first; last = last }) o t (change_is (λ c. span_by c ≡ Some (record { object = object; first = first; last = last })) (change.FlushO object first last) a.change taken.asked_for refl)
+          ∙ is_hidden-took (state_of h) a (record { object = object; first = first; last = last }) o t (asked_change (λ c. span_by c ≡ Some (record { object = object; first = first; last = last })) (change.FlushO object first last) a.change taken.asked_for refl)
           ∙ ap (λ zero. is_hidden (state_of h) o t || ((zero || object == o) && (leb first t && leb t last))) (granted_object_is_no_zero (state_of h) role object first last taken.granted),
-      LeavesVersions-step h role (Control (FlushO object first last)) now reply a sound step (λ o. change_is (λ c. is_change_of o c ≡ false) (change.FlushO object first last) a.change taken.asked_for refl),
+      LeavesVersions-step h role (Control (FlushO object first last)) now reply a sound step (λ o. asked_change (λ c. is_change_of o c ≡ false) (change.FlushO object first last) a.change taken.asked_for refl),
     )

@@ -35,7 +35,7 @@ pub none_applies : (s : State) (role : Role) (request : Request) → first_refus
 none_applies s role request e = none_found (applies s role request) checks e
 
 -- what holds of the change that is asked for holds of the one that is taken
-asked_change : (P : Change → Type 0) (asks takes : Change) → Some asks ≡ Some takes → P asks → P takes
+pub asked_change : (P : Change → Type 0) (asks takes : Change) → Some asks ≡ Some takes → P asks → P takes
 asked_change P asks takes e p = let same : asks ≡ takes = cc in subst P same p
 
 -- what is shown below of the changes that are granted

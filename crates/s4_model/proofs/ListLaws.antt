@@ -1,9 +1,10 @@
 -- The lists of spans: their runs, and what they hide.
-use Rattle.std.proofs.Common.{◌≡◌, ℕ, ◌+◌, ◌<◌, ◌≤◌, ◌==◌, ◌&&◌, ◌||◌, Bool, true, false, leb, List, [], ◌∷◌, ◌++◌, refl, ap, sym, ◌∙◌, arith}
+use Rattle.std.proofs.Common.{◌≡◌, ℕ, ◌+◌, ◌<◌, ◌≤◌, ◌==◌, ◌&&◌, ◌||◌, Bool, false, leb, List, [], ◌∷◌, ◌++◌, refl, ap, sym, ◌∙◌, arith}
 use Rattle.std.proofs.lemmas.Bool.{and_left, and_right, lt-leb, le-leb, ne_eqb}
 use Rattle.std.specs.List.{list_any, AllByRecursion}
 use Rattle.s4_types.specs.History.{History}
 use Rattle.s4_types.specs.declared.spans.Span.{Span}
+use Rattle.lemmas.proofs.Bool.{or_by_parts}
 use Rattle.s4_model.specs.Numbers.{clock_of, floor_of, next_of}
 use Rattle.s4_model.specs.State.{State, state_of}
 use Rattle.s4_model.specs.Visible.{is_hidden, hides, is_within, spans_of}
@@ -43,21 +44,10 @@ lists_have_maximal_runs h list sound = (
   λ span le. spans_have_maximal_runs (state_of h) (spans_of (state_of h) ++ span ∷ []) list (all_past_push (clock_of h) (spans_of (state_of h)) span sound.past le),
 )
 
-either_or : (a b w x y z : Bool) → x ≡ (y || z) → (((a || b) && w) || x) ≡ (((a && w) || y) || ((b && w) || z))
-either_or true true true x y z e = refl
-either_or true true false x y z e = e
-either_or true false true x y z e = refl
-either_or true false false x y z e = e
-either_or false true true x true z e = refl
-either_or false true true x false z e = refl
-either_or false true false x y z e = e
-either_or false false true x y z e = e
-either_or false false false x y z e = e
-
-any_hides : (o t : ℕ) (spans : List Span) → list_any (hides o t) spans ≡ (list_any (covers 0 t) spans || list_any (covers o t) spans)
+pub any_hides : (o t : ℕ) (spans : List Span) → list_any (hides o t) spans ≡ (list_any (covers 0 t) spans || list_any (covers o t) spans)
 any_hides o t [] = refl
 any_hides o t (span ∷ spans) =
-    either_or (span.object == 0) (span.object == o) (is_within span t) (list_any (hides o t) spans) (list_any (covers 0 t) spans) (list_any (covers o t) spans) (any_hides o t spans)
+    or_by_parts (span.object == 0) (span.object == o) (is_within span t) (list_any (hides o t) spans) (list_any (covers 0 t) spans) (list_any (covers o t) spans) (any_hides o t spans)
 
 pub lists_hide_alike : (h : History) (o t : ℕ) → floor_of h ≤ t → is_hidden (state_of h) o t ≡ (is_covered (floor_of h) (spans_of (state_of h)) 0 t || is_covered (floor_of h) (spans_of (state_of h)) o t)
 lists_hide_alike h o t le =

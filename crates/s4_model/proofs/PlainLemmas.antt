@@ -56,7 +56,7 @@ pub version_of_new : (c : ℕ) (changes : List Accepted) (o t : ℕ) → AllByRe
 version_of_new c changes o zero h = version_after-0 c changes o h
 version_of_new c changes o (suc t) h = ap (λ b. cond b Absent (version_after Absent changes o (suc t))) (sym (leb-suc-zero t))
 
-length-resized : (size : ℕ) (content : List ℕ) → length (resized size content) ≡ size
+pub length-resized : (size : ℕ) (content : List ℕ) → length (resized size content) ≡ size
 length-resized size content = grind (arith, common_steps)
 
 length-written : (limit offset : ℕ) (bytes content : List ℕ) → offset + length bytes ≤ limit → length content ≤ limit → length (written offset bytes content) ≤ limit

@@ -3,20 +3,23 @@ use Rattle.std.proofs.Common.{◌≡◌, ◌⊎◌, inl, inr, ℕ, zero, suc, Bo
 use Rattle.std.specs.List.{list_any, range_with_len, filter_map, cons_option, AllByRecursion}
 use Rattle.std.proofs.lemmas.List.Sums.{sum_by-append}
 use Rattle.std.proofs.lemmas.Bool.{false≢true, and_parts, and_from, or_cases, or_parts, or_from, or_left, or_right, leb-true, le-leb, eq-eqb}
-use Rattle.std.proofs.lemmas.Bool.Decides.{nat_tests}
+use Rattle.std.proofs.SliceLists.{all_by_recursion_push}
 use Rattle.s4_types.specs.declared.limits.TheConstants.{RUNS_IN_A_LIST, RUNS_IN_ALL}
 use Rattle.s4_types.specs.declared.refusals.Refusal.{Refusal}
 use Rattle.s4_types.specs.declared.changes.Accepted.{Accepted}
 use Rattle.s4_types.specs.declared.changes.Change.{Change}
 use Rattle.s4_types.specs.declared.changes.Change.TheVariants.{Create, Delete, Write, Truncate, SetAttr, SetWindow, Flush, FlushO}
 use Rattle.s4_types.specs.declared.spans.Span.{Span}
+use Rattle.lemmas.proofs.Nat.{eqb_false_back, add_rest}
+use Rattle.lemmas.proofs.List.{all_weaker}
+use Rattle.lemmas.proofs.Range.{range_push, count_by_range}
 use Rattle.s4_model.specs.State.{State}
 use Rattle.s4_model.specs.Refusals.{is_one_span_too_many}
 use Rattle.s4_model.specs.Visible.{is_within, span_by, span_of, spans_of}
 use Rattle.s4_model.specs.Runs.{is_covered, is_first, run_count, run_count_of_all}
 use Rattle.s4_model.specs.Plain.{EndsBy, IsKeptChange}
 use Rattle.s4_model.specs.RunCounting.{AllEndBy, has, noted}
-use Rattle.s4_model.proofs.CountLemmas.{range-push, count_by-range, below-length, IsWithoutRepeats}
+use Rattle.s4_model.proofs.CountLemmas.{below-length, IsWithoutRepeats, not_both_ways}
 
 -- the span of this list covers the moment
 abbrev covers : ℕ → ℕ → Span → Bool
@@ -66,22 +69,11 @@ has-push-false (y ∷ ys) x t h e =
     let parts = or_parts (y == t) (has ys t) h in
     or_from (y == t) (has (ys ++ x ∷ []) t) parts.0 (has-push-false ys x t parts.1 e)
 
-other_way : (x y : ℕ) → (x == y) ≡ false → (y == x) ≡ false
-other_way x y h = grind (arith, nat_tests)
-
 IsWithoutRepeats-push : (xs : List ℕ) (x : ℕ) → IsWithoutRepeats xs → has xs x ≡ false → IsWithoutRepeats (xs ++ x ∷ [])
 IsWithoutRepeats-push [] x h out = (refl, tt)
 IsWithoutRepeats-push (y ∷ ys) x h out =
     let parts = or_parts (y == x) (has ys x) out in
-    (has-push-false ys x y h.0 (other_way y x parts.0), IsWithoutRepeats-push ys x h.1 parts.1)
-
-All-push : {A : Type 0} (P : A → Type 0) (xs : List A) (x : A) → AllByRecursion P xs → P x → AllByRecursion P (xs ++ x ∷ [])
-All-push P [] x all h = (h, tt)
-All-push P (y ∷ ys) x all h = (all.0, All-push P ys x all.1 h)
-
-All-weaker : {A : Type 0} (P Q : A → Type 0) (xs : List A) → ((x : A) → P x → Q x) → AllByRecursion P xs → AllByRecursion Q xs
-All-weaker P Q [] f all = tt
-All-weaker P Q (y ∷ ys) f all = (f y all.0, All-weaker P Q ys f all.1)
+    (has-push-false ys x y h.0 (eqb_false_back y x parts.0), IsWithoutRepeats-push ys x h.1 parts.1)
 
 -- before any span is taken
 pub AreFirsts-none : (floor list : ℕ) (spans : List Span) → AreFirsts floor list spans [] []
@@ -92,17 +84,17 @@ AreFirsts-cases : (floor list : ℕ) (spans taken : List Span) (firsts : List �
 AreFirsts-cases floor list spans taken firsts span true true b k h = record {
   once = h.once;
   each = h.each;
-  found = All-push _ taken span h.found (λ _. k);
+  found = all_by_recursion_push _ taken span h.found (λ _. k);
 }
 AreFirsts-cases floor list spans taken firsts span true false b k h = record {
   once = IsWithoutRepeats-push firsts (max span.first floor) h.once k;
-  each = All-push _ firsts (max span.first floor) h.each b;
-  found = All-push _ taken span (All-weaker _ _ taken (λ other has_it first. has-push firsts (max span.first floor) (max other.first floor) (has_it first)) h.found) (λ _. has-last firsts (max span.first floor));
+  each = all_by_recursion_push _ firsts (max span.first floor) h.each b;
+  found = all_by_recursion_push _ taken span (all_weaker _ _ taken (λ other has_it first. has-push firsts (max span.first floor) (max other.first floor) (has_it first)) h.found) (λ _. has-last firsts (max span.first floor));
 }
 AreFirsts-cases floor list spans taken firsts span false known b k h = record {
   once = h.once;
   each = h.each;
-  found = All-push _ taken span h.found (λ first. absurd (false≢true (sym b ∙ first)));
+  found = all_by_recursion_push _ taken span h.found (λ first. absurd (false≢true (sym b ∙ first)));
 }
 
 pub AreFirsts-noted : (floor list : ℕ) (spans taken : List Span) (firsts : List ℕ) (span : Span) → AreFirsts floor list spans taken firsts → AreFirsts floor list spans (taken ++ span ∷ []) (noted firsts (max span.first floor) (is_first (is_covered floor spans list) (max span.first floor)))
@@ -111,15 +103,11 @@ AreFirsts-noted floor list spans taken firsts span h = AreFirsts-cases floor lis
 at_or_above : (m u : ℕ) → m ≤ suc u → (suc u ≡ m) ⊎ (m ≤ u)
 at_or_above m u h = grind arith
 
-not_true : (b : Bool) → b ≡ true → not b ≡ true → ⊥
-not_true true e f = false≢true f
-not_true false e f = false≢true e
-
 pred : (u : ℕ) → suc u - 1 ≡ u
 pred u = omega arith
 
 not_first : (floor list u : ℕ) (spans : List Span) → is_covered floor spans list u ≡ true → not (nat_lt 0 (suc u) && is_covered floor spans list (suc u - 1)) ≡ true → ⊥
-not_first floor list u spans set first = not_true _ (and_from (nat_lt 0 (suc u)) (is_covered floor spans list (suc u - 1)) (le-leb 1 (suc u) (omega arith)) (ap (λ k. is_covered floor spans list k) (pred u) ∙ set)) first
+not_first floor list u spans set first = not_both_ways _ (and_from (nat_lt 0 (suc u)) (is_covered floor spans list (suc u - 1)) (le-leb 1 (suc u) (omega arith)) (ap (λ k. is_covered floor spans list k) (pred u) ∙ set)) first
 
 -- a moment after a span's first and the floor isn't the first of a run that the span covers
 at_first : (floor list t : ℕ) (spans : List Span) (span : Span) → ((u : ℕ) → covers list u span ≡ true → list_any (covers list u) spans ≡ true) → covers list t span ≡ true → is_first (is_covered floor spans list) t ≡ true → t ≡ max span.first floor
@@ -164,9 +152,9 @@ listed floor list t spans first =
 -- with all spans taken, there are as many runs as first moments
 pub run_count-firsts : (floor list clock : ℕ) (spans : List Span) (firsts : List ℕ) → AllEndBy clock spans → AreFirsts floor list spans spans firsts → run_count (is_covered floor spans list) clock ≡ length firsts
 run_count-firsts floor list clock spans firsts ends h =
-    count_by-range (is_first (is_covered floor spans list)) (clock + 1)
+    count_by_range (is_first (is_covered floor spans list)) (clock + 1)
     ∙ below-length firsts (is_first (is_covered floor spans list)) (clock + 1) h.once
-    (All-weaker _ _ firsts (λ t first. (first, first_by clock floor list t spans ends first)) h.each)
+    (all_weaker _ _ firsts (λ t first. (first, first_by clock floor list t spans ends first)) h.each)
     (λ t lt first. all_found floor list t spans spans firsts (λ u c. c) h.found first (listed floor list t spans first))
 
 -- one turn of the count
@@ -182,16 +170,13 @@ AreFirsts-step floor list spans taken more firsts new span first begins e f b n 
 pub run_count_of_all-step : (floor clock k : ℕ) (spans : List Span) → run_count_of_all floor spans clock (k + 1) ≡ run_count_of_all floor spans clock k + run_count (is_covered floor spans k) clock
 run_count_of_all-step floor clock k spans =
     let f : ℕ → ℕ = λ list. run_count (is_covered floor spans list) clock in
-    let pushed : sum_by f (range_with_len 0 (suc k)) ≡ sum_by f (range_with_len 0 k ++ (0 + k) ∷ []) = ap (λ xs. sum_by f xs) (range-push 0 k) in
+    let pushed : sum_by f (range_with_len 0 (suc k)) ≡ sum_by f (range_with_len 0 k ++ (0 + k) ∷ []) = ap (λ xs. sum_by f xs) (range_push 0 k) in
     let split : sum_by f (range_with_len 0 k ++ (0 + k) ∷ []) ≡ sum_by f (range_with_len 0 k) + sum_by f ((0 + k) ∷ []) = sum_by-append f (range_with_len 0 k) ((0 + k) ∷ []) in
     let last : sum_by f ((0 + k) ∷ []) ≡ f k = zero-add (f (0 + k)) ∙ ap f (zero-add k) in
     ap (λ n. run_count_of_all floor spans clock n) (add-one k) ∙ pushed ∙ split ∙ ap (λ n. sum_by f (range_with_len 0 k) + n) last
 
 next_number : (k more : ℕ) → k + suc more ≡ k + more + 1
 next_number k more = omega arith
-
-up_to : (a b : ℕ) → a ≤ b → a + (b - a) ≡ b
-up_to a b le = omega arith
 
 run_count_of_all-grows : (floor clock k more : ℕ) (spans : List Span) → run_count_of_all floor spans clock k ≤ run_count_of_all floor spans clock (k + more)
 run_count_of_all-grows floor clock k zero spans =
@@ -207,7 +192,7 @@ run_count_of_all-grows floor clock k (suc more) spans =
 pub run_count_of_all-le : (floor clock a b : ℕ) (spans : List Span) → a ≤ b → run_count_of_all floor spans clock a ≤ run_count_of_all floor spans clock b
 run_count_of_all-le floor clock a b spans le =
     let grows : run_count_of_all floor spans clock a ≤ run_count_of_all floor spans clock (a + (b - a)) = run_count_of_all-grows floor clock a (b - a) spans in
-    let e : run_count_of_all floor spans clock (a + (b - a)) ≡ run_count_of_all floor spans clock b = ap (λ n. run_count_of_all floor spans clock n) (up_to a b le) in
+    let e : run_count_of_all floor spans clock (a + (b - a)) ≡ run_count_of_all floor spans clock b = ap (λ n. run_count_of_all floor spans clock n) (add_rest a b le) in
     omega arith
 
 -- the lists so far have more runs than they may, with this one
@@ -235,7 +220,7 @@ AllEndBy-kept clock (a ∷ changes) h = ends_of clock a.change (filter_map span_
 
 -- and so do they with one more
 pub AllEndBy-push : (clock : ℕ) (spans : List Span) (span : Span) → AllEndBy clock spans → span.last ≤ clock → AllEndBy clock (spans ++ span ∷ [])
-AllEndBy-push clock spans span all h = All-push (λ x. x.last ≤ clock) spans span all h
+AllEndBy-push clock spans span all h = all_by_recursion_push (λ x. x.last ≤ clock) spans span all h
 
 -- what counting the runs of a drive's spans with one more answers
 pub IfOk-too_many : (r : Result Bool Refusal) (s : State) (span : Span) (spans : List Span) → spans ≡ spans_of s ++ span ∷ [] → AllEndBy s.clock spans → IfOk r (λ b. (clock : ℕ) → AllEndBy clock spans → b ≡ (nat_lt RUNS_IN_A_LIST (run_count (is_covered s.floor spans span.object) clock) || nat_lt RUNS_IN_ALL (run_count_of_all s.floor spans clock s.next))) → IfOk r (λ b. b ≡ is_one_span_too_many s span)

@@ -1,5 +1,5 @@
 -- No step leaves more runs than lists may have.
-use Rattle.std.proofs.Common.{◌≡◌, ℕ, zero, suc, Bool, true, false, not, ◌+◌, ◌-◌, ◌<◌, ◌≤◌, ◌==◌, ◌&&◌, ◌||◌, cond, nat_le, nat_lt, inl, inr, List, [], ◌∷◌, ◌++◌, Option, None, Some, refl, ap, sym, ◌∙◌, subst, add-one, append-nil, arith}
+use Rattle.std.proofs.Common.{◌≡◌, ℕ, zero, suc, Bool, true, false, not, ◌+◌, ◌-◌, ◌<◌, ◌≤◌, ◌==◌, ◌&&◌, ◌||◌, nat_le, nat_lt, inl, inr, List, [], ◌∷◌, ◌++◌, Option, None, Some, refl, ap, sym, ◌∙◌, subst, add-one, append-nil, arith}
 use Rattle.std.specs.List.{list_any, cons_option, AllByRecursion}
 use Rattle.std.proofs.lemmas.Bool.{false≢true, and_parts, and_cases, and_left, and_right, or_parts, le-leb, lt-leb, leb-true, leb-false, ltb-false, lt-ltb, ne_eqb, cases_Bool, cases_eq}
 use Rattle.std.proofs.lemmas.List.Folds.{list_any-append}
@@ -10,6 +10,8 @@ use Rattle.s4_types.specs.declared.replies.Reply.{Reply}
 use Rattle.s4_types.specs.declared.requests.Role.{Role}
 use Rattle.s4_types.specs.declared.requests.Request.{Request}
 use Rattle.s4_types.specs.declared.spans.Span.{Span}
+use Rattle.lemmas.proofs.Bool.{or_false}
+use Rattle.lemmas.proofs.Range.{count_by_range, below, tally}
 use Rattle.s4_model.specs.State.{State, state_of, seen, took, new_history}
 use Rattle.s4_model.specs.Visible.{is_within, span_by, spans_of}
 use Rattle.s4_model.specs.Runs.{is_covered, is_first, run_count, run_count_of_all}
@@ -18,16 +20,12 @@ use Rattle.s4_model.specs.Step.{Step}
 use Rattle.s4_model.specs.Sound.{EndsBefore, IsOfGiven, IsSound}
 use Rattle.s4_model.specs.Exchanges.{Exchange, Leads}
 use Rattle.s4_model.specs.Laws.{KeepsRunLimits}
-use Rattle.s4_model.proofs.CountLemmas.{below, count_by-range}
 use Rattle.s4_model.proofs.RunLemmas.{run_count_of_all-step}
 use Rattle.s4_model.proofs.StateLemmas.{state_of-seen, state_of-took}
 use Rattle.s4_model.proofs.OutcomeLemmas.{IsTaken, Outcome, OnlySaw, TookIt, outcome_of}
 use Rattle.s4_model.proofs.GrantedLemmas.{granted_span_ends, granted_span_is_owned, granted_span_is_not_too_many}
 use Rattle.s4_model.proofs.SoundLemmas.{IsSound-step, spans_of-took, moment_is_later, next_by-grows}
 use Rattle.s4_model.proofs.ListLaws.{none_covers, all_past, all_past_push, none_of}
-
-abbrev tally : Bool → ℕ
-tally b = cond b 1 0
 
 -- whether the moment before is in the set
 abbrev before : (ℕ → Bool) → ℕ → Bool
@@ -85,8 +83,8 @@ fewer_so_far from set kept is (suc n) =
 -- what is kept of a set has no more runs
 fewer_runs : (from clock : ℕ) (set kept : ℕ → Bool) → IsKeptFrom from set kept → run_count kept clock ≤ run_count set clock
 fewer_runs from clock set kept is =
-    let count : run_count kept clock ≡ below (is_first kept) (clock + 1) = count_by-range (is_first kept) (clock + 1) in
-    let all : run_count set clock ≡ below (is_first set) (clock + 1) = count_by-range (is_first set) (clock + 1) in
+    let count : run_count kept clock ≡ below (is_first kept) (clock + 1) = count_by_range (is_first kept) (clock + 1) in
+    let all : run_count set clock ≡ below (is_first set) (clock + 1) = count_by_range (is_first set) (clock + 1) in
     let le : below (is_first kept) (clock + 1) + tally (before set (clock + 1) && not (before kept (clock + 1))) ≤ below (is_first set) (clock + 1) = fewer_so_far from set kept is (clock + 1) in
     omega arith
 
@@ -102,9 +100,9 @@ below_stops p n (suc m) le none = elim (cases_eq n (suc m)) [
 
 no_more_runs : (set : ℕ → Bool) (clock later : ℕ) → clock ≤ later → ((t : ℕ) → clock + 1 ≤ t → set t ≡ false) → run_count set later ≡ run_count set clock
 no_more_runs set clock later le none =
-    count_by-range (is_first set) (later + 1)
+    count_by_range (is_first set) (later + 1)
     ∙ below_stops (is_first set) (clock + 1) (later + 1) (omega arith) (λ t low. and_left (set t) (not (before set t)) (none t low))
-    ∙ sym (count_by-range (is_first set) (clock + 1))
+    ∙ sym (count_by_range (is_first set) (clock + 1))
 
 covered_from : (floor later list t : ℕ) (spans : List Span) → floor ≤ later → is_covered later spans list t ≡ (nat_le later t && is_covered floor spans list t)
 covered_from floor later list t spans le = elim (cases_Bool (nat_le later t)) [
@@ -132,7 +130,7 @@ no_more_in_all floor later clock after (suc k) spans le on past =
     omega arith
 
 no_runs : (set : ℕ → Bool) (clock : ℕ) → ((t : ℕ) → set t ≡ false) → run_count set clock ≡ 0
-no_runs set clock none = count_by-range (is_first set) (clock + 1) ∙ below_stops (is_first set) 0 (clock + 1) (omega arith) (λ t low. and_left (set t) (not (before set t)) (none t))
+no_runs set clock none = count_by_range (is_first set) (clock + 1) ∙ below_stops (is_first set) 0 (clock + 1) (omega arith) (λ t low. and_left (set t) (not (before set t)) (none t))
 
 -- the lists of numbers that weren't given add none
 no_more_lists : (floor clock next k : ℕ) (spans : List Span) → next ≤ k → AllByRecursion (IsOfGiven next) spans → run_count_of_all floor spans clock k ≡ run_count_of_all floor spans clock next
@@ -165,14 +163,10 @@ limits-later s k spans is floor clock next past owned each all =
 limits-seen : (s : State) (now : ℕ) → IsSound s → KeepsRunLimits s → KeepsRunLimits (seen s now)
 limits-seen s now sound kept = limits-later s (seen s now) (spans_of s) refl (omega arith) (omega arith) (omega arith) (all_past s.clock (spans_of s) sound.past) sound.owned kept.each kept.all
 
-or_none : (b : Bool) → (b || false) ≡ b
-or_none true = refl
-or_none false = refl
-
 other_list : (floor list t : ℕ) (spans : List Span) (span : Span) → (span.object == list) ≡ false → is_covered floor (spans ++ span ∷ []) list t ≡ is_covered floor spans list t
 other_list floor list t spans span other =
     let covers : Span → Bool = λ x. x.object == list && is_within x t in
-    ap (λ b. nat_le floor t && b) (list_any-append covers spans (span ∷ []) ∙ ap (λ b. list_any covers spans || (b || false)) (and_left (span.object == list) (is_within span t) other) ∙ or_none (list_any covers spans))
+    ap (λ b. nat_le floor t && b) (list_any-append covers spans (span ∷ []) ∙ ap (λ b. list_any covers spans || (b || false)) (and_left (span.object == list) (is_within span t) other) ∙ or_false (list_any covers spans))
 
 from_nought : (set kept : ℕ → Bool) → ((t : ℕ) → kept t ≡ set t) → IsKeptFrom 0 set kept
 from_nought set kept same t = same t ∙ sym (ap (λ b. b && set t) (le-leb 0 t (omega arith)))

@@ -12,6 +12,7 @@ use Rattle.s4_types.specs.declared.replies.Reply.{Reply}
 use Rattle.s4_types.specs.declared.requests.Role.{Role}
 use Rattle.s4_types.specs.declared.requests.Request.{Request}
 use Rattle.s4_types.specs.declared.versions.Version.TheVariants.{Absent}
+use Rattle.lemmas.proofs.List.{all_weaker, all_append}
 use Rattle.s4_model.specs.Effect.{is_change_of}
 use Rattle.s4_model.specs.Numbers.{next_by, window_by}
 use Rattle.s4_model.specs.State.{State, state_of, seen, took, new_history}
@@ -24,14 +25,6 @@ use Rattle.s4_model.proofs.StateLemmas.{state_of-seen, state_of-took}
 use Rattle.s4_model.proofs.OutcomeLemmas.{IsTaken, Outcome, OnlySaw, TookIt, outcome_of}
 use Rattle.s4_model.proofs.GrantedLemmas.{granted_is_born, granted_is_of_somebody, granted_span_ends, granted_span_is_owned}
 use Rattle.s4_model.proofs.VersionLemmas.{Ascends-push, Ascends-higher, version_of-other}
-
-all_weaker : {X : Type 0} (P Q : X → Type 0) → ((x : X) → P x → Q x) → (xs : List X) → AllByRecursion P xs → AllByRecursion Q xs
-all_weaker P Q f [] h = tt
-all_weaker P Q f (x ∷ xs) h = (f x h.0, all_weaker P Q f xs h.1)
-
-all_append : {X : Type 0} (P : X → Type 0) (xs ys : List X) → AllByRecursion P xs → AllByRecursion P ys → AllByRecursion P (xs ++ ys)
-all_append P [] ys h k = k
-all_append P (x ∷ xs) ys h k = (h.0, all_append P xs ys h.1 k)
 
 pub next_by-grows : (c : Change) (next : ℕ) → next ≤ next_by c next
 next_by-grows (Create object attribute) next = omega arith
@@ -74,7 +67,7 @@ IsSound-seen s now sound = let below : s.floor ≤ s.clock = sound.floor_reached
   given = omega arith;
   counted = sound.counted;
   stamped = Ascends-higher s.opened s.changes s.clock (max s.clock now) sound.stamped (omega arith);
-  past = all_weaker (EndsBefore s.clock) (EndsBefore (max s.clock now)) (λ span lt. omega arith) (spans_of s) sound.past;
+  past = all_weaker (EndsBefore s.clock) (EndsBefore (max s.clock now)) (spans_of s) (λ span lt. omega arith) sound.past;
   owned = sound.owned;
   unborn = sound.unborn;
   nobody = sound.nobody;
@@ -109,9 +102,9 @@ IsSound-took s role request now reply a sound taken =
       counted = AreCounted-push 1 s.changes a sound.counted (taken.counted ∙ add_comm (length s.changes) 1);
       stamped = Ascends-push s.opened s.changes s.clock a sound.stamped later;
       past = subst (AllByRecursion (EndsBefore a.moment)) (sym (spans_of-took s a)) (all_append (EndsBefore a.moment) (spans_of s) (cons_option (span_by a.change) [])
-          (all_weaker (EndsBefore s.clock) (EndsBefore a.moment) (λ span lt. omega arith) (spans_of s) sound.past)
-          (all_weaker (λ span. span.last ≤ s.clock) (EndsBefore a.moment) (λ span le. omega arith) (cons_option (span_by a.change) []) (granted_span_ends s role request a.change taken.granted taken.asked_for)));
-      owned = subst (AllByRecursion (IsOfGiven (next_by a.change s.next))) (sym (spans_of-took s a)) (all_weaker (IsOfGiven s.next) (IsOfGiven (next_by a.change s.next)) (λ span lt. omega arith) (spans_of s ++ cons_option (span_by a.change) [])
+          (all_weaker (EndsBefore s.clock) (EndsBefore a.moment) (spans_of s) (λ span lt. omega arith) sound.past)
+          (all_weaker (λ span. span.last ≤ s.clock) (EndsBefore a.moment) (cons_option (span_by a.change) []) (λ span le. omega arith) (granted_span_ends s role request a.change taken.granted taken.asked_for)));
+      owned = subst (AllByRecursion (IsOfGiven (next_by a.change s.next))) (sym (spans_of-took s a)) (all_weaker (IsOfGiven s.next) (IsOfGiven (next_by a.change s.next)) (spans_of s ++ cons_option (span_by a.change) []) (λ span lt. omega arith)
           (all_append (IsOfGiven s.next) (spans_of s) (cons_option (span_by a.change) []) sound.owned (granted_span_is_owned s role request a.change numbered taken.granted taken.asked_for)));
       unborn = unborn_stays s a sound (λ o. granted_is_born s role request a.change o sound.unborn taken.granted taken.asked_for);
       nobody = λ t. version_of-other s a 0 t (granted_is_of_somebody s role request a.change numbered sound.nobody taken.granted taken.asked_for) ∙ sound.nobody t;

@@ -1,6 +1,7 @@
 -- What the plain drive's parts answer, as a step.
 use Rattle.std.proofs.Common.{◌≡◌, ◌≢◌, inl, inr, ℕ, Bool, true, false, cond, Option, Some, Result, Ok, Err, IfOk, MatchResult, List, [], ◌∷◌, refl, sym, ap, subst, ◌∙◌, arith}
 use Rattle.std.specs.List.{find, AllByRecursion}
+use Rattle.std.proofs.lemmas.Option.{same_Some}
 use Rattle.s4_types.specs.History.{History, Took, Seen}
 use Rattle.s4_types.specs.RefusalNumber.{number_of}
 use Rattle.s4_types.specs.declared.changes.Change.{Change}
@@ -65,15 +66,12 @@ step_of s role request now reply after r h e =
     let P : State → Type 0 = λ k. Responds k role request now reply after in
     step_of_state h role request now reply after (subst P (sym e) r)
 
-some_same : (x r : Refusal) → Some x ≡ Some r → x ≡ r
-some_same x r e = cc
-
 -- what is found passes what all elements pass
 pub found_passes : (p : Refusal → Bool) (P : Refusal → Type 0) (xs : List Refusal) (r : Refusal) → AllByRecursion P xs → find p xs ≡ Some r → P r
 found_passes p P [] r all e = absurd (cc)
 found_passes p P (x ∷ xs) r all e =
     elim (p x) as (λ b. cond b (Some x) (find p xs) ≡ Some r → P r) [
-      | true ↦ λ is. subst P (some_same x r is) all.0
+      | true ↦ λ is. subst P (same_Some x r is) all.0
       | false ↦ λ is. found_passes p P xs r all.1 is
     ] e
 

@@ -79,17 +79,17 @@ answered h role request now (Some refusal) e =
 pub each_has_step : (h : History) (role : Role) (request : Request) (now : ℕ) → HasStep h role request now
 each_has_step h role request now = answered h role request now (first_refusal (judged h request now) role request) refl
 
-open_is_of_want : (refusal : Refusal) → IsLeftOpen refusal → is_of_want refusal ≡ true
-open_is_of_want ChainFull open_one = refl
-open_is_of_want NoSpace open_one = refl
-open_is_of_want Busy open_one = refl
-open_is_of_want _ open_one = absurd open_one
+pub open_lacks_resource : (refusal : Refusal) → IsLeftOpen refusal → is_of_want refusal ≡ true
+open_lacks_resource ChainFull open_one = refl
+open_lacks_resource NoSpace open_one = refl
+open_lacks_resource Busy open_one = refl
+open_lacks_resource _ open_one = absurd open_one
 
 -- a refusal that isn't of want is the first that applies
 may_is_first : {first : Option Refusal} {request : Request} {refusal : Refusal} → MayRefuse first request refusal → is_of_want refusal ≡ false → first ≡ Some refusal
 may_is_first {first} {request} {refusal} (AsFirst e) plain = e
 may_is_first {first} {request} {refusal} (ForMemory memory want) plain = absurd (true≢false (sym (ap is_of_want memory) ∙ plain))
-may_is_first {first} {request} {refusal} (AsOpen none open_one) plain = absurd (true≢false (sym (open_is_of_want refusal open_one) ∙ plain))
+may_is_first {first} {request} {refusal} (AsOpen none open_one) plain = absurd (true≢false (sym (open_lacks_resource refusal open_one) ∙ plain))
 
 change_is_no_read : (s k : State) (request : Request) (change : Change) (reply : Reply) → change_of s request ≡ Some change → reply_to_read k request ≡ Some reply → ⊥
 change_is_no_read s k (Update update) change reply e given = cc

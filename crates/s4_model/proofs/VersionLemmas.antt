@@ -37,10 +37,10 @@ pub Ascends-higher : (low : ℕ) (changes : List Accepted) (high higher : ℕ) �
 Ascends-higher low [] high higher h le = let lower : low ≤ high = h in omega arith
 Ascends-higher low (b ∷ changes) high higher h le = (h.0, Ascends-higher b.moment changes high higher h.1 le)
 
-is_by-late : (o t : ℕ) (a : Accepted) → t < a.moment → is_by o t a ≡ false
+pub is_by-late : (o t : ℕ) (a : Accepted) → t < a.moment → is_by o t a ≡ false
 is_by-late o t a lt = and_right (is_change_of o a.change) (nat_le a.moment t) (lt-leb a.moment t lt)
 
-is_by-early : (o t : ℕ) (a : Accepted) → a.moment ≤ t → is_by o t a ≡ (is_change_of o a.change && true)
+pub is_by-early : (o t : ℕ) (a : Accepted) → a.moment ≤ t → is_by o t a ≡ (is_change_of o a.change && true)
 is_by-early o t a le = ap (λ b. is_change_of o a.change && b) (le-leb a.moment t le)
 
 -- up to where the moments begin there are no changes

@@ -7,12 +7,13 @@ use Rattle.std.specs.Io.KnownBytes.{Appends}
 use Rattle.std.proofs.KnownBytes.{Appends-trans, Appends-nil}
 use Rattle.s4_types.specs.declared.spans.Span.{Span}
 use Rattle.s4_model.specs.State.{State}
-use Rattle.segment_word.specs.Frames.{Phase, Free, Open, Sealed, Draining, Frame, code_of}
+use Rattle.segment_word.specs.Frames.{Frame, code_of}
 use Rattle.segment_word.specs.Layout.{word_of}
 use Rattle.version_store.specs.Store.{StoreFields}
 use Rattle.history_view.specs.declared.listing.Listed.{Listed}
 use Rattle.history_view.specs.Listing.{AreListedFrom, IsListedNext, IsPassed}
 use Rattle.moment_words.specs.declared.printing.MomentStyle.{MomentStyle}
+use Rattle.segment_word.proofs.Words.{code_below_four}
 use Rattle.s4_reading.specs.Listing.{ListsRows, line_of_listed}
 use Rattle.s4_reading.specs.Telling.{CountsObjects, is_free_frame, objects_hidden}
 use Rattle.history_view.proofs.Fronts.{IsFront, front_begun, front_more, front_whole, flat_more}
@@ -89,18 +90,12 @@ live_among_all s store last live all before = omega (arith, before.are_live, bef
 
 -- ---- free frames
 
-few_codes : (p : Phase) → code_of p < 4
-few_codes Free = omega arith
-few_codes Open = omega arith
-few_codes Sealed = omega arith
-few_codes Draining = omega arith
-
 low_bits : (code g : ℕ) → code < 4 → (code + 4 * 0 + 2 ^ 32 * g) % 4 ≡ code
 low_bits code g few = omega (arith, few)
 
 -- the two low bits of a frame's word say whether it is free
 pub free_by_word : (k : Frame) (word : ℕ) → word ≡ word_of k 0 → (word % 4 == 0) ≡ is_free_frame k
-free_by_word k word is = ap (λ n. n == 0) (ap (λ n. n % 4) is ∙ low_bits (code_of k.phase) k.generation (few_codes k.phase))
+free_by_word k word is = ap (λ n. n == 0) (ap (λ n. n % 4) is ∙ low_bits (code_of k.phase) k.generation (code_below_four k.phase))
 
 -- ---- hidden moments
 

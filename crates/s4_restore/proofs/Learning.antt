@@ -4,6 +4,7 @@ use Rattle.std.specs.List.{AllByRecursion}
 use Rattle.std.proofs.lemmas.Bool.{true≢false}
 use Rattle.std.proofs.lemmas.List.Elements.{All-from_recursion, recursion_from_All}
 use Rattle.std.proofs.lemmas.List.Sorted.{All-permutation, IsPermutation-map, IsPermutation-refl, IsPermutation-trans}
+use Rattle.lemmas.proofs.List.{all_weaker, all_append}
 use Rattle.drive.specs.Fields.{DriveFields}
 use Rattle.history_restore.specs.declared.aims.StandIn.{StandIn}
 use Rattle.s4_command.specs.declared.restoring.RestoreAsked.{RestoreAsked}
@@ -15,7 +16,7 @@ use Rattle.restore_search.specs.declared.searches.Search.{Search}
 use Rattle.restore_search.specs.declared.surveys.Lack.TheVariants.{Journal}
 use Rattle.restore_search.specs.declared.surveys.Lacking.{Lacking}
 use Rattle.restore_search.specs.declared.surveys.Survey.{Survey}
-use Rattle.restore_search.proofs.Each.{all_both, all_map, all_of, all_one, map_one}
+use Rattle.restore_search.proofs.Each.{all_of, all_one, map_one}
 use Rattle.restore_orders.specs.declared.means.Means.{Means}
 use Rattle.restore_orders.specs.declared.orders.Order.{Order}
 use Rattle.restore_trials.specs.Surveys.{Finds, IsLackingBy, Serves}
@@ -161,11 +162,11 @@ known_left known restore stand_ins means hidings survey one shows held is =
 knows_on : (known : Option (List ℕ)) (restore : RestoreAsked) (stand_ins : List StandIn) (means : Means) (search later : Search) (survey : Survey) → Knows known restore stand_ins means search → Shows known restore stand_ins means search.hidings.items survey
     → Learns restore.flush search survey later → Knows known restore stand_ins means later
 knows_on known restore stand_ins means search later survey knows shows learns = record {
-  held = all_map later.hidings.items (λ (next : Hiding) (is : IsKnown restore.flush search.hidings.items survey next). known_held known restore stand_ins means restore.flush search.hidings.items survey next shows knows.held is) learns.hidings;
+  held = all_weaker _ _ later.hidings.items (λ (next : Hiding) (is : IsKnown restore.flush search.hidings.items survey next). known_held known restore stand_ins means restore.flush search.hidings.items survey next shows knows.held is) learns.hidings;
   lacking = subst (AreLacking known restore stand_ins means) (sym learns.lacking)
-      (all_both (λ (one : Lacking). IsLeft known restore stand_ins means one.object) search.lacking.items learns.more knows.lacking
-      (all_map learns.more (λ (one : Lacking) (is : IsLeftBy search.hidings.items survey one). known_left known restore stand_ins means search.hidings.items survey one shows knows.held is) learns.left));
-  flushed = λ unasked. all_map later.hidings.items (λ (next : Hiding) (is : IsKnown restore.flush search.hidings.items survey next). known_unhidden restore.flush search.hidings.items survey next unasked (knows.flushed unasked) is) learns.hidings;
+      (all_append (λ (one : Lacking). IsLeft known restore stand_ins means one.object) search.lacking.items learns.more knows.lacking
+      (all_weaker _ _ learns.more (λ (one : Lacking) (is : IsLeftBy search.hidings.items survey one). known_left known restore stand_ins means search.hidings.items survey one shows knows.held is) learns.left));
+  flushed = λ unasked. all_weaker _ _ later.hidings.items (λ (next : Hiding) (is : IsKnown restore.flush search.hidings.items survey next). known_unhidden restore.flush search.hidings.items survey next unasked (knows.flushed unasked) is) learns.hidings;
 }
 
 pub knows_after : (known : Option (List ℕ)) (restore : RestoreAsked) (stand_ins : List StandIn) (means : Means) (search later : Search) (found : Option Survey) (survey : Survey) → found ≡ Some survey → Knows known restore stand_ins means search
@@ -193,7 +194,7 @@ found_on known restore stand_ins means search later found knows tried settled by
   by_means = by_means;
   served = served_on known restore stand_ins means search later found tried settled full moved;
   fewest = subst (AreFewest known restore stand_ins means) (sym full)
-      (all_of (IsFewest known restore stand_ins means) room_found later.hidings.items (all_map later.hidings.items (λ (h : Hiding) (held : IsHeld known restore stand_ins means h). held.fewest) knows.held));
+      (all_of (IsFewest known restore stand_ins means) room_found later.hidings.items (all_weaker _ _ later.hidings.items (λ (h : Hiding) (held : IsHeld known restore stand_ins means h). held.fewest) knows.held));
   lacking = all_permuted (λ (one : Lacking). IsLeft known restore stand_ins means one.object) later.lacking.items found.lacking.items moved knows.lacking;
   flushed = λ unasked. subst HidesNothing (sym full) (all_of (λ (room : Room). room.count ≡ 0) room_found later.hidings.items (knows.flushed unasked));
 }

@@ -3,11 +3,6 @@ use Rattle.std.proofs.Common.{◌≡◌, ◌↔◌, ◌<◌, ◌+◌, ◌&&◌, 
 use Rattle.std.proofs.lemmas.Bool.{cases_lt}
 use Rattle.std.proofs.lemmas.List.{get_or_default, get_or-take, length-take-le}
 
--- what follows from a fact of the value holds of the value
-pub if_ok : {A E : Type 0} {P Q : A → Type 0} → (result : Result A E) → ((value : A) → P value → Q value) → IfOk result P → IfOk result Q
-if_ok (Ok value) f fact = f value fact
-if_ok (Err error) f fact = tt
-
 -- what follows from a fact of the value, and from one that holds where there is a value, holds of the value
 pub if_ok_with : {A E Q : Type 0} {P R : A → Type 0} → (result : Result A E) → ((value : A) → P value → Q → R value) → IfOk result P → OnOk result Q → IfOk result R
 if_ok_with (Ok value) f fact more = f value fact more
@@ -17,21 +12,6 @@ if_ok_with (Err error) f fact more = tt
 pub if_err_with : {A E Q : Type 0} {P R : E → Type 0} → (result : Result A E) → ((error : E) → P error → Q → R error) → IfErr result P → OnErr result Q → IfErr result R
 if_err_with (Ok value) f fact more = tt
 if_err_with (Err error) f fact more = f error fact more
-
--- what follows from a fact that holds where there is a value holds there
-pub on_ok : {A E P Q : Type 0} → (result : Result A E) → (P → Q) → OnOk result P → OnOk result Q
-on_ok (Ok value) f fact = f fact
-on_ok (Err error) f fact = tt
-
--- and from one that holds where there is an error
-pub on_err : {A E P Q : Type 0} → (result : Result A E) → (P → Q) → OnErr result P → OnErr result Q
-on_err (Ok value) f fact = tt
-on_err (Err error) f fact = f fact
-
--- what follows from a fact of the error holds of the error
-pub if_err : {A E : Type 0} {P Q : E → Type 0} → (result : Result A E) → ((error : E) → P error → Q error) → IfErr result P → IfErr result Q
-if_err (Ok value) f fact = tt
-if_err (Err error) f fact = f error fact
 
 -- both are so where one is told of both
 pub ended_there : (a b : Bool) → IsTrue (a && b) → IsTrue a × IsTrue b

@@ -9,10 +9,10 @@ use Rattle.segment_word.specs.Layout.{frame_at}
 use Rattle.segment_table.specs.Table.{Table, held_at, is_of}
 use Rattle.segment_table.specs.Room.{whole_of, pointers_in}
 use Rattle.segment_table.specs.Laws.{IsListed, ListsAllHeld, WhatIsListedIsHeld}
+use Rattle.segment_table.proofs.Emptying.{sealed_is}
 use Rattle.segment_copier.specs.declared.choices.Survey.{Survey}
 use Rattle.segment_copier.specs.Choosing.{held_count, IsSparse, GoesBefore, HoldsIn, IsLowestObject}
 use Rattle.segment_copier.specs.private.Surveying.{block_at, IsLowestIn, GoesFirst, IsBestBelow}
-use Rattle.segment_copier.proofs.Listed.{sealed_phase}
 
 -- ---- sealed frames
 
@@ -106,7 +106,7 @@ best_goes t f n o best before lowest sealed its some first fewer = record {
   lowest = lowest;
   count = its;
   sparse = record {
-    sealed = sealed_phase (frame_at t.seat.frames f).phase sealed;
+    sealed = sealed_is (frame_at t.seat.frames f).phase sealed;
     life = lowest.life;
     some = omega (arith, its, some);
     few = omega (arith, its, at_most best before first fewer);

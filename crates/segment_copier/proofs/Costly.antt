@@ -15,6 +15,7 @@ use Rattle.row_changes.specs.Moving.{row_blocks}
 use Rattle.time_read.specs.Rows.{IsRow, entries_of}
 use Rattle.segment_table.specs.Table.{Table, held_at, is_of}
 use Rattle.segment_table.specs.Room.{whole_of, pointers_in}
+use Rattle.journal_chain.proofs.Adding.{filled-none}
 use Rattle.version_store.specs.Store.{IsStore}
 use Rattle.drive.specs.Fields.{DriveFields, store_of}
 use Rattle.segment_copier.specs.Choosing.{HoldsIn}
@@ -49,13 +50,6 @@ paired filled (e ∷ entries) =
           record { all = omega (arith, here, now, later, long); later = omega (arith, here, now, all) })
     ]
 
-either_way : (b : Bool) (size : ℕ) → cond {A = ℕ} b (0 + size) size ≡ size
-either_way true size = omega arith
-either_way false size = refl
-
-starts : (size : ℕ) → filled_with 0 size ≡ size
-starts size = either_way (fits 0 size) size
-
 some_bytes : (e : EntryFields) → 0 < entry_length e
 unfolding entry_length
 some_bytes e = omega arith
@@ -67,7 +61,7 @@ halved [] = omega arith
 halved (e ∷ entries) =
     let size : ℕ = entry_length e in
     let rest = (paired (filled_with 0 size) entries).all in
-    let now : filled_with 0 size ≡ size = starts size in
+    let now : filled_with 0 size ≡ size = filled-none size in
     omega (arith, rest, now)
 
 none_where_empty : (entries : List EntryFields) → entries_length entries ≡ 0 → whole_blocks entries ≡ 0

@@ -2,7 +2,7 @@
 use Rattle.std.proofs.Common.{◌≡◌, inl, inr, ℕ, zero, suc, ◌+◌, ◌*◌, ◌<◌, ◌≤◌, Bool, true, false, List, [], ◌∷◌, ◌++◌, length, take, drop, count_by, Option, Some, None, refl, sym, ap, ◌∙◌, arith, length-append}
 use Rattle.std.specs.Prelude.{is_some, option_map}
 use Rattle.std.proofs.lemmas.Bool.{cases_Bool}
-use Rattle.std.proofs.lemmas.List.{take_all, drop_more, drop_all}
+use Rattle.std.proofs.lemmas.List.{drop_more, drop_all}
 use Rattle.std.proofs.lemmas.List.Sums.{count_by_more_yes, count_by_more_no, count_by-le-length}
 use Rattle.s4_types.specs.Pointer.{Place}
 use Rattle.block_log.specs.Log.{Stored}
@@ -14,7 +14,7 @@ use Rattle.segment_table.specs.Counts.{held_count}
 use Rattle.segment_copier.specs.declared.counting.Counted.{Counted}
 use Rattle.segment_copier.specs.Counting.{blocks_added, added_at, objects_at, objects_after, objects_in, blocks_to_move, blocks_to_empty}
 use Rattle.segment_copier.specs.private.Surveying.{block_at}
-use Rattle.segment_copier.proofs.Surveyed.{length-whole_of, whole_at, place_is}
+use Rattle.segment_copier.proofs.Surveyed.{length-whole_of, whole_at, place_is, count_all}
 
 -- ---- one block
 
@@ -48,9 +48,6 @@ is_held t p = is_some (held_at t p)
 -- how many of the first n blocks are held
 abbrev held_to : Table → ℕ → ℕ → ℕ
 held_to t f n = count_by (λ p. is_some (held_at t p)) (take n (whole_of t f))
-
-held_all : (t : Table) (f : ℕ) → held_to t f 15 ≡ held_count t f
-held_all t f = ap (λ (l : List Place). count_by (λ p. is_some (held_at t p)) l) (take_all 15 (whole_of t f) (omega (arith, length-whole_of t f)))
 
 one_more : (before : List ℕ) (held : Option Stored) → is_some held ≡ true → length (objects_at before held) ≡ length before + 1
 one_more before None some = absurd (cc)
@@ -150,7 +147,7 @@ pub objects_counted : (written : ℕ → ℕ) (t : Table) (f n : ℕ) (c : Count
 objects_counted written t f n c end all = sym (ap (objects_after t c.objects.items) (drop_all n (whole_of t f) (omega (arith, length-whole_of t f, end)))) ∙ all.others
 
 pub held_counted : (written : ℕ → ℕ) (t : Table) (f n : ℕ) (c : Counted) → n ≡ 15 → CountsTo written t f n c → length c.objects.items ≡ held_count t f
-held_counted written t f n c end all = all.held ∙ ap (λ (m : ℕ). held_to t f m) end ∙ held_all t f
+held_counted written t f n c end all = all.held ∙ ap (λ (m : ℕ). held_to t f m) end ∙ count_all t f
 
 -- no more blocks are held than a frame has
 pub few_held : (t : Table) (f : ℕ) → held_count t f ≤ 15

@@ -1,7 +1,7 @@
 -- What planned and copied moves keep.
-use Rattle.std.proofs.Common.{◌≡◌, inl, inr, ℕ, suc, ◌+◌, ◌<◌, ◌==◌, true, cond, List, [], ◌∷◌, ◌++◌, length, get_or, take, map, refl, sym, ap, subst, ◌∙◌, arith}
+use Rattle.std.proofs.Common.{◌≡◌, ℕ, ◌+◌, ◌<◌, ◌==◌, true, cond, List, [], ◌∷◌, ◌++◌, length, get_or, take, map, sym, ap, subst, ◌∙◌, arith}
 use Rattle.std.specs.List.{AllByRecursion}
-use Rattle.std.proofs.lemmas.Bool.{cases_Bool, eqb-true, eq-eqb, cond-true, cond-false}
+use Rattle.std.proofs.lemmas.Bool.{eq-eqb, cond-true}
 use Rattle.std.proofs.lemmas.List.{take_more, map-append}
 use Rattle.s4_types.specs.Pointer.{Place}
 use Rattle.segment_word.specs.Frames.{Pinned}
@@ -24,33 +24,6 @@ record IsThere (f : ℕ) (pins : List Pinned) : Type 0 where
   pub among : IsAmong pin pins
   pub frame : pin.number ≡ f
   pub contents : contents_pinned f pins ≡ pin.contents
-
-is_there : (f : ℕ) (pins : List Pinned) → 0 < pins_in f pins → IsThere f pins
-is_there f [] h = absurd (omega arith)
-is_there f (p ∷ pins) h = elim (cases_Bool (p.number == f)) [
-  | inl here ↦ record {
-    pin = p;
-    among = (0, refl);
-    frame = eqb-true p.number f here;
-    contents = cond-true (p.number == f) p.contents (contents_pinned f pins) here;
-  }
-  | inr other ↦
-      let none : ◌≡◌ {A = ℕ} (cond (p.number == f) 1 0) 0 = cond-false {A = ℕ} (p.number == f) 1 0 other in
-      let rest = is_there f pins (omega (arith, none)) in
-      record {
-        pin = rest.pin;
-        among = (suc rest.among.0, rest.among.1);
-        frame = rest.frame;
-        contents = cond-false (p.number == f) p.contents (contents_pinned f pins) other ∙ rest.contents;
-      }
-]
-
--- what is read of a block of a frame that is counted on is what the pins have of it
-pub read_bytes : (f b : ℕ) (pins : List Pinned) (bytes : List ℕ) → 0 < pins_in f pins → ((p : Pinned) → IsAmong p pins → p.number ≡ f → bytes ≡ block_bytes p.contents b)
-    → bytes ≡ block_bytes (contents_pinned f pins) b
-read_bytes f b pins bytes counted is =
-    let there = is_there f pins counted in
-    is there.pin there.among there.frame ∙ ap (λ (c : List ℕ). block_bytes c b) (sym there.contents)
 
 -- the one pin is of its frame
 one_counted : (q : Pinned) (f : ℕ) → f ≡ q.number → 0 < pins_in f (q ∷ [])

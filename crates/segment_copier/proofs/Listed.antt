@@ -1,12 +1,12 @@
 -- What is held of an object in a sealed frame, and which of it is data.
-use Rattle.std.proofs.Common.{◌≡◌, inl, inr, ℕ, zero, suc, ◌<◌, ◌≤◌, Bool, true, cond, if◌then◌else◌, List, [], ◌∷◌, length, get_or, refl, sym, ap, subst, ◌∙◌, filter, Option, Some, None, arith}
-use Rattle.std.specs.Prelude.{IsSome, slice_get}
+use Rattle.std.proofs.Common.{◌≡◌, inl, inr, ℕ, zero, suc, ◌<◌, ◌≤◌, Bool, true, cond, if◌then◌else◌, List, [], ◌∷◌, length, get_or, sym, ap, subst, ◌∙◌, filter, Some, arith}
+use Rattle.std.specs.Prelude.{slice_get}
 use Rattle.std.specs.List.{AllByRecursion, Contains}
 use Rattle.std.proofs.lemmas.Bool.{cases_Bool}
 use Rattle.std.proofs.lemmas.List.Elements.{recursion_from_All, All-from_recursion, All-get_or, Contains-get_or}
 use Rattle.s4_types.specs.Pointer.{Place}
-use Rattle.block_log.specs.Log.{Stored}
-use Rattle.segment_word.specs.Frames.{Phase, Free, Open, Sealed, Draining, is_sealed}
+use Rattle.lemmas.proofs.Contains.{contains_later}
+use Rattle.segment_word.specs.Frames.{is_sealed}
 use Rattle.segment_word.specs.Layout.{frame_at}
 use Rattle.segment_word.specs.Handles.{pin_of}
 use Rattle.segment_table.specs.Table.{Table, held_at, is_of}
@@ -16,15 +16,12 @@ use Rattle.segment_copier.specs.Moves.{is_data, data_in, IsPlaceIn}
 
 -- ---- lists
 
-pub later_has : {X : Type 0} (y x : X) (xs : List X) → Contains xs x → Contains (y ∷ xs) x
-later_has y x xs (k, h, e) = (suc k, omega arith, e)
-
 first_or_later : {X : Type 0} (test : X → Bool) (x y : X) (ys : List X) → test y ≡ true → Contains (y ∷ filter test ys) x
     → (Contains (filter test ys) x → Contains ys x × (test x ≡ true)) → Contains (y ∷ ys) x × (test x ≡ true)
 first_or_later test x y ys here (zero, h, e) rest = ((0, omega arith, e), ap test (sym e) ∙ here)
 first_or_later test x y ys here (suc k, h, e) rest =
     let found = rest (k, omega arith, e) in
-    (later_has y x ys found.0, found.1)
+    (contains_later y ys x found.0, found.1)
 
 pub passed : {X : Type 0} (test : X → Bool) (x : X) (xs : List X) → Contains (filter test xs) x → Contains xs x × (test x ≡ true)
 passed test x [] has = absurd (let h : has.0 < 0 = has.1 in omega arith)
@@ -33,21 +30,8 @@ passed {X} test x (y ∷ ys) has = elim (cases_Bool (test y)) [
       first_or_later test x y ys here at (λ later. passed test x ys later))
   | inr other ↦ (let at : Contains (filter test ys) x = subst (λ (b : Bool). Contains (cond b (y ∷ filter test ys) (filter test ys)) x) other has in
       let rest = passed test x ys at in
-      (later_has y x ys rest.0, rest.1))
+      (contains_later y ys x rest.0, rest.1))
 ]
-
-pub has_passed : {X : Type 0} (test : X → Bool) (x : X) → test x ≡ true → (xs : List X) → Contains xs x → Contains (filter test xs) x
-has_passed test x passes [] (k, h, e) = absurd (omega arith)
-has_passed {X} test x passes (y ∷ ys) (zero, h, e) =
-    let here : test y ≡ true = ap test e ∙ passes in
-    let first : Contains (y ∷ filter test ys) x = (0, omega arith, e) in
-    subst (λ (b : Bool). Contains (cond b (y ∷ filter test ys) (filter test ys)) x) (sym here) first
-has_passed {X} test x passes (y ∷ ys) (suc k, h, e) =
-    let rest : Contains (filter test ys) x = has_passed test x passes ys (k, omega arith, e) in
-    elim (cases_Bool (test y)) [
-      | inl is ↦ subst (λ (b : Bool). Contains (cond b (y ∷ filter test ys) (filter test ys)) x) (sym is) (later_has y x (filter test ys) rest)
-      | inr is ↦ subst (λ (b : Bool). Contains (cond b (y ∷ filter test ys) (filter test ys)) x) (sym is) rest
-    ]
 
 pub all_of : {X : Type 0} (P : X → Type 0) (xs : List X) → ((x : X) → Contains xs x → P x) → AllByRecursion P xs
 all_of P xs each = recursion_from_All P xs (λ k d h. each (get_or xs k d) (Contains-get_or xs k d h))
@@ -57,16 +41,6 @@ pub one_at : {X : Type 0} (P : X → Type 0) (xs : List X) (i : ℕ) (x : X) →
 one_at P xs i x all below at = subst P (sym at) (All-get_or P xs i x below (All-from_recursion P xs all))
 
 -- ---- blocks
-
-pub sealed_phase : (p : Phase) → is_sealed p ≡ true → p ≡ Sealed
-sealed_phase Free e = absurd (cc)
-sealed_phase Open e = absurd (cc)
-sealed_phase Sealed e = refl
-sealed_phase Draining e = absurd (cc)
-
-pub of_some : (o : ℕ) (held : Option Stored) → is_of o held ≡ true → IsSome held
-of_some o None e = absurd (cc)
-of_some o (Some block) e = refl
 
 -- where something is listed as held in a frame, the frame is sealed
 pub some_sealed : (t : Table) (o f : ℕ) → (pointers_in t o f ≡ [] → ⊥) → is_sealed (frame_at t.seat.frames f).phase ≡ true

@@ -1,11 +1,11 @@
 -- What holds of copies that are put in place, and of the frame that they left.
-use Rattle.std.proofs.Common.{◌≡◌, ◌⊎◌, inl, inr, ℕ, zero, suc, ◌+◌, ◌<◌, ◌≤◌, ◌==◌, ◌&&◌, nat_le, Bool, true, false, cond, if◌then◌else◌, List, [], ◌∷◌, length, take, map, filter, refl, sym, ap, subst, ◌∙◌, Option, Some, None, arith}
+use Rattle.std.proofs.Common.{◌≡◌, ◌⊎◌, inl, inr, ℕ, zero, suc, ◌+◌, ◌<◌, ◌≤◌, ◌==◌, ◌&&◌, Bool, true, false, cond, if◌then◌else◌, List, [], ◌∷◌, length, take, map, filter, refl, sym, ap, subst, ◌∙◌, Option, Some, None, arith}
 use Rattle.std.specs.Prelude.{IsSome, IfSome, IfErr, OnOk, MatchResult, Result, Ok, Err}
 use Rattle.s4_types.specs.declared.refusals.Refusal.{Refusal}
 use Rattle.s4_types.specs.declared.refusals.Refusal.TheVariants.{NoMemory, NoRoom}
 use Rattle.row_changes.specs.Moving.{row_blocks}
 use Rattle.std.specs.List.{AllByRecursion, Contains}
-use Rattle.std.proofs.lemmas.Bool.{cases_Bool, and_parts, eq-eqb, eqb-true, le-leb, leb-true}
+use Rattle.std.proofs.lemmas.Bool.{cases_Bool, and_parts, eq-eqb, eqb-true, le-leb, and_from}
 use Rattle.std.proofs.lemmas.List.Elements.{All-from_recursion, All-contains}
 use Rattle.std.proofs.lemmas.List.{length-map}
 use Rattle.s4_types.specs.Pointer.{Place}
@@ -14,6 +14,7 @@ use Rattle.block_log.specs.declared.kinds.BlockKind.TheVariants.{Journal, Checkp
 use Rattle.block_log.specs.Log.{Stored, same_kind, seen_as, of_kind}
 use Rattle.object_map.specs.declared.map.Row.{Row}
 use Rattle.atomic_table.specs.Seated.{TableId}
+use Rattle.lemmas.proofs.Contains.{contains_filter, contains_map}
 use Rattle.segment_word.specs.Handles.{Remembered}
 use Rattle.segment_word.specs.Frames.{Frame, Pinned, is_sealed}
 use Rattle.segment_word.specs.FrameRule.{AllRemembered, IsRemembered}
@@ -25,25 +26,19 @@ use Rattle.segment_table.specs.Room.{places, whole_of, places_ahead, pointers_in
 use Rattle.segment_table.specs.Laws.{IsListed, WhatIsListedIsHeld, ListsAllHeld, PlacesAheadAreInNoSealedFrame}
 use Rattle.checkpoint.specs.Held.{seen_of as checkpoint_seen}
 use Rattle.checkpoint.proofs.OwnBlocks.{first_is_seen, part_is_seen}
+use Rattle.segment_table.proofs.Listing.{of_some}
 use Rattle.chain_rewriting.specs.Renaming.{is_in}
 use Rattle.version_store.specs.declared.copies.CopiedBlock.{CopiedBlock}
 use Rattle.version_store.specs.Relocating.{AreCopies, IsRelocated, frame_of_copies, blocks_ascend_from, blocks_relocated}
+use Rattle.version_store.proofs.Appending.{ascend_weaker}
 use Rattle.drive.specs.Fields.{DriveFields, store_of}
 use Rattle.interleaving.specs.Moving.{HoldsNone}
 use Rattle.segment_copier.specs.Moves.{is_data, data_in, IsMemoryOver, IsCopyFrom}
 use Rattle.segment_copier.specs.Commits.{copy_at, copies_in, IsMovedBy, blocks_moved}
 use Rattle.segment_copier.specs.private.Copying.{IsTrueIn}
-use Rattle.segment_copier.proofs.Listed.{all_of, has_passed, data_listed, of_some}
+use Rattle.segment_copier.proofs.Listed.{all_of, data_listed}
 
 -- ---- lists
-
-has_mapped : {X Y : Type 0} (h : X → Y) (x : X) (xs : List X) → Contains xs x → Contains (map h xs) (h x)
-has_mapped h x [] (k, at, e) = absurd (omega arith)
-has_mapped h x (y ∷ ys) (zero, at, e) = (0, omega arith, ap h e)
-has_mapped h x (y ∷ ys) (suc k, at, e) =
-    let rest = has_mapped h x ys (k, omega arith, e) in
-    let inside : rest.0 < length (map h ys) = rest.1 in
-    (suc rest.0, omega arith, rest.2)
 
 -- what is among the images is the image of something
 record IsImage (X : Type 0) (Y : Type 0) (h : X → Y) (xs : List X) (y : Y) : Type 0 where
@@ -85,11 +80,8 @@ places_all t f o copies there = ap (map (λ (c : CopiedBlock). c.place)) there.a
 
 -- ---- copies
 
-both_true : (a b : Bool) → a ≡ true → b ≡ true → (a && b) ≡ true
-both_true a b x y = ap (λ (c : Bool). c && b) x ∙ y
-
 in_one_frame : (c d : CopiedBlock) (copies : List CopiedBlock) → d.place.frame ≡ c.place.frame → d.place.generation ≡ c.place.generation → is_in (frame_of_copies (c ∷ copies)) d.place ≡ true
-in_one_frame c d copies frame generation = both_true _ _ (eq-eqb _ _ frame) (eq-eqb _ _ generation)
+in_one_frame c d copies frame generation = and_from _ _ (eq-eqb _ _ frame) (eq-eqb _ _ generation)
 
 -- the places of copies, where all are of one frame at one generation
 all_in : (f g : ℕ) (copies : List CopiedBlock) → ((c : CopiedBlock) → Contains copies c → (c.place.frame ≡ f) × (c.place.generation ≡ g)) → AllByRecursion (λ c. is_in (frame_of_copies copies) c.place ≡ true) copies
@@ -98,13 +90,6 @@ all_in f g (c ∷ copies) each = all_of (λ d. is_in (frame_of_copies (c ∷ cop
     (λ d has. (let first = each c (0, omega arith, refl) in
     let this = each d has in
     in_one_frame c d copies (this.0 ∙ sym first.0) (this.1 ∙ sym first.1)))
-
-from_lower : (low high : ℕ) (copies : List CopiedBlock) → low ≤ high → blocks_ascend_from high copies ≡ true → blocks_ascend_from low copies ≡ true
-from_lower low high [] h e = refl
-from_lower low high (c ∷ copies) h e =
-    let parts = and_parts (nat_le high c.place.block) (blocks_ascend_from (suc c.place.block) copies) e in
-    let above : high ≤ c.place.block = leb-true _ _ parts.0 in
-    both_true _ _ (le-leb low c.place.block (omega arith)) parts.1
 
 -- one more place, and those after it
 one_first : (p : Place) (copies : List CopiedBlock) (behind : List Place) (b : ℕ) → p.block ≡ b
@@ -116,7 +101,7 @@ one_first p (c ∷ copies) behind b at rest e =
     let later : map (λ (d : CopiedBlock). d.place) copies ≡ behind = (cc) in
     let block : c.place.block ≡ b = ap (λ (q : Place). q.block) first ∙ at in
     let next : b + 1 ≡ suc c.place.block = omega arith in
-    both_true _ _ (le-leb b c.place.block (omega arith)) (subst (λ (n : ℕ). blocks_ascend_from n copies ≡ true) next (rest copies later))
+    and_from _ _ (le-leb b c.place.block (omega arith)) (subst (λ (n : ℕ). blocks_ascend_from n copies ≡ true) next (rest copies later))
 
 ascending : (one two : Place → Bool) (f g b n : ℕ) (copies : List CopiedBlock) → map (λ c. c.place) copies ≡ filter two (filter one (places f g b n)) → blocks_ascend_from b copies ≡ true
 unfolding places
@@ -130,9 +115,9 @@ ascending one two f g b (suc n) copies e =
       | inl passes ↦ (let here : map (λ (c : CopiedBlock). c.place) copies ≡ filter two (p ∷ behind) = e ∙ ap (λ (x : Bool). filter two (cond x (p ∷ behind) behind)) passes in
           elim (cases_Bool (two p)) [
             | inl is ↦ one_first p copies (filter two behind) b refl rest (here ∙ ap (λ (x : Bool). cond x (p ∷ filter two behind) (filter two behind)) is)
-            | inr other ↦ from_lower b (b + 1) copies (omega arith) (rest copies (here ∙ ap (λ (x : Bool). cond x (p ∷ filter two behind) (filter two behind)) other))
+            | inr other ↦ ascend_weaker b (b + 1) copies (omega arith) (rest copies (here ∙ ap (λ (x : Bool). cond x (p ∷ filter two behind) (filter two behind)) other))
           ])
-      | inr fails ↦ from_lower b (b + 1) copies (omega arith) (rest copies (e ∙ ap (λ (x : Bool). filter two (cond x (p ∷ behind) behind)) fails))
+      | inr fails ↦ ascend_weaker b (b + 1) copies (omega arith) (rest copies (e ∙ ap (λ (x : Bool). filter two (cond x (p ∷ behind) behind)) fails))
     ]
 
 still_ascending : (t : Table) (f o : ℕ) (copies : List CopiedBlock) → AreAll t f o copies → blocks_ascend_from 1 copies ≡ true
@@ -164,7 +149,7 @@ held_bytes t p =
 seen_data : (o : ℕ) (held : Option Stored) (bytes : List ℕ) → is_of o held ≡ true → is_data held ≡ true → IfSome held (λ block. block.bytes ≡ bytes) → seen_as Data o held ≡ Some bytes
 seen_data o None bytes mine kind is = absurd (cc)
 seen_data o (Some block) bytes mine kind is =
-    ap (λ (b : Bool). if b then Some block.bytes else None) (both_true (same_kind Data block.kind) (block.object == o) kind mine) ∙ ap (λ (l : List ℕ). Some l) is
+    ap (λ (b : Bool). if b then Some block.bytes else None) (and_from (same_kind Data block.kind) (block.object == o) kind mine) ∙ ap (λ (l : List ℕ). Some l) is
 
 among : (P : CopiedBlock → Type 0) (copies : List CopiedBlock) (c : CopiedBlock) → AllByRecursion P copies → Contains copies c → P c
 among P copies c all has = All-contains P copies c (All-from_recursion P copies all) has
@@ -172,7 +157,7 @@ among P copies c all has = All-contains P copies c (All-from_recursion P copies 
 still_listed : (listed : WhatIsListedIsHeld) (t : Table) (f o : ℕ) (copies : List CopiedBlock) (c : CopiedBlock) → AreAll t f o copies → Contains copies c
     → IsListed t o f c.place × (is_data (held_at t c.place) ≡ true)
 still_listed listed t f o copies c there has =
-    data_listed listed t o f c.place (subst (λ (l : List Place). Contains l c.place) (places_all t f o copies there) (has_mapped (λ (d : CopiedBlock). d.place) c copies has))
+    data_listed listed t o f c.place (subst (λ (l : List Place). Contains l c.place) (places_all t f o copies there) (contains_map (λ (d : CopiedBlock). d.place) copies c has))
 
 -- they have the bytes of their places
 still_bytes : (t : Table) (f o : ℕ) (copies : List CopiedBlock) (c : CopiedBlock) → AreAll t f o copies → Contains copies c → (copy_at t c.place).bytes ≡ c.bytes
@@ -246,7 +231,7 @@ kind_is Pointers = inr (inl (inr refl))
 kind_is Data = inr (inr refl)
 
 pub seen : (kind : BlockKind) (o : ℕ) (block : Stored) → same_kind kind block.kind ≡ true → (block.object == o) ≡ true → IsSome (seen_as kind o (Some block))
-seen kind o block is mine = subst (λ (b : Bool). IsSome (if b then Some block.bytes else None)) (sym (both_true _ _ is mine)) refl
+seen kind o block is mine = subst (λ (b : Bool). IsSome (if b then Some block.bytes else None)) (sym (and_from _ _ is mine)) refl
 
 -- a block of an object is one of its journal, of its checkpoints or of its data
 pub seen_of : (o : ℕ) (held : Option Stored) → is_of o held ≡ true → IsSome (seen_as Journal o held) ⊎ ((IsSome (seen_as Checkpoint o held) ⊎ IsSome (seen_as Pointers o held)) ⊎ IsSome (seen_as Data o held))
@@ -289,7 +274,7 @@ left_data d later f o row copies p lists there sealed moved at some =
     let both = data_seen o (held_at t p) some in
     let has : Contains (pointers_in t o p.frame) p = lists o p (ap (λ (m : ℕ). is_sealed (frame_at t.seat.frames m).phase) at ∙ sealed) both.0 in
     let here : Contains (pointers_in t o f) p = subst (λ (m : ℕ). Contains (pointers_in t o m) p) at has in
-    let among_data : Contains (data_in t o f) p = has_passed (λ q. is_data (held_at t q)) p both.1 (pointers_in t o f) here in
+    let among_data : Contains (data_in t o f) p = contains_filter (λ q. is_data (held_at t q)) p both.1 (pointers_in t o f) here in
     let from = image (λ (c : CopiedBlock). c.place) copies p (subst (λ (l : List Place). Contains l p) (sym (places_all t f o copies there)) among_data) in
     moved.gone p (from.from, (from.has, from.is))
 

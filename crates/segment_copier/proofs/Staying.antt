@@ -6,6 +6,7 @@ use Rattle.std.proofs.lemmas.Bool.{cases_Bool, cond-false, and_parts, eqb-true, 
 use Rattle.std.proofs.lemmas.Option.{none-some}
 use std.Path.{fun_ext}
 use Rattle.s4_types.specs.Pointer.{Place}
+use Rattle.lemmas.proofs.Contains.{contains_later}
 use Rattle.block_log.specs.declared.kinds.BlockKind.{BlockKind}
 use Rattle.block_log.specs.declared.kinds.BlockKind.TheVariants.{Journal, Checkpoint, Data, Pointers}
 use Rattle.block_log.specs.Log.{Stored, same_kind, seen_as, of_kind}
@@ -17,10 +18,12 @@ use Rattle.segment_table.specs.Table.{Table, slots_at, held_at, is_of}
 use Rattle.segment_table.specs.Room.{places, whole_of, pointers_in}
 use Rattle.segment_table.specs.Used.{HoldsUsedBlocks, is_named, used_slot, with_bytes}
 use Rattle.segment_table.specs.Laws.{IsListed, WhatIsListedIsHeld}
+use Rattle.segment_table.proofs.Emptying.{sealed_is}
+use Rattle.segment_table.proofs.Listing.{of_some}
 use Rattle.version_store.specs.declared.copies.CopiedBlock.{CopiedBlock}
 use Rattle.segment_copier.specs.Moves.{is_data, data_in}
 use Rattle.segment_copier.specs.Commits.{AreStillThere}
-use Rattle.segment_copier.proofs.Listed.{later_has, some_sealed, sealed_phase, of_some}
+use Rattle.segment_copier.proofs.Listed.{some_sealed}
 use Rattle.segment_copier.proofs.Placed.{seen, seen_of, data_seen, none_of}
 
 -- ---- lists
@@ -30,7 +33,7 @@ filter_alike : {X : Type 0} (one two : X → Bool) (xs : List X) → ((x : X) �
 filter_alike one two [] each = refl
 filter_alike {X} one two (x ∷ xs) each =
     ap (λ (b : Bool). cond b (x ∷ filter two xs) (filter two xs)) (each x (0, omega arith, refl))
-    ∙ ap (λ (l : List X). cond (one x) (x ∷ l) l) (filter_alike one two xs (λ y has. each y (later_has x y xs has)))
+    ∙ ap (λ (l : List X). cond (one x) (x ∷ l) l) (filter_alike one two xs (λ y has. each y (contains_later x xs y has)))
 
 -- a list that isn't empty has an element
 pub has_some : {X : Type 0} (xs : List X) → (xs ≡ [] → ⊥) → (x : X) × Contains xs x
@@ -151,4 +154,4 @@ still_there law t later f o copies some places_are same memory used =
     ap (filter (λ p. is_data (held_at later p))) pointers
     ∙ filter_alike (λ p. is_data (held_at t p)) (λ p. is_data (held_at later p)) (pointers_in t o f)
     (λ p has. data_alike o (held_at t p) (held_at later p) (seen_alike p) (law t o f p has).held) in
-    record { sealed = sealed_phase (frame_at later.seat.frames f).phase frame.sealed; some = λ none. some (sym pointers ∙ none); places = places_are ∙ sym kinds }
+    record { sealed = sealed_is (frame_at later.seat.frames f).phase frame.sealed; some = λ none. some (sym pointers ∙ none); places = places_are ∙ sym kinds }

@@ -10,15 +10,11 @@ use Rattle.codec.specs.declared.summaries.BlockRole.{BlockRole}
 use Rattle.segment_word.specs.Layout.{frame_at}
 use Rattle.segment_table.specs.Table.{Table, held_at, is_of, role_of}
 use Rattle.segment_table.specs.Room.{places, whole_of}
+use Rattle.segment_table.proofs.Ahead.{length-places}
 use Rattle.segment_copier.specs.Choosing.{held_count, IsSparse}
 use Rattle.segment_copier.specs.private.Surveying.{block_at, IsLowestTo, HoldsNothing, IsFound}
 
 -- ---- the places of a frame
-
-length-places : (f g b n : ℕ) → length (places f g b n) ≡ n
-unfolding places
-length-places f g b zero = refl
-length-places f g b (suc n) = ap suc (length-places f g (b + 1) n)
 
 get_or-places : (f g b n i : ℕ) (d : Place) → i < n → get_or (places f g b n) i d ≡ record { frame = f; block = b + i; generation = g }
 unfolding places

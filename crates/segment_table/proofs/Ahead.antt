@@ -57,7 +57,7 @@ vacant_same old new f a before after =
     (ap (λ (x : Bool). x && nat_lt ((frame_at new.frames f).generation + 1) (2 ^ 32)) after
     ∙ sym (ap (λ (x : Bool). x && nat_lt ((frame_at old.frames f).generation + 1) (2 ^ 32)) before))
 
-wholes_same : (old new : Table) (f : ℕ) (l : List ℕ) → IsAlone f old.seat new.seat → KeepsGeneration f old.seat new.seat → flat_map (whole_of new) l ≡ flat_map (whole_of old) l
+pub wholes_same : (old new : Table) (f : ℕ) (l : List ℕ) → IsAlone f old.seat new.seat → KeepsGeneration f old.seat new.seat → flat_map (whole_of new) l ≡ flat_map (whole_of old) l
 wholes_same old new f l a k =
     λ i. flat_map (λ (g : ℕ). places g (generation_alone old.seat new.seat f g a k i) 1 15) l
 

@@ -1,8 +1,7 @@
 -- A frame is marked and released: what holds of a table goes on to hold, the same is held, and what is ahead.
-use Rattle.std.proofs.Common.{◌≡◌, inl, inr, ℕ, zero, suc, ◌+◌, ◌-◌, ◌<◌, ◌≤◌, Bool, true, false, ◌==◌, ◌||◌, if◌then◌else◌, List, [], ◌∷◌, ◌++◌, length, reverse, get_or, Option, Some, None, refl, sym, ap, subst, ◌∙◌, arith}
+use Rattle.std.proofs.Common.{◌≡◌, inl, inr, ℕ, suc, ◌+◌, ◌-◌, ◌<◌, ◌≤◌, Bool, true, false, ◌==◌, ◌||◌, if◌then◌else◌, List, [], ◌∷◌, ◌++◌, length, reverse, get_or, Option, Some, None, refl, sym, ap, subst, ◌∙◌, arith}
 use Rattle.std.specs.List.{AllByRecursion, flat_map, list_any}
-use Rattle.std.specs.Prelude.{Result, Ok, Err, OnErr}
-use Rattle.std.proofs.lemmas.Bool.{cases_Bool, eq-eqb}
+use Rattle.std.proofs.lemmas.Bool.{cases_Bool, eq-eqb, or_parts}
 use Rattle.s4_types.specs.Pointer.{Place}
 use Rattle.block_log.specs.Log.{Stored}
 use Rattle.segment_word.specs.Frames.{Phase, Free, Open, Sealed, Draining, Frame, code_of, is_free, is_open, is_sealed}
@@ -15,34 +14,21 @@ use Rattle.segment_table.specs.Room.{is_filling, can_open, numbers, places, rest
 use Rattle.segment_table.specs.Sealing.{IsLetGo, IsFit, IsSummed, IsSoundTable}
 use Rattle.segment_table.specs.Changes.{IsAlone, KeepsGeneration, NoneHeld, IsMarked}
 use Rattle.segment_table.proofs.Alone.{put_here, alone, length-alone, generation_alone, numbers_alone}
-use Rattle.segment_table.proofs.Ahead.{vacant_same}
+use Rattle.segment_table.proofs.Ahead.{vacant_same, wholes_same}
 use Rattle.segment_table.proofs.Holding.{held_kept}
 use Rattle.segment_table.proofs.Sound.{fits_changed, stays, same_lives}
 use Rattle.segment_table.proofs.Spending.{spent_kept}
 use Rattle.segment_table.proofs.Steps.{same_logs}
 use Rattle.segment_table.proofs.Naming.{named_same}
-
--- no used block is held, by a test and one by one
-none_by : (held rest : Bool) → (held || rest) ≡ false → (held ≡ false) × (rest ≡ false)
-none_by true rest e = absurd (cc)
-none_by false rest e = (refl, e)
+use Rattle.segment_table.proofs.Unshared.{let_go_slot}
 
 pub all_let_go : (s : List Slot) → list_any (λ (slot : Slot). is_held slot) s ≡ false → AllByRecursion IsLetGo s
 all_let_go [] e = tt
-all_let_go (x ∷ s) e = let t = none_by (is_held x) (list_any (λ (slot : Slot). is_held slot) s) e in (t.0, all_let_go s t.1)
+all_let_go (x ∷ s) e = let t = or_parts (is_held x) (list_any (λ (slot : Slot). is_held slot) s) e in (t.0, all_let_go s t.1)
 
 any_let_go : (s : List Slot) → AllByRecursion IsLetGo s → list_any (λ (slot : Slot). is_held slot) s ≡ false
 any_let_go [] a = refl
 any_let_go (x ∷ s) a = ap (λ (b : Bool). b || list_any (λ (slot : Slot). is_held slot) s) a.0 ∙ any_let_go s a.1
-
-let_go_at : (s : List Slot) (i : ℕ) → AllByRecursion IsLetGo s → is_held (get_or s i no_slot) ≡ false
-let_go_at [] i a = refl
-let_go_at (x ∷ s) zero a = a.0
-let_go_at (x ∷ s) (suc i) a = let_go_at s i a.1
-
-let_go_slot : (s : List Slot) (b : ℕ) → AllByRecursion IsLetGo s → is_held (block_slot s b) ≡ false
-let_go_slot s zero a = refl
-let_go_slot s (suc b) a = let_go_at s b a
 
 not_stored : (slot : Slot) (bytes : List ℕ) → is_held slot ≡ false → stored slot bytes ≡ None
 not_stored slot bytes e = ap (λ (b : Bool). if b then Some (record { kind = slot.role.kind; object = slot.role.object; bytes = bytes }) else None) e
@@ -78,9 +64,6 @@ none_is_held t f none =
 rests_same : (old new : Table) (f : ℕ) (l : List ℕ) → IsAlone f old.seat new.seat → KeepsGeneration f old.seat new.seat → new.slots ≡ old.slots → flat_map (rest_of new) l ≡ flat_map (rest_of old) l
 rests_same old new f l a k slots =
     λ i. flat_map (λ (g : ℕ). places g (generation_alone old.seat new.seat f g a k i) (length (slots_at (slots i) g) + 1) (15 - length (slots_at (slots i) g))) l
-
-wholes_same : (old new : Table) (f : ℕ) (l : List ℕ) → IsAlone f old.seat new.seat → KeepsGeneration f old.seat new.seat → flat_map (whole_of new) l ≡ flat_map (whole_of old) l
-wholes_same old new f l a k = λ i. flat_map (λ (g : ℕ). places g (generation_alone old.seat new.seat f g a k i) 1 15) l
 
 pub marked_here : (old new : Table) (f : ℕ) → f < length old.seat.frames → IsMarked f old new → IsAlone f old.seat new.seat × (frame_at new.seat.frames f ≡ record (frame_at old.seat.frames f) { phase = Draining })
 marked_here old new f inside m =
@@ -129,11 +112,11 @@ sound_marked old new free current f sound inside gone m =
       fit = fits_changed old new f (slots_at old.slots f) (omega (arith, sound.counted)) at.0 (m.slots ∙ stays old.slots f) sound.fit changed;
     }
 
-sealed_phase : (p : Phase) → is_sealed p ≡ true → p ≡ Sealed
-sealed_phase Free e = absurd (cc)
-sealed_phase Open e = absurd (cc)
-sealed_phase Sealed e = refl
-sealed_phase Draining e = absurd (cc)
+pub sealed_is : (p : Phase) → is_sealed p ≡ true → p ≡ Sealed
+sealed_is Free e = absurd (cc)
+sealed_is Open e = absurd (cc)
+sealed_is Sealed e = refl
+sealed_is Draining e = absurd (cc)
 
 -- what a mark makes of a table
 pub record MarkMade (f : ℕ) (old new : Table) (free : List ℕ) (current : Option ℕ) : Type 0 where
@@ -146,7 +129,7 @@ pub mark_made : (old new : Table) (free : List ℕ) (current : Option ℕ) (f : 
     → MarkMade f old new free current
 mark_made old new free current f sound inside sealed none drive slots =
     let gone : AllByRecursion IsLetGo (slots_at old.slots f) = all_let_go (slots_at old.slots f) none in
-    let m : IsMarked f old new = record { sealed = sealed_phase (frame_at old.seat.frames f).phase sealed; unheld = none_held_at old f gone; seat = drive; slots = slots } in
+    let m : IsMarked f old new = record { sealed = sealed_is (frame_at old.seat.frames f).phase sealed; unheld = none_held_at old f gone; seat = drive; slots = slots } in
     record { marked = m; sound = sound_marked old new free current f sound inside gone m; log = log_marked old new f inside m }
 
 -- what holds of a table is a matter of its frames and its used blocks
@@ -157,8 +140,3 @@ same_sound t d free current s e =
 
 pub same_log : (t : Table) (d : Drive) → d.frames ≡ t.seat.frames → log_of (record { seat = d; slots = t.slots }) ≡ log_of t
 same_log t d e = ap (λ (l : List Frame). log_of (record { seat = record d { frames = l }; slots = t.slots })) e
-
--- what holds anyway holds of an error
-pub on_err : {T E P : Type 0} (r : Result T E) → P → OnErr r P
-on_err (Ok x) p = tt
-on_err (Err e) p = p

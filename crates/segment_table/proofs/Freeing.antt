@@ -20,7 +20,7 @@ use Rattle.segment_table.proofs.Alone.{put_here, alone, length-alone, elsewhere,
 use Rattle.segment_table.proofs.Numbers.{numbers_same}
 use Rattle.segment_table.proofs.Sound.{fits_changed}
 use Rattle.segment_table.proofs.Naming.{names_are}
-use Rattle.segment_table.proofs.Vacating.{Joins, joins, numbers_fewer, apart_from, put_back_is}
+use Rattle.segment_table.proofs.Vacating.{Joins, joins, numbers_fewer, apart_from, put_back_is, all_others}
 use Rattle.segment_table.proofs.Spending.{spent_again}
 use Rattle.segment_table.proofs.Emptying.{none_held_at, same_sound, marked_here}
 
@@ -159,10 +159,6 @@ not_less : (f : ℕ) (l : List ℕ) → AllByRecursion (λ n. n < f) l → AllBy
 not_less f [] a = tt
 not_less f (x ∷ l) a = ((λ e. let h : x < f = a.0 in omega arith), not_less f l a.1)
 
-not_more : (f : ℕ) (l : List ℕ) → AllByRecursion (λ n. f < n) l → AllByRecursion (λ n. n ≢ f) l
-not_more f [] a = tt
-not_more f (x ∷ l) a = ((λ e. let h : f < x = a.0 in omega arith), not_more f l a.1)
-
 whole_else : (old new : Table) (f : ℕ) → IsReleased f old new → (g : ℕ) → g ≢ f → whole_of new g ≡ whole_of old g
 whole_else old new f r g ne = ap (λ (k : Frame). places g k.generation 1 15) (frame_else old new f g r ne)
 
@@ -194,7 +190,7 @@ ahead_again old new f r h =
           ∙ ap (λ (p : List Place). flat_map (rest_of old) (numbers is_filling 0 old.seat.frames) ++ p)
           (ap (λ (l : List ℕ). flat_map (whole_of new) l) now ∙ parts_of (whole_of new) j.lower (f ∷ j.higher)
           ∙ ap (λ (p : List Place). p ++ (whole_of new f ++ flat_map (whole_of new) j.higher)) (alike (whole_of new) (whole_of old) f j.lower (whole_else old new f r) (not_less f j.lower j.below))
-          ∙ ap (λ (p : List Place). flat_map (whole_of old) j.lower ++ (whole_of new f ++ p)) (alike (whole_of new) (whole_of old) f j.higher (whole_else old new f r) (not_more f j.higher j.above)));
+          ∙ ap (λ (p : List Place). flat_map (whole_of old) j.lower ++ (whole_of new f ++ p)) (alike (whole_of new) (whole_of old) f j.higher (whole_else old new f r) (all_others f j.higher j.above)));
     }
 
 pub ahead_retired : (old new : Table) (f : ℕ) → IsReleased f old new → 2 ^ 32 ≤ (frame_at old.seat.frames f).generation + 2 → places_ahead new ≡ places_ahead old

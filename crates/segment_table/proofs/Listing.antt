@@ -1,10 +1,12 @@
 -- What is listed as held in a frame is just what is held there, and no place ahead lies in a sealed frame.
-use Rattle.std.proofs.Common.{◌≡◌, inl, inr, ℕ, zero, suc, ◌+◌, ◌<◌, ◌≤◌, Bool, true, false, cond, if◌then◌else◌, List, [], ◌∷◌, ◌++◌, length, refl, sym, ap, subst, ◌∙◌, filter, Option, Some, None, arith}
+use Rattle.std.proofs.Common.{◌≡◌, inl, inr, ℕ, zero, suc, ◌+◌, ◌<◌, ◌≤◌, Bool, true, false, cond, if◌then◌else◌, List, [], ◌∷◌, length, refl, sym, subst, filter, Option, Some, None, arith}
 use Rattle.std.specs.Prelude.{IsSome, nat_lt, ◌^◌, ◌-◌}
 use Rattle.std.specs.List.{AllByRecursion, Contains, flat_map}
 use Rattle.std.proofs.lemmas.Bool.{cases_Bool, cases_lt, and_parts}
 use Rattle.std.proofs.lemmas.List.Elements.{All-from_recursion, All-contains}
 use Rattle.s4_types.specs.Pointer.{Place}
+use Rattle.lemmas.proofs.List.{all_append}
+use Rattle.lemmas.proofs.Contains.{contains_first, contains_filter, contains_later}
 use Rattle.block_log.specs.Log.{Stored}
 use Rattle.segment_word.specs.Frames.{Phase, Free, Open, Sealed, Draining, Frame, is_free, is_open, is_sealed}
 use Rattle.segment_word.specs.Layout.{frame_at}
@@ -17,13 +19,9 @@ use Rattle.segment_table.proofs.Reading.{IsUsed, held_used}
 
 -- ---- lists
 
-all_join : {X : Type 0} (P : X → Type 0) (xs ys : List X) → AllByRecursion P xs → AllByRecursion P ys → AllByRecursion P (xs ++ ys)
-all_join P [] ys a b = b
-all_join P (x ∷ xs) ys a b = (a.0, all_join P xs ys a.1 b)
-
 all_flat : {X Y : Type 0} (Q : X → Type 0) (P : Y → Type 0) (h : X → List Y) → ((x : X) → Q x → AllByRecursion P (h x)) → (xs : List X) → AllByRecursion Q xs → AllByRecursion P (flat_map h xs)
 all_flat Q P h each [] a = tt
-all_flat Q P h each (x ∷ xs) a = all_join P (h x) (flat_map h xs) (each x a.0) (all_flat Q P h each xs a.1)
+all_flat Q P h each (x ∷ xs) a = all_append P (h x) (flat_map h xs) (each x a.0) (all_flat Q P h each xs a.1)
 
 all_passed : {X : Type 0} (Q P : X → Type 0) (test : X → Bool) → ((x : X) → Q x → test x ≡ true → P x) → (xs : List X) → AllByRecursion Q xs → AllByRecursion P (filter test xs)
 all_passed Q P test each [] a = tt
@@ -32,25 +30,6 @@ all_passed {X} Q P test each (x ∷ xs) a =
     elim (cases_Bool (test x)) [
       | inl passes ↦ subst (λ (b : Bool). AllByRecursion P (cond b (x ∷ filter test xs) (filter test xs))) (sym passes) (each x a.0 passes, rest)
       | inr fails ↦ subst (λ (b : Bool). AllByRecursion P (cond b (x ∷ filter test xs) (filter test xs))) (sym fails) rest
-    ]
-
-has_first : {X : Type 0} (x : X) (xs : List X) → Contains (x ∷ xs) x
-has_first x xs = (0, omega arith, refl)
-
-has_later : {X : Type 0} (y x : X) (xs : List X) → Contains xs x → Contains (y ∷ xs) x
-has_later y x xs at = (suc at.0, (let h : at.0 < length xs = at.1 in omega arith), at.2)
-
-passed_has : {X : Type 0} (test : X → Bool) (x : X) → test x ≡ true → (xs : List X) → Contains xs x → Contains (filter test xs) x
-passed_has test x passes [] (k, h, e) = absurd (omega arith)
-passed_has {X} test x passes (y ∷ ys) (zero, h, e) =
-    let here : test y ≡ true = ap test e ∙ passes in
-    subst (λ (b : Bool). Contains (cond b (y ∷ filter test ys) (filter test ys)) x) (sym here)
-    (subst (λ (z : X). Contains (z ∷ filter test ys) x) (sym e) (has_first x (filter test ys)))
-passed_has {X} test x passes (y ∷ ys) (suc k, h, e) =
-    let rest : Contains (filter test ys) x = passed_has test x passes ys (k, omega arith, e) in
-    elim (cases_Bool (test y)) [
-      | inl is ↦ subst (λ (b : Bool). Contains (cond b (y ∷ filter test ys) (filter test ys)) x) (sym is) (has_later y x (filter test ys) rest)
-      | inr is ↦ subst (λ (b : Bool). Contains (cond b (y ∷ filter test ys) (filter test ys)) x) (sym is) rest
     ]
 
 -- ---- places
@@ -65,11 +44,11 @@ unfolding places
 has_place f g b zero k h = absurd (omega arith)
 has_place f g b (suc n) zero h =
     let at : b ≡ b + 0 = omega arith in
-    subst (λ (m : ℕ). Contains (places f g b (suc n)) (record { frame = f; block = m; generation = g })) at (has_first _ _)
+    subst (λ (m : ℕ). Contains (places f g b (suc n)) (record { frame = f; block = m; generation = g })) at (contains_first _ _)
 has_place f g b (suc n) (suc k) h =
     let at : b + 1 + k ≡ b + suc k = omega arith in
     subst (λ (m : ℕ). Contains (places f g b (suc n)) (record { frame = f; block = m; generation = g })) at
-    (has_later _ _ _ (has_place f g (b + 1) n k (omega arith)))
+    (contains_later _ _ _ (has_place f g (b + 1) n k (omega arith)))
 
 all_numbers : (test : Frame → Bool) (P : ℕ → Type 0) (n : ℕ) (ks : List Frame) → ((i : ℕ) → i < length ks → test (frame_at ks i) ≡ true → P (n + i)) → AllByRecursion P (numbers test n ks)
 all_numbers test P n [] each = tt
@@ -107,7 +86,7 @@ ahead_unsealed t p has =
     let filling : AllByRecursion Q (numbers is_filling 0 frames) = all_numbers is_filling Q 0 frames (λ i h passes. subst Q (from_first i) (open_unsealed _ passes)) in
     let vacant : AllByRecursion Q (numbers can_open 0 frames) = all_numbers can_open Q 0 frames
     (λ i h passes. subst Q (from_first i) (free_unsealed _ (and_parts (is_free (frame_at frames i).phase) (nat_lt ((frame_at frames i).generation + 1) (2 ^ 32)) passes).0)) in
-    let all : AllByRecursion P (places_ahead t) = all_join P _ _
+    let all : AllByRecursion P (places_ahead t) = all_append P _ _
     (all_flat Q P (rest_of t) (λ f q. all_places P f _ _ _ (λ k low high. q)) (numbers is_filling 0 frames) filling)
     (all_flat Q P (whole_of t) (λ f q. all_places P f _ _ _ (λ k low high. q)) (numbers can_open 0 frames) vacant) in
     All-contains P (places_ahead t) p (All-from_recursion P (places_ahead t) all) has
@@ -130,7 +109,7 @@ listed_held t o f p has = elim (cases_Bool (is_sealed (frame_at t.seat.frames f)
       absurd (omega arith))
 ]
 
-of_some : (o : ℕ) (held : Option Stored) → is_of o held ≡ true → IsSome held
+pub of_some : (o : ℕ) (held : Option Stored) → is_of o held ≡ true → IsSome held
 of_some o None e = absurd (cc)
 of_some o (Some block) e = refl
 
@@ -146,7 +125,7 @@ lists_all t few o p sealed held =
     let here : Contains (whole_of t p.frame) p = subst (λ (g : ℕ). Contains (whole_of t p.frame) (record { frame = p.frame; block = p.block; generation = g })) used.generation
     (subst (λ (b : ℕ). Contains (whole_of t p.frame) (record { frame = p.frame; block = b; generation = (frame_at t.seat.frames p.frame).generation })) at has) in
     subst (λ (b : Bool). Contains (if b then filter (λ q. is_of o (held_at t q)) (whole_of t p.frame) else []) p) (sym sealed)
-    (passed_has (λ q. is_of o (held_at t q)) p held (whole_of t p.frame) here)
+    (contains_filter (λ q. is_of o (held_at t q)) p held (whole_of t p.frame) here)
 
 few_outside : (slots : List (List Slot)) (f : ℕ) → length slots ≤ f → length (slots_at slots f) ≤ 15
 few_outside [] f h = omega arith

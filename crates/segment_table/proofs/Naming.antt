@@ -1,7 +1,7 @@
 -- How often blocks of a table are named, and what a name more or less of one makes of it.
 use Rattle.std.proofs.Common.{◌≡◌, inl, inr, ℕ, zero, suc, ◌+◌, ◌-◌, ◌<◌, ◌≤◌, Bool, true, false, cond, ltb, leb, ◌==◌, ◌&&◌, List, [], ◌∷◌, ◌++◌, length, set, get_or, Option, Some, None, refl, sym, ap, subst, ◌∙◌, add-one, arith}
 use Rattle.std.proofs.lemmas.List.{get_or_past, get_or-set_same, get_or-set_other, set_past}
-use Rattle.std.proofs.lemmas.Bool.{cases_Bool, cases_eq, cases_lt, ne_eqb, cond-true, cond-false, eq-eqb, eqb-true, and_parts, ltb-true, ltb-false, lt-ltb, leb-true, leb-false}
+use Rattle.std.proofs.lemmas.Bool.{cases_Bool, cases_eq, cases_lt, ne_eqb, cond-true, cond-false, eq-eqb, ltb-true, ltb-false, lt-ltb, leb-true, leb-false}
 use Rattle.s4_types.specs.Pointer.{Place}
 use Rattle.block_log.specs.Log.{Stored, same_place, same_kind, is_data, without, with_more, with_fewer, named_with, dropped, dropped_by, NamesAreOfData}
 use Rattle.block_log.specs.declared.kinds.BlockKind.{BlockKind}
@@ -20,14 +20,7 @@ use Rattle.segment_table.proofs.Alone.{generation_alone}
 use Rattle.segment_table.proofs.Holding.{slot_last, slot_more}
 use Rattle.segment_table.proofs.Sound.{stays}
 use std.Path.{fun_ext}
-
-one_place : (p q : Place) → same_place p q ≡ true → p ≡ q
-one_place p q h =
-    let frame = and_parts (p.frame == q.frame) (p.block == q.block && p.generation == q.generation) h in
-    let rest = and_parts (p.block == q.block) (p.generation == q.generation) frame.1 in
-    ap (λ n. record p { frame = n }) (eqb-true p.frame q.frame frame.0)
-    ∙ ap (λ n. record p { frame = q.frame; block = n }) (eqb-true p.block q.block rest.0)
-    ∙ ap (λ n. record { frame = q.frame; block = q.block; generation = n }) (eqb-true p.generation q.generation rest.1)
+use Rattle.block_log.proofs.Places.{one_place}
 
 -- ---- what is named is what is held of of_data
 
@@ -93,9 +86,9 @@ names_less slot = elim (cases_Bool (same_kind slot.role.kind Data)) [
 
 -- ---- one name less
 
-slot_in : (s : List Slot) (b : ℕ) → 1 ≤ b → block_slot s b ≡ get_or s (b - 1) no_slot
-slot_in s zero low = absurd (omega arith)
-slot_in s (suc b) low = let e : b ≡ suc b - 1 = omega arith in ap (λ (n : ℕ). get_or s n no_slot) e
+pub slot_before : (s : List Slot) (b : ℕ) → 1 ≤ b → block_slot s b ≡ get_or s (b - 1) no_slot
+slot_before s zero low = absurd (omega arith)
+slot_before s (suc b) low = let e : b ≡ suc b - 1 = omega arith in ap (λ (n : ℕ). get_or s n no_slot) e
 
 module _ (old new : Table) (p : Place) (inside : p.frame < length old.slots) (low : 1 ≤ p.block) (own : (frame_at old.seat.frames p.frame).generation ≡ p.generation) (seat : new.seat ≡ old.seat)
     (slots : new.slots ≡ set old.slots p.frame (let_go (slots_at old.slots p.frame) (p.block - 1))) where
@@ -106,7 +99,7 @@ module _ (old new : Table) (p : Place) (inside : p.frame < length old.slots) (lo
   x = get_or S (p.block - 1) no_slot
 
   x_is : slot_of old p ≡ x
-  x_is = slot_in S p.block low
+  x_is = slot_before S p.block low
 
   names_p : named_at old p ≡ data_names x
   names_p = named_own old p own ∙ ap data_names x_is
@@ -215,7 +208,7 @@ module _ (old new : Table) (p : Place) (inside : p.frame < length old.slots) (lo
   z = record y { named = 1 + y.named }
 
   y_is : slot_of old p ≡ y
-  y_is = slot_in T p.block low
+  y_is = slot_before T p.block low
 
   y_names : named_at old p ≡ data_names y
   y_names = named_own old p own ∙ ap data_names y_is

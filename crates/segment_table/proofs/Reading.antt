@@ -5,6 +5,7 @@ use Rattle.std.specs.Option.{option_to_list}
 use Rattle.std.proofs.lemmas.List.{get_or_past, get_or_read, get_or-replicate, length-reverse, length-replicate}
 use Rattle.std.proofs.lemmas.Bool.{cases_Bool, cases_lt, cases_eq, eqb-true, eq-eqb, ne_eqb}
 use Rattle.s4_types.specs.Pointer.{Place}
+use Rattle.lemmas.proofs.Option.{none_not_some}
 use Rattle.block_log.specs.Log.{Stored, dropped}
 use Rattle.segment_word.specs.Frames.{Phase, Free, Open, Sealed, Draining, Frame, no_frame, is_open}
 use Rattle.segment_word.specs.Layout.{frame_at, block_bytes}
@@ -20,6 +21,7 @@ use Rattle.segment_table.proofs.Ahead.{filling_at, numbers_few, left_filling, le
 use Rattle.segment_table.proofs.Sound.{roles_gone, sound_gone}
 use Rattle.segment_table.proofs.Spending.{spent_new, spent_most}
 use Rattle.segment_table.proofs.Steps.{log_gone}
+use Rattle.segment_table.proofs.Naming.{slot_before}
 
 -- a held block is used, at its frame's generation
 pub record IsUsed (k : Frame) (s : List Slot) (b g : ℕ) : Type 0 where
@@ -28,11 +30,7 @@ pub record IsUsed (k : Frame) (s : List Slot) (b g : ℕ) : Type 0 where
   pub high : b ≤ length s
   pub held : is_held (block_slot s b) ≡ true
 
-none_not_some : {A : Type 0} (o : Option A) → o ≡ None → IsSome o → ⊥
-none_not_some (Some x) e h = cc
-none_not_some None e h = cc
-
-used_when_held : (s : List Slot) (b : ℕ) → is_held (block_slot s b) ≡ true → (1 ≤ b) × (b ≤ length s)
+pub used_when_held : (s : List Slot) (b : ℕ) → is_held (block_slot s b) ≡ true → (1 ≤ b) × (b ≤ length s)
 used_when_held s zero h = absurd (cc)
 used_when_held s (suc b) h = elim (cases_lt b (length s)) [
   | inl low ↦ (omega arith, omega arith)
@@ -167,10 +165,6 @@ role_stored (x ∷ s) zero bytes = elim (cases_Bool (is_held x)) [
   | inr h ↦ ap (λ (b : Bool). if b then Some x.role else None) h ∙ sym (ap (λ (b : Bool). option_map role_of (if b then Some (record { kind = x.role.kind; object = x.role.object; bytes = bytes }) else None)) h)
 ]
 role_stored (x ∷ s) (suc i) bytes = role_stored s i bytes
-
-pub slot_before : (s : List Slot) (b : ℕ) → 1 ≤ b → block_slot s b ≡ get_or s (b - 1) no_slot
-slot_before s zero low = absurd (omega arith)
-slot_before s (suc b) low = let e : b ≡ suc b - 1 = omega arith in ap (λ (n : ℕ). get_or s n no_slot) e
 
 -- what a block is for, where it is held
 pub role_is : (t : Table) (p : Place) → (frame_at t.seat.frames p.frame).generation ≡ p.generation → 1 ≤ p.block → held_role (slice_get (slots_at t.slots p.frame) (p.block - 1)) ≡ option_map role_of (held_at t p)

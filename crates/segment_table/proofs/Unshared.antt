@@ -86,11 +86,11 @@ fit_free f k lives free = record {
 
 -- ---- what is held
 
-gone_at : (s : List Slot) (b : ℕ) → AllByRecursion IsLetGo s → is_held (block_slot s b) ≡ false
-gone_at s zero all = refl
-gone_at [] (suc b) all = refl
-gone_at (x ∷ s) (suc zero) all = all.0
-gone_at (x ∷ s) (suc (suc b)) all = gone_at s (suc b) all.1
+pub let_go_slot : (s : List Slot) (b : ℕ) → AllByRecursion IsLetGo s → is_held (block_slot s b) ≡ false
+let_go_slot s zero all = refl
+let_go_slot [] (suc b) all = refl
+let_go_slot (x ∷ s) (suc zero) all = all.0
+let_go_slot (x ∷ s) (suc (suc b)) all = let_go_slot s (suc b) all.1
 
 nothing_either : (b : Bool) → ◌≡◌ {A = Option Stored} (if b then None else None) None
 nothing_either true = refl
@@ -98,7 +98,7 @@ nothing_either false = refl
 
 none_held : (k : Frame) (s : List Slot) (b g : ℕ) → AllByRecursion IsLetGo s → held_block k s b g ≡ None
 none_held k s b g all =
-    ap (λ (x : Bool). if k.generation == g then (if x then Some (record { kind = (block_slot s b).role.kind; object = (block_slot s b).role.object; bytes = block_bytes k.contents b }) else None) else None) (gone_at s b all)
+    ap (λ (x : Bool). if k.generation == g then (if x then Some (record { kind = (block_slot s b).role.kind; object = (block_slot s b).role.object; bytes = block_bytes k.contents b }) else None) else None) (let_go_slot s b all)
     ∙ nothing_either (k.generation == g)
 
 -- a frame of which nothing was held and nothing is held leaves what is held
@@ -124,7 +124,7 @@ unheld_owned : (roles : List BlockRole) → AllByRecursion (λ p. 1 ≤ p.object
 unheld_owned [] all = tt
 unheld_owned (x ∷ roles) all = (all.0, unheld_owned roles all.1)
 
-unheld_roles : (roles : List BlockRole) → map (λ (slot : Slot). slot.role) (unheld roles) ≡ roles
+pub unheld_roles : (roles : List BlockRole) → map (λ (slot : Slot). slot.role) (unheld roles) ≡ roles
 unheld_roles [] = refl
 unheld_roles (x ∷ roles) = ap (λ (l : List BlockRole). x ∷ l) (unheld_roles roles)
 

@@ -5,6 +5,7 @@ use Rattle.std.proofs.lemmas.Option.{slice_get-get_or, slice_get_past}
 use Rattle.std.proofs.lemmas.Bool.{cases_Bool, cases_eq, cases_lt, cond-true, cond-false, eq-eqb, ne_eqb, eqb-true, lt-ltb, le-ltb}
 use Rattle.std.proofs.Math.Seq.{map-set_same}
 use Rattle.s4_types.specs.Pointer.{Place}
+use Rattle.lemmas.proofs.Option.{none_not_some}
 use Rattle.block_log.specs.Log.{Stored, same_place, is_data}
 use Rattle.codec.specs.declared.summaries.BlockRole.{BlockRole}
 use Rattle.codec.specs.Summary.{SpellsSummary}
@@ -18,7 +19,8 @@ use Rattle.segment_table.specs.Used.{used_slot, with_bytes, is_named, used_block
 use Rattle.segment_table.specs.Sealing.{payload_of, AreWhole, IsFit, IsSoundTable}
 use Rattle.segment_table.proofs.Sound.{gone_owned, owned_at}
 use Rattle.segment_table.proofs.Viewing.{view_changed}
-use Rattle.segment_table.proofs.Reading.{IsUsed, held_used, held_frame, slot_before}
+use Rattle.segment_table.proofs.Reading.{IsUsed, held_used, held_frame}
+use Rattle.segment_table.proofs.Naming.{slot_before}
 
 -- the used block of that number
 slot_here : (s : List Slot) (b : ℕ) → 1 ≤ b → b ≤ length s → used_slot s b ≡ Some (get_or s (b - 1) no_slot)
@@ -49,10 +51,6 @@ pub record IsUsedAt (k : Frame) (s : List Slot) (b g : ℕ) : Type 0 where
   pub low : 1 ≤ b
   pub high : b ≤ length s
   pub is : used_block k s b g ≡ Some (with_bytes (block_bytes k.contents b) (get_or s (b - 1) no_slot))
-
-none_not_some : {A : Type 0} (o : Option A) → o ≡ None → IsSome o → ⊥
-none_not_some (Some x) e h = cc
-none_not_some None e h = cc
 
 pub used_is : (k : Frame) (s : List Slot) (b g : ℕ) → IsSome (used_block k s b g) → IsUsedAt k s b g
 used_is k s b g some = elim (cases_Bool (is_named k)) [
@@ -167,10 +165,6 @@ held_on old new p q inside used drive slots =
     ]
     ∙ ap (λ (o : Option Stored). if same_place p q then o else held_at old q) (sym used.is)
 
-slot_below : (s : List Slot) (b : ℕ) → 1 ≤ b → block_slot s b ≡ get_or s (b - 1) no_slot
-slot_below s zero low = absurd (omega arith)
-slot_below s (suc b) low = let e : b ≡ suc b - 1 = omega arith in ap (λ (n : ℕ). get_or s n no_slot) e
-
 -- and of data it has one name more
 pub named_on : (old new : Table) (p q : Place) → p.frame < length old.slots → IsUsedAt (frame_at old.seat.frames p.frame) (slots_at old.slots p.frame) p.block p.generation
     → new.seat ≡ old.seat → new.slots ≡ set old.slots p.frame (hold_on (slots_at old.slots p.frame) (p.block - 1))
@@ -180,7 +174,7 @@ named_on old new p q inside used drive slots =
     let slot : Slot = record (get_or (slots_at old.slots p.frame) (p.block - 1) no_slot) { named = capped (1 + n) } in
     let here : named_at old p ≡ n =
     cond-true ((frame_at old.seat.frames p.frame).generation == p.generation) (data_names (block_slot (slots_at old.slots p.frame) p.block)) 0 (eq-eqb (frame_at old.seat.frames p.frame).generation p.generation used.generation)
-    ∙ ap data_names (slot_below (slots_at old.slots p.frame) p.block used.low) in
+    ∙ ap data_names (slot_before (slots_at old.slots p.frame) p.block used.low) in
     view_changed (λ (k : Frame) (b : ℕ) (x : Slot). data_names x) 0 old new p q slot inside used.low used.high used.generation drive slots
     ∙ ap (λ (o : Option Stored). if same_place p q then (if is_data o then capped (1 + n) else 0) else named_at old q) (sym used.is)
     ∙ ap (λ (m : ℕ). if same_place p q then (if is_data (used_at old p) then capped (1 + m) else 0) else named_at old q) (sym here)

@@ -11,9 +11,9 @@ use Rattle.segment_table.specs.private.Putting.{IsPutBetween}
 use Rattle.segment_table.proofs.Numbers.{numbers_in, numbers_out}
 use Rattle.segment_table.proofs.Ahead.{numbers_few}
 
-far_from : (m : ℕ) (l : List ℕ) → AllByRecursion (λ y. m < y) l → AllByRecursion (λ y. y ≢ m) l
-far_from m [] a = tt
-far_from m (y ∷ l) a = ((λ e. let h : m < y = a.0 in omega arith), far_from m l a.1)
+pub all_others : (m : ℕ) (l : List ℕ) → AllByRecursion (λ y. m < y) l → AllByRecursion (λ y. y ≢ m) l
+all_others m [] a = tt
+all_others m (y ∷ l) a = ((λ e. let h : m < y = a.0 in omega arith), all_others m l a.1)
 
 module _ (test : Frame → Bool) where
   -- all numbers are at least the first one
@@ -104,7 +104,7 @@ module _ (test : Frame → Bool) where
   -- a frame that doesn't pass isn't among them
   pub numbers_apart_from : (n f : ℕ) (ks : List Frame) → test (frame_at ks f) ≡ false → AllByRecursion (λ x. x ≢ n + f) (numbers test n ks)
   numbers_apart_from n f [] t = tt
-  numbers_apart_from n zero (x ∷ ks) t = subst (AllByRecursion (λ y. y ≢ n + 0)) (sym (numbers_out test n x ks t)) (far_from (n + 0) (numbers test (n + 1) ks) (least (n + 0) (n + 1) ks (omega arith)))
+  numbers_apart_from n zero (x ∷ ks) t = subst (AllByRecursion (λ y. y ≢ n + 0)) (sym (numbers_out test n x ks t)) (all_others (n + 0) (numbers test (n + 1) ks) (least (n + 0) (n + 1) ks (omega arith)))
   numbers_apart_from n (suc f) (x ∷ ks) t =
       let r : AllByRecursion (λ y. y ≢ n + suc f) (numbers test (n + 1) ks) = subst (λ (m : ℕ). AllByRecursion (λ y. y ≢ m) (numbers test (n + 1) ks)) (omega arith) (numbers_apart_from (n + 1) f ks t) in
       elim (cases_Bool (test x)) [

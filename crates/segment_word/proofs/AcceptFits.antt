@@ -6,10 +6,11 @@ use lib.ListN.{get_elem?}
 use Rattle.atomic_table.proofs.Lists.{at_longer, at_last}
 use Rattle.s4_types.specs.declared.changes.Change.{Change}
 use Rattle.s4_types.specs.History.{accepted}
+use Rattle.lemmas.proofs.List.{prefix_trans}
 use Rattle.segment_word.specs.AcceptViews.{Told, Ledger, AcceptView, Driving, Lent, Attending, Beside, Carried, Spent, new_session, told_of, with_change, count_of, caught_up, credited}
 use Rattle.segment_word.specs.AcceptRule.{FitsLedger, Suits, first_ledger}
 use Rattle.segment_word.specs.AcceptHandles.{SessionsShareNone, ToldShareNone}
-use Rattle.segment_word.proofs.AcceptLists.{prefix_all, prefix_trans, prefix_length, count-change, own_more, own_one_more, own_at}
+use Rattle.segment_word.proofs.AcceptLists.{prefix_all, prefix_length, count-change, own_more, own_one_more, own_at}
 
 pub fits_new : (l : Ledger) (seat : ℕ) → FitsLedger l (new_session seat)
 fits_new l seat = record { seen = (accepted l.history, refl); mine = omega arith }

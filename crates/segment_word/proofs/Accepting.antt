@@ -8,10 +8,11 @@ use Rattle.atomic_table.specs.Table.{step, keeps, opening, Allows, Enters}
 use Rattle.atomic_table.proofs.Lists.{set_again}
 use Rattle.s4_types.specs.declared.changes.Change.{Change}
 use Rattle.s4_types.specs.History.{Base, accepted}
+use Rattle.lemmas.proofs.List.{prefix_trans}
 use Rattle.segment_word.specs.AcceptViews.{Told, Ledger, AcceptView, Driving, Lent, Attending, Beside, begun, blank_base, new_session, ledger_of, told_of, with_moment, with_change, next_change, count_of, caught_up, credited}
 use Rattle.segment_word.specs.AcceptRule.{FitsLedger, Suits, AreNumbered, AcceptRules, AcceptRule, first_ledger}
 use Rattle.segment_word.specs.AcceptSteps.{AcceptSat, TakesChange, Learns, Notes, CountsChanges, Begins, Comes, Sheds}
-use Rattle.segment_word.proofs.AcceptLists.{prefix_all, prefix_trans, after_moment, after_change, count-change, numbered_one_more}
+use Rattle.segment_word.proofs.AcceptLists.{prefix_all, after_moment, after_change, count-change, numbered_one_more}
 use Rattle.segment_word.proofs.AcceptFits.{fits_new, fits_caught_up, fits_credited, suits_more}
 use Rattle.segment_word.proofs.AcceptViews.{first-at, first-kept, first-added, suits_set, suits_added, drive_step, same_ledger}
 

@@ -5,6 +5,7 @@ use lib.Seq.{paste, length-paste, length_paste_head, get_or-append-add, get_or-a
 use lib.ListN.{get_or-append}
 use Rattle.std.proofs.lemmas.Nat.{be_bytes_8}
 use Rattle.byteorder.specs.Endian.{big_bytes, big_number}
+use Rattle.lemmas.proofs.Nat.{add_rest}
 use Rattle.segment_word.specs.Frames.{Frame}
 use Rattle.segment_word.specs.Layout.{block_bytes, first_words, block_words, with_block}
 use Rattle.segment_word.proofs.BlockWords.{length-block_words}
@@ -52,16 +53,13 @@ before contents words at n j long full h =
     ∙ get_or-append (take at contents) (take n words) 0 j (omega arith)
     ∙ get_or-take at contents j 0 h
 
-back_to : (n j : ℕ) → n ≤ j → n + (j - n) ≡ j
-back_to n j h = omega arith
-
 pub behind : (contents words : List ℕ) (at n j : ℕ) → at + n ≤ length contents → n ≤ length words → at + n ≤ j → get_or (paste contents at words n) j 0 ≡ get_or contents j 0
 behind contents words at n j long full h =
     let head : length (take at contents ++ take n words) ≡ at + n = length_paste_head contents at words n (omega arith) full in
     get_or-append_right (take at contents ++ take n words) (drop (at + n) contents) j 0 (omega arith)
     ∙ ap (λ (m : ℕ). get_or (drop (at + n) contents) (j - m) 0) head
     ∙ get_or-drop (at + n) contents (j - (at + n)) 0
-    ∙ ap (λ (m : ℕ). get_or contents m 0) (back_to (at + n) j h)
+    ∙ ap (λ (m : ℕ). get_or contents m 0) (add_rest (at + n) j h)
 
 outside : (contents words : List ℕ) (b c i : ℕ) → c ≢ b → i < 64 → 64 * b + 64 ≤ length contents → 64 ≤ length words
     → get_or (paste contents (64 * b) words 64) (64 * c + i) 0 ≡ get_or contents (64 * c + i) 0

@@ -13,7 +13,7 @@ use Rattle.segment_word.specs.Counting.{pins_in, readers, drive_frames}
 use Rattle.segment_word.specs.FrameRule.{IsKeptFrame, Agrees, AllAgree, AllRemembered, FrameRules, FrameRule}
 use Rattle.segment_word.specs.Steps.{Sat, Pins, Unpins, with_pins, older}
 use Rattle.segment_word.proofs.Sums.{readers-set, frames-set, counts_one, counts_none}
-use Rattle.segment_word.proofs.Words.{below_four, apart}
+use Rattle.segment_word.proofs.Words.{apart, code_below_four}
 use Rattle.segment_word.proofs.Changes.{stays, changed, agree_set, memories_set}
 use Rattle.segment_word.proofs.Looking.{unmoved}
 
@@ -67,10 +67,10 @@ has_place words i some_word = elim (dec_le (length words) i) as (λ _. i < lengt
 
 -- what a state word of a frame says by its bits
 says_sealed : (k : Frame) (n old : ℕ) → n ≤ 1048576 → k.generation < 2 ^ 32 → old ≡ word_of k n → old % 4 ≡ 2 → code_of k.phase ≡ 2
-says_sealed k n old few small is two = let b = below_four k.phase in omega arith
+says_sealed k n old few small is two = let b = code_below_four k.phase in omega arith
 
 says_readers : (k : Frame) (n old : ℕ) → n ≤ 1048576 → k.generation < 2 ^ 32 → old ≡ word_of k n → old % 2 ^ 32 / 4 ≡ n
-says_readers k n old few small is = let b = below_four k.phase in omega arith
+says_readers k n old few small is = let b = code_below_four k.phase in omega arith
 
 pub pins : (slots id : ℕ) (me : Sat) (f old new : ℕ) → old % 4 ≡ 2 → old % 2 ^ 32 / 4 < 1048576 → new ≡ old + 4
     → Allows FrameRule slots id me (1025 * f) (λ n. either (eqb n old) new n) (Pins (step slots (1025 * f) old new none) me)
@@ -118,7 +118,7 @@ unpins slots id me f p ps has here s r _ at small =
     let one : pins_in f me.0.pins ≡ 1 + pins_in f (older me.0.pins) = ap (pins_in f) has ∙ counts_new f p ps here ∙ ap (λ (l : List Pinned). 1 + pins_in f l) (sym rest) in
     let fewer : readers f s.views ≡ readers f (set s.views id w) + 1 = let t = readers-set f s.views id me.0 w at in omega arith in
     let x : ℕ = (slice_index s.words (1025 * f) + (2 ^ 64 - 4)) % 2 ^ 64 in
-    let new : x ≡ word_of k (readers f (set s.views id w)) = let w0 = is.state in let c = is.counted in let g = is.numbered in let b = below_four k.phase in omega arith in (
+    let new : x ≡ word_of k (readers f (set s.views id w)) = let w0 = is.state in let c = is.counted in let g = is.numbered in let b = code_below_four k.phase in omega arith in (
       w,
       keeps,
       tt,

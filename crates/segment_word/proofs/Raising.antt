@@ -9,7 +9,7 @@ use Rattle.segment_word.specs.Counting.{readers, drive_frames}
 use Rattle.segment_word.specs.FrameRule.{IsKeptFrame, Agrees, AllAgree, FrameRules, FrameRule}
 use Rattle.segment_word.specs.Steps.{Sat, Raises, raised, next_phase, with_frame}
 use Rattle.segment_word.proofs.Sums.{readers-set, frames-first, frames-drive}
-use Rattle.segment_word.proofs.Words.{below_four, apart}
+use Rattle.segment_word.proofs.Words.{apart, code_below_four}
 use Rattle.segment_word.proofs.Changes.{GoesOn, changed, agrees_set, agree_set, memories_set}
 
 next_code : (p : Phase) → code_of p < 3 → code_of (next_phase p) ≡ code_of p + 1
@@ -38,7 +38,7 @@ raised_kept words n f x k is inside low may e =
     let code = next_code k.phase low in
     let w = is.state in
     let c = is.counted in
-    let b = below_four k.phase in
+    let b = code_below_four k.phase in
     let g = is.numbered in
     let fits : slice_index words (1025 * f) + 1 < 2 ^ 64 = omega arith in
     let new : x ≡ slice_index words (1025 * f) + 1 = e ∙ mod-eq_of_lt fits in

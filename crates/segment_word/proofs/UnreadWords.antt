@@ -13,7 +13,7 @@ use Rattle.segment_word.specs.Frames.{Phase, Free, Open, Sealed, Draining, Frame
 use Rattle.segment_word.specs.Layout.{frame_at, frame_of, frames_of, phase_of, block_bytes, block_words, with_block}
 use Rattle.segment_word.specs.private.UnreadWords.{IsUnreadWord, AreFrameWords}
 use Rattle.s4_types.specs.Sizes.{IsFrameCount}
-use Rattle.segment_word.proofs.Words.{below_four, apart}
+use Rattle.segment_word.proofs.Words.{apart, code_below_four}
 use Rattle.segment_word.proofs.Opening.{length-frames_of, first_frames-at, contents-at, length-contents, state-at}
 use Rattle.segment_word.proofs.BlockWords.{is_block, length-block_words}
 use Rattle.segment_word.proofs.BlockBytes.{replaced, before, behind, stored_here, stored_elsewhere}
@@ -69,7 +69,7 @@ are_changed old new f are long else here = record {
       (λ far. subst IsUnreadWord (sym (else g (λ e. far (sym e)))) (are.states g low));
 }
 
-phase_of-code_of : (p : Phase) → phase_of (code_of p) ≡ p
+pub phase_of-code_of : (p : Phase) → phase_of (code_of p) ≡ p
 phase_of-code_of Free = refl
 phase_of-code_of Open = refl
 phase_of-code_of Sealed = refl
@@ -78,7 +78,7 @@ phase_of-code_of Draining = refl
 -- a phase and a generation make a state word that counts no reader
 pub made_unread : (p : Phase) (g x : ℕ) → x ≡ code_of p + g * 2 ^ 32 → 1 ≤ g → g < 2 ^ 32 → (0 < code_of p → g + 1 < 2 ^ 32) → IsUnreadWord x
 made_unread p g x is started low goes =
-    let small : code_of p < 4 = below_four p in
+    let small : code_of p < 4 = code_below_four p in
     record {
       unread = omega arith;
       started = omega arith;
@@ -93,7 +93,7 @@ state_written words f x g p are inside is =
     let new : List ℕ = set words (1025 * f) x in
     let long : length new ≡ length words = length-set words (1025 * f) x in
     let here : slice_index (drop (1025 * f) new) 0 ≡ x = state-at new f ∙ get_or-set_same words (1025 * f) x 0 (omega (arith, are.whole)) in
-    let small : code_of p < 4 = below_four p in
+    let small : code_of p < 4 = code_below_four p in
     let code : x % 4 ≡ code_of p = omega arith in
     let high : x / 2 ^ 32 ≡ g = omega arith in
     let blocks : (frame_of (drop (1025 * f) new)).contents ≡ (frame_of (drop (1025 * f) words)).contents =

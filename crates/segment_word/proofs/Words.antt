@@ -3,11 +3,11 @@ use Rattle.std.proofs.Common.{◌≡◌, ◌≢◌, ℕ, ◌+◌, ◌*◌, ◌<�
 use Rattle.segment_word.specs.Frames.{Phase, Free, Open, Sealed, Draining, code_of}
 
 -- two bits hold a phase
-pub below_four : (p : Phase) → code_of p < 4
-below_four Free = omega arith
-below_four Open = omega arith
-below_four Sealed = omega arith
-below_four Draining = omega arith
+pub code_below_four : (p : Phase) → code_of p < 4
+code_below_four Free = omega arith
+code_below_four Open = omega arith
+code_below_four Sealed = omega arith
+code_below_four Draining = omega arith
 
 -- the state word of a frame is no word of another
 pub apart : (words : List ℕ) (f g m x : ℕ) → g ≢ f → m < 1025 → slice_index (set words (1025 * f) x) (1025 * g + m) ≡ slice_index words (1025 * g + m)

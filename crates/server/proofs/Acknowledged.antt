@@ -7,7 +7,6 @@ use mathlib.Core.List.{IsPrefix}
 use lib.ListN.{get_elem?}
 use Rattle.s4_types.specs.History.{Base, History, Record, Took, Seen, accepted}
 use Rattle.s4_types.specs.declared.changes.Accepted.{Accepted}
-use Rattle.s4_types.specs.declared.changes.Change.{Change}
 use Rattle.s4_types.specs.declared.changes.Change.TheVariants as change
 use Rattle.s4_types.specs.declared.versions.Version.{Version}
 use Rattle.s4_types.specs.declared.versions.Version.TheVariants.{Absent, Live}
@@ -16,6 +15,7 @@ use Rattle.s4_types.specs.declared.requests.Request.{Request}
 use Rattle.s4_types.specs.declared.requests.Request.TheVariants as request
 use Rattle.s4_types.specs.declared.requests.Question.TheVariants as question
 use Rattle.s4_types.specs.declared.replies.Reply.{Reply}
+use Rattle.lemmas.proofs.List.{prefix_trans}
 use Rattle.s4_model.specs.State.{State, state_of, grown, took, seen}
 use Rattle.s4_model.specs.Step.{Step, Refuses, Serves, Alters, Reads, judged, change_of, reply_at, data_of, attributes_of, reply_to_read, accepted_record}
 use Rattle.segment_word.specs.AcceptViews.{Ledger, Told, caught_up, credited, count_of}
@@ -24,6 +24,7 @@ use Rattle.rpc.specs.declared.items.Item.TheVariants.{Whole, BadFrame}
 use Rattle.serving.specs.Answering.{Turn, Run}
 use Rattle.drive.specs.Fields.{SessionFields}
 use Rattle.drive.specs.Answering.{is_acceptance, told_after}
+use Rattle.drive.proofs.Served.{accepts_change}
 use Rattle.server.specs.Drawing.{ClockFields, DrawsNothing, moment_at}
 use Rattle.server.specs.declared.clocks.Undrawn.{Undrawn}
 use Rattle.server.specs.Attending.{SeatFields, SeatSteps, is_request}
@@ -31,9 +32,6 @@ use Rattle.server.specs.Sharing.{SharedStep, IsFresh}
 use Rattle.server.specs.Acknowledged.{Acknowledges, AreAcknowledged}
 
 -- ---- beginnings of lists
-
-prefix_trans : {A : Type 0} (xs ys zs : List A) → IsPrefix xs ys → IsPrefix ys zs → IsPrefix xs zs
-prefix_trans xs ys zs p q = (p.0 ++ q.0, sym (append_assoc xs p.0 q.0) ∙ (ap (λ w. w ++ q.0) p.1 ∙ q.1))
 
 at_longer : {A : Type 0} (xs more : List A) (i : ℕ) (a : A) → get_elem? xs i ≡ some a → get_elem? (xs ++ more) i ≡ some a
 at_longer [] more i a at = absurd (some-ne-none a (sym at))
@@ -55,16 +53,6 @@ in_longer changes later item reply n grows a = record {
 }
 
 -- ---- which replies accept
-
-pub change_accepts : (c : Change) (m : ℕ) → is_acceptance (reply_at c m) ≡ true
-change_accepts (change.Create o attribute) m = refl
-change_accepts (change.Delete o) m = refl
-change_accepts (change.Write o offset bytes) m = refl
-change_accepts (change.Truncate o size) m = refl
-change_accepts (change.SetAttr o attribute) m = refl
-change_accepts (change.SetWindow window) m = refl
-change_accepts (change.Flush first last) m = refl
-change_accepts (change.FlushO o first last) m = refl
 
 -- whether there is a reply that accepts
 abbrev pub accepts : Option Reply → Bool
@@ -120,7 +108,7 @@ none_gained l l' item reply old new had same not told =
 one_gained : (l l' : Ledger) (r : Request) (reply : Reply) (old new : Told) (s : State) (a : Accepted) → IsPrefix old.seen (accepted l.history) → accepted l'.history ≡ accepted l.history ++ a ∷ []
     → a.number ≡ length (accepted l.history) + 1 → change_of s r ≡ Some a.change → reply ≡ reply_at a.change a.moment → new ≡ told_after reply l' old → GainsOne (Whole r) reply old new
 one_gained l l' r reply old new s a had more number asked reply_is told =
-    let yes : is_acceptance reply ≡ true = ap is_acceptance reply_is ∙ change_accepts a.change a.moment in
+    let yes : is_acceptance reply ≡ true = ap is_acceptance reply_is ∙ accepts_change a.change a.moment in
     let is : new ≡ credited l' old = told ∙ ap (λ (b : Bool). if b then credited l' old else caught_up l' old) yes in
     let seen_is : new.seen ≡ accepted l.history ++ a ∷ [] = ap (λ (t : Told). t.seen) is ∙ more in
     let n : ℕ = count_of l' in

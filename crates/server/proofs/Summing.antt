@@ -12,9 +12,10 @@ use Rattle.s4_model.specs.Step.{Step, Refuses, Serves, Alters, Reads, judged, ac
 use Rattle.serving.specs.Drawing.{moment_of_tick}
 use Rattle.drive.specs.Fields.{DriveFields, history_of, state_in}
 use Rattle.drive.specs.Answering.{is_acceptance}
+use Rattle.drive.proofs.Served.{accepts_change}
 use Rattle.server.specs.Drawing.{ClockFields, moment_at}
 use Rattle.server.specs.Sequence.{Event, Answers, Tends, IsAnswered, Makes, is_answer, is_accepted}
-use Rattle.server.proofs.Acknowledged.{change_accepts, accepts, reads_accept_nothing}
+use Rattle.server.proofs.Acknowledged.{accepts, reads_accept_nothing}
 
 -- a tick more
 tick_more : (k tick : ℕ) → (k + 1) * tick ≡ k * tick + tick
@@ -37,7 +38,7 @@ module _ (by_moments : (h : History) (now : ℕ) → state_of (grown h (Seen now
       let a : Accepted = accepted_record (state_of h) c now in
       let same : state_of h' ≡ took (state_of h) a = ap state_of grows ∙ (ap (λ (x : Record). state_of (grown h x)) rec_is ∙ by_changes h a) in
       let more = length-append (state_of h).changes (a ∷ []) in
-      subst (λ (b : Bool). GoesOn (state_of h) (state_of h') now b) (sym (ap is_acceptance is ∙ change_accepts c a.moment))
+      subst (λ (b : Bool). GoesOn (state_of h) (state_of h') now b) (sym (ap is_acceptance is ∙ accepts_change c a.moment))
       (subst (λ (s : State). GoesOn (state_of h) s now true) (sym same) (record { changes = more; clock = omega arith }))
   goes_on h h' role request now reply (Serves rec free (Reads is rec_is) grows) =
       saw h h' now (is_acceptance reply) (sym (ap accepts is) ∙ reads_accept_nothing (judged h request now) request) (grows ∙ ap (grown h) rec_is)

@@ -3,6 +3,7 @@ use Rattle.std.proofs.Common.{◌≡◌, ℕ, ◌<◌, List, [], ◌∷◌, ◌+
 use Rattle.std.proofs.lemmas.Grind.{flat_map-append}
 use Rattle.std.specs.Io.KnownBytes.{Appends}
 use Rattle.std.proofs.KnownBytes.{Appends-nil, Appends-trans, Appends-kept}
+use Rattle.std.proofs.lemmas.List.{map-id}
 use Rattle.s4_types.specs.declared.requests.Request.{Request}
 use Rattle.s4_types.specs.declared.replies.Reply.{Reply}
 use Rattle.s4_types.specs.declared.replies.Reply.TheVariants.{Refused}
@@ -164,13 +165,9 @@ module _ {B C : Type 0} (steps : B → Request → ℕ → Reply → B → Type 
   one_item item reply b b' c c' o o' (Err Oversized) answered h = absurd h
   one_item item reply b b' c c' o o' (Err ReadFailed) answered h = absurd h
 
-map-same : {X : Type 0} (xs : List X) → map (λ x. x) xs ≡ xs
-map-same [] = refl
-map-same (x ∷ xs) = ap (λ ys. x ∷ ys) (map-same xs)
-
 -- a loop over a list has passed a beginning of it, and is at the next item
 pub passed_items : {X : Type 0} (all passed : List X) (x : X) → map (λ y. y) passed ≡ take (length passed) all → (length passed < length all) × (x ≡ get_or all (length passed) x)
     → all ≡ passed ++ (x ∷ drop (suc (length passed)) all)
 passed_items all passed x front here =
     sym (take-append-drop (length passed) all)
-    ∙ ap₂ (λ a b. a ++ b) (sym front ∙ map-same passed) (drop-cons all (length passed) x here.0 ∙ ap (λ y. y ∷ drop (suc (length passed)) all) (sym here.1))
+    ∙ ap₂ (λ a b. a ++ b) (sym front ∙ map-id passed) (drop-cons all (length passed) x here.0 ∙ ap (λ y. y ∷ drop (suc (length passed)) all) (sym here.1))

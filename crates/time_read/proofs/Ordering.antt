@@ -15,6 +15,7 @@ use Rattle.object_map.specs.declared.map.Row.{Row}
 use Rattle.time_read.specs.Rows.{entries_of, first_of, inode_of, IsRow}
 use Rattle.time_read.specs.Orderly.{inode_behind, IsFromTo, BeginsDead, IsOrderlyChain, IsOrderly}
 use Rattle.time_read.proofs.Staying.{same_entries, same_first}
+use Rattle.std.proofs.lemmas.Bool.{le-leb}
 
 -- ---- what stays
 
@@ -34,10 +35,10 @@ stamped_orderly held o latest n row h = record { made = h.made; chain = h.chain;
 
 -- ---- later moments
 
-from_to_later : (first a b t : ℕ) → a ≤ b → IsFromTo first a t → IsFromTo first b t
+pub from_to_later : (first a b t : ℕ) → a ≤ b → IsFromTo first a t → IsFromTo first b t
 from_to_later first a b t le h = (h.0, (let by : t ≤ a = h.1 in omega (arith, by, le)))
 
-moments_later : (created a b : ℕ) (entries : List EntryFields) → a ≤ b → AllByRecursion (λ e. IsFromTo created a e.moment) entries → AllByRecursion (λ e. IsFromTo created b e.moment) entries
+pub moments_later : (created a b : ℕ) (entries : List EntryFields) → a ≤ b → AllByRecursion (λ e. IsFromTo created a e.moment) entries → AllByRecursion (λ e. IsFromTo created b e.moment) entries
 moments_later created a b [] le h = tt
 moments_later created a b (e ∷ entries) le h = (from_to_later created a b e.moment le h.0, moments_later created a b entries le h.1)
 
@@ -91,3 +92,8 @@ is_current done later held o row n t by past =
 pub changed_in : (held : Place → Option Stored) (o : ℕ) (row : Row) (t latest n : ℕ) → inode_of held o row t ≡ inode_behind (first_of held o row) (entries_of held o row) n → IsOrderly held o row latest → (inode_of held o row t).alive ≡ true → IsFromTo row.created latest (inode_of held o row t).changed
 changed_in held o row t latest n is h alive =
     subst (λ (i : Inode). IsFromTo row.created latest i.changed) (sym is) (h.chain.changed n (sym (ap (λ (i : Inode). i.alive) is) ∙ alive))
+
+-- what is from one moment to another is by the later one
+pub all_by_last : (c latest : ℕ) (entries : List EntryFields) → AllByRecursion (λ e. IsFromTo c latest e.moment) entries → AllBy latest entries
+all_by_last c latest [] h = tt
+all_by_last c latest (e ∷ entries) h = (le-leb e.moment latest h.0.1, all_by_last c latest entries h.1)

@@ -1,7 +1,7 @@
 -- A plan as far as it has come.
 use Rattle.std.proofs.Common.{◌≡◌, ℕ, ◌+◌, ◌-◌, ◌/◌, ◌%◌, ◌<◌, ◌≤◌, ◌==◌, ◌⊎◌, ◌↔◌, ◌++◌, ◌||◌, Bool, true, false, true≢false, min, List, [], ◌∷◌, map, length, take, drop, slice_index, slice_index_or, Option, Some, None, inl, inr, refl, ap, sym, subst, ◌∙◌, arith}
 use Rattle.std.specs.List.{list_any, range_with_len}
-use Rattle.std.proofs.lemmas.Bool.{cond-false, cond-true, cases_lt, eq-eqb, ne_eqb}
+use Rattle.std.proofs.lemmas.Bool.{cond-true, cases_lt, eq-eqb}
 use Rattle.std.proofs.lemmas.Option.{none-some}
 use Rattle.std.proofs.lemmas.List.{get_or_append_left, get_or-append_right, get_or-replicate, get_or_default}
 use Rattle.std.proofs.lemmas.List.FromFn.{map-range_with_len_more, length-map-range_with_len, get_or-map-range_with_len}
@@ -18,6 +18,7 @@ use Rattle.segment_word.specs.Handles.{Held}
 use Rattle.segment_word.specs.Layout.{block_bytes}
 use Rattle.segment_word.specs.Counting.{pins_in}
 use Rattle.segment_table.specs.Table.{Table, held_at}
+use Rattle.inode.proofs.Touching.{touched_some}
 use Rattle.time_read.specs.Plans.{Piece, Hole, Copied, Pinned, PlanFields, pins_held, piece_of, pieces_of, piece_bytes, byte_planned, bytes_planned, is_pinned, is_pinned_in, IsAt}
 use Rattle.time_read.specs.private.Planning.{Keeps, AddsPiece}
 
@@ -129,9 +130,6 @@ unfolding slot_bytes zeros
 slot_byte contents None n lt = get_or-replicate {A = ℕ} 512 n 0 0 lt
 slot_byte contents (Some p) n lt = refl
 
-touched : (offset count : ℕ) → 0 < count → touched_count offset count ≡ (offset + count - 1) / 512 + 1 - offset / 512
-touched offset count some = cond-false (count == 0) 0 ((offset + count - 1) / 512 + 1 - offset / 512) (ne_eqb count 0 (λ (e : count ≡ 0). omega arith))
-
 planned_byte : (t : Table) (i : Inode) (offset count n : ℕ) (plan : PlanFields) → Planned t i (offset / 512) (touched_count offset count) plan → n < count
     → byte_planned plan (offset % 512 + n) ≡ byte_of (contents_of (held_at t)) i (offset + n)
 unfolding byte_planned byte_of
@@ -139,7 +137,7 @@ planned_byte t i offset count n plan is lt =
     let k : ℕ = (offset % 512 + n) / 512 in
     let r : ℕ = (offset % 512 + n) % 512 in
     let some : 0 < count = omega arith in
-    let blocks = touched offset count some in
+    let blocks = touched_some offset count some in
     let inside : (offset % 512 + n) / 512 < touched_count offset count = omega (arith, blocks, lt) in
     let small : (offset % 512 + n) % 512 < 512 = omega arith in
     let index : offset / 512 + (offset % 512 + n) / 512 ≡ (offset + n) / 512 = omega arith in
@@ -176,7 +174,7 @@ passed count first behind index is low high = omega arith
 pub inside : (offset wanted size index : ℕ) → size ≤ OBJECT_BYTES → offset / 512 ≤ index → index < offset / 512 + touched_count offset (min wanted (size - offset)) → index < OBJECT_BLOCKS
 inside offset wanted size index most low below = elim (cases_lt 0 (min wanted (size - offset))) [
   | inl some ↦
-      let blocks = touched offset (min wanted (size - offset)) some in
+      let blocks = touched_some offset (min wanted (size - offset)) some in
       omega (arith, blocks, below, most)
   | inr none ↦
       let is : min wanted (size - offset) ≡ 0 = omega arith in

@@ -46,9 +46,9 @@ unfolding inode_of inode_before
 from_blank held o row t is =
     sym (ap (λ (c : Option Place). inode_after (inode_before row.created row.checkpoint_moment (entries_of held o row) (c >>= checkpoint_held held o)) (entries_of held o row) t) is)
 
-pub is_inode_of : (held : Place → Option Stored) (o : ℕ) (row : Row) (t : ℕ) → inode_of held o row t ≡ inode_after (first_of held o row) (entries_of held o row) t
+pub inode_of_first : (held : Place → Option Stored) (o : ℕ) (row : Row) (t : ℕ) → inode_of held o row t ≡ inode_after (first_of held o row) (entries_of held o row) t
 unfolding inode_of
-is_inode_of held o row t = refl
+inode_of_first held o row t = refl
 
 -- what is read where a checkpoint is told
 pub read_is : (told : Option CheckpointFields) (c : CheckpointFields) (i : Inode) → told ≡ Some c → IfSome told (λ d. i ≡ d.inode) → i ≡ c.inode

@@ -1,7 +1,7 @@
 -- What a row tells depends on its object's own blocks alone.
-use Rattle.std.proofs.Common.{◌≡◌, ℕ, true, List, [], ◌∷◌, ◌++◌, Option, Some, None, IsSome, unwrap_or, MatchOption, sym, ap, subst, ◌∙◌}
-use Rattle.std.specs.List.{AllByRecursion}
+use Rattle.std.proofs.Common.{◌≡◌, ℕ, true, List, [], ◌++◌, Option, Some, None, IsSome, unwrap_or, MatchOption, sym, ap, subst, ◌∙◌}
 use Rattle.s4_types.specs.Pointer.{Place}
+use Rattle.lemmas.proofs.List.{all_weaker}
 use Rattle.block_log.specs.Log.{Stored, of_kind}
 use Rattle.block_log.specs.declared.kinds.BlockKind.TheVariants.{Journal}
 use Rattle.codec.specs.Fields.{◌>>=◌}
@@ -37,13 +37,9 @@ same_inode held later o t row journal checkpoint =
     ap (λ (es : List EntryFields). inode_after (first_of later o row) es t) (same_entries held later o row journal)
     ∙ ap (λ (i : Inode). inode_after i (entries_of held o row) t) (same_first held later o row journal checkpoint)
 
-carried : (N : Type 0) (c : Option Place) (f g : Place → Option CheckpointFields) (x y : CheckpointFields) → ((p : Place) → g p ≡ f p) → y ≡ x → MatchOption c N (λ p. f p ≡ Some x) → MatchOption c N (λ p. g p ≡ Some y)
-carried N None f g x y same is h = h
-carried N (Some p) f g x y same is h = same p ∙ h ∙ sym (ap (λ (z : CheckpointFields). Some z) is)
-
-all_mapped : {A : Type 0} (P Q : A → Type 0) → ((x : A) → P x → Q x) → (xs : List A) → AllByRecursion P xs → AllByRecursion Q xs
-all_mapped P Q each [] h = tt
-all_mapped P Q each (x ∷ xs) h = (each x h.0, all_mapped P Q each xs h.1)
+pub match_moved : (N : Type 0) (c : Option Place) (f g : Place → Option CheckpointFields) (x y : CheckpointFields) → ((p : Place) → g p ≡ f p) → y ≡ x → MatchOption c N (λ p. f p ≡ Some x) → MatchOption c N (λ p. g p ≡ Some y)
+match_moved N None f g x y same is h = h
+match_moved N (Some p) f g x y same is h = same p ∙ h ∙ sym (ap (λ (z : CheckpointFields). Some z) is)
 
 same_side : (held later : Place → Option Stored) (o : ℕ) (row : Row) → of_kind Journal o later ≡ of_kind Journal o held → of_checkpoints o later ≡ of_checkpoints o held → (side : Side) → IsSide held o row side → IsSide later o row side
 same_side held later o row journal checkpoint side is = record {
@@ -63,8 +59,8 @@ same_row held later o row journal checkpoint r =
       last = r.last;
       run = subst (λ (es : List EntryFields). Run (first_of later o row) es r.last) (sym entries) run;
       groups = subst (λ (es : List EntryFields). grouped es ≡ true) (sym entries) r.groups;
-      checkpoint = carried (row.checkpoint_moment ≡ 0) row.checkpoint (checkpoint_held held o) (checkpoint_held later o) (record { object = o; moment = row.checkpoint_moment; inode = inode_of held o row row.checkpoint_moment }) (record { object = o; moment = row.checkpoint_moment; inode = inode_of later o row row.checkpoint_moment }) (λ p. same_read held later o p checkpoint) (ap (λ (i : Inode). record { object = o; moment = row.checkpoint_moment; inode = i }) (same_inode held later o row.checkpoint_moment row journal checkpoint)) r.checkpoint;
-      sides = all_mapped (IsSide held o row) (IsSide later o row) (same_side held later o row journal checkpoint) row.sides r.sides;
+      checkpoint = match_moved (row.checkpoint_moment ≡ 0) row.checkpoint (checkpoint_held held o) (checkpoint_held later o) (record { object = o; moment = row.checkpoint_moment; inode = inode_of held o row row.checkpoint_moment }) (record { object = o; moment = row.checkpoint_moment; inode = inode_of later o row row.checkpoint_moment }) (λ p. same_read held later o p checkpoint) (ap (λ (i : Inode). record { object = o; moment = row.checkpoint_moment; inode = i }) (same_inode held later o row.checkpoint_moment row journal checkpoint)) r.checkpoint;
+      sides = all_weaker (IsSide held o row) (IsSide later o row) row.sides (same_side held later o row journal checkpoint) r.sides;
       ascending = r.ascending;
       only = λ p there. ap (λ (v : BlockView). is_one_of (places_named v row.checkpoint ++ side_places v row.sides) p) checkpoint ∙ r.only p (subst (λ (v : BlockView). IsSome (v p)) checkpoint there);
       created = subst (λ (i : Inode). i.created ≡ row.created) (sym first) r.created;

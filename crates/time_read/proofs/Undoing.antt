@@ -11,7 +11,7 @@ use Rattle.journal_chain.specs.Chain.{ChainFields, chain_entries}
 use Rattle.journal_chain.specs.Back.{BackFields, entries_left, left}
 use Rattle.time_read.specs.Undoings.{Undoing, undoing_of}
 use Rattle.time_read.specs.Rows.{chain_of, entries_of, first_of, inode_of, last_inode, IsRow}
-use Rattle.time_read.proofs.Reading.{chain_is_there, is_inode_of}
+use Rattle.time_read.proofs.Reading.{chain_is_there, inode_of_first}
 
 -- what a reader of a chain tells at first
 abbrev Begins : (Place → Option Stored) → ChainFields → BackFields → Type 0
@@ -41,7 +41,7 @@ undone_is end held o row xs at present inode r is last undone =
     let run : Run (first_of held o row) (entries_of held o row) present = subst (λ (j : Inode). Run (first_of held o row) (entries_of held o row) j) (sym last) (leads end held o row r) in
     undone (first_of held o row) (subst (λ (es : List EntryFields). Run (first_of held o row) es present) (sym is) run)
     ∙ ap (λ (es : List EntryFields). inode_after (first_of held o row) es at) is
-    ∙ sym (is_inode_of held o row at)
+    ∙ sym (inode_of_first held o row at)
 
 -- and so does what is undone by an index of all entries
 pub undone_by_index : ((i j : Inode) (entries : List EntryFields) → Run i entries j → j ≡ redone_all entries i) → (held : Place → Option Stored) (o : ℕ) (row : Row) (at : ℕ) (undoings : List Undoing) (present inode : Inode) → IsRow held o row

@@ -1,19 +1,19 @@
 -- What is kept of entries undoes them, stays where more is kept, and is gone through from the newest back.
-use Rattle.std.proofs.Common.{◌≡◌, ℕ, zero, suc, ◌<◌, ◌≤◌, ◌+◌, ◌-◌, Bool, true, false, leb, ltb, ◌&&◌, List, [], ◌∷◌, ◌++◌, length, map, take, drop, get_or, Option, Some, None, Result, Ok, Err, option_map, unwrap_or, refl, sym, ap, subst, ◌∙◌, append_assoc, arith}
-use Rattle.std.specs.Prelude.{not, nat_le, if◌then◌else◌, reverse, option_to_list, is_some}
-use Rattle.std.specs.List.{All, AllByRecursion, AllWithin}
+use Rattle.std.proofs.Common.{◌≡◌, ℕ, zero, suc, ◌<◌, ◌≤◌, ◌+◌, ◌-◌, Bool, true, false, leb, List, [], ◌∷◌, ◌++◌, length, map, take, drop, get_or, Option, Some, None, Result, Ok, Err, option_map, unwrap_or, refl, sym, ap, subst, ◌∙◌, append_assoc, arith}
+use Rattle.std.specs.Prelude.{nat_le, if◌then◌else◌, reverse, option_to_list, is_some}
+use Rattle.std.specs.List.{AllByRecursion, AllWithin}
 use Rattle.std.specs.List.Sorted.{IsNonDecreasingBy, IsPartitionPoint}
 use Rattle.std.specs.Result.{OnOk, is_err}
-use Rattle.std.proofs.lemmas.Bool.{and_parts, false≢true, ltb-true, leb-true, leb-false, lt-leb}
+use Rattle.std.proofs.lemmas.Bool.{and_parts, false≢true, leb-true, leb-false, lt-leb}
 use Rattle.std.proofs.lemmas.List.{append-nil, map-append, reverse-append, reverse-reverse, take-append-drop, drop-drop, drop_all, drop_more, drop_at, drop-append-le, take-append-le, take_all, length-append, length-drop, length_push, get_or_append_left, get_or_at, get_or_default, get_or_past, same_from_push, map_push, map_more}
 use Rattle.std.proofs.lemmas.List.Elements.{All-from_recursion, All-pop}
 use Rattle.s4_types.specs.Pointer.{Place}
-use Rattle.s4_types.specs.declared.limits.TheConstants.{OBJECT_BLOCKS, OBJECT_BYTES}
+use Rattle.s4_types.specs.declared.limits.TheConstants.{OBJECT_BYTES}
 use Rattle.codec.specs.declared.inodes.Inode.{Inode}
 use Rattle.codec.specs.declared.entries.Status.{Status}
 use Rattle.codec.specs.declared.entries.Pair.{Pair}
 use Rattle.codec.specs.declared.entries.Triple.{Triple}
-use Rattle.codec.specs.Entry.{EntryFields, same_slot, ascend_from, was_nothing, changes_now, differs, entry_rules}
+use Rattle.codec.specs.Entry.{EntryFields, ascend_from, was_nothing, changes_now, differs, entry_rules}
 use Rattle.undo_redo.specs.Redone.{undone, with_before, attribute_before}
 use Rattle.undo_redo.specs.Runs.{Run, inode_after, moments_ascend_from}
 use Rattle.undo_redo.specs.Groups.{grouped}
@@ -43,20 +43,9 @@ undoes e j =
 
 -- ---- the indices of an entry's triples are below OBJECT_BLOCKS
 
-ascend_parts : (low : ℕ) (t : Triple) (triples : List Triple) → ascend_from low (t ∷ triples) ≡ true → ((leb low t.index && (ltb t.index OBJECT_BLOCKS && not (same_slot t.before t.after))) ≡ true) × (ascend_from (t.index + 1) triples ≡ true)
-unfolding ascend_from
-ascend_parts low t triples h = and_parts (leb low t.index && (ltb t.index OBJECT_BLOCKS && not (same_slot t.before t.after))) (ascend_from (t.index + 1) triples) h
-
-low_all : (low : ℕ) (triples : List Triple) → ascend_from low triples ≡ true → AllByRecursion (λ t. t.index < OBJECT_BLOCKS) triples
-low_all low [] h = tt
-low_all low (t ∷ triples) h =
-    let parts = ascend_parts low t triples h in
-    let tests = and_parts (leb low t.index) (ltb t.index OBJECT_BLOCKS && not (same_slot t.before t.after)) parts.0 in
-    (ltb-true t.index OBJECT_BLOCKS (and_parts (ltb t.index OBJECT_BLOCKS) (not (same_slot t.before t.after)) tests.1).0, low_all (t.index + 1) triples parts.1)
-
-ascends : (e : EntryFields) → entry_rules e ≡ true → ascend_from 0 e.triples ≡ true
+pub triples_ascend : (e : EntryFields) → entry_rules e ≡ true → ascend_from 0 e.triples ≡ true
 unfolding entry_rules
-ascends e h =
+triples_ascend e h =
     let a = and_parts (leb 1 e.moment) _ h in
     let b = and_parts _ _ a.1 in
     let c = and_parts (leb e.before.size OBJECT_BYTES) _ b.1 in
@@ -64,9 +53,6 @@ ascends e h =
     let f = and_parts (was_nothing e.before) _ d.1 in
     let g = and_parts (changes_now e) _ f.1 in
     (and_parts (differs e.pair) (ascend_from 0 e.triples) g.1).1
-
-pub are_low : (e : EntryFields) → entry_rules e ≡ true → All (λ t. t.index < OBJECT_BLOCKS) e.triples
-are_low e h = All-from_recursion (λ (t : Triple). t.index < OBJECT_BLOCKS) e.triples (low_all 0 e.triples (ascends e h))
 
 -- ---- lists that begin with others
 

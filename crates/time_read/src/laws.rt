@@ -30,7 +30,7 @@ pub fn a_row_is_its_own_blocks()
 {}
 
 /// From the moment of its last entry on, an object's inode is the one after all entries.
-#[tactic(auto, using(crate::proofs::Reading::is_inode_of))]
+#[tactic(auto, using(crate::proofs::Reading::inode_of_first))]
 pub fn the_last_inode_is_current()
     ensures { (held : Place → Option Stored) (o t : ℕ) (row : Row)
         → AllBy t (entries_of held o row) → inode_of held o row t ≡ last_inode held o row }

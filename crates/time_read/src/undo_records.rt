@@ -108,7 +108,7 @@ fn keep_attribute(attributes: &mut Vec<Attribute>, pair: Option<Pair>) -> Result
 
 /// Keeps what undoes an entry, at the ends of the lists. Where memory is refused, what was kept of
 /// it stays at their ends.
-#[tactic(auto, using(crate::proofs::Undone::are_low, crate::proofs::Undone::extends_none, crate::proofs::Undone::undoing_is, crate::proofs::Undone::spans_made))]
+#[tactic(auto, using(undo_redo::proofs::Indices::are_low, crate::proofs::Undone::extends_none, crate::proofs::Undone::undoing_is, crate::proofs::Undone::spans_made))]
 pub(crate) fn keep(
     pointers: &mut Vec<EarlierPointer>,
     attributes: &mut Vec<Attribute>,

@@ -145,9 +145,9 @@ was_of : (alive : Bool) (size changed : ℕ) → (alive ≡ false → (size ≡ 
 was_of true size changed h = refl
 was_of false size changed h = and_from (size == 0) (changed == 0) (eq-eqb size 0 (h refl).0) (eq-eqb changed 0 (h refl).1)
 
-of_was : (alive : Bool) (size changed : ℕ) → (alive || (size == 0 && changed == 0)) ≡ true → alive ≡ false → (size ≡ 0) × (changed ≡ 0)
-of_was true size changed h dead = absurd (both_ways true dead refl)
-of_was false size changed h dead = let parts = and_parts (size == 0) (changed == 0) h in (eqb-true size 0 parts.0, eqb-true changed 0 parts.1)
+pub dead_is_empty : (alive : Bool) (size changed : ℕ) → (alive || (size == 0 && changed == 0)) ≡ true → alive ≡ false → (size ≡ 0) × (changed ≡ 0)
+dead_is_empty true size changed h dead = absurd (both_ways true dead refl)
+dead_is_empty false size changed h dead = let parts = and_parts (size == 0) (changed == 0) h in (eqb-true size 0 parts.0, eqb-true changed 0 parts.1)
 
 -- what is told of an entry whose object is alive after it, and dead
 abbrev Still : EntryFields → Bool
@@ -205,7 +205,7 @@ keep_can i j m h created first last =
       count_after = last;
       size_before = r.size_before;
       size_after = r.size_after;
-      was_nothing = of_was i.alive i.size i.changed r.was;
+      was_nothing = dead_is_empty i.alive i.size i.changed r.was;
       changed = λ live. eqb-true j.changed m (sym (cond-true j.alive (j.changed == m) (Still (leading_entry i j m)) live) ∙ r.now);
       flag_alone = λ dead. (let live : i.alive ≡ true = elim (or_cases i.alive j.alive r.one_alive) [ inl is ↦ is | inr other ↦ absurd (both_ways j.alive dead other) ] in
           of_still i j m created live first last (sym (cond-false j.alive (j.changed == m) (Still (leading_entry i j m)) dead) ∙ r.now));

@@ -13,6 +13,7 @@ use Rattle.codec.specs.declared.entries.Triple.{Triple}
 use Rattle.codec.specs.Fields.{Reads, kept}
 use Rattle.codec.specs.Checkpoint.{pointer_at, holes}
 use Rattle.codec.specs.Entry.{EntryFields, entry_rules}
+use Rattle.codec.proofs.Slots.{kept_is}
 use Rattle.undo_redo.specs.Linked.{status_of, pointer_after, pointer_before}
 use Rattle.undo_redo.specs.Redone.{attribute_after, attribute_before, redone, undone}
 use Rattle.undo_redo.specs.Runs.{Run, redone_all, undone_all, last_moment, AllAt, blank, told_first, told_last}
@@ -53,12 +54,12 @@ unfolding attributes_before undone
 undone_attribute [] j = refl
 undone_attribute (e ∷ entries) j = ap (attribute_before e.pair) (undone_attribute entries j)
 
-undone_count : (entries : List EntryFields) (j : Inode) → length (undone_all entries j).pointers ≡ length j.pointers
+pub undone_count : (entries : List EntryFields) (j : Inode) → length (undone_all entries j).pointers ≡ length j.pointers
 unfolding undone
 undone_count [] j = refl
 undone_count (e ∷ entries) j = length-with_before e.triples (undone_all entries j).pointers ∙ undone_count entries j
 
-redone_count : (e : EntryFields) (i : Inode) → length (redone e i).pointers ≡ length i.pointers
+pub redone_count : (e : EntryFields) (i : Inode) → length (redone e i).pointers ≡ length i.pointers
 unfolding redone
 redone_count e i = length-with_after e.triples i.pointers
 
@@ -224,10 +225,6 @@ pub record Composes {X : Type 0} (view : X → List EntryFields) (r : Option X) 
   pub group : IfSome r (λ x. grouped (view x) ≡ true)
   pub moments : IfSome r (λ x. AllAt (last_moment 0 entries) (view x))
 
-kept_some : {A : Type 0} (test : Bool) (x y : A) → kept test x ≡ Some y → (test ≡ true) × (x ≡ y)
-kept_some true x y h = (refl, same_Some x y h)
-kept_some false x y h = absurd (none-some y h)
-
 kept_none : {A : Type 0} (test : Bool) (x : A) → kept test x ≡ None → test ≡ true → ⊥
 kept_none true x h is = none-some x (sym h)
 kept_none false x h is = both_ways false refl is
@@ -241,7 +238,7 @@ composes_made {X} view None entries m some is reads = record {
   moments = tt;
 }
 composes_made {X} view (Some x) entries m some is reads =
-    let k = kept_some (entry_rules (leading_entry (told_first entries) (told_last entries) m)) (entries_between (told_first entries) (told_last entries) m) (view x) reads in
+    let k = kept_is (entry_rules (leading_entry (told_first entries) (told_last entries) m)) (entries_between (told_first entries) (told_last entries) m) (view x) reads in
     let made : (i j : Inode) → Run i entries j → view x ≡ entries_between i j m = λ i j r. sym k.1 ∙ told_entries i j entries m some r in
     record {
       exact = λ i j r. made i j r ∙ ap (entries_between i j) is;

@@ -14,7 +14,7 @@ use Rattle.undo_redo.specs.Between.{triple_between, tells_apart, triples_below, 
 use Rattle.undo_redo.specs.private.Further.{AreSameFrom, triples_from}
 use Rattle.undo_redo.proofs.Pointers.{Leaves}
 use Rattle.undo_redo.proofs.Indices.{ascends, ascend_none, ascend_made, ascend_weaker, ascend_reaches}
-use Rattle.undo_redo.proofs.Slots.{same_slot_true, same_slot_same}
+use Rattle.undo_redo.proofs.Slots.{same_slot_same, one_slot}
 
 -- the pointers that differ from an index on, among this many
 abbrev pub stretch : Inode → Inode → ℕ → ℕ → List Triple
@@ -150,7 +150,7 @@ between_tells i j n lt differ p = stretch_tells i j 0 OBJECT_BLOCKS n (omega ari
 -- redone, they make of each pointer of the first inode that of the second
 pub between_reaches : (i j : Inode) (n : ℕ) → n < OBJECT_BLOCKS → pointer_after (triples_between i j) n (pointer_at i n) ≡ pointer_at j n
 between_reaches i j n lt = elim (cases_Bool (same_slot (pointer_at i n) (pointer_at j n))) [
-  | inl same ↦ ap (pointer_after (triples_between i j) n) (same_slot_true (pointer_at i n) (pointer_at j n) same) ∙ after_own i j (triples_between i j) n (between_of i j)
+  | inl same ↦ ap (pointer_after (triples_between i j) n) (one_slot (pointer_at i n) (pointer_at j n) same) ∙ after_own i j (triples_between i j) n (between_of i j)
   | inr differ ↦ between_tells i j n lt differ (pointer_at i n)
 ]
 

@@ -14,12 +14,12 @@ pub ascend_parts : (low : ℕ) (t : Triple) (triples : List Triple) → ascend_f
 unfolding ascend_from
 ascend_parts low t triples h = and_parts (leb low t.index && (ltb t.index OBJECT_BLOCKS && not (same_slot t.before t.after))) (ascend_from (t.index + 1) triples) h
 
-low_all : (low : ℕ) (triples : List Triple) → ascend_from low triples ≡ true → AllByRecursion (λ t. t.index < OBJECT_BLOCKS) triples
-low_all low [] h = tt
-low_all low (t ∷ triples) h =
+pub all_are_low : (low : ℕ) (triples : List Triple) → ascend_from low triples ≡ true → AllByRecursion (λ t. t.index < OBJECT_BLOCKS) triples
+all_are_low low [] h = tt
+all_are_low low (t ∷ triples) h =
     let parts = ascend_parts low t triples h in
     let tests = and_parts (leb low t.index) (ltb t.index OBJECT_BLOCKS && not (same_slot t.before t.after)) parts.0 in
-    (ltb-true t.index OBJECT_BLOCKS (and_parts (ltb t.index OBJECT_BLOCKS) (not (same_slot t.before t.after)) tests.1).0, low_all (t.index + 1) triples parts.1)
+    (ltb-true t.index OBJECT_BLOCKS (and_parts (ltb t.index OBJECT_BLOCKS) (not (same_slot t.before t.after)) tests.1).0, all_are_low (t.index + 1) triples parts.1)
 
 -- the rules of an entry, each by its name
 pub record Rules (e : EntryFields) : Type 0 where
@@ -45,7 +45,7 @@ rules_of e h =
     record { moment = leb-true 1 e.moment a.0; one_alive = b.0; size_before = leb-true e.before.size OBJECT_BYTES c.0; size_after = leb-true e.after.size OBJECT_BYTES d.0; was = f.0; now = g.0; pair = k.0; ascend = k.1 }
 
 pub are_low : (e : EntryFields) → entry_rules e ≡ true → All (λ t. t.index < OBJECT_BLOCKS) e.triples
-are_low e h = All-from_recursion (λ (t : Triple). t.index < OBJECT_BLOCKS) e.triples (low_all 0 e.triples (rules_of e h).ascend)
+are_low e h = All-from_recursion (λ (t : Triple). t.index < OBJECT_BLOCKS) e.triples (all_are_low 0 e.triples (rules_of e h).ascend)
 
 pub rules_made : (e : EntryFields) → Rules e → entry_rules e ≡ true
 unfolding entry_rules

@@ -44,15 +44,15 @@ push_undone j (f ∷ entries) e = ap (undone f) (push_undone j entries e)
 
 -- ---- the inode at a moment
 
-by_all : (t : ℕ) (entries : List EntryFields) → AllBy t entries → entries_by t entries ≡ entries
+pub by_all : (t : ℕ) (entries : List EntryFields) → AllBy t entries → entries_by t entries ≡ entries
 by_all t [] h = refl
 by_all t (e ∷ entries) h = ap (λ b. cond b (e ∷ entries_by t entries) (entries_by t entries)) h.0 ∙ ap (λ es. e ∷ es) (by_all t entries h.1)
 
-by_none : (t : ℕ) (entries : List EntryFields) → AllPast t entries → entries_by t entries ≡ []
+pub by_none : (t : ℕ) (entries : List EntryFields) → AllPast t entries → entries_by t entries ≡ []
 by_none t [] h = refl
 by_none t (e ∷ entries) h = ap (λ b. cond b (e ∷ entries_by t entries) (entries_by t entries)) h.0 ∙ by_none t entries h.1
 
-all_by_later : (m t : ℕ) (entries : List EntryFields) → m ≤ t → AllBy m entries → AllBy t entries
+pub all_by_later : (m t : ℕ) (entries : List EntryFields) → m ≤ t → AllBy m entries → AllBy t entries
 all_by_later m t [] le h = tt
 all_by_later m t (e ∷ entries) le h = (let by : e.moment ≤ m = leb-true e.moment m h.0 in le-leb e.moment t (omega arith), all_by_later m t entries le h.1)
 

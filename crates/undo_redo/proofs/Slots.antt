@@ -5,36 +5,27 @@ use Rattle.std.specs.Cmp.Lexicographic.{pointwise}
 use Rattle.std.proofs.lemmas.Bool.{and_parts, and_from, eqb-true, eq-eqb, not_from_false, both_ways}
 use lib.Pointwise.{bytes_decides}
 use Rattle.s4_types.specs.Pointer.{Place}
+use Rattle.block_log.proofs.Places.{place_from_parts}
 use Rattle.codec.specs.declared.entries.Pair.{Pair}
 use Rattle.codec.specs.Entry.{same_slot, differs}
 use Rattle.undo_redo.specs.Redone.{attribute_after}
 use Rattle.undo_redo.specs.Between.{pair_between}
 
-place_of : ℕ → ℕ → ℕ → Place
-place_of frame block generation = record { frame = frame; block = block; generation = generation }
-
-place_of-same : (f g b c m n : ℕ) → f ≡ g → b ≡ c → m ≡ n → place_of f b m ≡ place_of g c n
-place_of-same f g b c m n d e h = cc
-
-same_place : (p q : Place) → p.frame ≡ q.frame → p.block ≡ q.block → p.generation ≡ q.generation → p ≡ q
-unfolding place_of
-same_place p q f b g = place_of-same p.frame q.frame p.block q.block p.generation q.generation f b g
-
-pub same_slot_true : (p q : Option Place) → same_slot p q ≡ true → p ≡ q
-same_slot_true None None h = refl
-same_slot_true None (Some q) h = absurd (both_ways false refl h)
-same_slot_true (Some p) None h = absurd (both_ways false refl h)
-same_slot_true (Some p) (Some q) h =
+pub one_slot : (p q : Option Place) → same_slot p q ≡ true → p ≡ q
+one_slot None None h = refl
+one_slot None (Some q) h = absurd (both_ways false refl h)
+one_slot (Some p) None h = absurd (both_ways false refl h)
+one_slot (Some p) (Some q) h =
     let a = and_parts (p.frame == q.frame) (p.block == q.block && p.generation == q.generation) h in
     let b = and_parts (p.block == q.block) (p.generation == q.generation) a.1 in
-    ap (λ (x : Place). Some x) (same_place p q (eqb-true p.frame q.frame a.0) (eqb-true p.block q.block b.0) (eqb-true p.generation q.generation b.1))
+    ap (λ (x : Place). Some x) (place_from_parts p q (eqb-true p.frame q.frame a.0) (eqb-true p.block q.block b.0) (eqb-true p.generation q.generation b.1))
 
-same_slot_own : (p : Option Place) → same_slot p p ≡ true
-same_slot_own None = refl
-same_slot_own (Some p) = and_from (p.frame == p.frame) (p.block == p.block && p.generation == p.generation) (eq-eqb p.frame p.frame refl) (and_from (p.block == p.block) (p.generation == p.generation) (eq-eqb p.block p.block refl) (eq-eqb p.generation p.generation refl))
+pub same_slot_itself : (p : Option Place) → same_slot p p ≡ true
+same_slot_itself None = refl
+same_slot_itself (Some p) = and_from (p.frame == p.frame) (p.block == p.block && p.generation == p.generation) (eq-eqb p.frame p.frame refl) (and_from (p.block == p.block) (p.generation == p.generation) (eq-eqb p.block p.block refl) (eq-eqb p.generation p.generation refl))
 
 pub same_slot_same : (p q : Option Place) → p ≡ q → same_slot p q ≡ true
-same_slot_same p q e = subst (λ (x : Option Place). same_slot p x ≡ true) e (same_slot_own p)
+same_slot_same p q e = subst (λ (x : Option Place). same_slot p x ≡ true) e (same_slot_itself p)
 
 -- ---- the pair
 

@@ -1,19 +1,21 @@
 -- How many names data blocks get from the places that rows name.
-use Rattle.std.proofs.Common.{◌≡◌, inl, inr, ℕ, ◌+◌, ◌-◌, ◌^◌, ◌<◌, ◌≤◌, ltb, true, false, cond, List, [], ◌∷◌, ◌++◌, length, get_or, take, Option, None, refl, sym, ap, ◌∙◌, subst, arith}
+use Rattle.std.proofs.Common.{◌≡◌, inl, inr, ℕ, ◌+◌, ◌-◌, ◌^◌, ◌<◌, ◌≤◌, ltb, true, false, cond, List, [], ◌∷◌, ◌++◌, length, get_or, take, Option, None, sym, ap, ◌∙◌, subst, arith}
 use Rattle.std.proofs.lemmas.Bool.{cases_Bool, cases_lt, cond-true, cond-false, lt-ltb, le-ltb, ltb-false, false≢true}
 use Rattle.std.proofs.lemmas.List.{take_more}
 use Rattle.s4_types.specs.Pointer.{Place}
 use Rattle.s4_types.specs.declared.limits.TheConstants.{ROW_POINTERS}
 use Rattle.block_log.specs.Log.{Log, Stored, same_place, is_data, NamesAreOfData}
+use Rattle.block_log.proofs.Places.{same_place_itself}
 use Rattle.codec.specs.Fields.{bit}
 use Rattle.journal_chain.specs.Chain.{times}
 use Rattle.segment_table.specs.Slots.{capped}
+use Rattle.journal_chain.proofs.Places.{times-none}
 use Rattle.version_store.specs.Store.{times_led}
 use Rattle.image_objects.specs.declared.rows.ImageRow.{ImageRow}
 use Rattle.image_objects.specs.Objects.{pointers_used}
 use Rattle.image_objects.specs.Naming.{times_told, NamesAreCounted}
 use Rattle.verifier.specs.Reading.{NamesAreCapped}
-use Rattle.verifier.proofs.Holding.{OneName, place_itself}
+use Rattle.verifier.proofs.Holding.{OneName}
 
 -- ---- numbers as 32 bits count them
 
@@ -32,10 +34,6 @@ capped_more n = elim (cases_lt n (2 ^ 32)) [
 
 -- ---- how often a place is among places
 
-times_none : (p : Place) → times p [] ≡ 0
-unfolding times
-times_none p = refl
-
 times_push : (p : Place) (places : List Place) (place : Place) → times p (places ++ place ∷ []) ≡ times p places + bit (same_place p place)
 unfolding times
 times_push p [] place = omega arith
@@ -43,13 +41,13 @@ times_push p (q ∷ places) place = let rest = times_push p places place in omeg
 
 other_way : OneName → (p q : Place) → same_place p q ≡ false → same_place q p ≡ false
 other_way name p q apart = elim (cases_Bool (same_place q p)) [
-  | inl is ↦ absurd (false≢true (sym apart ∙ subst (λ (r : Place). same_place r q ≡ true) (name q p is) (place_itself q)))
+  | inl is ↦ absurd (false≢true (sym apart ∙ subst (λ (r : Place). same_place r q ≡ true) (name q p is) (same_place_itself q)))
   | inr other ↦ other
 ]
 
 times_here : OneName → (p : Place) (places : List Place) (place : Place) (n : ℕ) → same_place place p ≡ true → 1 + (n + times p places) ≡ n + times p (places ++ place ∷ [])
 times_here name p places place n is =
-    let one : bit (same_place p place) ≡ 1 = ap bit (subst (λ (q : Place). same_place p q ≡ true) (sym (name place p is)) (place_itself p)) in
+    let one : bit (same_place p place) ≡ 1 = ap bit (subst (λ (q : Place). same_place p q ≡ true) (sym (name place p is)) (same_place_itself p)) in
     omega (arith, one, times_push p places place)
 
 times_elsewhere : OneName → (p : Place) (places : List Place) (place : Place) (n : ℕ) → same_place place p ≡ false → n + times p places ≡ n + times p (places ++ place ∷ [])
@@ -60,7 +58,7 @@ times_elsewhere name p places place n apart =
 -- ---- one place more, and so all of a list
 
 pub named_none : (named : Place → ℕ) (p : Place) (n : ℕ) → named p ≡ capped n → named p ≡ capped (n + times p [])
-named_none named p n was = let same : n ≡ n + times p [] = omega (arith, times_none p) in was ∙ ap (λ (m : ℕ). capped m) same
+named_none named p n was = let same : n ≡ n + times p [] = omega (arith, times-none p) in was ∙ ap (λ (m : ℕ). capped m) same
 
 named_one : OneName → (used : Place → Option Stored) (now after : Place → ℕ) (places : List Place) (place p : Place) (n : ℕ)
     → ((q : Place) → after q ≡ cond (same_place place q) (cond (is_data (used place)) (capped (1 + now place)) 0) (now q))
@@ -88,7 +86,7 @@ named_more name used now after places i place p n lt is step of_data was =
 
 -- what is counted where nothing was before
 pub counted_alone : (p : Place) (before places : List Place) (n : ℕ) → before ≡ [] → times p places ≡ times p before + n → times p places ≡ n
-counted_alone p before places n cleared is = let none : times p before ≡ 0 = ap (times p) cleared ∙ times_none p in omega (arith, is, none)
+counted_alone p before places n cleared is = let none : times p before ≡ 0 = ap (times p) cleared ∙ times-none p in omega (arith, is, none)
 
 told_push : (used : Place → Option Stored) (rows : List ImageRow) (row : ImageRow) (p : Place) → times_told used (rows ++ row ∷ []) p ≡ times_told used rows p + times_led p (pointers_used used row)
 told_push used [] row p = omega arith

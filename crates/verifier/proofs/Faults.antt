@@ -15,63 +15,63 @@ use Rattle.verifier.specs.private.Rest.{FirstRestCause}
 
 -- ---- one test
 
-some_is_some : {P : Type 0} (cause : Cause) → ◌≡◌ {A = Option Cause} None (Some cause) → P
-some_is_some cause e = absurd (cc)
+pub none_is_no_cause : {P : Type 0} (cause : Cause) → ◌≡◌ {A = Option Cause} None (Some cause) → P
+none_is_no_cause cause e = absurd (cc)
 
 -- one test: it fails and its cause was found, or it holds and something else holds too
-abbrev Test : Type 0 → Cause → Type 0 → Option Cause → Type 0
+abbrev pub Test : Type 0 → Cause → Type 0 → Option Cause → Type 0
 Test holds cause later found = ((holds → ⊥) × (found ≡ Some cause)) ⊎ (holds × later)
 
 -- a test that holds does so whatever comes after
-passed : {holds early late : Type 0} {cause : Cause} {found : Option Cause} → Test holds cause early None → (early → late) → Test holds cause late found
-passed {cause = cause} (inl failed) on = some_is_some cause failed.1
-passed (inr held) on = inr (held.0, on held.1)
+pub test_passed : {holds early late : Type 0} {cause : Cause} {found : Option Cause} → Test holds cause early None → (early → late) → Test holds cause late found
+test_passed {cause = cause} (inl failed) on = none_is_no_cause cause failed.1
+test_passed (inr held) on = inr (held.0, on held.1)
 
 -- where all tests hold, what comes after them decides
-behind : {holds early late : Type 0} {cause : Cause} {found : Option Cause} → Test holds cause early None → Test holds cause late found → early × late
-behind {cause = cause} (inl failed) other = some_is_some cause failed.1
-behind (inr held) (inl failed) = absurd (failed.0 held.0)
-behind (inr held) (inr other) = (held.1, other.1)
+pub test_both : {holds early late : Type 0} {cause : Cause} {found : Option Cause} → Test holds cause early None → Test holds cause late found → early × late
+test_both {cause = cause} (inl failed) other = none_is_no_cause cause failed.1
+test_both (inr held) (inl failed) = absurd (failed.0 held.0)
+test_both (inr held) (inr other) = (held.1, other.1)
 
 -- where nothing was found, the test held
-none_found : {holds later : Type 0} {cause : Cause} → Test holds cause later None → holds × later
-none_found {cause = cause} (inl failed) = some_is_some cause failed.1
-none_found (inr held) = held
+pub test_none : {holds later : Type 0} {cause : Cause} → Test holds cause later None → holds × later
+test_none {cause = cause} (inl failed) = none_is_no_cause cause failed.1
+test_none (inr held) = held
 
 -- a test that fails does so whatever comes after
-kept_found : {holds early late : Type 0} {cause : Cause} {found : Option Cause} → Test holds cause early found → (early → late) → Test holds cause late found
-kept_found (inl failed) on = inl failed
-kept_found (inr held) on = inr (held.0, on held.1)
+pub test_kept : {holds early late : Type 0} {cause : Cause} {found : Option Cause} → Test holds cause early found → (early → late) → Test holds cause late found
+test_kept (inl failed) on = inl failed
+test_kept (inr held) on = inr (held.0, on held.1)
 
 -- the tests come to one cause
-one_found : {holds early late : Type 0} {cause : Cause} {found other : Option Cause} → Test holds cause early found → Test holds cause late other → (early → late → found ≡ other) → found ≡ other
-one_found (inl a) (inl b) on = a.1 ∙ sym b.1
-one_found (inl a) (inr b) on = absurd (a.0 b.0)
-one_found (inr a) (inl b) on = absurd (b.0 a.0)
-one_found (inr a) (inr b) on = on a.1 b.1
+pub test_one : {holds early late : Type 0} {cause : Cause} {found other : Option Cause} → Test holds cause early found → Test holds cause late other → (early → late → found ≡ other) → found ≡ other
+test_one (inl a) (inl b) on = a.1 ∙ sym b.1
+test_one (inl a) (inr b) on = absurd (a.0 b.0)
+test_one (inr a) (inl b) on = absurd (b.0 a.0)
+test_one (inr a) (inr b) on = on a.1 b.1
 
 -- ---- all tests
 
 -- where all tests of parts hold, what comes after them decides
 pub parts_passed : (bytes : List ℕ) (late : Option Cause → Type 0) (found : Option Cause) → FirstCause bytes None → late found → TestedParts bytes late found
 parts_passed bytes late found tests on =
-    passed tests (λ a. passed a (λ b. passed b (λ c. passed c (λ d. passed d (λ e. passed e (λ f. passed f (λ g. on)))))))
+    test_passed tests (λ a. test_passed a (λ b. test_passed b (λ c. test_passed c (λ d. test_passed d (λ e. test_passed e (λ f. test_passed f (λ g. on)))))))
 
 -- what comes after the tests of parts, where those hold
 pub parts_behind : (bytes : List ℕ) (late : Option Cause → Type 0) (found : Option Cause) → FirstCause bytes None → TestedParts bytes late found → late found
 parts_behind bytes late found tests all =
-    let a = behind tests all in
-    let b = behind a.0 a.1 in
-    let c = behind b.0 b.1 in
-    let d = behind c.0 c.1 in
-    let e = behind d.0 d.1 in
-    let f = behind e.0 e.1 in
-    (behind f.0 f.1).1
+    let a = test_both tests all in
+    let b = test_both a.0 a.1 in
+    let c = test_both b.0 b.1 in
+    let d = test_both c.0 c.1 in
+    let e = test_both d.0 d.1 in
+    let f = test_both e.0 e.1 in
+    (test_both f.0 f.1).1
 
 -- where nothing was found, nothing was by the tests of parts
 pub parts_none : (bytes : List ℕ) (late : Option Cause → Type 0) → TestedParts bytes late None → FirstCause bytes None
 parts_none bytes late tests =
-    kept_found tests (λ a. kept_found a (λ b. kept_found b (λ c. kept_found c (λ d. kept_found d (λ e. kept_found e (λ f. kept_found f (λ g. refl)))))))
+    test_kept tests (λ a. test_kept a (λ b. test_kept b (λ c. test_kept c (λ d. test_kept d (λ e. test_kept e (λ f. test_kept f (λ g. refl)))))))
 
 -- ---- the image
 
@@ -89,7 +89,7 @@ pub nothing_spelled : AreTested → AreReadAgain → (bytes : List ℕ) (cause :
 nothing_spelled tests read bytes cause image fault spells =
     elim (parts_behind bytes (Tested (ChainsStand (image_in bytes)) Chain (λ f. f ≡ None)) (Some cause) (tests bytes image spells.parts) fault) [
       | inl failed ↦ failed.0 (read_chains read bytes image spells)
-      | inr held ↦ some_is_some cause (sym held.1)
+      | inr held ↦ none_is_no_cause cause (sym held.1)
     ]
 
 pub none_where_spelled : AreTested → AreReadAgain → (bytes : List ℕ) (image : Image) → SpellsDrive bytes image → FirstFault bytes None
@@ -99,22 +99,22 @@ none_where_spelled tests read bytes image spells =
 pub spelled_where_none : (bytes : List ℕ) → (FirstCause bytes None → SpellsImage bytes (image_in bytes)) → FirstFault bytes None → SpellsDrive bytes (image_in bytes)
 spelled_where_none bytes is none =
     let parts : FirstCause bytes None = parts_none bytes (Tested (ChainsStand (image_in bytes)) Chain (λ f. f ≡ None)) none in
-    record { parts = is parts; chains = (none_found (parts_behind bytes (Tested (ChainsStand (image_in bytes)) Chain (λ f. f ≡ None)) None parts none)).0 }
+    record { parts = is parts; chains = (test_none (parts_behind bytes (Tested (ChainsStand (image_in bytes)) Chain (λ f. f ≡ None)) None parts none)).0 }
 
 pub one_fault : (bytes : List ℕ) (found other : Option Cause) → FirstFault bytes found → FirstFault bytes other → found ≡ other
 one_fault bytes found other x y =
-    one_found x y (λ a b. one_found a b (λ a b. one_found a b (λ a b. one_found a b (λ a b. one_found a b
-    (λ a b. one_found a b (λ a b. one_found a b (λ a b. one_found a b (λ p q. p ∙ sym q))))))))
+    test_one x y (λ a b. test_one a b (λ a b. test_one a b (λ a b. test_one a b (λ a b. test_one a b
+    (λ a b. test_one a b (λ a b. test_one a b (λ a b. test_one a b (λ p q. p ∙ sym q))))))))
 
 -- ---- what was read
 
 -- where the bytes can't be split, that is the fault
 pub split_fault : (bytes : List ℕ) (cause : Cause) → FirstSplitCause bytes (Some cause) → FirstFault bytes (Some cause)
-split_fault bytes cause tests = kept_found tests (λ a. kept_found a (λ b. kept_found b (λ c. some_is_some cause (sym c))))
+split_fault bytes cause tests = test_kept tests (λ a. test_kept a (λ b. test_kept b (λ c. none_is_no_cause cause (sym c))))
 
 -- where they can, and have another digest, this is
 pub digest_fault : (bytes : List ℕ) → FirstSplitCause bytes None → (HasDigest bytes → ⊥) → FirstFault bytes (Some Digest)
-digest_fault bytes tests other = passed tests (λ a. passed a (λ b. passed b (λ c. inl (other, refl))))
+digest_fault bytes tests other = test_passed tests (λ a. test_passed a (λ b. test_passed b (λ c. inl (other, refl))))
 
 -- what comes after the digest, of these parts and this header
 abbrev rest : Header → Image → Option Cause → Type 0
@@ -126,4 +126,4 @@ rest_fault bytes parts found tests is header digest later =
     let H : Header → Type 0 = λ h. rest h parts found in
     let P : Image → Type 0 = λ image. rest (header_in bytes) image found in
     let here : P (image_in bytes) = subst P is (subst H header later) in
-    passed tests (λ a. passed a (λ b. passed b (λ c. inr (digest, here))))
+    test_passed tests (λ a. test_passed a (λ b. test_passed b (λ c. inr (digest, here))))

@@ -8,6 +8,7 @@ use Rattle.std.proofs.lemmas.Option.{none-some, same_Some}
 use Rattle.std.proofs.lemmas.Map.Steps.{length-le_from_distinct_below}
 use Rattle.s4_types.specs.Pointer.{Place, IsPlace}
 use Rattle.s4_types.specs.declared.limits.TheConstants.{CHAIN_BLOCKS}
+use Rattle.lemmas.proofs.List.{all_weaker}
 use Rattle.block_log.specs.declared.kinds.BlockKind.{BlockKind}
 use Rattle.block_log.specs.declared.kinds.BlockKind.TheVariants.{Journal, Checkpoint, Pointers}
 use Rattle.block_log.specs.Log.{Stored, of_kind, seen_as, same_kind}
@@ -25,7 +26,6 @@ use Rattle.segment_table.specs.Slots.{is_held}
 use Rattle.segment_table.specs.Table.{Table, slots_at, block_slot, stored, held_at}
 use Rattle.segment_word.specs.Layout.{frame_at, block_bytes}
 use Rattle.image_objects.specs.Saved.{ObjectsAscend}
-use Rattle.verifier.proofs.Lists.{all_weaker}
 
 -- a block of an object is held, at a place that a pointer can have
 pub record Owns (held : Place → Option Stored) (o : ℕ) : Type 0 where
@@ -156,9 +156,9 @@ numbers t low (e ∷ rows) ascend each =
     record {
       all = n ∷ behind.all;
       counted = ap suc behind.counted;
-      distinct = (all_weaker (λ m. e.0 + 1 ≤ owner t m) (λ m. eqb n m ≡ false) (λ m after. ne_eqb n m (λ is. omega (arith, after, own, ap (owner t) is))) behind.all behind.later, behind.distinct);
+      distinct = (all_weaker (λ m. e.0 + 1 ≤ owner t m) (λ m. eqb n m ≡ false) behind.all (λ m after. ne_eqb n m (λ is. omega (arith, after, own, ap (owner t) is))) behind.later, behind.distinct);
       small = (each.0.small, behind.small);
-      later = (omega (arith, own), all_weaker (λ m. e.0 + 1 ≤ owner t m) (λ m. low ≤ owner t m) (λ m after. omega (arith, after)) behind.all behind.later);
+      later = (omega (arith, own), all_weaker (λ m. e.0 + 1 ≤ owner t m) (λ m. low ≤ owner t m) behind.all (λ m after. omega (arith, after)) behind.later);
     }
 
 one_of : (P : ℕ → Type 0) (xs : List ℕ) (q : ℕ) → AllByRecursion P xs → list_any (eqb q) xs ≡ true → P q
@@ -171,5 +171,5 @@ one_of P (x ∷ xs) q all h = elim (or_cases (eqb q x) (list_any (eqb q) xs) h) 
 -- rows of ascending objects, each of which owns a block of the table, are at most as many as it can have
 pub few_rows : (t : Table) (low : ℕ) (rows : List (ℕ × Row)) → ObjectsAscend low rows → AllByRecursion (λ (e : ℕ × Row). Owns (held_at t) e.0) rows → length rows ≤ 2 ^ 20
 few_rows t low rows ascend each =
-    let found : Numbers t low (length rows) = numbers t low rows ascend (all_weaker (λ (e : ℕ × Row). Owns (held_at t) e.0) (λ (e : ℕ × Row). Numbered t e.0) (λ e own. numbered t e.0 own) rows each) in
+    let found : Numbers t low (length rows) = numbers t low rows ascend (all_weaker (λ (e : ℕ × Row). Owns (held_at t) e.0) (λ (e : ℕ × Row). Numbered t e.0) rows (λ e own. numbered t e.0 own) each) in
     omega (arith, found.counted, length-le_from_distinct_below found.all (2 ^ 20) found.distinct (λ q there. one_of (λ n. n < 2 ^ 20) found.all q found.small there))

@@ -16,6 +16,7 @@ use Rattle.segment_table.specs.Slots.{unheld}
 use Rattle.segment_table.specs.Table.{Table, slots_at, held_at}
 use Rattle.segment_table.specs.Room.{is_filling, numbers}
 use Rattle.segment_table.specs.Sealing.{summary_of}
+use Rattle.segment_table.proofs.Unshared.{unheld_roles, length-unheld}
 use Rattle.verifier.specs.Tables.{no_part, IsFrameOf, IsTableOf}
 
 -- no two summaries share an encoding
@@ -51,14 +52,6 @@ open_state f e = eqb-true (state_of f.word) 1 (open_part f e)
 
 -- ---- what a used frame tells
 
-map_unheld : (parts : List BlockRole) → map (λ (slot : Slot). slot.role) (unheld parts) ≡ parts
-map_unheld [] = refl
-map_unheld (part ∷ parts) = ap (λ (l : List BlockRole). part ∷ l) (map_unheld parts)
-
-length-unheld : (parts : List BlockRole) → length (unheld parts) ≡ length parts
-length-unheld [] = refl
-length-unheld (part ∷ parts) = let more : length (unheld parts) ≡ length parts = length-unheld parts in omega arith
-
 pub slots_there : (old new : List (List Slot)) (n : ℕ) (slots : List Slot) → n < length old → new ≡ set old n slots → slots_at new n ≡ slots
 slots_there old new n slots inside is = ap (λ (l : List (List Slot)). slots_at l n) is ∙ get_or-set_same old n slots [] inside
 
@@ -71,7 +64,7 @@ used_told one number f k slots blocks s used rules are spelled keeps phase gener
     let same : s ≡ has.summary = one _ _ s has.summary spelled has.spelled in
     let at : s.frame ≡ number = ap (λ (x : SummaryFields). x.frame) same ∙ has.frame in
     let lived : s.generation ≡ generation_of f.word = ap (λ (x : SummaryFields). x.generation) same ∙ has.generation in
-    let parts : s.roles ≡ map (λ (slot : Slot). slot.role) slots = sym (ap (map (λ (slot : Slot). slot.role)) is ∙ map_unheld s.roles) in
+    let parts : s.roles ≡ map (λ (slot : Slot). slot.role) slots = sym (ap (map (λ (slot : Slot). slot.role)) is ∙ unheld_roles s.roles) in
     let told : s ≡ summary_of number k slots =
     ap (λ (n : ℕ). summary_by n s.generation s.roles) at ∙ ap (λ (n : ℕ). summary_by number n s.roles) (sym generation) ∙ ap (summary_by number k.generation) parts in
     let D : SummaryFields → Type 0 = SpellsSummary (drop 1 (blocks_of f.contents)) (get_or (blocks_of f.contents) 0 []) in
@@ -179,7 +172,7 @@ one_breaks frames n opened f rest left judged is breaks keep =
     let F : List FrameFields → Type 0 = EachKeepsFrameRules n in
     breaks (subst F is (judged.back keep).0).0
 
-count_more : (f : FrameFields) (rest : List FrameFields) → count_by is_open (f ∷ rest) ≡ cond {A = ℕ} (is_open f) 1 0 + count_by is_open rest
+pub count_more : (f : FrameFields) (rest : List FrameFields) → count_by is_open (f ∷ rest) ≡ cond {A = ℕ} (is_open f) 1 0 + count_by is_open rest
 count_more f rest = sum_by-cons (λ y. cond (is_open y) 1 0) f rest
 
 -- two are open
@@ -192,7 +185,7 @@ two_open frames n opened f rest left judged is before here keep =
     omega (arith, one, a, b, c, count_more f rest)
 
 -- a frame more keeps its rules, and isn't a second open one
-either_open : (opened here : Bool) → (opened ≡ true → here ≡ true → ⊥) → ◌≡◌ {A = ℕ} (cond (opened || here) 1 0) (cond {A = ℕ} opened 1 0 + cond {A = ℕ} here 1 0)
+pub either_open : (opened here : Bool) → (opened ≡ true → here ≡ true → ⊥) → ◌≡◌ {A = ℕ} (cond (opened || here) 1 0) (cond {A = ℕ} opened 1 0 + cond {A = ℕ} here 1 0)
 either_open true true not_both = absurd (not_both refl refl)
 either_open true false not_both = refl
 either_open false true not_both = refl

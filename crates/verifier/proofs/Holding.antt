@@ -1,14 +1,16 @@
 -- What is held of a table grows by the places that a row names.
-use Rattle.std.proofs.Common.{◌≡◌, ◌⊎◌, inl, inr, ℕ, ◌+◌, ◌<◌, ◌==◌, ◌&&◌, true, false, cond, List, [], ◌∷◌, ◌++◌, length, get_or, take, Option, Some, None, IsSome, IfSome, refl, sym, ap, ◌∙◌, subst, arith}
+use Rattle.std.proofs.Common.{◌≡◌, ◌⊎◌, inl, inr, ℕ, ◌+◌, ◌<◌, ◌==◌, ◌&&◌, true, false, cond, List, [], ◌∷◌, ◌++◌, length, get_or, take, Option, Some, None, IsSome, IfSome, refl, sym, ap, ◌∙◌, subst}
 use Rattle.std.specs.List.{Contains}
-use Rattle.std.proofs.lemmas.Bool.{cases_Bool, cond-true, cond-false, and_parts, and_from, eq-eqb, eqb-true, false≢true}
+use Rattle.std.proofs.lemmas.Bool.{cases_Bool, cond-true, cond-false, and_parts, eqb-true, false≢true}
 use Rattle.std.proofs.lemmas.List.{take_more}
 use Rattle.std.proofs.lemmas.List.Elements.{Contains-append_left, Contains-push, Contains-push_cases}
 use Rattle.std.proofs.lemmas.Option.{none-some}
 use Rattle.s4_types.specs.Pointer.{Place}
+use Rattle.lemmas.proofs.Contains.{contains_none}
 use Rattle.block_log.specs.Log.{Stored, of_kind, seen_as, same_kind, same_place}
 use Rattle.block_log.specs.declared.kinds.BlockKind.{BlockKind}
-use Rattle.block_log.specs.declared.kinds.BlockKind.TheVariants.{Journal, Checkpoint, Data, Pointers}
+use Rattle.block_log.proofs.Places.{same_place_itself}
+use Rattle.block_log.proofs.BlockKinds.{one_kind}
 use Rattle.image_objects.specs.declared.rows.ImageRow.{ImageRow}
 use Rattle.image_objects.specs.Naming.{NamesUsed, IsNamedBy, HoldsWhatIsNamed}
 use Rattle.segment_table.specs.Table.{Table}
@@ -19,21 +21,13 @@ use Rattle.verifier.specs.private.Holding.{HoldsAlso, IsUsedAlike}
 abbrev pub OneName : Type 0
 OneName = (p q : Place) → same_place p q ≡ true → p ≡ q
 
-pub place_itself : (p : Place) → same_place p p ≡ true
-place_itself p =
-    and_from (p.frame == p.frame) (p.block == p.block && p.generation == p.generation) (eq-eqb p.frame p.frame refl)
-    (and_from (p.block == p.block) (p.generation == p.generation) (eq-eqb p.block p.block refl) (eq-eqb p.generation p.generation refl))
-
 -- ---- one place more, and so all of a list
-
-pub none_listed : {X : Type 0} (x : X) → Contains [] x → ⊥
-none_listed x there = absurd (omega (arith, there.1))
 
 pub also_none : (used held : Place → Option Stored) → HoldsAlso used held held []
 also_none used held = record {
   only = λ p block h. inl h;
   kept = λ p block h u. h;
-  added = λ p there. absurd (none_listed p there);
+  added = λ p there. absurd (contains_none p there);
 }
 
 also_one : OneName → (used held now after : Place → Option Stored) (places : List Place) (place : Place) → HoldsAlso used held now places
@@ -59,7 +53,7 @@ also_one name used held now after places place also step =
         | inl is ↦ here p is
         | inr ne ↦ elim (Contains-push_cases places place p there) [
           | inl before ↦ else p ne ∙ also.added p before
-          | inr is ↦ absurd (false≢true (sym ne ∙ subst (λ (q : Place). same_place place q ≡ true) is (place_itself place)))
+          | inr is ↦ absurd (false≢true (sym ne ∙ subst (λ (q : Place). same_place place q ≡ true) is (same_place_itself place)))
         ]
       ];
     }
@@ -87,28 +81,10 @@ same_used a b alike = λ i p. alike.used p i
 
 -- ---- what a row names
 
-kinds : (k l : BlockKind) → same_kind k l ≡ true → k ≡ l
-kinds Journal Journal h = refl
-kinds Journal Checkpoint h = absurd (false≢true h)
-kinds Journal Data h = absurd (false≢true h)
-kinds Journal Pointers h = absurd (false≢true h)
-kinds Checkpoint Journal h = absurd (false≢true h)
-kinds Checkpoint Checkpoint h = refl
-kinds Checkpoint Data h = absurd (false≢true h)
-kinds Checkpoint Pointers h = absurd (false≢true h)
-kinds Data Journal h = absurd (false≢true h)
-kinds Data Checkpoint h = absurd (false≢true h)
-kinds Data Data h = refl
-kinds Data Pointers h = absurd (false≢true h)
-kinds Pointers Journal h = absurd (false≢true h)
-kinds Pointers Checkpoint h = absurd (false≢true h)
-kinds Pointers Data h = absurd (false≢true h)
-kinds Pointers Pointers h = refl
-
 -- a block that is seen as of a kind and an object is of these
 seen : (kind : BlockKind) (o : ℕ) (block : Stored) → IsSome (seen_as kind o (Some block)) → (kind ≡ block.kind) × (block.object ≡ o)
 seen kind o block there = elim (cases_Bool (same_kind kind block.kind && block.object == o)) [
-  | inl is ↦ (let parts = and_parts (same_kind kind block.kind) (block.object == o) is in (kinds kind block.kind parts.0, eqb-true block.object o parts.1))
+  | inl is ↦ (let parts = and_parts (same_kind kind block.kind) (block.object == o) is in (one_kind kind block.kind parts.0, eqb-true block.object o parts.1))
   | inr ne ↦ absurd (false≢true (subst (λ (x : Option (List ℕ)). IsSome x) (cond-false (same_kind kind block.kind && block.object == o) (Some block.bytes) None ne) there))
 ]
 
@@ -160,7 +136,7 @@ pub holds_none : (used held : Place → Option Stored) → ((p : Place) → held
 holds_none used held nothing = record {
   kept = λ p block h. absurd (none-some block (sym (nothing p) ∙ h));
   named = λ p block h. absurd (none-some block (sym (nothing p) ∙ h));
-  all = λ p block is n. absurd (none_listed n.row n.listed);
+  all = λ p block is n. absurd (contains_none n.row n.listed);
 }
 
 -- what holds of the value that is there
@@ -171,6 +147,6 @@ at_some o x P is h = subst (λ q. IfSome q P) is h
 pub only_named : (used : Place → Option Stored) (row : ImageRow) (before places : List Place) → before ≡ [] → ((p : Place) → Contains places p → Contains before p ⊎ ((kind : BlockKind) × NamesUsed used row kind p))
     → (p : Place) → Contains places p → (kind : BlockKind) × NamesUsed used row kind p
 only_named used row before places cleared only p there = elim (only p there) [
-  | inl was ↦ absurd (none_listed p (subst (λ (l : List Place). Contains l p) cleared was))
+  | inl was ↦ absurd (contains_none p (subst (λ (l : List Place). Contains l p) cleared was))
   | inr more ↦ more
 ]

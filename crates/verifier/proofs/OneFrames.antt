@@ -9,6 +9,7 @@ use Rattle.codec.specs.Summary.{SummaryFields, SpellsSummary, UnusedAreBlank, su
 use Rattle.image_parts.specs.Frames.{FrameFields, IsFrame, state_of, readers_of, contents_length, blocks_of, EachKeepsFrameRules, KeepFrameRules}
 use Rattle.segment_word.specs.Frames.{Free, Frame, code_of}
 use Rattle.segment_word.specs.Layout.{phase_of, frame_at}
+use Rattle.segment_word.proofs.Opening.{code_of-phase_of}
 use Rattle.segment_table.specs.declared.slots.Slot.{Slot}
 use Rattle.segment_table.specs.Table.{Table, slots_at}
 use Rattle.segment_table.specs.Sealing.{summary_of}
@@ -16,16 +17,9 @@ use Rattle.verifier.specs.Tables.{no_part, IsFrameOf, IsTableOf}
 
 -- ---- words
 
-code_again : (code : ℕ) → code < 4 → code_of (phase_of code) ≡ code
-code_again zero few = refl
-code_again (suc zero) few = refl
-code_again (suc (suc zero)) few = refl
-code_again (suc (suc (suc zero))) few = refl
-code_again (suc (suc (suc (suc code)))) few = absurd (omega arith)
-
 -- a phase is of one state
 one_state : (word other : ℕ) → phase_of (state_of word) ≡ phase_of (state_of other) → state_of word ≡ state_of other
-one_state word other same = sym (code_again (state_of word) (omega arith)) ∙ ap code_of same ∙ code_again (state_of other) (omega arith)
+one_state word other same = sym (code_of-phase_of (state_of word) (omega arith)) ∙ ap code_of same ∙ code_of-phase_of (state_of other) (omega arith)
 
 -- state, readers and generation are all that a word tells
 one_word : (word other : ℕ) → word % 4 ≡ other % 4 → word / 4 % 2 ^ 30 ≡ other / 4 % 2 ^ 30 → word / 2 ^ 32 ≡ other / 2 ^ 32 → word ≡ other
@@ -113,7 +107,7 @@ one_frame number f g k slots is_f is_g none_f none_g of_f of_g =
       | inl free ↦ nothing_told f is_f free ∙ sym (nothing_told g is_g (sym state ∙ free))
       | inr used ↦
           let used_g : state_of g.word ≢ 0 = λ free. used (state ∙ free) in
-          let phase : k.phase ≢ Free = λ free. used (sym (code_again (state_of f.word) (omega arith)) ∙ ap code_of (sym of_f.phase ∙ free)) in
+          let phase : k.phase ≢ Free = λ free. used (sym (code_of-phase_of (state_of f.word) (omega arith)) ∙ ap code_of (sym of_f.phase ∙ free)) in
           used_contents number f g k slots (length_told f is_f used) (length_told g is_g used_g) phase of_f of_g
     ])
 

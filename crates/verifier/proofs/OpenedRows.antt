@@ -27,7 +27,7 @@ use Rattle.verifier.proofs.KeptRows.{listed_first, listed_later}
 abbrev pub OnePointerASpelling : Type 0
 OnePointerASpelling = (bytes : List ℕ) (p q : Option Place) → SpellsSlot bytes p → SpellsSlot bytes q → p ≡ q
 
-one_row : OnePointerASpelling → (part : RowPart) (row other : ImageRow) → SpellsRow part row → SpellsRow part other → row ≡ other
+pub one_row : OnePointerASpelling → (part : RowPart) (row other : ImageRow) → SpellsRow part row → SpellsRow part other → row ≡ other
 one_row one part row other a b =
     ap (λ n. record { object = n; created = row.created; checkpoint = row.checkpoint; checkpoint_moment = row.checkpoint_moment; head = row.head }) (a.object ∙ sym b.object)
     ∙ ap (λ n. record { object = other.object; created = n; checkpoint = row.checkpoint; checkpoint_moment = row.checkpoint_moment; head = row.head }) (a.created ∙ sym b.created)

@@ -1,5 +1,5 @@
 -- What a drive that was opened from an image is saved as.
-use Rattle.std.proofs.Common.{◌≡◌, ℕ, ◌-◌, ◌≤◌, List, length, map, Option, refl, sym, ap, subst, ◌∙◌, append-nil, arith}
+use Rattle.std.proofs.Common.{◌≡◌, ℕ, ◌-◌, ◌≤◌, List, length, map, Option, refl, sym, ap, subst, ◌∙◌, arith}
 use Rattle.std.specs.List.{list_any}
 use Rattle.s4_types.specs.Pointer.{Place}
 use Rattle.s4_model.specs.State.{State, state_of}
@@ -21,6 +21,7 @@ use Rattle.image_parts.specs.Frames.{FrameFields}
 use Rattle.image_objects.specs.declared.rows.ImageRow.{ImageRow}
 use Rattle.image_objects.specs.Rows.{RowsAscend, kept_rows}
 use Rattle.image_objects.specs.Saved.{ObjectsAscend, saved_rows}
+use Rattle.drive.proofs.Opening.{opened_spans}
 use Rattle.verifier.specs.Tables.{IsTableOf}
 use Rattle.verifier.specs.Rows.{SpellRows}
 use Rattle.verifier.specs.Grammar.{SpellsDrive}
@@ -34,9 +35,6 @@ use Rattle.verifier.proofs.OpenedRows.{rows_back, kept_ascend}
 -- a history that is just a base has its floor and its spans, where the floor is as high as the window reaches
 floor_begun : (s : StoreFields) (w : Timeline) (next : ℕ) → w.clock - w.window ≤ w.floor → (state_of (opened_history s w next)).floor ≡ w.floor
 floor_begun s w next reach = omega arith
-
-spans_begun : (s : StoreFields) (w : Timeline) (next : ℕ) → spans_of (state_of (opened_history s w next)) ≡ w.runs
-spans_begun s w next = append-nil w.runs
 
 -- the frames of an image are those of each table that has the same frames and slots
 table_same : (frames : List FrameFields) (t u : Table) → IsTableOf frames t → u.seat.frames ≡ t.seat.frames → u.slots ≡ t.slots → IsTableOf frames u
@@ -54,7 +52,7 @@ spells_named bytes parts image x d spells is opened named =
     let clock : w.clock ≡ parts.clock = opened.clock ∙ is.clock in
     let window : w.window ≡ parts.window = opened.window ∙ is.window in
     let floor : w.floor ≡ parts.floor = opened.floor ∙ is.floor in
-    let spans : spans_of (state_in d) ≡ parts.spans = ap spans_of state ∙ spans_begun (fields_of log_of x.store) w x.next ∙ opened.spans ∙ is.spans in
+    let spans : spans_of (state_in d) ≡ parts.spans = ap spans_of state ∙ opened_spans (fields_of log_of x.store) w x.next ∙ opened.spans ∙ is.spans in
     let rows : d.store.rows ≡ kept_rows used is.rows = ap (λ (s : StoreOf Table). s.rows) named.store ∙ opened.rows ∙ rows_listed used is.rows image.objects is.objects in
     let ascend : RowsAscend parts.clock 0 0 is.rows = rows_ascend (header_of parts) 0 0 parts.rows is.rows spells.parts.rules.rows is.spelled in
     record {

@@ -31,7 +31,7 @@ use Rattle.verifier.proofs.Frames.{OneSummaryASpelling}
 abbrev parts_in : List Slot → List BlockRole
 parts_in slots = map (λ slot. slot.role) slots
 
-same_slot : (slots others : List Slot) (bytes more : List ℕ) (b : ℕ) → parts_in slots ≡ parts_in others → (b < length slots → bytes ≡ more) → option_map (with_bytes bytes) (slice_get slots b) ≡ option_map (with_bytes more) (slice_get others b)
+pub same_slot : (slots others : List Slot) (bytes more : List ℕ) (b : ℕ) → parts_in slots ≡ parts_in others → (b < length slots → bytes ≡ more) → option_map (with_bytes bytes) (slice_get slots b) ≡ option_map (with_bytes more) (slice_get others b)
 same_slot [] [] bytes more b e h = refl
 same_slot [] (y ∷ others) bytes more b e h = absurd (cc)
 same_slot (x ∷ slots) [] bytes more b e h = absurd (cc)
@@ -43,7 +43,7 @@ same_slot (x ∷ slots) (y ∷ others) bytes more (suc b) e h =
     let rest : parts_in slots ≡ parts_in others = cc in
     same_slot slots others bytes more b rest (λ low. h (omega arith))
 
-same_used_slot : (slots others : List Slot) (contents other : List ℕ) (b : ℕ) → parts_in slots ≡ parts_in others → ((n : ℕ) → 1 ≤ n → n ≤ length slots → block_bytes contents n ≡ block_bytes other n)
+pub same_used_slot : (slots others : List Slot) (contents other : List ℕ) (b : ℕ) → parts_in slots ≡ parts_in others → ((n : ℕ) → 1 ≤ n → n ≤ length slots → block_bytes contents n ≡ block_bytes other n)
     → option_map (with_bytes (block_bytes contents b)) (used_slot slots b) ≡ option_map (with_bytes (block_bytes other b)) (used_slot others b)
 same_used_slot slots others contents other zero e h = refl
 same_used_slot slots others contents other (suc b) e h = same_slot slots others (block_bytes contents (suc b)) (block_bytes other (suc b)) b e (λ low. h (suc b) (omega arith) (omega arith))
@@ -76,7 +76,7 @@ same_frame one n f k m slots others b g is other =
     let count : length slots ≡ length others = sym (length-map slots (λ (slot : Slot). slot.role)) ∙ ap length parts ∙ length-map others (λ (slot : Slot). slot.role) in
     same_used_slot slots others k.contents m.contents b parts (λ i low high. is.blocks used i low high ∙ sym (other.blocks also i low (omega arith))))
 
-no_block : (t : Table) (f b g : ℕ) → length t.seat.frames ≤ f → used_block (frame_at t.seat.frames f) (slots_at t.slots f) b g ≡ None
+pub no_block : (t : Table) (f b g : ℕ) → length t.seat.frames ≤ f → used_block (frame_at t.seat.frames f) (slots_at t.slots f) b g ≡ None
 no_block t f b g past = ap (λ (k : Frame). used_block k (slots_at t.slots f) b g) (get_or_past t.seat.frames f no_frame past)
 
 used_same_at : OneSummaryASpelling → (frames : List FrameFields) (t u : Table) → IsTableOf frames t → IsTableOf frames u → (p : Place) → used_at t p ≡ used_at u p

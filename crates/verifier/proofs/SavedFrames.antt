@@ -4,15 +4,18 @@ use Rattle.std.specs.List.{count_by, concat, flat_map, AllByRecursion}
 use Rattle.std.specs.Int.{w64}
 use Rattle.std.specs.Simd.{first_chunks}
 use Rattle.std.proofs.lemmas.Bool.{cases_eq, cases_lt, eq-eqb, ne_eqb}
-use Rattle.std.proofs.lemmas.List.{append-nil, length-map, length-replicate, get_or_past, take_all, drop_all, take-append-le, drop-append-le, get_or_append_left, get_or-append_right, get_or-append-add}
+use Rattle.std.proofs.lemmas.List.{append-nil, length-map, get_or_past, take_all, drop_all, take-append-le, drop-append-le, get_or_append_left, get_or-append_right, get_or-append-add}
 use Rattle.std.proofs.lemmas.List.Concat.{flat_map-append}
 use Rattle.std.proofs.lemmas.List.Sums.{sum_by-cons}
-use Rattle.codec.specs.Fields.{number, zeros}
+use Rattle.codec.specs.Fields.{number}
 use Rattle.codec.specs.Summary.{SummaryFields, KeepsSummaryRules, SpellsSummary, UnusedAreBlank, summary_spelling}
 use Rattle.image_parts.specs.Header.{AreBytes}
 use Rattle.image_parts.specs.Frames.{FrameFields, IsFrame, state_of, readers_of, generation_of, contents_length, blocks_of, frame_bytes, KeepsFrameRules, EachKeepsFrameRules, is_open}
 use Rattle.segment_word.specs.Frames.{Phase, Free, Open, Sealed, Draining, Frame, code_of, is_open as phase_is_open}
 use Rattle.segment_word.specs.Layout.{word_of, phase_of, frame_at, block_bytes}
+use Rattle.segment_word.proofs.Words.{code_below_four}
+use Rattle.segment_word.proofs.UnreadWords.{phase_of-code_of}
+use Rattle.codec.proofs.Zeros.{zeros_length}
 use Rattle.segment_table.specs.declared.slots.Slot.{Slot}
 use Rattle.segment_table.specs.Table.{Table, slots_at}
 use Rattle.segment_table.specs.Room.{is_filling, numbers}
@@ -22,18 +25,6 @@ use Rattle.verifier.specs.SavedFrame.{AddsFrame}
 use Rattle.verifier.specs.Saved.{AddsFrames}
 
 -- ---- words
-
-code_most : (p : Phase) → code_of p < 4
-code_most Free = omega arith
-code_most Open = omega arith
-code_most Sealed = omega arith
-code_most Draining = omega arith
-
-phase_again : (p : Phase) → phase_of (code_of p) ≡ p
-phase_again Free = refl
-phase_again Open = refl
-phase_again Sealed = refl
-phase_again Draining = refl
 
 free_code : (p : Phase) → code_of p ≡ 0 → p ≡ Free
 free_code Free e = refl
@@ -62,7 +53,7 @@ no_rest n generation is = omega arith
 
 word_tells : (k : Frame) (word : ℕ) → k.generation < 2 ^ 32 → word ≡ word_of k 0 → IsWordOf k word
 word_tells k word low is =
-    let few : code_of k.phase < 4 = code_most k.phase in
+    let few : code_of k.phase < 4 = code_below_four k.phase in
     let parts = parts_of_word (code_of k.phase) k.generation word few low is in
     record { state = parts.0; readers = no_rest (word / 4) k.generation parts.1; generation = parts.2; range = parts.3 }
 
@@ -100,14 +91,10 @@ blocks_again blocks all =
     let count : length (concat blocks) / 512 ≡ length blocks = omega arith in
     ap (λ (n : ℕ). first_chunks 512 n (concat blocks)) count ∙ chunks_again 512 blocks all
 
-blank_length : (n : ℕ) → length (zeros n) ≡ n
-unfolding zeros
-blank_length n = length-replicate n 0
-
 -- blocks of which the first ones are whole, and the others blank
 all_whole : (payload : List (List ℕ)) (used : ℕ) → ((j : ℕ) → j < used → IsBlock (get_or payload j [])) → UnusedAreBlank used payload → AllByRecursion IsBlock payload
 all_whole [] used first rest = tt
-all_whole (b ∷ payload) zero first rest = (ap length rest.0 ∙ blank_length 512, all_whole payload zero (λ j h. absurd (omega arith)) rest.1)
+all_whole (b ∷ payload) zero first rest = (ap length rest.0 ∙ zeros_length 512, all_whole payload zero (λ j h. absurd (omega arith)) rest.1)
 all_whole (b ∷ payload) (suc used) first rest = (first 0 (omega arith), all_whole payload used (λ j h. first (suc j) (omega arith)) rest)
 
 -- a frame's blocks have 512 bytes each
@@ -160,7 +147,7 @@ free_saved number word k slots fit is free =
         summary = λ ne. absurd (ne free);
       };
       of = record {
-        phase = sym (phase_again k.phase) ∙ ap phase_of (sym tells.state);
+        phase = sym (phase_of-code_of k.phase) ∙ ap phase_of (sym tells.state);
         generation = sym tells.generation;
         free = fit.free;
         summary = λ ne. absurd (ne phase);
@@ -197,7 +184,7 @@ used_saved number word k slots blocks fit filled is used count head bytes keeps 
         };
       };
       of = record {
-        phase = sym (phase_again k.phase) ∙ ap phase_of (sym tells.state);
+        phase = sym (phase_of-code_of k.phase) ∙ ap phase_of (sym tells.state);
         generation = sym tells.generation;
         free = fit.free;
         summary = λ ne. told;

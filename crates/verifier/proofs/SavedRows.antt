@@ -2,6 +2,8 @@
 use Rattle.std.proofs.Common.{◌≡◌, inl, inr, ℕ, ◌<◌, ◌≤◌, List, [], ◌∷◌, ◌++◌, Some, None, sym, subst, ◌∙◌, arith}
 use Rattle.std.proofs.lemmas.List.{map-append}
 use Rattle.std.proofs.lemmas.Bool.{cases_eq, cases_lt}
+use Rattle.std.proofs.SliceLists.{all_by_recursion_push}
+use Rattle.lemmas.proofs.List.{all_weaker}
 use Rattle.object_map.specs.declared.map.Row.{Row}
 use Rattle.object_map.specs.Objects.{IsNextAbove}
 use Rattle.object_map.specs.Rows.{row_of}
@@ -11,14 +13,8 @@ use Rattle.image_objects.specs.declared.rows.ImageRow.{ImageRow}
 use Rattle.image_objects.specs.Saved.{saved_row, saved_rows}
 use Rattle.verifier.specs.Rows.{SpellsRow, SpellRows}
 use Rattle.verifier.specs.SavedRows.{AreSavedUpTo, AreSaved}
-use Rattle.verifier.proofs.Lists.{all_push, all_weaker}
 use Rattle.verifier.proofs.ListedRows.{none_beyond, found_as_before, found_last, ascend_push}
-
-spell_push : (parts : List RowPart) (rows : List ImageRow) (part : RowPart) (row : ImageRow) → SpellRows parts rows → SpellsRow part row → SpellRows (parts ++ part ∷ []) (rows ++ row ∷ [])
-spell_push [] [] part row spelled here = (here, tt)
-spell_push [] (x ∷ rows) part row spelled here = absurd spelled
-spell_push (p ∷ parts) [] part row spelled here = absurd spelled
-spell_push (p ∷ parts) (x ∷ rows) part row spelled here = (spelled.0, spell_push parts rows part row spelled.1 here)
+use Rattle.verifier.proofs.AllRows.{rows_push}
 
 -- none is saved yet, where no row is of object 0
 pub none_saved : (all : List (ℕ × Row)) → row_of all 0 ≡ None → AreSavedUpTo all 0 []
@@ -39,7 +35,7 @@ saved_on all last o parts row part saved next found spells is =
     record {
       rows = saved.rows ++ (o, row) ∷ [];
       ascending = ascend_push saved.rows 1 last o row saved.ascending saved.below (omega arith) lt;
-      below = all_push (λ (e : ℕ × Row). e.0 ≤ o) saved.rows (o, row) (all_weaker (λ (e : ℕ × Row). e.0 ≤ last) (λ (e : ℕ × Row). e.0 ≤ o) (λ e le. omega (arith, le)) saved.rows saved.below) (omega arith);
+      below = all_by_recursion_push (λ (e : ℕ × Row). e.0 ≤ o) saved.rows (o, row) (all_weaker (λ (e : ℕ × Row). e.0 ≤ last) (λ (e : ℕ × Row). e.0 ≤ o) saved.rows (λ e le. omega (arith, le)) saved.below) (omega arith);
       listed = λ k le. elim (cases_eq k o) [
         | inl same ↦ subst (λ (q : ℕ). row_of (saved.rows ++ (o, row) ∷ []) q ≡ row_of all q) (sym same) (found_last saved.rows last o row saved.below lt ∙ sym found)
         | inr apart ↦ found_as_before saved.rows k o row apart ∙ elim (cases_lt last k) [
@@ -47,8 +43,8 @@ saved_on all last o parts row part saved next found spells is =
           | inr up ↦ saved.listed k up
         ]
       ];
-      spelled = subst (λ (xs : List ImageRow). SpellRows (parts ++ part ∷ []) xs) (sym (map-append (λ (e : ℕ × Row). saved_row e.0 e.1) saved.rows ((o, row) ∷ []))) (spell_push parts (saved_rows saved.rows) part (saved_row o row) saved.spelled spells);
-      is = all_push IsRow parts part saved.is is;
+      spelled = subst (λ (xs : List ImageRow). SpellRows (parts ++ part ∷ []) xs) (sym (map-append (λ (e : ℕ × Row). saved_row e.0 e.1) saved.rows ((o, row) ∷ []))) (rows_push parts (saved_rows saved.rows) part (saved_row o row) saved.spelled spells);
+      is = all_by_recursion_push IsRow parts part saved.is is;
     }
 
 -- all are saved, where none is after the last

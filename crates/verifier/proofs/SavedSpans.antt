@@ -1,28 +1,16 @@
 -- The spans of a window keep the rules of an image's.
-use Rattle.std.proofs.Common.{◌≡◌, ◌⊎◌, inl, inr, ℕ, true, cond, ◌==◌, ◌&&◌, nat_lt, ◌+◌, ◌-◌, ◌<◌, ◌≤◌, ◌^◌, List, [], ◌∷◌, length, refl, sym, ap, ◌∙◌, arith}
+use Rattle.std.proofs.Common.{◌≡◌, inl, inr, ℕ, cond, ◌+◌, ◌<◌, ◌≤◌, ◌^◌, List, [], ◌∷◌, length, refl, sym, ap, ◌∙◌, arith}
 use Rattle.std.specs.Prelude.{count_by}
 use Rattle.std.specs.List.{AllByRecursion}
-use Rattle.std.proofs.lemmas.Bool.{and_parts, or_cases, ltb-true, eqb-true, eq-eqb}
+use Rattle.std.proofs.lemmas.Bool.{eq-eqb}
 use Rattle.std.proofs.lemmas.List.Sums.{sum_by-cons}
 use Rattle.s4_types.specs.declared.limits.TheConstants.{RUNS_IN_A_LIST, RUNS_IN_ALL}
 use Rattle.s4_types.specs.declared.spans.Span.{Span}
 use Rattle.s4_model.specs.Sound.{IsOfGiven}
-use Rattle.window.specs.Runs.{is_before, IsBeforeAll, Ascend, AllBeginFrom, AllEndBefore, AreFewInEachList, span_is_of}
+use Rattle.window.specs.Runs.{IsBeforeAll, Ascend, AllBeginFrom, AllEndBefore, AreFewInEachList, span_is_of}
+use Rattle.window.proofs.Ordering.{before_parts}
 use Rattle.image_parts.specs.Spans.{IsSpan, KeepsSpanRules, SpansFollow, SpansKeep, KeepSpanRules}
 use Rattle.image_parts.specs.declared.headers.Header.{Header}
-
--- a span is before another, by numbers
-abbrev Before : Span → Span → Type 0
-Before x y = (x.object < y.object) ⊎ ((x.object ≡ y.object) × (x.last + 1 < y.first))
-
-before : (x y : Span) → is_before x y ≡ true → Before x y
-before x y h =
-    elim (or_cases (nat_lt x.object y.object) (x.object == y.object && nat_lt 1 (y.first - x.last)) h) [
-      | inl e ↦ inl (ltb-true _ _ e)
-      | inr e ↦ (let parts = and_parts (x.object == y.object) (nat_lt 1 (y.first - x.last)) e in
-          let gap : 1 < y.first - x.last = ltb-true _ _ parts.1 in
-          inr (eqb-true _ _ parts.0, omega arith))
-    ]
 
 -- one more span of a list
 count_here : (list : ℕ) (s : Span) (spans : List Span) → s.object ≡ list → count_by (span_is_of list) (s ∷ spans) ≡ 1 + count_by (span_is_of list) spans
@@ -39,7 +27,7 @@ follow : (h : Header) (before_it : Span) (nth : ℕ) (spans : List Span) → IsB
 follow h b nth [] behind ordered rules count few = tt
 follow h b nth (s ∷ spans) behind ordered rules count few = (
   rules.0,
-  elim (before b s behind.0) [
+  elim (before_parts b s behind.0) [
     | inl begins ↦
         let own : 1 + count_by (span_is_of s.object) spans ≤ RUNS_IN_A_LIST = omega (arith, few s.object, count_here s.object s spans refl) in
         inl (begins, follow h s 1 spans ordered.1 ordered.2 rules.1 own (few_behind s spans few))

@@ -1,5 +1,5 @@
 -- What the bytes tell that a drive is saved as: a drive that begins with it goes on where the other ended.
-use Rattle.std.proofs.Common.{◌≡◌, ℕ, ◌-◌, ◌≤◌, ◌==◌, ◌&&◌, Bool, nat_le, List, [], ◌∷◌, Option, Some, None, IsSome, refl, sym, ap, subst, ◌∙◌, inl, inr, append-nil, arith}
+use Rattle.std.proofs.Common.{◌≡◌, ℕ, ◌-◌, ◌≤◌, ◌==◌, ◌&&◌, Bool, nat_le, List, [], ◌∷◌, Option, Some, refl, sym, ap, subst, ◌∙◌, inl, inr, append-nil, arith}
 use Rattle.std.proofs.lemmas.Bool.{and_left, cond-true, cond-false, cases_eq, cases_lt, eq-eqb, le-leb, lt-leb, ne_eqb}
 use Rattle.s4_types.specs.Pointer.{Place}
 use Rattle.s4_types.specs.History.{Base}
@@ -10,10 +10,9 @@ use Rattle.s4_model.specs.State.{State, state_of}
 use Rattle.s4_model.specs.VersionAt.{current_of, opening_version, versions_of, version_after, version_of}
 use Rattle.s4_model.specs.Visible.{spans_of}
 use Rattle.s4_model.specs.Promise.{beginning, GoesOn}
-use Rattle.block_log.specs.Log.{Stored, of_kind, seen_as}
-use Rattle.block_log.specs.declared.kinds.BlockKind.TheVariants.{Data}
+use Rattle.block_log.specs.Log.{Stored}
 use Rattle.codec.specs.declared.inodes.Inode.{Inode}
-use Rattle.inode.specs.Contents.{bytes_stored, contents_of}
+use Rattle.inode.specs.Contents.{contents_of}
 use Rattle.inode.specs.Tidiness.{AgreeAt}
 use Rattle.inode.specs.Laws.{OnlyItsBlocksMatter}
 use Rattle.object_map.specs.declared.map.Row.{Row}
@@ -30,6 +29,7 @@ use Rattle.image_parts.specs.Image.{Image, image_in}
 use Rattle.image_objects.specs.declared.rows.ImageRow.{ImageRow}
 use Rattle.image_objects.specs.Objects.{inode_used}
 use Rattle.image_objects.specs.Saved.{HoldsUsed, IsSavedAsHeld, saved_row, saved_rows}
+use Rattle.image_objects.proofs.SavedObject.{same_bytes}
 use Rattle.verifier.specs.Grammar.{SpellsDrive}
 use Rattle.verifier.specs.Saved.{IsSavedOf, SpellsSaved}
 use Rattle.verifier.specs.Opened.{inode_of_rows, version_of_rows, IsToldBy, TellsBase}
@@ -47,16 +47,6 @@ abbrev pub AnImageIsRead : Type 0
 AnImageIsRead = (bytes : List ℕ) (image : Image) → SpellsDrive bytes image → image_in bytes ≡ image
 
 -- ---- one row
-
-block_there : (o : ℕ) (x : Option Stored) → IsSome (seen_as Data o x) → (block : Stored) × (x ≡ Some block)
-block_there o None some = absurd (cc)
-block_there o (Some block) some = (block, refl)
-
--- a data block that is held has the same bytes where it is used
-same_bytes : (used held : Place → Option Stored) (o : ℕ) (p : Place) → HoldsUsed used held → IsSome (of_kind Data o held p) → contents_of used p ≡ contents_of held p
-same_bytes used held o p holds some =
-    let there = block_there o (held p) some in
-    ap bytes_stored (holds p there.0 there.1 ∙ sym there.1)
 
 same_version : ASavedRowTellsTheSame → OnlyItsBlocksMatter → (used held : Place → Option Stored) (o t latest : ℕ) (row : Row) → HoldsUsed used held → IsObject held o row latest
     → version_by used (Some (inode_used used (saved_row o row) t)) ≡ version_by held (Some (inode_of held o row t))

@@ -10,6 +10,7 @@ use Rattle.s4_types.specs.Pointer.{Place, IsPlace}
 use Rattle.s4_types.specs.Sizes.{IsFrameCount}
 use Rattle.s4_types.specs.declared.limits.TheConstants.{RUNS_IN_ALL}
 use Rattle.s4_types.specs.declared.spans.Span.{Span}
+use Rattle.lemmas.proofs.List.{all_weaker}
 use Rattle.s4_model.specs.State.{State}
 use Rattle.s4_model.specs.Sound.{IsSound, IsOfGiven}
 use Rattle.s4_model.specs.Visible.{spans_of}
@@ -35,10 +36,11 @@ use Rattle.image_parts.specs.Spans.{span_bytes}
 use Rattle.image_parts.specs.Image.{Image, header_of, front_bytes, front_bytes_by, image_bytes, image_bytes_by}
 use Rattle.image_objects.specs.Rows.{RowsAscend, RowsStand}
 use Rattle.image_objects.specs.Saved.{HoldsUsed, ObjectsAscend, saved_rows}
+use Rattle.drive.proofs.Opening.{no_row_of_0}
 use Rattle.verifier.specs.Rows.{SpellRows}
 use Rattle.verifier.specs.Saved.{AddsFrames, SpellsSaved}
 use Rattle.verifier.specs.SavedRows.{AreSaved}
-use Rattle.verifier.proofs.Lists.{all_both, all_weaker}
+use Rattle.verifier.proofs.Lists.{all_both}
 use Rattle.verifier.proofs.ListedRows.{each_found}
 use Rattle.verifier.proofs.FewRows.{CheckpointLaws, Owns, row_owns, few_rows}
 use Rattle.verifier.proofs.SavedSpans.{spans_keep_rules, are_spans}
@@ -51,10 +53,8 @@ pub record IsOfStore (s : StoreFields) (e : ℕ × Row) : Type 0 where
   pub found : row_of s.rows e.0 ≡ Some e.1
 
 of_store : (s : StoreFields) (rows : List (ℕ × Row)) → IsStore s → ObjectsAscend 1 rows → ((o : ℕ) → row_of rows o ≡ row_of s.rows o) → AllByRecursion (IsOfStore s) rows
-of_store s rows store ascend listed = all_weaker (λ (e : ℕ × Row). row_of rows e.0 ≡ Some e.1) (IsOfStore s)
-    (λ e there. (let found : row_of s.rows e.0 ≡ Some e.1 = sym (listed e.0) ∙ there in
-    record { object = store.objects e.0 e.1 found; orderly = store.orderly e.0 e.1 found; found = found }))
-    rows (each_found rows 1 ascend)
+of_store s rows store ascend listed = all_weaker (λ (e : ℕ × Row). row_of rows e.0 ≡ Some e.1) (IsOfStore s) rows (λ e there. (let found : row_of s.rows e.0 ≡ Some e.1 = sym (listed e.0) ∙ there in
+    record { object = store.objects e.0 e.1 found; orderly = store.orderly e.0 e.1 found; found = found })) (each_found rows 1 ascend)
 
 -- a store is one whatever its rows' list is, where the same is found in it
 listed_store : (s : StoreFields) (rows : List (ℕ × Row)) → IsStore s → ((o : ℕ) → row_of rows o ≡ row_of s.rows o) → IsStore (record { rows = rows; log = s.log; latest = s.latest })
@@ -73,15 +73,15 @@ listed_store s rows store listed = record {
 
 -- ---- the rules of rows
 
-third : (frame block generation : ℕ) → get_or (slot (Some (record { frame = frame; block = block; generation = generation }))) 2 0 ≡ block
+pub block_byte : (frame block generation : ℕ) → get_or (slot (Some (record { frame = frame; block = block; generation = generation }))) 2 0 ≡ block
 unfolding slot number
-third frame block generation = refl
+block_byte frame block generation = refl
 
 -- eight zeros are no pointer
-no_pointer : (p : Place) → IsPlace p → number w64 0 ≡ slot (Some p) → ⊥
+pub no_pointer : (p : Place) → IsPlace p → number w64 0 ≡ slot (Some p) → ⊥
 unfolding number
 no_pointer p is h =
-    let zero_there : 0 ≡ p.block = ap (λ (l : List ℕ). get_or l 2 0) h ∙ third p.frame p.block p.generation in
+    let zero_there : 0 ≡ p.block = ap (λ (l : List ℕ). get_or l 2 0) h ∙ block_byte p.frame p.block p.generation in
     omega (arith, is.lowest_block)
 
 hole : (n m : ℕ) (kept : Place → Type 0) (q : Option Place) → SpellsSlot (number w64 n) q → MatchOption q (m ≡ 0) kept → n ≡ 0 → m ≡ 0
@@ -186,10 +186,10 @@ abbrev pub Ascending : Type 0
 Ascending = (used : Place → Option Stored) (s : StoreFields) (low clock : ℕ) → IsStore s → s.latest ≤ clock → HoldsUsed used s.log.held → ObjectsAscend low s.rows → RowsAscend clock 0 0 (saved_rows s.rows)
 
 -- the parts, one after the other, are the front of an image
-front : (image : Image) (h : Header) (out : List ℕ) → h ≡ header_of image
+pub front_written : (image : Image) (h : Header) (out : List ℕ) → h ≡ header_of image
     → out ≡ ((([] ++ header_bytes h) ++ flat_map frame_bytes image.frames) ++ flat_map row_bytes image.rows) ++ flat_map span_bytes image.spans → out ≡ front_bytes image
 unfolding front_bytes front_bytes_by header_bytes
-front image h out same is =
+front_written image h out same is =
     let header = header_bytes h in
     let frames = flat_map frame_bytes image.frames in
     let rows = flat_map row_bytes image.rows in
@@ -209,7 +209,7 @@ saves d rows spans h after out checkpoints stand ascending shown saved seen head
     let listed : StoreFields = record { rows = saved.rows; log = log_of t; latest = d.store.latest } in
     let store : IsStore listed = listed_store (store_of d) saved.rows shown.store saved.listed in
     let few : length rows ≤ 2 ^ 20 = few_parts checkpoints d rows shown.store saved in
-    let fronted : out ≡ front_bytes image = front image h out same (parts ∙ ap (λ l. (l ++ flat_map row_bytes rows) ++ flat_map span_bytes spans) adds.bytes) in
+    let fronted : out ≡ front_bytes image = front_written image h out same (parts ∙ ap (λ l. (l ++ flat_map row_bytes rows) ++ flat_map span_bytes spans) adds.bytes) in
     let header : KeepsHeaderRules (header_of image) = record {
       frames = subst IsFrameCount frames shown.count;
       window = shown.sound.reached;
@@ -264,9 +264,5 @@ saves d rows spans h after out checkpoints stand ascending shown saved seen head
 
 -- ---- number 0 is no object's
 
-none_0 : (s : StoreFields) (found : Option Row) → row_of s.rows 0 ≡ found → IsStore s → found ≡ None
-none_0 s None h store = refl
-none_0 s (Some row) h store = let object : IsObject s.log.held 0 row s.latest = store.objects 0 row h in absurd (omega (arith, object.stands.object))
-
 pub no_row_0 : (d : DriveFields) → IsStore (store_of d) → row_of d.store.rows 0 ≡ None
-no_row_0 d store = none_0 (store_of d) (row_of d.store.rows 0) refl store
+no_row_0 d store = no_row_of_0 (store_of d) (row_of d.store.rows 0) refl store

@@ -1,7 +1,7 @@
 -- The spans of an image are runs of a window.
-use Rattle.std.proofs.Common.{◌≡◌, ◌⊎◌, ℕ, ◌+◌, ◌-◌, ◌<◌, ◌≤◌, Bool, true, false, eqb, ltb, ◌||◌, ◌&&◌, List, [], ◌∷◌, refl, inl, inr, arith}
+use Rattle.std.proofs.Common.{◌≡◌, ◌⊎◌, ℕ, ◌+◌, ◌-◌, ◌<◌, ◌≤◌, true, eqb, ltb, ◌&&◌, List, [], ◌∷◌, inl, inr, arith}
 use Rattle.std.specs.List.{AllByRecursion}
-use Rattle.std.proofs.lemmas.Bool.{or_cases, and_parts, and_from, ltb-true, eqb-true, lt-ltb, eq-eqb}
+use Rattle.std.proofs.lemmas.Bool.{or_cases, and_parts, and_from, ltb-true, eqb-true, lt-ltb, eq-eqb, or_left, or_right}
 use Rattle.s4_types.specs.declared.spans.Span.{Span}
 use Rattle.s4_model.specs.Sound.{IsOfGiven}
 use Rattle.image_parts.specs.declared.headers.Header.{Header}
@@ -13,17 +13,9 @@ use Rattle.window.specs.Runs.{is_before, IsBeforeAll, Ascend, AllBeginFrom, AllE
 abbrev IsBefore : Span → Span → Type 0
 IsBefore x y = (x.object < y.object) ⊎ ((x.object ≡ y.object) × (1 < y.first - x.last))
 
-left_or : (x y : Bool) → x ≡ true → (x || y) ≡ true
-left_or true y e = refl
-left_or false y e = absurd (cc)
-
-right_or : (x y : Bool) → y ≡ true → (x || y) ≡ true
-right_or true y e = refl
-right_or false y e = e
-
 before_told : (x y : Span) → IsBefore x y → is_before x y ≡ true
-before_told x y (inl less) = left_or (ltb x.object y.object) (eqb x.object y.object && ltb 1 (y.first - x.last)) (lt-ltb x.object y.object less)
-before_told x y (inr same) = right_or (ltb x.object y.object) (eqb x.object y.object && ltb 1 (y.first - x.last)) (and_from (eqb x.object y.object) (ltb 1 (y.first - x.last)) (eq-eqb x.object y.object same.0) (lt-ltb 1 (y.first - x.last) same.1))
+before_told x y (inl less) = or_left (ltb x.object y.object) (eqb x.object y.object && ltb 1 (y.first - x.last)) (lt-ltb x.object y.object less)
+before_told x y (inr same) = or_right (ltb x.object y.object) (eqb x.object y.object && ltb 1 (y.first - x.last)) (and_from (eqb x.object y.object) (ltb 1 (y.first - x.last)) (eq-eqb x.object y.object same.0) (lt-ltb 1 (y.first - x.last) same.1))
 
 before_is : (x y : Span) → is_before x y ≡ true → IsBefore x y
 before_is x y e = elim (or_cases (ltb x.object y.object) (eqb x.object y.object && ltb 1 (y.first - x.last)) e) [

@@ -3,7 +3,8 @@ use Rattle.std.proofs.Common.{◌≡◌, ◌↔◌, ℕ, zero, suc, ◌+◌, ◌
 use Rattle.std.specs.Prelude.{nat_eq}
 use Rattle.std.specs.List.{dedup_from}
 use Rattle.std.proofs.lemmas.Bool.{cond-true, cond-false, eq-eqb, ne_eqb}
-use Rattle.std.proofs.lemmas.List.{drop_more, drop_all}
+use Rattle.std.proofs.lemmas.List.{drop_all}
+use Rattle.lemmas.proofs.List.{drop_next}
 use Rattle.codec.specs.Entry.{EntryFields}
 use Rattle.image_objects.specs.Moments.{moments_of_chain, StandOnce}
 
@@ -34,20 +35,16 @@ told_whole [] e some is = absurd (omega (arith, some))
 told_whole (x ∷ entries) e some is =
     subst (λ (f : EntryFields). told_from f.moment (x ∷ entries) ≡ moments_of_chain (x ∷ entries)) (sym is) (told_same x.moment x entries refl)
 
--- what is left to tell, one entry further on
-behind_one : (entries : List EntryFields) (i : ℕ) (e : EntryFields) → i < length entries → e ≡ get_or entries i e → drop i entries ≡ e ∷ drop (i + 1) entries
-behind_one entries i e lt is = drop_more entries i e lt ∙ ap (λ (f : EntryFields). f ∷ drop (i + 1) entries) (sym is)
-
 pub same_again : (all before : List ℕ) (entries : List EntryFields) (i last : ℕ) (e : EntryFields) → i < length entries → e ≡ get_or entries i e → e.moment ≡ last
     → before ++ told_from last (drop i entries) ≡ all → before ++ told_from last (drop (i + 1) entries) ≡ all
 same_again all before entries i last e lt is same h =
-    ap (λ (l : List ℕ). before ++ l) (sym (ap (told_from last) (behind_one entries i e lt is) ∙ told_same last e (drop (i + 1) entries) same)) ∙ h
+    ap (λ (l : List ℕ). before ++ l) (sym (ap (told_from last) (drop_next entries i e lt is) ∙ told_same last e (drop (i + 1) entries) same)) ∙ h
 
 pub one_told : (all before : List ℕ) (entries : List EntryFields) (i last : ℕ) (e : EntryFields) → i < length entries → e ≡ get_or entries i e → (e.moment ≡ last → ⊥)
     → before ++ told_from last (drop i entries) ≡ all → (before ++ last ∷ []) ++ told_from e.moment (drop (i + 1) entries) ≡ all
 one_told all before entries i last e lt is other h =
     append_assoc before (last ∷ []) (told_from e.moment (drop (i + 1) entries))
-    ∙ ap (λ (l : List ℕ). before ++ l) (sym (ap (told_from last) (behind_one entries i e lt is) ∙ told_other last e (drop (i + 1) entries) other)) ∙ h
+    ∙ ap (λ (l : List ℕ). before ++ l) (sym (ap (told_from last) (drop_next entries i e lt is) ∙ told_other last e (drop (i + 1) entries) other)) ∙ h
 
 pub last_told : (all before : List ℕ) (entries : List EntryFields) (i last : ℕ) → length entries ≤ i → before ++ told_from last (drop i entries) ≡ all → before ++ last ∷ [] ≡ all
 last_told all before entries i last past h =

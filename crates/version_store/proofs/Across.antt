@@ -9,11 +9,10 @@ use Rattle.s4_types.specs.Pointer.{Place}
 use Rattle.block_log.specs.Log.{Stored}
 use Rattle.codec.specs.Entry.{EntryFields}
 use Rattle.undo_redo.specs.Runs.{AllBy, AllAt, entry_is_by}
-use Rattle.journal_chain.specs.Chain.{chain_entries, chain_links, links_from}
-use Rattle.journal_chain.specs.Packing.{joined}
 use Rattle.object_map.specs.declared.map.Row.{Row}
 use Rattle.object_map.specs.Rows.{row_of, with_row, fresh_row}
 use Rattle.time_read.specs.Rows.{entries_of}
+use Rattle.row_changes.proofs.Fresh.{no_entries}
 use Rattle.version_store.specs.Across.{MakingsAscend, ShareNoMoment, ChainsShareNoMoment}
 use Rattle.version_store.specs.Store.{StoreFields}
 use Rattle.version_store.specs.Taking.{IsAboveAll}
@@ -153,11 +152,6 @@ fewer_across rows after held later was across = record {
       both_same (entries_of later o r) (entries_of later q t) (entries_of held o r) (entries_of held q t) (was o r e).1 (was q t f).1 (across.apart o q r t less (was o r e).0 (was q t f).0);
 }
 
--- an object that was just created has no entries
-pub fresh_entries : (held : Place → Option Stored) (o created : ℕ) → entries_of held o (fresh_row created) ≡ []
-unfolding chain_entries chain_links links_from joined
-fresh_entries held o created = refl
-
 -- The row of an object that is made later than all others, and whose number is above theirs, is added.
 pub added_across : (s : StoreFields) (after : List (ℕ × Row)) (x m : ℕ) → IsAboveAll s x → ((q : ℕ) → row_of after q ≡ with_row (row_of s.rows) x (fresh_row m) q)
     → ((q : ℕ) (r : Row) → row_of s.rows q ≡ Some r → r.created < m) → IsAcross s.log.held s.rows → IsAcross s.log.held after
@@ -169,7 +163,7 @@ added_across s after x m above put before across =
           (λ q r less e. let under = below q r e in absurd (omega (arith, less, under)))
           (λ o q r t other beside less e f. across.ascending o q r t less e f);
       apart = pair_cases (λ o q r t. ShareNoMoment (entries_of s.log.held o r) (entries_of s.log.held q t)) (row_of s.rows) (row_of after) x (fresh_row m) put
-          (λ q r less e. subst (λ (es : List EntryFields). ShareNoMoment (entries_of s.log.held q r) es) (sym (fresh_entries s.log.held x m)) (none_apart (entries_of s.log.held q r)))
+          (λ q r less e. subst (λ (es : List EntryFields). ShareNoMoment (entries_of s.log.held q r) es) (sym (no_entries s.log.held x m)) (none_apart (entries_of s.log.held q r)))
           (λ q r less e. let under = below q r e in absurd (omega (arith, less, under)))
           (λ o q r t other beside less e f. across.apart o q r t less e f);
     }

@@ -1,21 +1,14 @@
 -- What a table shows where older checkpoints were dropped before something else was done.
-use Rattle.std.proofs.Common.{◌≡◌, Option, ℕ, ◌<◌, ◌≤◌, Bool, false, ◌==◌, ◌&&◌, ◌||◌, List, length, take, refl, ap, subst, ◌∙◌, arith}
+use Rattle.std.proofs.Common.{◌≡◌, Option, ℕ, ◌<◌, ◌≤◌, ◌==◌, List, length, take, ap, subst, ◌∙◌, arith}
 use Rattle.std.specs.List.{Contains}
 use Rattle.s4_types.specs.Pointer.{Place}
-use Rattle.block_log.specs.declared.kinds.BlockKind.{BlockKind}
-use Rattle.block_log.specs.declared.kinds.BlockKind.TheVariants.{Journal, Checkpoint, Data, Pointers}
-use Rattle.block_log.specs.Log.{Log, Stored, same_kind}
+use Rattle.block_log.specs.Log.{Log, Stored}
 use Rattle.block_log.specs.Taken.{TakesPlaces}
-use Rattle.checkpoint.specs.Held.{is_checkpoint_kind, OnlyCheckpointChanged}
+use Rattle.checkpoint.specs.Held.{OnlyCheckpointChanged}
 use Rattle.row_changes.specs.Rewritten.{OnlyMetadataChanged}
+use Rattle.row_changes.proofs.WrittenRow.{no_checkpoint}
 use Rattle.version_store.specs.private.Below.{PlacesAddUp}
 use Rattle.version_store.proofs.Spending.{none_more}
-
-no_checkpoint : (kind : BlockKind) (same : Bool) → ((same_kind Journal kind || is_checkpoint_kind kind) && same) ≡ false → (is_checkpoint_kind kind && same) ≡ false
-no_checkpoint Journal same h = refl
-no_checkpoint Checkpoint same h = h
-no_checkpoint Data same h = refl
-no_checkpoint Pointers same h = h
 
 -- checkpoints were dropped, and then metadata alone has changed
 pub metadata_behind : (o : ℕ) (held between later : Place → Option Stored) → OnlyCheckpointChanged o held between → OnlyMetadataChanged o between later → OnlyMetadataChanged o held later

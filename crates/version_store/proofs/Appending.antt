@@ -7,11 +7,13 @@ use Rattle.std.proofs.lemmas.List.Elements.{Contains-append_cases}
 use Rattle.std.proofs.Math.ListN.{length-set}
 use Rattle.std.proofs.lemmas.Option.{none-some, same_Some}
 use Rattle.s4_types.specs.Pointer.{Place, IsPlace}
+use Rattle.lemmas.proofs.Option.{none_not_some, none_before}
 use Rattle.block_log.specs.Log.{Log, Stored, same_kind, same_place, with_more}
 use Rattle.block_log.specs.Growth.{Puts}
 use Rattle.block_log.specs.Taken.{TakesPlaces}
 use Rattle.block_log.specs.declared.kinds.BlockKind.{BlockKind}
 use Rattle.block_log.specs.declared.kinds.BlockKind.TheVariants.{Journal, Checkpoint, Data, Pointers}
+use Rattle.block_log.proofs.Taking.{none_taken}
 use Rattle.inode.specs.Growth.{data_block}
 use Rattle.chain_rewriting.specs.Renaming.{RenamingFields, with_move, move_of}
 use Rattle.chain_rewriting.specs.Apart.{HasDistinctPlaces}
@@ -23,7 +25,6 @@ use Rattle.version_store.specs.private.Relocating.{Appending}
 use Rattle.version_store.specs.Store.{times_led}
 use Rattle.version_store.proofs.Counted.{more_is}
 use Rattle.version_store.proofs.Named.{once_led}
-use Rattle.version_store.proofs.Spending.{not_both, none_taken}
 
 -- ---- nothing is appended yet
 
@@ -49,7 +50,7 @@ begun none distinct o copies log size nowhere are = record {
   fresh = λ n q h. absurd (no_moves none copies n q h);
   there = λ n q h. absurd (no_moves none copies n q h);
   each = λ c among. inr among;
-  new = λ q gone some. absurd (not_both (log.held q) gone some);
+  new = λ q gone some. absurd (none_not_some (log.held q) gone some);
   below = λ n q h. absurd (no_moves none copies n q h);
   low = 1;
   ascending = are.ascending;
@@ -57,7 +58,7 @@ begun none distinct o copies log size nowhere are = record {
 
 -- ---- one more
 
-ascend_weaker : (a b : ℕ) (rest : List CopiedBlock) → a ≤ b → blocks_ascend_from b rest ≡ true → blocks_ascend_from a rest ≡ true
+pub ascend_weaker : (a b : ℕ) (rest : List CopiedBlock) → a ≤ b → blocks_ascend_from b rest ≡ true → blocks_ascend_from a rest ≡ true
 ascend_weaker a b [] le h = refl
 ascend_weaker a b (c ∷ rest) le h =
     let parts = and_parts (leb b c.place.block) (blocks_ascend_from (suc c.place.block) rest) h in
@@ -81,10 +82,6 @@ none_of : {X : Type 0} (x : Option X) → ((q : X) → x ≡ Some q → ⊥) →
 none_of None h = refl
 none_of (Some q) h = absurd (h q refl)
 
-none_before : (before now : Option Stored) → (IsSome before → now ≡ before) → now ≡ None → before ≡ None
-none_before None now stays none = refl
-none_before (Some block) now stays none = absurd (none-some block (sym none ∙ stays refl))
-
 turned : (k : BlockKind) → same_kind k Data ≡ same_kind Data k
 turned Journal = refl
 turned Checkpoint = refl
@@ -98,7 +95,7 @@ only_one c d (suc k, there, at) = absurd (omega (arith, there))
 -- what was held stays where a block is put
 still : OnePlace → (now after : Log) (block : Stored) (p q : Place) → Puts now block p after → IsSome (now.held q) → after.held q ≡ now.held q
 still one now after block p q puts some = elim (cases_Bool (same_place p q)) [
-  | inl is ↦ absurd (not_both (now.held q) (ap now.held (sym (one p q is)) ∙ puts.fresh) some)
+  | inl is ↦ absurd (none_not_some (now.held q) (ap now.held (sym (one p q is)) ∙ puts.fresh) some)
   | inr other ↦ puts.kept q other
 ]
 

@@ -19,6 +19,7 @@ use Rattle.object_map.specs.declared.sides.Side.{Side}
 use Rattle.object_map.specs.Rows.{row_of}
 use Rattle.object_map.specs.Sides.{newest_side, sides_after, sides_grown, sides_named}
 use Rattle.time_read.specs.Rows.{IsRow, IsSide, entries_of, checkpoint_of, inode_of}
+use Rattle.row_changes.proofs.Sides.{each_side_decodes}
 use Rattle.version_store.specs.Store.{IsLed, IsStore, StoreFields, named_of, pointers_aside, pointers_kept, pointers_named, pointers_of, pointers_of_sides, sides_told, times_led}
 use Rattle.version_store.specs.private.Below.{OnePlace, PlacesAddUp}
 use Rattle.version_store.specs.private.Recounting.{Counts, Recounts}
@@ -60,21 +61,9 @@ sides_tell : (held : Place → Option Stored) (o : ℕ) (row : Row) (sides : Lis
 sides_tell held o row [] all = tt
 sides_tell held o row (side ∷ sides) all = (all.0.told, sides_tell held o row sides all.1)
 
-joined_tell : (held : Place → Option Stored) (o : ℕ) (row : Row) (sides others : List Side) → AllByRecursion (Tells held o row) sides → AllByRecursion (Tells held o row) others → AllByRecursion (Tells held o row) (sides ++ others)
-joined_tell held o row [] others all more = more
-joined_tell held o row (side ∷ sides) others all more = (all.0, joined_tell held o row sides others all.1 more)
-
-newest_tells : (held : Place → Option Stored) (o : ℕ) (row : Row) (place : Option Place) → MatchOption place (row.checkpoint_moment ≡ 0) (λ p. checkpoint_held held o p ≡ Some (record { object = o; moment = row.checkpoint_moment; inode = inode_of held o row row.checkpoint_moment }))
-    → AllByRecursion (Tells held o row) (newest_side place row.checkpoint_moment)
-newest_tells held o row None told = tt
-newest_tells held o row (Some p) told = (told, tt)
-
 front_tells : (held : Place → Option Stored) (o : ℕ) (row : Row) (sides others : List Side) → AllByRecursion (Tells held o row) (sides ++ others) → AllByRecursion (Tells held o row) sides
 front_tells held o row [] others all = tt
 front_tells held o row (side ∷ sides) others all = (all.0, front_tells held o row sides others all.1)
-
-all_tell : (held : Place → Option Stored) (o : ℕ) (row : Row) → IsRow held o row → AllByRecursion (Tells held o row) (sides_named row)
-all_tell held o row stands = joined_tell held o row row.sides (newest_side row.checkpoint row.checkpoint_moment) (sides_tell held o row row.sides stands.sides) (newest_tells held o row row.checkpoint stands.checkpoint)
 
 -- the pointers of the newest checkpoint, as one of the older ones
 newest_points : (held : Place → Option Stored) (o moment : ℕ) (place : Option Place) → pointers_of_sides held o (newest_side place moment) ≡ pointers_kept (place >>= checkpoint_held held o)
@@ -128,11 +117,11 @@ module _ (s : StoreFields) (log : Log) (o : ℕ) (row next : Row) (i : Inode) (m
       let f : Side → List (Option Place) = λ side. (inode_of held o row side.moment).pointers in
       let later : pointers_aside log.held o next ≡ flat_map f next.sides =
       points_are log.held o next next.sides (sides_tell log.held o next next.sides is.writes.stands.sides) ∙ same_points held log.held o row next is.writes.inode next.sides in
-      let tell : AllByRecursion (Tells held o row) (gone ++ sides_after row) = subst (AllByRecursion (Tells held o row)) (sym is.all) (all_tell held o row stands) in
+      let tell : AllByRecursion (Tells held o row) (gone ++ sides_after row) = subst (AllByRecursion (Tells held o row)) (sym is.all) (each_side_decodes held o row stands) in
       let went : pointers_of_sides held o gone ≡ flat_map f gone = points_are held o row gone (front_tells held o row gone (sides_after row) tell) in
       let both : flat_map f (gone ++ sides_after row) ≡ flat_map f gone ++ flat_map f (sides_after row) = flat_map-append f gone (sides_after row) in
       let named : flat_map f (gone ++ sides_after row) ≡ pointers_of_sides held o row.sides ++ pointers_of_sides held o (newest_side row.checkpoint row.checkpoint_moment) =
-      ap (flat_map f) is.all ∙ sym (points_are held o row (sides_named row) (all_tell held o row stands))
+      ap (flat_map f) is.all ∙ sym (points_are held o row (sides_named row) (each_side_decodes held o row stands))
       ∙ flat_map-append (λ (side : Side). pointers_kept (checkpoint_held held o side.place)) row.sides (newest_side row.checkpoint row.checkpoint_moment) in
       let a : times_led p (pointers_aside log.held o next) ≡ times_led p (flat_map f (sides_after row)) = ap (times_led p) (later ∙ ap (flat_map f) next_sides) in
       let b : times_led p (pointers_of_sides held o gone) ≡ times_led p (flat_map f gone) = ap (times_led p) went in

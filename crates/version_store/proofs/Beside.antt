@@ -26,11 +26,12 @@ use Rattle.version_store.specs.private.Beside.{inode_beside, IsBeside}
 use Rattle.version_store.specs.Checkpointing.{last_entry, IsCheckpointed}
 use Rattle.version_store.specs.Replacing.{OtherObjectsStay, IsRemoved}
 use Rattle.time_read.specs.Caches.{AddsTrue}
-use Rattle.version_store.proofs.Across.{fresh_entries}
+use Rattle.time_read.proofs.Staying.{same_entries}
+use Rattle.row_changes.proofs.Fresh.{no_entries}
 use Rattle.version_store.proofs.Cached.{added_true}
 use Rattle.version_store.proofs.Frames.{growth_stays}
-use Rattle.version_store.proofs.Telling.{same_entries}
 use Rattle.version_store.proofs.Steps.{row_here, row_beside}
+use Rattle.version_store.proofs.Changed.{entries_of_row_stay}
 
 -- ---- what a map keeps
 
@@ -50,13 +51,9 @@ gone_inode values after o gone q = elim (cases_Bool (o == q)) [
 
 -- ---- entries
 
-by_row : (held later : Place → Option Stored) (q : ℕ) (row : Option Row) → of_kind Journal q later ≡ of_kind Journal q held → entries_of_row later q row ≡ entries_of_row held q row
-by_row held later q None same = refl
-by_row held later q (Some row) same = same_entries held later q row same
-
 -- an object has the entries that it had where its row and its journal are as they were
 pub entries_stay : (s later : StoreFields) (q : ℕ) → row_of later.rows q ≡ row_of s.rows q → of_kind Journal q later.log.held ≡ of_kind Journal q s.log.held → entries_of_object later q ≡ entries_of_object s q
-entries_stay s later q rows same = ap (entries_of_row later.log.held q) rows ∙ by_row s.log.held later.log.held q (row_of s.rows q) same
+entries_stay s later q rows same = ap (entries_of_row later.log.held q) rows ∙ entries_of_row_stay s.log.held later.log.held q (row_of s.rows q) same
 
 -- an object whose row is known has its entries
 pub entries_here : (s : StoreFields) (o : ℕ) (row : Row) → row_of s.rows o ≡ Some row → entries_of_object s o ≡ entries_of s.log.held o row
@@ -142,7 +139,7 @@ pub added_indexed : (s : StoreFields) (rows : List (ℕ × Row)) (o m : ℕ) (v 
     → ((q : ℕ) → row_of rows q ≡ with_row (row_of s.rows) o (fresh_row m) q) → PutsAt values o v after → Indexed values s → Indexed after (record s { rows = rows })
 added_indexed s rows o m v values after none rows_put put indexed =
     let later : StoreFields = record s { rows = rows } in
-    let now : entries_of_object later o ≡ [] = entries_here later o (fresh_row m) (rows_put o ∙ row_here (row_of s.rows) o (fresh_row m)) ∙ fresh_entries s.log.held o m in
+    let now : entries_of_object later o ≡ [] = entries_here later o (fresh_row m) (rows_put o ∙ row_here (row_of s.rows) o (fresh_row m)) ∙ no_entries s.log.held o m in
     put_indexed s later o v values after
     (subst (IsIndexOf v.index) (sym now) (subst (λ (x : Option (List Undoing)). IsIndexOf x []) (sym none) refl))
     (λ q other. entries_stay s later q (rows_put q ∙ row_beside (row_of s.rows) o q (fresh_row m) other) refl) put indexed

@@ -14,9 +14,9 @@ use Rattle.checkpoint.specs.declared.cache.CacheKey.{CacheKey}
 use Rattle.object_map.specs.declared.map.Row.{Row}
 use Rattle.object_map.specs.Rows.{row_of, with_row}
 use Rattle.time_read.specs.Caches.{key_of, HasInode, IsTrueOf, AddsTrue}
+use Rattle.row_changes.proofs.Pushing.{same_checkpoint}
 use Rattle.version_store.specs.private.Beside.{IsTrueCache}
 use Rattle.version_store.proofs.Steps.{row_beside}
-use Rattle.version_store.proofs.Telling.{same_checkpoint}
 
 -- the inode of a row's checkpoint is the same where the object's checkpoints are
 pub same_inode : (held later : Place → Option Stored) (o : ℕ) (row : Row) (i : Inode) → of_checkpoints o later ≡ of_checkpoints o held → HasInode held o row i → HasInode later o row i

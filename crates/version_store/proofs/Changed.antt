@@ -20,13 +20,13 @@ use Rattle.object_map.specs.Rows.{row_of}
 use Rattle.time_read.specs.Orderly.{IsOrderly}
 use Rattle.time_read.specs.Presents.{KeepsIndexOf}
 use Rattle.time_read.specs.declared.presents.Present.{Present}
+use Rattle.time_read.proofs.Staying.{same_entries}
 use Rattle.version_store.specs.Store.{StoreFields, IsStore, IsObject, IsNamedBy, HasNothing, named_of, pointers_named}
 use Rattle.version_store.specs.Versions.{Stays, entries_of_row, entries_of_object, inode_by, inode_in, version_by, version_in}
 use Rattle.version_store.specs.Replacing.{OtherObjectsStay}
 use Rattle.version_store.specs.private.Below.{ChangesStand, LastInodeStays}
 use Rattle.version_store.specs.private.Beside.{IsBeside, IsTrueCache}
 use Rattle.version_store.proofs.Frames.{stays_object, inode_in_stays, version_by_stays}
-use Rattle.version_store.proofs.Telling.{same_entries}
 use Rattle.version_store.proofs.Recounted.{counted_beside}
 use Rattle.version_store.proofs.Across.{IsAcross}
 
@@ -187,13 +187,13 @@ changed_versions rest s later o count next others c q t = elim (cases_Bool (o ==
 
 -- ---- what is beside the rows
 
-last_by : LastInodeStays → (held : Place → Option Stored) (o latest t : ℕ) (row : Option Row) → ((r : Row) → row ≡ Some r → IsObject held o r latest) → latest ≤ t → inode_by held o t row ≡ inode_by held o latest row
-last_by last held o latest t None objects le = refl
-last_by last held o latest t (Some row) objects le = ap (λ (i : Inode). Some i) (last held o row latest t (objects row refl).by le)
+pub inode_by_latest : LastInodeStays → (held : Place → Option Stored) (o latest t : ℕ) (row : Option Row) → ((r : Row) → row ≡ Some r → IsObject held o r latest) → latest ≤ t → inode_by held o t row ≡ inode_by held o latest row
+inode_by_latest last held o latest t None objects le = refl
+inode_by_latest last held o latest t (Some row) objects le = ap (λ (i : Inode). Some i) (last held o row latest t (objects row refl).by le)
 
-by_row : (held later : Place → Option Stored) (q : ℕ) (row : Option Row) → of_kind Journal q later ≡ of_kind Journal q held → entries_of_row later q row ≡ entries_of_row held q row
-by_row held later q None same = refl
-by_row held later q (Some row) same = same_entries held later q row same
+pub entries_of_row_stay : (held later : Place → Option Stored) (q : ℕ) (row : Option Row) → of_kind Journal q later ≡ of_kind Journal q held → entries_of_row later q row ≡ entries_of_row held q row
+entries_of_row_stay held later q None same = refl
+entries_of_row_stay held later q (Some row) same = same_entries held later q row same
 
 pub changed_beside : ChangesStand → (s later : StoreFields) (o count : ℕ) (next : Option Row) (values after : List (ℕ × Present)) (pairs kept : List (CacheKey × Inode)) (v : Option Present) → OthersKeep s o → Changes s later o count next
     → ((q : ℕ) → value_of after q ≡ cond (o == q) v (value_of values q)) → option_map (λ p. p.inode) v ≡ inode_by later.log.held o later.latest next → KeepsIndexOf v (entries_of_row later.log.held o next)
@@ -205,7 +205,7 @@ changed_beside rest s later o count next values after pairs kept v others c put 
         ∙ sym (changed_inodes rest s later o count next c q later.latest ∙ cond-true (o == q) (inode_by later.log.held o later.latest next) (inode_in s q later.latest) is)
     | inr other ↦
         ap (option_map (λ p. p.inode)) (put q ∙ cond-false (o == q) v (value_of values q) other) ∙ beside.inodes q
-        ∙ sym (last_by rest.last s.log.held q s.latest later.latest (row_of s.rows q) (λ r e. (others.each q r other e).object) c.latest)
+        ∙ sym (inode_by_latest rest.last s.log.held q s.latest later.latest (row_of s.rows q) (λ r e. (others.each q r other e).object) c.latest)
         ∙ sym (changed_inodes rest s later o count next c q later.latest ∙ cond-false (o == q) (inode_by later.log.held o later.latest next) (inode_in s q later.latest) other)
   ];
   indexes = λ q. elim (cases_Bool (o == q)) [
@@ -218,7 +218,7 @@ changed_beside rest s later o count next values after pairs kept v others c put 
     | inr other ↦
         let same : entries_of_object later q ≡ entries_of_object s q =
         ap (entries_of_row later.log.held q) (c.put q ∙ cond-false (o == q) next (row_of s.rows q) other)
-        ∙ by_row s.log.held later.log.held q (row_of s.rows q) (c.others Journal q other) in
+        ∙ entries_of_row_stay s.log.held later.log.held q (row_of s.rows q) (c.others Journal q other) in
         subst (λ (p : Option Present). KeepsIndexOf p (entries_of_object later q)) (sym (put q ∙ cond-false (o == q) v (value_of values q) other))
         (subst (λ (es : List EntryFields). KeepsIndexOf (value_of values q) es) (sym same) (beside.indexes q))
   ];

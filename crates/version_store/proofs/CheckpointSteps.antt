@@ -23,6 +23,7 @@ use Rattle.object_map.specs.Rows.{row_of, with_row}
 use Rattle.object_map.specs.Sides.{sides_after}
 use Rattle.time_read.specs.Rows.{IsRow, entries_of, inode_of, checkpoint_places_of}
 use Rattle.time_read.specs.Orderly.{IsOrderly}
+use Rattle.time_read.proofs.Staying.{same_entries}
 use Rattle.row_changes.specs.Recent.{IsBy}
 use Rattle.row_changes.specs.Moved.{IsMoved, places_gone}
 use Rattle.version_store.specs.Store.{HasNothing, StoreFields, IsStore, IsObject, pointers_of}
@@ -32,7 +33,7 @@ use Rattle.version_store.specs.private.CheckpointSteps.{CanCheckpoint, Checkpoin
 use Rattle.version_store.specs.private.Recounting.{Counts}
 use Rattle.version_store.specs.private.Below.{ChangesStand, IsByLater, LastInodeStays, GroupsAscend, RowsKeepTheMaking, CheckpointsTakeBlocks}
 use Rattle.version_store.proofs.Frames.{DataStays, data_there, data_agree, data_pointers}
-use Rattle.version_store.proofs.Telling.{Moves, same_entries, leads_later, moved_leads}
+use Rattle.version_store.proofs.Telling.{Moves, leads_later, moved_leads}
 use Rattle.version_store.proofs.Changed.{Changes, own_or_other, some_keeps, some_stays, checkpoint_others, changed_inodes, changed_store, changed_versions, store_others}
 use Rattle.version_store.proofs.Across.{IsAcross, changed_across}
 use Rattle.version_store.proofs.Spending.{sum_stays}
@@ -40,19 +41,19 @@ use Rattle.version_store.proofs.Steps.{row_here, row_beside, stamped_row, stampe
 
 -- ---- the last moment of a journal
 
-last_least : (low : ℕ) (entries : List EntryFields) → moments_ascend_from low entries ≡ true → low ≤ last_moment low entries
-last_least low [] ascend = omega arith
-last_least low (e ∷ entries) ascend =
+pub last_moment_least : (low : ℕ) (entries : List EntryFields) → moments_ascend_from low entries ≡ true → low ≤ last_moment low entries
+last_moment_least low [] ascend = omega arith
+last_moment_least low (e ∷ entries) ascend =
     let parts = and_parts (leb low e.moment) (moments_ascend_from e.moment entries) ascend in
     let first : low ≤ e.moment = leb-true low e.moment parts.0 in
-    let rest : e.moment ≤ last_moment e.moment entries = last_least e.moment entries parts.1 in
+    let rest : e.moment ≤ last_moment e.moment entries = last_moment_least e.moment entries parts.1 in
     omega (arith, first, rest)
 
 pub all_by_last : (low t : ℕ) (entries : List EntryFields) → moments_ascend_from low entries ≡ true → last_moment low entries ≤ t → AllBy t entries
 all_by_last low t [] ascend le = tt
 all_by_last low t (e ∷ entries) ascend le =
     let parts = and_parts (leb low e.moment) (moments_ascend_from e.moment entries) ascend in
-    let least : e.moment ≤ last_moment e.moment entries = last_least e.moment entries parts.1 in
+    let least : e.moment ≤ last_moment e.moment entries = last_moment_least e.moment entries parts.1 in
     (le-leb e.moment t (omega (arith, least, le)), all_by_last e.moment t entries parts.1 le)
 
 last_by : (given t : ℕ) (entries : List EntryFields) → given ≤ t → AllBy t entries → last_moment given entries ≤ t

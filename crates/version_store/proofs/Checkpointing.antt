@@ -13,9 +13,9 @@ use Rattle.version_store.specs.Checkpointing.{last_entry}
 
 -- ---- the last entry
 
-last_behind : (given : ℕ) (entries : List EntryFields) (e : EntryFields) → last_moment given (entries ++ e ∷ []) ≡ e.moment
-last_behind given [] e = refl
-last_behind given (f ∷ entries) e = last_behind f.moment entries e
+pub last_moment_is : (given : ℕ) (entries : List EntryFields) (e : EntryFields) → last_moment given (entries ++ e ∷ []) ≡ e.moment
+last_moment_is given [] e = refl
+last_moment_is given (f ∷ entries) e = last_moment_is f.moment entries e
 
 -- the moment of an entry that a reader gives first, and 0 where it gives none
 abbrev pub given_moment : Option EntryFields → ℕ
@@ -24,7 +24,7 @@ given_moment (Some e) = e.moment
 
 last_given : (front : List EntryFields) (e : Option EntryFields) → IfNone e (front ++ option_to_list e ≡ []) → last_moment 0 (front ++ option_to_list e) ≡ given_moment e
 last_given front None none = ap (λ (es : List EntryFields). last_moment 0 es) none
-last_given front (Some e) none = last_behind 0 front e
+last_given front (Some e) none = last_moment_is 0 front e
 
 none_left : (e : Option EntryFields) (entries others : List EntryFields) → entries ≡ others → IfNone e (entries ≡ []) → IfNone e (others ≡ [])
 none_left None entries others same none = sym same ∙ none

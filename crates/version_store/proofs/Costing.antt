@@ -6,7 +6,6 @@ use Rattle.std.specs.Cmp.Lexicographic.{pointwise}
 use Rattle.std.proofs.lemmas.Bool.{and_left, lt-leb, le-leb}
 use Rattle.std.proofs.lemmas.List.Sums.{sum_by-cons}
 use Rattle.std.proofs.lemmas.List.{get_or_default}
-use lib.Pointwise.{bytes_decides}
 use Rattle.s4_types.specs.Pointer.{Place}
 use Rattle.s4_types.specs.declared.limits.TheConstants.{ENTRY_TRIPLES, SHORTEST_ENTRY_BYTES, TRIPLE_BYTES, OBJECT_BLOCKS, ATTRIBUTE_PAIR_BYTES, CHANGE_ENTRY_BYTES, CHANGE_ENTRIES, JOURNAL_ENTRY_BYTES}
 use Rattle.codec.specs.Checkpoint.{pointer_at}
@@ -52,17 +51,9 @@ sizes_fit count pair short = (omega (arith, short), later_fit (count - ENTRY_TRI
 
 -- ---- the bytes of attributes
 
-pub pair_same : (a b : List ℕ) → a ≡ b → pair_length (pair_between a b) ≡ 0
-unfolding pair_length
-pair_same a b e = ap (λ same. pair_length (cond same None (Some (record { before = a; after = b })))) ((bytes_decides a b).1 e)
-
 pub pair_found : (a b : List ℕ) → pointwise ◌==◌ a b ≡ true → pair_length (pair_between a b) ≡ 0
 unfolding pair_length
 pair_found a b e = ap (λ same. pair_length (cond same None (Some (record { before = a; after = b })))) e
-
-pub pair_other : (a b : List ℕ) → pointwise ◌==◌ a b ≡ false → pair_length (pair_between a b) ≡ (1 + length a) + (1 + length b)
-unfolding pair_length
-pair_other a b e = ap (λ same. pair_length (cond same None (Some (record { before = a; after = b })))) e
 
 -- ---- the blocks past a size
 

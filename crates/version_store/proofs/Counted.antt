@@ -43,8 +43,8 @@ fewer_is false n = omega arith
 pub unnamed : (log : Log) → NamesAreOfData log → (q : Place) → is_data (log.held q) ≡ false → log.named q ≡ 0
 unnamed log rule q none = let at : log.named q ≤ 0 = ltb-false 0 (log.named q) (rule q ∙ none) in omega (arith, at)
 
-pub named_some : (log : Log) → NamesAreOfData log → (q : Place) → is_data (log.held q) ≡ true → 0 < log.named q
-named_some log rule q is = ltb-true 0 (log.named q) (rule q ∙ is)
+pub held_data_is_named : (log : Log) → NamesAreOfData log → (q : Place) → is_data (log.held q) ≡ true → 0 < log.named q
+held_data_is_named log rule q is = ltb-true 0 (log.named q) (rule q ∙ is)
 
 -- nothing goes where nothing is
 nothing_less : (b : Bool) (n : ℕ) → (b ≡ true → n ≡ 0) → n ≡ n - cond b 1 0
@@ -79,7 +79,7 @@ module _ (one : OnePlace) (log : Log) (rule : NamesAreOfData log) (p : Place) wh
   -- what is held where the names are as they were
   as_named : (q : Place) → cond (is_data (log.held q) && log.named q == 0) None (log.held q) ≡ log.held q
   as_named q = elim (cases_Bool (is_data (log.held q))) [
-    | inl is ↦ cond-false (is_data (log.held q) && log.named q == 0) None (log.held q) (ap (λ (b : Bool). b && log.named q == 0) is ∙ ne_eqb (log.named q) 0 (λ (z : log.named q ≡ 0). let some = named_some log rule q is in omega (arith, some, z)))
+    | inl is ↦ cond-false (is_data (log.held q) && log.named q == 0) None (log.held q) (ap (λ (b : Bool). b && log.named q == 0) is ∙ ne_eqb (log.named q) 0 (λ (z : log.named q ≡ 0). let some = held_data_is_named log rule q is in omega (arith, some, z)))
     | inr none ↦ cond-false (is_data (log.held q) && log.named q == 0) None (log.held q) (ap (λ (b : Bool). b && log.named q == 0) none)
   ]
 
@@ -108,6 +108,6 @@ module _ (one : OnePlace) (log : Log) (rule : NamesAreOfData log) (p : Place) wh
 
 pub all_held : (log : Log) → NamesAreOfData log → (q : Place) → log.held q ≡ cond (is_data (log.held q) && log.named q == 0) None (log.held q)
 all_held log rule q = elim (cases_Bool (is_data (log.held q))) [
-  | inl is ↦ sym (cond-false (is_data (log.held q) && log.named q == 0) None (log.held q) (ap (λ (b : Bool). b && log.named q == 0) is ∙ ne_eqb (log.named q) 0 (λ (z : log.named q ≡ 0). let some = named_some log rule q is in omega (arith, some, z))))
+  | inl is ↦ sym (cond-false (is_data (log.held q) && log.named q == 0) None (log.held q) (ap (λ (b : Bool). b && log.named q == 0) is ∙ ne_eqb (log.named q) 0 (λ (z : log.named q ≡ 0). let some = held_data_is_named log rule q is in omega (arith, some, z))))
   | inr none ↦ sym (cond-false (is_data (log.held q) && log.named q == 0) None (log.held q) (ap (λ (b : Bool). b && log.named q == 0) none))
 ]

@@ -17,6 +17,8 @@ use Rattle.undo_redo.specs.Between.{triple_between, tells_apart, triples_below, 
 use Rattle.inode.specs.Touched.{touched_count, is_touched, is_cut, cut_count}
 use Rattle.inode.specs.Changed.{Written, Truncated}
 use Rattle.inode.specs.Tidiness.{PointersLead}
+use Rattle.undo_redo.proofs.Slots.{same_slot_itself}
+use Rattle.inode.proofs.Touching.{touched_some, touched_none}
 use Rattle.version_store.specs.Costs.{is_past, past_count}
 use Rattle.version_store.specs.private.Below.{OnePlace}
 
@@ -134,15 +136,8 @@ between_count : (i j : Inode) → length (triples_between i j) ≡ tally (differ
 unfolding triples_between triples_below
 between_count i j = tells i j 0 OBJECT_BLOCKS
 
-same_place-self : (p : Place) → same_place p p ≡ true
-same_place-self p = and_from (p.frame == p.frame) (p.block == p.block && p.generation == p.generation) (eq-eqb p.frame p.frame refl) (and_from (p.block == p.block) (p.generation == p.generation) (eq-eqb p.block p.block refl) (eq-eqb p.generation p.generation refl))
-
-same_slot-self : (slot : Option Place) → same_slot slot slot ≡ true
-same_slot-self None = refl
-same_slot-self (Some p) = same_place-self p
-
 not_differs : (i j : Inode) (k : ℕ) → pointer_at j k ≡ pointer_at i k → differs i j k ≡ false
-not_differs i j k same = not_from_true (same_slot (pointer_at i k) (pointer_at j k)) (ap (same_slot (pointer_at i k)) same ∙ same_slot-self (pointer_at i k))
+not_differs i j k same = not_from_true (same_slot (pointer_at i k) (pointer_at j k)) (ap (same_slot (pointer_at i k)) same ∙ same_slot_itself (pointer_at i k))
 
 -- a place where nothing was held is another one than each that refers to a block
 fresh_slot : OnePlace → (held : Place → Option Stored) (old new : Option Place) (p : Place) → new ≡ Some p → held p ≡ None → ((q : Place) → old ≡ Some q → IsSome (held q)) → same_slot old new ≡ false
@@ -189,12 +184,6 @@ touched_differs one held ahead moment offset len i j k written room fresh leads 
   | inr other ↦
       not_differs i j k (written.pointers k ∙ cond-false (is_touched offset len k) (slice_get ahead (k - offset / 512)) (pointer_at i k) other) ∙ sym other
 ]
-
-touched_some : (offset len : ℕ) → 0 < len → touched_count offset len ≡ (offset + len - 1) / 512 + 1 - offset / 512
-touched_some offset len lt = cond-false (len == 0) 0 ((offset + len - 1) / 512 + 1 - offset / 512) (ne_eqb len 0 (λ (e : len ≡ 0). omega arith))
-
-touched_none : (offset len : ℕ) → len ≡ 0 → touched_count offset len ≡ 0
-touched_none offset len e = cond-true (len == 0) 0 ((offset + len - 1) / 512 + 1 - offset / 512) (eq-eqb len 0 e)
 
 -- of an object of n blocks a write within it touches this many; n is a variable, since a count up to a number is a sum of this many terms to omega
 touched_tally : (offset len n : ℕ) → offset + len ≤ 512 * n → tally (is_touched offset len) 0 n ≡ touched_count offset len

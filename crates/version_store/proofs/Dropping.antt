@@ -1,16 +1,12 @@
 -- What a table shows where all blocks of an object are dropped.
-use Rattle.std.proofs.Common.{◌≡◌, inl, inr, ℕ, true, false, ◌==◌, not, cond, Bool, List, [], ◌∷◌, ◌++◌, length, Option, Some, None, IsSome, is_some, unwrap_or, ◌≤◌, refl, sym, ap, subst, ◌∙◌, arith}
+use Rattle.std.proofs.Common.{◌≡◌, inl, inr, ℕ, true, false, ◌==◌, not, cond, Bool, List, [], ◌++◌, Option, Some, None, IsSome, refl, sym, ap, subst, ◌∙◌, arith}
 use Rattle.std.proofs.lemmas.Bool.{cases_Bool, and_right, false≢true}
 use Rattle.std.proofs.lemmas.List.{append-nil}
-use Rattle.std.proofs.lemmas.Option.{none-some, same_Some}
 use Rattle.s4_types.specs.Pointer.{Place}
-use Rattle.s4_types.specs.declared.limits.TheConstants.{CHAIN_ENTRY_BYTES}
 use Rattle.block_log.specs.declared.kinds.BlockKind.{BlockKind}
 use Rattle.block_log.specs.declared.kinds.BlockKind.TheVariants.{Journal, Checkpoint, Data, Pointers}
 use Rattle.block_log.specs.Log.{Log, NamesAreOfData, Stored, of_kind, seen_as, same_kind}
-use Rattle.codec.specs.Fields.{◌>>=◌, bit}
-use Rattle.codec.specs.Entry.{entries_length}
-use Rattle.journal_chain.specs.Chain.{ChainFields, Link, Holds, OnlyJournalChanged, times, places_of, blocks_of, chain_places, chain_links}
+use Rattle.journal_chain.specs.Chain.{OnlyJournalChanged}
 use Rattle.checkpoint.specs.Held.{is_checkpoint_kind, HasBytes, seen_of, of_checkpoints, places_named, is_one_of, HasItsBlocks, OnlyCheckpointChanged, DropsCheckpoint}
 use Rattle.checkpoint.proofs.OwnBlocks.{same_checkpoints, seen_none}
 use Rattle.object_map.specs.declared.map.Row.{Row}
@@ -31,33 +27,6 @@ seen_cond kind o false there = refl
 pub none_either : (gone : Bool) (seen : Option (List ℕ)) → (gone ≡ true → seen ≡ None) → cond gone None seen ≡ seen
 none_either true seen none = sym (none refl)
 none_either false seen none = refl
-
--- ---- a chain of no entries has no blocks
-
-no_places : (found : Option (List Link)) → (found >>= λ links. Some (blocks_of links)) ≡ Some [] → places_of (unwrap_or found []) ≡ []
-no_places None is = absurd (none-some [] is)
-no_places (Some []) is = refl
-no_places (Some (l ∷ links)) is =
-    let count : length (blocks_of (l ∷ links)) ≡ 0 = ap length (same_Some (blocks_of (l ∷ links)) [] is) in
-    absurd (omega (arith, count))
-
-none_seen : (seen : Option (List ℕ)) → bit (is_some seen) ≡ 0 → seen ≡ None
-none_seen None is = refl
-none_seen (Some bytes) is = absurd (omega (arith, is))
-
-no_times : (p : Place) (places : List Place) → places ≡ [] → times p places ≡ 0
-unfolding times
-no_times p places none = ap (times p) none
-
-pub journal_gone : (held : Place → Option Stored) (chain : ChainFields) (o : ℕ) → chain.object ≡ o → Holds held chain [] → (p : Place) → of_kind Journal o held p ≡ None
-journal_gone held chain o object holds p =
-    subst (λ (n : ℕ). of_kind Journal n held p ≡ None) object
-    (none_seen (of_kind Journal chain.object held p)
-    (sym (holds.once p) ∙ no_times p (chain_places (of_kind Journal chain.object held) chain.object chain.head) (no_places (chain_links (of_kind Journal chain.object held) chain.object chain.head) holds.blocks)))
-
-pub no_bytes : entries_length [] ≤ CHAIN_ENTRY_BYTES
-unfolding entries_length
-no_bytes = omega arith
 
 -- ---- all blocks of an object are dropped: first its data, then its journal, then its checkpoint
 

@@ -16,6 +16,7 @@ use Rattle.inode.specs.Laws.{OnlyItsBlocksMatter}
 use Rattle.checkpoint.proofs.OwnBlocks.{same_checkpoints}
 use Rattle.object_map.specs.declared.map.Row.{Row}
 use Rattle.object_map.specs.Rows.{row_of}
+use Rattle.block_log.proofs.BlockKinds.{seen_is_some}
 use Rattle.time_read.specs.Rows.{inode_of}
 use Rattle.version_store.specs.Store.{StoreFields, IsStore, IsObject, pointers_of}
 use Rattle.version_store.specs.Versions.{Stays, inode_by, inode_in, version_by, version_in}
@@ -36,10 +37,6 @@ seen_bytes (Some block) kind o bytes seen =
 pub same_bytes : (kind : BlockKind) (o : ℕ) (before after : Option Stored) (seen : Option (List ℕ)) → seen_as kind o before ≡ seen → IsSome seen → seen_as kind o after ≡ seen → bytes_stored after ≡ bytes_stored before
 same_bytes kind o before after None was some is = absurd (false≢true some)
 same_bytes kind o before after (Some bytes) was some is = seen_bytes after kind o bytes is ∙ sym (seen_bytes before kind o bytes was)
-
-seen_is_held : (kind : BlockKind) (o : ℕ) (block : Option Stored) → IsSome (seen_as kind o block) → IsSome block
-seen_is_held kind o None h = h
-seen_is_held kind o (Some block) h = refl
 
 -- an object's data blocks that were held are held
 abbrev pub DataStays : ℕ → (Place → Option Stored) → (Place → Option Stored) → Type 0
@@ -104,7 +101,7 @@ pub growth_stays : (object : ℕ) (blocks : List (List ℕ)) (before after : Log
 growth_stays object blocks before after o grows = record {
   journal = fun_ext (λ p. grows.others Journal o p refl);
   checkpoints = same_checkpoints o before.held after.held (fun_ext (λ p. grows.others Checkpoint o p refl)) (fun_ext (λ p. grows.others Pointers o p refl));
-  kept = λ p there. ap (seen_as Data o) (grows.kept p (seen_is_held Data o (before.held p) there));
+  kept = λ p there. ap (seen_as Data o) (grows.kept p (seen_is_some Data o (before.held p) there));
 }
 
 pub journal_stays : (object o : ℕ) (held later : Place → Option Stored) → OnlyJournalChanged object held later → (object == o) ≡ false → Stays o held later

@@ -1,11 +1,13 @@
 -- Names that are given and taken away in a loop.
 use Rattle.std.proofs.Common.{◌≡◌, ℕ, zero, suc, ◌+◌, ◌≤◌, ◌<◌, List, [], ◌∷◌, ◌++◌, length, map, take, get_or, Option, refl, sym, ap, subst, ◌∙◌, arith}
 use Rattle.std.specs.List.{All, Contains, flat_map, sum_by}
-use Rattle.std.proofs.lemmas.List.{append-nil, length-map, length-take-le, take_more}
-use Rattle.std.proofs.lemmas.List.Concat.{flat_map-append, length-flat_map}
+use Rattle.std.proofs.lemmas.List.{length-map, length-take-le}
+use Rattle.std.proofs.lemmas.List.Concat.{length-flat_map}
 use Rattle.std.proofs.lemmas.List.Sums.{sum_by_more_le}
 use Rattle.std.proofs.lemmas.List.Elements.{All-weaker, All-contains, All-contains_itself, Contains-append_left, Contains-append_right}
 use Rattle.s4_types.specs.Pointer.{Place}
+use Rattle.lemmas.proofs.List.{flat_map_take_next}
+use Rattle.lemmas.proofs.Contains.{contains_map}
 use Rattle.block_log.specs.Log.{Log, NamesAreOfData}
 use Rattle.block_log.specs.Taken.{TakesPlaces}
 use Rattle.version_store.specs.Store.{times_led}
@@ -16,38 +18,20 @@ use Rattle.version_store.proofs.Named.{times_few, gives_join, takes_join}
 
 -- ---- lists in pieces
 
--- one piece more
-pub flat_take : {X Y : Type 0} (f : X → List Y) (xs : List X) (i : ℕ) (x : X) → i < length xs → x ≡ get_or xs i x → flat_map f (take (i + 1) xs) ≡ flat_map f (take i xs) ++ f x
-flat_take f xs i x below at =
-    ap (flat_map f) (take_more xs i x below) ∙ flat_map-append f (take i xs) (get_or xs i x ∷ [])
-    ∙ ap (λ y. flat_map f (take i xs) ++ (f y ++ [])) (sym at) ∙ ap (λ ys. flat_map f (take i xs) ++ ys) (append-nil (f x))
-
 pub map_joined : {X Y : Type 0} (f : X → Y) (xs ys : List X) → map f (xs ++ ys) ≡ map f xs ++ map f ys
 map_joined f [] ys = refl
 map_joined f (x ∷ xs) ys = ap (λ zs. f x ∷ zs) (map_joined f xs ys)
 
-pub mapped_take : {X Y : Type 0} (f : X → Y) (xs : List X) (i : ℕ) (x : X) → i < length xs → x ≡ get_or xs i x → map f (take (i + 1) xs) ≡ map f (take i xs) ++ f x ∷ []
-mapped_take f xs i x below at = ap (map f) (take_more xs i x below) ∙ map_joined f (take i xs) (get_or xs i x ∷ []) ∙ ap (λ y. map f (take i xs) ++ f y ∷ []) (sym at)
-
 pub mapped_flat_take : {X Y Z : Type 0} (g : Y → Z) (f : X → List Y) (xs : List X) (i : ℕ) (x : X) → i < length xs → x ≡ get_or xs i x → map g (flat_map f (take (i + 1) xs)) ≡ map g (flat_map f (take i xs)) ++ map g (f x)
-mapped_flat_take g f xs i x below at = ap (map g) (flat_take f xs i x below at) ∙ map_joined g (flat_map f (take i xs)) (f x)
+mapped_flat_take g f xs i x below at = ap (map g) (flat_map_take_next f xs i x below at) ∙ map_joined g (flat_map f (take i xs)) (f x)
 
 flat_contains : {X Y : Type 0} (f : X → List Y) (xs : List X) (x : X) (y : Y) → Contains xs x → Contains (f x) y → Contains (flat_map f xs) y
 flat_contains f [] x y (n, below, at) there = absurd (omega (arith, below))
 flat_contains f (z ∷ xs) x y (zero, below, at) there = Contains-append_left (f z) (flat_map f xs) y (subst (λ w. Contains (f w) y) (sym at) there)
 flat_contains f (z ∷ xs) x y (suc n, below, at) there = Contains-append_right (f z) (flat_map f xs) y (flat_contains f xs x y (n, omega (arith, below), at) there)
 
--- what holds of all pieces holds of one
-pub all_flat_at : {X Y : Type 0} (P : Y → Type 0) (f : X → List Y) (xs : List X) (i : ℕ) (x : X) → i < length xs → x ≡ get_or xs i x → All P (flat_map f xs) → All P (f x)
-all_flat_at P f xs i x below at all = All-weaker (Contains (f x)) P (λ y there. All-contains P (flat_map f xs) y all (flat_contains f xs x y (i, below, sym at) there)) (f x) (All-contains_itself (f x))
-
-pub mapped_contains : {X Y : Type 0} (f : X → Y) (xs : List X) (x : X) → Contains xs x → Contains (map f xs) (f x)
-mapped_contains f [] x (n, below, at) = absurd (omega (arith, below))
-mapped_contains f (y ∷ xs) x (zero, below, at) = (0, omega arith, ap f at)
-mapped_contains f (y ∷ xs) x (suc n, below, at) = Contains-append_right (f y ∷ []) (map f xs) (f x) (mapped_contains f xs x (n, omega (arith, below), at))
-
 pub all_mapped_at : {X Y : Type 0} (P : Y → Type 0) (f : X → Y) (xs : List X) (i : ℕ) (x : X) → i < length xs → x ≡ get_or xs i x → All P (map f xs) → P (f x)
-all_mapped_at P f xs i x below at all = All-contains P (map f xs) (f x) all (mapped_contains f xs x (i, below, sym at))
+all_mapped_at P f xs i x below at all = All-contains P (map f xs) (f x) all (contains_map f xs x (i, below, sym at))
 
 pub contained_map : {X Y : Type 0} (f : X → Y) (xs : List X) (y : Y) → Contains (map f xs) y → (x : X) × (Contains xs x × (y ≡ f x))
 contained_map f [] y (n, below, at) = absurd (omega (arith, below))
@@ -60,15 +44,8 @@ pub all_mapped_flat_at : {X Y Z : Type 0} (P : Z → Type 0) (g : Y → Z) (f : 
 all_mapped_flat_at P g f xs i x below at all = All-weaker (Contains (map g (f x))) P
     (λ z there.
     let (y, (within, is)) = contained_map g (f x) z there in
-    subst P (sym is) (All-contains P (map g (flat_map f xs)) (g y) all (mapped_contains g (flat_map f xs) y (flat_contains f xs x y (i, below, sym at) within))))
+    subst P (sym is) (All-contains P (map g (flat_map f xs)) (g y) all (contains_map g (flat_map f xs) y (flat_contains f xs x y (i, below, sym at) within))))
     (map g (f x)) (All-contains_itself (map g (f x)))
-
--- what holds of two lists holds of each
-pub all_front : {X : Type 0} (P : X → Type 0) (xs ys : List X) → All P (xs ++ ys) → All P xs
-all_front P xs ys all = All-weaker (Contains xs) P (λ x there. All-contains P (xs ++ ys) x all (Contains-append_left xs ys x there)) xs (All-contains_itself xs)
-
-pub all_back : {X : Type 0} (P : X → Type 0) (xs ys : List X) → All P (xs ++ ys) → All P ys
-all_back P xs ys all = All-weaker (Contains ys) P (λ x there. All-contains P (xs ++ ys) x all (Contains-append_right xs ys x there)) ys (All-contains_itself ys)
 
 -- ---- room for names
 

@@ -16,6 +16,7 @@ use Rattle.inode.specs.Growth.{GrowsBy, data_block, grown_at, with_data}
 use Rattle.inode.specs.Tidiness.{PointersHeld}
 use Rattle.object_map.specs.declared.map.Row.{Row}
 use Rattle.object_map.specs.Rows.{row_of}
+use Rattle.block_log.proofs.BlockKinds.{seen_is_some}
 use Rattle.version_store.specs.Store.{IsLed, IsStore, StoreFields, named_of, pointers_named, times_led}
 use Rattle.version_store.specs.private.Below.{OnePlace}
 use Rattle.version_store.specs.private.Turning.{LeadsTo, times_given}
@@ -161,10 +162,6 @@ cut_in_hand o m size blocks before after i j hand amount room made truncated ful
 
 -- ---- how the data is named then
 
-some_held : (o : ℕ) (there : Option Stored) → IsSome (seen_as Data o there) → IsSome there
-some_held o None some = some
-some_held o (Some block) some = refl
-
 -- each data block of an object has the names that its row gives, and of the changed one those that are in hand besides
 pub grown_counted : OnePlace → (s : StoreFields) (log : Log) (object : ℕ) (blocks : List (List ℕ)) (j : Inode) (hand : List (Option Place)) → GrowsBy object blocks s.log log → IsInHand s.log log j hand → PointersHeld log.held object j → IsStore s
     → (q : ℕ) (row : Row) → row_of s.rows q ≡ Some row → (p : Place) → named_of q log p ≡ times_led p (pointers_named log.held q row) + times_given object q hand p
@@ -190,7 +187,7 @@ grown_counted one s log object blocks j hand grows in_hand pointers store q row 
     own : object ≡ q → named_of q log p ≡ named_of q s.log p + times_led p hand
     own is = elim (cases_Bool (is_some (of_kind Data q s.log.held p))) [
       | inl was ↦
-          let (same, none) = kept_here (some_held q (s.log.held p) was) in
+          let (same, none) = kept_here (seen_is_some Data q (s.log.held p) was) in
           let before = named_some q s.log p was in
           let later = named_some q log p (ap (λ (there : Option Stored). is_some (seen_as Data q there)) same ∙ was) in
           let named = in_hand.named p in

@@ -3,7 +3,6 @@ use Rattle.std.proofs.Common.{◌≡◌, ℕ, ◌+◌, ◌≤◌, ◌==◌, ◌&
 use Rattle.std.specs.Prelude.{is_some}
 use Rattle.std.proofs.lemmas.Bool.{cases_Bool, cond-true, cond-false, or_right, eqb-true, eq-eqb, eqb-false, ne_eqb, false≢true, true≢false, and_left}
 use Rattle.std.proofs.Math.Bool.{or-false}
-use Rattle.std.proofs.lemmas.Option.{none-some}
 use Rattle.s4_types.specs.Pointer.{Place}
 use Rattle.s4_types.specs.declared.changes.Change.{Change}
 use Rattle.s4_types.specs.declared.changes.Change.TheVariants.{Create, Delete, Write, Truncate, SetAttr, SetWindow, Flush, FlushO}
@@ -29,7 +28,6 @@ use Rattle.version_store.specs.Versions.{version_in, version_taken}
 use Rattle.version_store.specs.Costs.{subject_row, subject_inode, row_or_fresh, pointers_moved, data_blocks, attribute_by, sizes_by, refusal_by, blocks_taken, room}
 use Rattle.version_store.specs.Taking.{IsReadyFor, IsAboveAll, RowChanges, data_by}
 use Rattle.version_store.specs.private.Turning.{CanTake, CanTurn, Turns, IsTaken, blocks_turned}
-use Rattle.version_store.proofs.Spending.{not_both, none_taken}
 use Rattle.version_store.specs.private.Below.{OnePlace, PlacesAddUp, OrderlyStays, RowStays, RowInodeStays, IsByStays, IsByLater, FreshRowStands, FreshRowIsBy, FreshInode, BlankCount, BlankHoles, EntriesHaveSizes, SizesAddUp}
 use Rattle.version_store.proofs.Frames.{growth_stays, stays_inode}
 use Rattle.version_store.proofs.Handed.{IsInHand}
@@ -80,20 +78,6 @@ created_leads j m later alive created changed count_before count_after size = re
   was_nothing = λ dead. (refl, refl);
   changed = λ is. changed;
   flag_alone = λ dead. absurd (true≢false (sym alive ∙ dead));
-}
-
--- ---- no data
-
-pub grows_none : (object : ℕ) (log : Log) → GrowsBy object [] log log
-grows_none object log = record {
-  room = omega arith;
-  takes = none_taken log;
-  fresh = λ n p lt e. absurd (omega arith);
-  taken = λ n p bytes e none. absurd (none-some bytes none);
-  kept = λ p held. refl;
-  first_names = λ p none some. absurd (not_both (log.held p) none some);
-  names_kept = λ p same. refl;
-  others = λ kind o p other. refl;
 }
 
 -- ---- what a change makes

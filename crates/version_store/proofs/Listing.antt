@@ -1,8 +1,7 @@
 -- Pointers to all places that a row names, listed one by one.
-use Rattle.std.proofs.Common.{◌≡◌, ℕ, ◌+◌, ◌<◌, List, [], ◌∷◌, ◌++◌, length, map, get_or, take, Option, Some, is_some, refl, sym, ap, ◌∙◌, append_assoc}
+use Rattle.std.proofs.Common.{◌≡◌, ℕ, List, [], ◌∷◌, ◌++◌, map, Option, Some, is_some, refl, sym, ap, ◌∙◌, append_assoc}
 use Rattle.std.specs.List.{All, AllByRecursion, flat_map}
-use Rattle.std.proofs.lemmas.List.{append-nil, map-append, take_more}
-use Rattle.std.proofs.lemmas.List.Concat.{flat_map-append}
+use Rattle.std.proofs.lemmas.List.{map-append}
 use Rattle.std.proofs.lemmas.List.Elements.{All-from_recursion}
 use Rattle.s4_types.specs.Pointer.{Place}
 use Rattle.block_log.specs.Log.{Stored}
@@ -11,15 +10,6 @@ use Rattle.object_map.specs.declared.map.Row.{Row}
 use Rattle.object_map.specs.declared.sides.Side.{Side}
 use Rattle.time_read.specs.Rows.{IsRow, IsSide, side_places}
 use Rattle.version_store.specs.private.Below.{CheckpointsHaveBlocks}
-
--- one more of a list's pieces
-pub more_added : {X Y : Type 0} (f : X → List Y) (xs : List X) (i : ℕ) (x : X) (start now next : List Y) → i < length xs → x ≡ get_or xs i x → now ≡ start ++ flat_map f (take i xs) → next ≡ now ++ f x
-    → next ≡ start ++ flat_map f (take (i + 1) xs)
-more_added {X} {Y} f xs i x start now next below at so more =
-    more ∙ ap (λ (l : List Y). l ++ f x) so ∙ append_assoc start (flat_map f (take i xs)) (f x)
-    ∙ ap (λ (l : List Y). start ++ l)
-    (sym (ap (flat_map f) (take_more xs i x below) ∙ flat_map-append f (take i xs) (get_or xs i x ∷ [])
-    ∙ ap (λ (y : X). flat_map f (take i xs) ++ (f y ++ [])) (sym at) ∙ ap (λ (l : List Y). flat_map f (take i xs) ++ l) (append-nil (f x))))
 
 -- the places of older checkpoints as pointers, piece by piece
 pub sides_mapped : (view : Place → Option (List ℕ)) (sides : List Side) → flat_map (λ side. map Some (places_in view side.place)) sides ≡ map Some (side_places view sides)

@@ -20,6 +20,7 @@ use Rattle.inode.specs.Laws.{HeldPointersLead}
 use Rattle.version_store.specs.Store.{StoreFields}
 use Rattle.object_map.specs.declared.map.Row.{Row}
 use Rattle.object_map.specs.Rows.{row_of, with_row, fresh_row}
+use Rattle.inode.proofs.Growing.{grows-none}
 use Rattle.version_store.specs.Costs.{row_or_fresh, subject_row}
 use Rattle.version_store.specs.Taking.{IsThere, IsAboveAll}
 use Rattle.version_store.specs.private.Turning.{CanTake}
@@ -29,7 +30,7 @@ use Rattle.version_store.proofs.Handed.{IsInHand, nothing_in_hand, written_in_ha
 use Rattle.version_store.proofs.Across.{above_has_none}
 use Rattle.version_store.proofs.Steps.{row_here}
 use Rattle.version_store.proofs.Subjects.{IsSubject, subject_of}
-use Rattle.version_store.proofs.Kind.{Makes, grows_none, alive_leads, deleted_leads, created_leads, blank_subject}
+use Rattle.version_store.proofs.Kind.{Makes, alive_leads, deleted_leads, created_leads, blank_subject}
 
 -- the object of a change that is there
 pub can_subject : (s : StoreFields) (change : Change) (m : ℕ) (i : Inode) → CanTake s change m i → IsThere s (object_of change) → IsSubject s (object_of change) m i
@@ -52,7 +53,7 @@ pub deleted_makes : (s : StoreFields) (o m : ℕ) (i j : Inode) → CanTake s (D
 deleted_makes s o m i j can subject is means tidy =
     let later = can.later in
     record {
-      grows = grows_none o s.log;
+      grows = grows-none o s.log;
       made = refl;
       amount = refl;
       moved = none_moved i j (λ k. ap (λ (x : Inode). pointer_at x k) is);
@@ -68,7 +69,7 @@ pub set_makes : (s : StoreFields) (o m : ℕ) (attribute : List ℕ) (i j : Inod
 set_makes s o m attribute i j can subject is means tidy =
     let later = can.later in
     record {
-      grows = grows_none o s.log;
+      grows = grows-none o s.log;
       made = refl;
       amount = refl;
       moved = none_moved i j (λ k. ap (λ (x : Inode). pointer_at x k) is);
@@ -87,7 +88,7 @@ created_makes fresh count holes s o m attribute i j can alive size made changed 
     let later = can.later in
     let is : i ≡ blank m = can.begins ∙ blank_subject fresh s o m (above_has_none s o can.takes.ready) in
     record {
-      grows = grows_none o s.log;
+      grows = grows-none o s.log;
       made = refl;
       amount = refl;
       moved = none_moved i j (λ k. none k ∙ sym (ap (λ (x : Inode). pointer_at x k) is ∙ holes m k));

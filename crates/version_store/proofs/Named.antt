@@ -1,14 +1,17 @@
 -- How many names the data of an object has, and what is held of it, where names were given and taken away.
 use Rattle.std.proofs.Common.{◌≡◌, ◌⊎◌, inl, inr, ℕ, ◌+◌, ◌-◌, ◌≤◌, ◌<◌, ◌==◌, ◌&&◌, cond, Bool, true, false, List, [], ◌∷◌, ◌++◌, length, get_or, Option, Some, None, IsSome, is_some, option_map, refl, sym, ap, subst, ◌∙◌, arith}
 use Rattle.std.specs.List.{All, Contains}
-use Rattle.std.proofs.lemmas.Bool.{cases_Bool, cases_lt, cond-true, cond-false, and_parts, and_from, eqb-true, eqb-false, eq-eqb, ne_eqb, ltb-true, false≢true}
+use Rattle.std.proofs.lemmas.Bool.{cases_Bool, cases_lt, cond-true, cond-false, and_parts, and_from, eqb-true, eq-eqb, ne_eqb, false≢true}
 use Rattle.std.proofs.lemmas.List.Sums.{sum_by-cons, sum_by-append, get_or-le-sum_by, count_by-le-length}
 use Rattle.std.proofs.lemmas.List.Elements.{All-weaker, Contains-append_right}
 use std.Path.{fun_ext}
 use Rattle.s4_types.specs.Pointer.{Place}
+use Rattle.lemmas.proofs.Nat.{eqb_false_back}
 use Rattle.block_log.specs.declared.kinds.BlockKind.{BlockKind}
 use Rattle.block_log.specs.declared.kinds.BlockKind.TheVariants.{Journal, Checkpoint, Data, Pointers}
 use Rattle.block_log.specs.Log.{Log, Stored, same_place, same_kind, seen_as, of_kind, is_data, NamesAreOfData}
+use Rattle.block_log.proofs.Places.{same_place_itself}
+use Rattle.block_log.proofs.BlockKinds.{seen_is_data}
 use Rattle.checkpoint.specs.Held.{or_others, begun_by, seen_of, of_checkpoints}
 use Rattle.version_store.specs.Store.{IsLed, is_at, named_of, times_led}
 use Rattle.version_store.specs.Replacing.{OnlyDataChanged}
@@ -16,11 +19,9 @@ use Rattle.version_store.specs.private.Below.{OnePlace, PlacesAddUp}
 use Rattle.version_store.specs.private.Names.{IsOfData, IsOfDataOrNothing, Gives, TakesAway, held_named}
 use Rattle.version_store.specs.private.Recounting.{Recounts}
 use Rattle.version_store.proofs.Telling.{led_there}
+use Rattle.version_store.proofs.Counted.{held_data_is_named}
 
 -- ---- pointers that lead to a place
-
-pub same_place-self : (p : Place) → same_place p p ≡ true
-same_place-self p = and_from (p.frame == p.frame) (p.block == p.block && p.generation == p.generation) (eq-eqb p.frame p.frame refl) (and_from (p.block == p.block) (p.generation == p.generation) (eq-eqb p.block p.block refl) (eq-eqb p.generation p.generation refl))
 
 pub pointer_is : OnePlace → (p : Place) (x : Option Place) → is_at x p ≡ true → x ≡ Some p
 pointer_is one p None is = absurd (false≢true is)
@@ -43,7 +44,7 @@ pub contained_times : (p : Place) (xs : List (Option Place)) → Contains xs (So
 contained_times p xs there =
     let (n, below, at) = there in
     let least = get_or-le-sum_by (once_led p) xs n (Some p) below in
-    let one : once_led p (get_or xs n (Some p)) ≡ 1 = ap (once_led p) at ∙ cond-true (same_place p p) 1 0 (same_place-self p) in
+    let one : once_led p (get_or xs n (Some p)) ≡ 1 = ap (once_led p) at ∙ cond-true (same_place p p) 1 0 (same_place_itself p) in
     omega (arith, least, one)
 
 pub times_contained : OnePlace → (p : Place) (xs : List (Option Place)) → 0 < times_led p xs → Contains xs (Some p)
@@ -75,30 +76,16 @@ seen_alone kind o other (Some block) some beside = elim (cases_Bool (same_kind D
   | inr not_data ↦ absurd (false≢true (sym (ap is_some (cond-false (same_kind Data block.kind && block.object == o) (Some block.bytes) None not_data)) ∙ some))
 ]
 
-same_kind_back : (k : BlockKind) → same_kind Data k ≡ same_kind k Data
-same_kind_back Journal = refl
-same_kind_back Checkpoint = refl
-same_kind_back Data = refl
-same_kind_back Pointers = refl
-
--- an object's data is data
-pub seen_data : (o : ℕ) (there : Option Stored) → IsSome (seen_as Data o there) → is_data there ≡ true
-seen_data o None some = absurd (false≢true some)
-seen_data o (Some block) some = elim (cases_Bool (same_kind Data block.kind && block.object == o)) [
-  | inl is ↦ sym (same_kind_back block.kind) ∙ (and_parts (same_kind Data block.kind) (block.object == o) is).0
-  | inr not_data ↦ absurd (false≢true (sym (ap is_some (cond-false (same_kind Data block.kind && block.object == o) (Some block.bytes) None not_data)) ∙ some))
-]
-
 pub led_of_data : (o : ℕ) (held : Place → Option Stored) (x : Option Place) → IsLed held o x → IsOfData held x
 led_of_data o held None led = tt
-led_of_data o held (Some p) led = seen_data o (held p) led
+led_of_data o held (Some p) led = seen_is_data o (held p) led
 
 pub all_of_data : (o : ℕ) (held : Place → Option Stored) (xs : List (Option Place)) → All (IsLed held o) xs → All (IsOfData held) xs
 all_of_data o held = All-weaker (IsLed held o) (IsOfData held) (led_of_data o held)
 
 led_or_nothing : (o : ℕ) (held : Place → Option Stored) (x : Option Place) → IsLed held o x → IsOfDataOrNothing held x
 led_or_nothing o held None led = tt
-led_or_nothing o held (Some p) led = inl (seen_data o (held p) led)
+led_or_nothing o held (Some p) led = inl (seen_is_data o (held p) led)
 
 pub all_or_nothing : (o : ℕ) (held : Place → Option Stored) (xs : List (Option Place)) → All (IsLed held o) xs → All (IsOfDataOrNothing held) xs
 all_or_nothing o held = All-weaker (IsLed held o) (IsOfDataOrNothing held) (led_or_nothing o held)
@@ -123,14 +110,11 @@ named_some o log p some = cond-true (is_some (of_kind Data o log.held p)) (log.n
 pub named_none : (o : ℕ) (log : Log) (p : Place) → is_some (of_kind Data o log.held p) ≡ false → named_of o log p ≡ 0
 named_none o log p none = cond-false (is_some (of_kind Data o log.held p)) (log.named p) 0 none
 
-pub data_named : (log : Log) → NamesAreOfData log → (p : Place) → is_data (log.held p) ≡ true → 0 < log.named p
-data_named log rule p is = ltb-true 0 (log.named p) (rule p ∙ is)
-
 -- an object's data block that is held has a name
 pub named_there : (o : ℕ) (log : Log) (p : Place) → NamesAreOfData log → IsSome (of_kind Data o log.held p) → 0 < named_of o log p
 named_there o log p rule some =
     let is = named_some o log p some in
-    let least = data_named log rule p (seen_data o (log.held p) some) in
+    let least = held_data_is_named log rule p (seen_is_data o (log.held p) some) in
     omega (arith, is, least)
 
 -- and one that has a name is held
@@ -151,12 +135,9 @@ none_led one o held xs p led none = elim (cases_lt 0 (times_led p xs)) [
   | inr few ↦ omega (arith, few)
 ]
 
-turned : (o q : ℕ) → (o == q) ≡ false → (q == o) ≡ false
-turned o q beside = ne_eqb q o (λ (e : q ≡ o). eqb-false o q beside (sym e))
-
 -- what is of one object's data isn't of another's
 pub others_data : (o q : ℕ) (there : Option Stored) → (o == q) ≡ false → IsSome (seen_as Data q there) → is_some (seen_as Data o there) ≡ false
-others_data o q there beside some = ap is_some (seen_alone Data q o there some (turned o q beside))
+others_data o q there beside some = ap is_some (seen_alone Data q o there some (eqb_false_back o q beside))
 
 -- ---- names were given
 
@@ -207,7 +188,7 @@ module _ (one : OnePlace) (o : ℕ) (before after : Log) (xs : List (Option Plac
   pub taken_apart : (p : Place) → is_some (of_kind Data o before.held p) ≡ false → after.held p ≡ before.held p
   taken_apart p none = taken_stays p (λ is.
       let named = fewer_none p none in
-      let least = data_named before rule p is in
+      let least = held_data_is_named before rule p is in
       omega (arith, named, least))
 
   left_or_gone : (gone : Bool) (there : Option Stored) → (cond gone None there ≡ there) ⊎ (cond gone None there ≡ None)
@@ -237,7 +218,7 @@ module _ (one : OnePlace) (o : ℕ) (before after : Log) (xs : List (Option Plac
               omega (arith, was, named, later)
           | inr few ↦
               let zero_names : after.named p ≡ 0 = omega (arith, few) in
-              let later = named_none o after p (gone_none p (seen_data o (before.held p) some) zero_names) in
+              let later = named_none o after p (gone_none p (seen_is_data o (before.held p) some) zero_names) in
               omega (arith, was, named, later, zero_names)
         ]
     | inr none ↦
@@ -250,7 +231,7 @@ module _ (one : OnePlace) (o : ℕ) (before after : Log) (xs : List (Option Plac
   pub taken_beside : (q : ℕ) (p : Place) → (o == q) ≡ false → named_of q after p ≡ named_of q before p
   taken_beside q p beside = elim (cases_Bool (is_some (of_kind Data o before.held p))) [
     | inl some ↦
-        let none : is_some (of_kind Data q before.held p) ≡ false = others_data q o (before.held p) (turned o q beside) some in
+        let none : is_some (of_kind Data q before.held p) ≡ false = others_data q o (before.held p) (eqb_false_back o q beside) some in
         let later : is_some (of_kind Data q after.held p) ≡ false = ap (λ (there : Option Stored). is_some (seen_as Data q there)) (takes.held p) ∙ gone_or_none (is_data (before.held p) && after.named p == 0) (before.held p) none in
         named_none q after p later ∙ sym (named_none q before p none)
     | inr none ↦ named_alike q before after p (ap (seen_as Data q) (taken_apart p none)) (fewer_none p none)

@@ -18,6 +18,7 @@ use Rattle.object_map.specs.declared.map.Row.{Row}
 use Rattle.object_map.specs.declared.sides.Side.{Side}
 use Rattle.object_map.specs.Rows.{row_of}
 use Rattle.object_map.specs.Sides.{side_gone}
+use Rattle.block_log.proofs.BlockKinds.{same_kind_itself}
 use Rattle.time_read.specs.Rows.{IsRow, IsSide, inode_of, checkpoint_places_of, all_places_of, side_places}
 use Rattle.version_store.specs.Store.{StoreFields, IsStore, IsObject, pointers_of, DataIsNamed, Names, IsNamed}
 use Rattle.version_store.specs.Versions.{inode_by, inode_in}
@@ -101,18 +102,12 @@ held_is_named one law s o kind p store = (
   λ is. named_held law s.log.held o is.row kind p s.latest (store.objects o is.row is.there) is.names,
 )
 
-kind_itself : (kind : BlockKind) → same_kind kind kind ≡ true
-kind_itself Journal = refl
-kind_itself Checkpoint = refl
-kind_itself Data = refl
-kind_itself Pointers = refl
-
 -- a block is seen as what it is
 seen_itself : (there : Option Stored) (block : Stored) → there ≡ Some block → IsSome (seen_as block.kind block.object there)
 seen_itself there block is =
     ap (λ (b : Option Stored). is_some (seen_as block.kind block.object b)) is
     ∙ ap is_some (cond-true (same_kind block.kind block.kind && block.object == block.object) (Some block.bytes) None
-    (and_from (same_kind block.kind block.kind) (block.object == block.object) (kind_itself block.kind) (eq-eqb block.object block.object refl)))
+    (and_from (same_kind block.kind block.kind) (block.object == block.object) (same_kind_itself block.kind) (eq-eqb block.object block.object refl)))
 
 -- each block of a checkpoint that a row of a store names is held
 pub row_checkpoints_there : CheckpointsHaveBlocks → (s : StoreFields) (o : ℕ) (row : Row) (p : Place) → IsStore s → row_of s.rows o ≡ Some row → is_one_of (all_places_of s.log.held o row) p ≡ true → IsSome (of_checkpoints o s.log.held p)

@@ -6,7 +6,7 @@ use Rattle.std.specs.BTreeMap.{is_at}
 use Rattle.std.specs.Ordering.{nat_cmp}
 use Rattle.std.proofs.lemmas.Bool.{cases_Bool, cond-true, cond-false}
 use Rattle.std.proofs.lemmas.Bool.Decides.{nat_tests}
-use Rattle.std.proofs.lemmas.List.{map-append}
+use Rattle.std.proofs.lemmas.List.{map-append, map-id}
 use Rattle.std.proofs.lemmas.List.Elements.{All-nil, All-cons, All-head, All-tail}
 use Rattle.block_log.specs.Log.{Log}
 use Rattle.codec.specs.declared.inodes.Inode.{Inode}
@@ -50,16 +50,12 @@ none_below (e ∷ rows) o below =
     let P : ℕ × Row → Type 0 = λ f. f.0 < o in
     cond-false (is_at (nat_cmp o) e.0) (Some e.1) (row_of rows o) (not_at o e.0 (All-head P e rows below)) ∙ none_below rows o (All-tail P e rows below)
 
-map_same : {X : Type 0} (xs : List X) → map (λ y. y) xs ≡ xs
-map_same [] = refl
-map_same (x ∷ xs) = ap (λ ys. x ∷ ys) (map_same xs)
-
 -- the items before one, itself, and those after it
 pub passed_here : {X : Type 0} (all passed : List X) (x : X) → map (λ y. y) passed ≡ take (length passed) all → (length passed < length all) × (x ≡ get_or all (length passed) x)
     → passed ++ (x ∷ drop (suc (length passed)) all) ≡ all
 passed_here all passed x front here =
     let n = length passed in
-    ap (λ ys. ys ++ (x ∷ drop (suc n) all)) (sym (map_same passed) ∙ front)
+    ap (λ ys. ys ++ (x ∷ drop (suc n) all)) (sym (map-id passed) ∙ front)
     ∙ ap (λ ys. take n all ++ ys) (ap (λ y. y ∷ drop (suc n) all) here.1 ∙ sym (drop-cons all n x here.0))
     ∙ take-append-drop n all
 

@@ -30,10 +30,7 @@ use Rattle.version_store.proofs.Steps.{blank_tidy, blank_means, row_here, row_be
 use Rattle.version_store.proofs.Subjects.{alive_by}
 use Rattle.version_store.proofs.Kind.{blank_subject}
 use Rattle.version_store.proofs.CheckpointSteps.{covers}
-
-inode_by_present : LastInodeStays → (held : Place → Option Stored) (o latest t : ℕ) (row : Option Row) → ((r : Row) → row ≡ Some r → IsObject held o r latest) → latest ≤ t → inode_by held o t row ≡ inode_by held o latest row
-inode_by_present last held o latest t None objects le = refl
-inode_by_present last held o latest t (Some row) objects le = ap (λ (i : Inode). Some i) (last held o row latest t (objects row refl).by le)
+use Rattle.version_store.proofs.Changed.{inode_by_latest}
 
 inode_by_subject : (held : Place → Option Stored) (o m latest : ℕ) (row : Option Row) (i : Inode) → inode_by held o latest row ≡ Some i → inode_of held o (row_or_fresh m row) latest ≡ i
 inode_by_subject held o m latest None i e = absurd (none-some i e)
@@ -118,7 +115,7 @@ turned_keeps same last s later o m stamp j row next kept after objects le inode 
       let there : inode_in later q m ≡ inode_in s q m = inode_in_stays same s later q m (put q ∙ row_beside (row_of s.rows) o q (record next { stamp = stamp }) other) (journal_stays o q s.log.held later.log.held only other) in
       kept_put q ∙ cond-false (o == q) (Some j) (kept q) other
       ∙ keeps q
-      ∙ sym (ap (λ (t : ℕ). inode_in later q t) latest ∙ there ∙ inode_by_present last s.log.held q s.latest m (row_of s.rows q) (objects q) le)
+      ∙ sym (ap (λ (t : ℕ). inode_in later q t) latest ∙ there ∙ inode_by_latest last s.log.held q s.latest m (row_of s.rows q) (objects q) le)
 ]
 
 -- ---- the inode of a checkpoint

@@ -62,12 +62,12 @@ named_leads held o row stands p there = elim (Contains-append_cases (pointers_of
   | inr aside ↦ side_leads held o row row.sides stands.sides p aside
 ]
 
-slot_led : (held : Place → Option Stored) (o : ℕ) (pointers : List (Option Place)) → ((p : Place) → Contains pointers (Some p) → IsSome (of_kind Data o held p)) → (x : Option Place) → Contains pointers x → IsLed held o x
-slot_led held o pointers leads None there = tt
-slot_led held o pointers leads (Some p) there = leads p there
+pub pointer_is_held : (held : Place → Option Stored) (o : ℕ) (pointers : List (Option Place)) → ((p : Place) → Contains pointers (Some p) → IsSome (of_kind Data o held p)) → (x : Option Place) → Contains pointers x → IsLed held o x
+pointer_is_held held o pointers leads None there = tt
+pointer_is_held held o pointers leads (Some p) there = leads p there
 
 pub told_led : (held : Place → Option Stored) (o : ℕ) (pointers : List (Option Place)) → ((p : Place) → Contains pointers (Some p) → IsSome (of_kind Data o held p)) → All (IsLed held o) pointers
-told_led held o pointers leads = All-weaker (Contains pointers) (IsLed held o) (slot_led held o pointers leads) pointers (All-contains_itself pointers)
+told_led held o pointers leads = All-weaker (Contains pointers) (IsLed held o) (pointer_is_held held o pointers leads) pointers (All-contains_itself pointers)
 
 -- so they refer to data of the object
 pub aside_led : (held : Place → Option Stored) (o : ℕ) (row : Row) → IsRow held o row → All (IsLed held o) (pointers_of held o row) → All (IsLed held o) (pointers_aside held o row)

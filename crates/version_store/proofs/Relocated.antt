@@ -10,18 +10,20 @@ use Rattle.codec.specs.Entry.{EntryFields, entries_length}
 use Rattle.codec.specs.declared.inodes.Inode.{Inode}
 use Rattle.checkpoint.proofs.OwnBlocks.{same_checkpoints}
 use Rattle.object_map.specs.declared.map.Row.{Row}
+use Rattle.block_log.proofs.Taking.{among_later}
 use Rattle.time_read.specs.Rows.{IsRow, entries_of, checkpoint_of, first_of}
 use Rattle.time_read.specs.Orderly.{IsFromTo, IsOrderly, IsOrderlyChain, BeginsDead}
+use Rattle.time_read.proofs.Staying.{same_entries}
 use Rattle.row_changes.specs.Rewritten.{OnlyMetadataChanged}
 use Rattle.row_changes.specs.Moving.{first_with, moved_blocks, row_blocks}
 use Rattle.chain_rewriting.specs.Renaming.{RenamingFields, renamed_entries}
 use Rattle.chain_rewriting.specs.RenamingLaws.{RenamedEntriesStayInOrder, RenamedEntriesTakeAsManyBytes}
+use Rattle.row_changes.proofs.Pushing.{same_checkpoint}
 use Rattle.version_store.specs.declared.copies.CopiedBlock.{CopiedBlock}
 use Rattle.version_store.specs.private.Below.{RowStays, RowInodeStays, PlacesAddUp, HolesTellBlocks}
 use Rattle.version_store.specs.private.Relocating.{Moved, Relocates}
-use Rattle.version_store.proofs.Telling.{same_entries, same_checkpoint}
 use Rattle.version_store.proofs.RenamedJournal.{RenamingStands, kept_renamed, first_renamed, shown_renamed, checkpoint_renamed}
-use Rattle.version_store.proofs.RelocatedBlocks.{Dropped, moved_are, from_copy, copied_is, stayed_is, old_or_new, gone_is, only_data, others_are, same_blocks, behind, takes_all}
+use Rattle.version_store.proofs.RelocatedBlocks.{Dropped, moved_are, from_copy, copied_is, stayed_is, old_or_new, gone_is, only_data, others_are, same_blocks, takes_all}
 
 -- rows in order rest on their own blocks
 abbrev pub OrderRestsOnBlocks : Type 0
@@ -68,9 +70,9 @@ relocates laws order lengths holes row_stays inode_stays order_stays add_up befo
       stayed = stayed_is before between moved later o copies r d;
       blocks = old_or_new before between moved later o copies r d;
       from = from_copy before between moved later o copies r d;
-      chains = λ p there. behind count blocks before between p d.appended.takes
+      chains = λ p there. among_later count blocks before between p d.appended.takes
           (subst (λ n. Contains (take n between.ahead) p) same (m.chains p (subst (λ (v : Place → Option (List ℕ)). IsSome (v p)) journal there)));
-      checkpoints = λ p there. behind count blocks before between p d.appended.takes
+      checkpoints = λ p there. among_later count blocks before between p d.appended.takes
           (subst (λ n. Contains (take n between.ahead) p) same (m.checkpoints p (subst (λ (v : Place → Option (List ℕ)). IsSome (v p)) checkpoints there)));
       others = others_are before between moved later o copies r d;
       takes = takes_all add_up count blocks before between moved later d.appended.takes (subst (λ n. TakesPlaces n between moved) same m.takes) dropped;

@@ -1,17 +1,18 @@
 -- What became of an object's blocks where copies were appended, its journal was written anew, and what was copied was dropped.
-use Rattle.std.proofs.Common.{◌≡◌, ◌↔◌, inl, inr, ℕ, zero, suc, ◌+◌, ◌==◌, ◌&&◌, ◌||◌, Bool, true, false, cond, List, [], ◌∷◌, length, map, take, drop, Option, Some, None, IsSome, is_some, refl, sym, ap, subst, ◌∙◌, arith}
+use Rattle.std.proofs.Common.{◌≡◌, ◌↔◌, inl, inr, ℕ, zero, suc, ◌+◌, ◌==◌, ◌&&◌, ◌||◌, Bool, true, false, cond, List, [], ◌∷◌, length, map, Option, Some, None, IsSome, is_some, refl, sym, ap, subst, ◌∙◌, arith}
 use Rattle.std.specs.List.{AllByRecursion, Contains}
 use Rattle.std.proofs.lemmas.Bool.{cases_Bool, cond-true, cond-false, and_parts, and_right, eqb-true, eq-eqb, false≢true}
 use Rattle.std.proofs.lemmas.List.Folds.{list_any_at}
 use Rattle.std.proofs.lemmas.List.Elements.{Contains-append_right}
-use Rattle.std.proofs.lemmas.Option.{none-some}
-use Rattle.std.proofs.Math.Seq.{take-add}
 use Rattle.std.specs.Prelude.{option_map}
 use std.Path.{fun_ext}
 use Rattle.s4_types.specs.Pointer.{Place}
+use Rattle.lemmas.proofs.Option.{none_not_some}
 use Rattle.block_log.specs.Log.{Log, Stored, of_kind, seen_as, same_kind, same_place}
 use Rattle.block_log.specs.Taken.{TakesPlaces}
 use Rattle.block_log.specs.declared.kinds.BlockKind.TheVariants.{Journal, Data}
+use Rattle.block_log.proofs.Places.{same_place_itself, place_from_parts}
+use Rattle.block_log.proofs.BlockKinds.{seen_is_some}
 use Rattle.checkpoint.specs.Held.{is_checkpoint_kind}
 use Rattle.codec.specs.Checkpoint.{CheckpointFields}
 use Rattle.codec.specs.Entry.{EntryFields, entry_length}
@@ -21,15 +22,15 @@ use Rattle.row_changes.specs.Moving.{kept_blocks, moved_blocks}
 use Rattle.row_changes.specs.Rewritten.{OnlyMetadataChanged}
 use Rattle.chain_rewriting.specs.Renaming.{RenamingFields, move_of, is_in, new_place, renamed_slot, renamed_entries, renamed_inode}
 use Rattle.chain_rewriting.specs.RenamingLaws.{RenamedEntriesTakeAsManyBytes}
+use Rattle.chain_rewriting.proofs.Rules.{move_is}
 use Rattle.version_store.specs.declared.copies.CopiedBlock.{CopiedBlock}
 use Rattle.version_store.specs.Replacing.{OnlyDataChanged, OtherObjectsStay}
 use Rattle.version_store.specs.Relocating.{AreCopies, IsCopied, frame_of_copies}
 use Rattle.version_store.specs.private.Below.{OnePlace, PlacesAddUp, HolesTellBlocks}
 use Rattle.version_store.specs.private.Relocating.{Appending, IsNewPlace, IsOldOrNew, stood_at}
 use Rattle.version_store.proofs.RenamedJournal.{kept_renamed}
-use Rattle.version_store.proofs.Spending.{not_both}
 use Rattle.version_store.proofs.CheckpointSteps.{some_place}
-use Rattle.version_store.proofs.Named.{same_place-self, seen_alone}
+use Rattle.version_store.proofs.Named.{seen_alone}
 use Rattle.version_store.proofs.Dropping.{seen_cond, none_either}
 
 -- ---- what was copied
@@ -41,7 +42,7 @@ recursion_at P (y ∷ xs) x all (suc n, below, at) = recursion_at P xs x all.1 (
 
 pub copied_stood : (p : Place) (copies : List CopiedBlock) → IsCopied copies p → stood_at p copies ≡ true
 copied_stood p copies (c, ((n, below, at), is)) =
-    list_any_at (λ (x : CopiedBlock). same_place x.place p) copies n c below (ap (λ (x : CopiedBlock). same_place x.place p) at ∙ ap (λ (q : Place). same_place q p) is ∙ same_place-self p)
+    list_any_at (λ (x : CopiedBlock). same_place x.place p) copies n c below (ap (λ (x : CopiedBlock). same_place x.place p) at ∙ ap (λ (q : Place). same_place q p) is ∙ same_place_itself p)
 
 pub stood_copied : OnePlace → (p : Place) (copies : List CopiedBlock) → stood_at p copies ≡ true → IsCopied copies p
 stood_copied one p [] stood = absurd (false≢true stood)
@@ -50,19 +51,6 @@ stood_copied one p (c ∷ copies) stood = elim (cases_Bool (same_place c.place p
   | inr beside ↦
       let (d, (among, is)) = stood_copied one p copies (sym (ap (λ (b : Bool). b || stood_at p copies) beside) ∙ stood) in
       (d, (Contains-append_right (c ∷ []) copies d among, is))
-]
-
-place_is : (p q : Place) → p.frame ≡ q.frame → p.block ≡ q.block → p.generation ≡ q.generation → p ≡ q
-place_is p q frame block generation =
-    ap (λ n. record { frame = n; block = p.block; generation = p.generation }) frame
-    ∙ ap (λ n. record { frame = q.frame; block = n; generation = p.generation }) block
-    ∙ ap (λ n. record { frame = q.frame; block = q.block; generation = n }) generation
-
--- where a place's block moves, the place is in the frame
-pub new_of : (r : RenamingFields) (p q : Place) → new_place r p ≡ Some q → (is_in r p ≡ true) × (move_of r p.block ≡ Some q)
-new_of r p q new = elim (cases_Bool (is_in r p)) [
-  | inl inside ↦ (inside, sym (cond-true (is_in r p) (move_of r p.block) None inside) ∙ new)
-  | inr outside ↦ absurd (none-some q (sym (cond-false (is_in r p) (move_of r p.block) None outside) ∙ new))
 ]
 
 -- Copies were appended, the object's journal alone was written, and what was copied was dropped.
@@ -92,14 +80,14 @@ pub record CopyOf (between : Log) (o : ℕ) (copies : List CopiedBlock) (p q : P
 
 copy_of : (before between moved later : Log) (o : ℕ) (copies : List CopiedBlock) (r : RenamingFields) → Dropped before between moved later o copies r → (p q : Place) → new_place r p ≡ Some q → CopyOf between o copies p q
 copy_of before between moved later o copies r d p q new =
-    let parts = new_of r p q new in
+    let parts = move_is r p q new in
     let at = d.appended.there p.block q parts.1 in
     let mine = and_parts (p.frame == r.frame) (p.generation == r.generation) parts.0 in
     let its = and_parts (at.copy.place.frame == r.frame) (at.copy.place.generation == r.generation) (frame_at before between moved later o copies r d at.copy at.among) in
     record {
       copy = at.copy;
       among = at.among;
-      place = place_is at.copy.place p (eqb-true at.copy.place.frame r.frame its.0 ∙ sym (eqb-true p.frame r.frame mine.0)) at.number (eqb-true at.copy.place.generation r.generation its.1 ∙ sym (eqb-true p.generation r.generation mine.1));
+      place = place_from_parts at.copy.place p (eqb-true at.copy.place.frame r.frame its.0 ∙ sym (eqb-true p.frame r.frame mine.0)) at.number (eqb-true at.copy.place.generation r.generation its.1 ∙ sym (eqb-true p.generation r.generation mine.1));
       there = at.there;
     }
 
@@ -156,24 +144,20 @@ copied_is before between moved later o copies r d p q new =
     let of = copy_of before between moved later o copies r d p q new in
     let was : of_kind Data o before.held p ≡ Some of.copy.bytes =
     subst (λ (x : Place). of_kind Data o before.held x ≡ Some of.copy.bytes) of.place (recursion_at (λ (x : CopiedBlock). of_kind Data o before.held x.place ≡ Some x.bytes) copies of.copy d.are.bytes of.among) in
-    let free : before.held q ≡ None = d.appended.fresh p.block q (new_of r p q new).1 in
+    let free : before.held q ≡ None = d.appended.fresh p.block q (move_is r p q new).1 in
     (ap is_some was, data_here before between moved later o copies r d q (new_stays before between moved later o copies r d q free) ∙ ap (seen_as Data o) of.there ∙ block_seen o of.copy.bytes ∙ sym was)
-
-pub data_held : (o : ℕ) (block : Option Stored) → IsSome (seen_as Data o block) → IsSome block
-data_held o None h = h
-data_held o (Some block) h = refl
 
 -- a place that was not copied
 not_stood : (before between moved later : Log) (o : ℕ) (copies : List CopiedBlock) (r : RenamingFields) → Dropped before between moved later o copies r → (p : Place) → new_place r p ≡ None → stood_at p copies ≡ false
 not_stood before between moved later o copies r d p stays = elim (cases_Bool (stood_at p copies)) [
-  | inl stood ↦ absurd (not_both (new_place r p) stays ((moved_are before between moved later o copies r d p).1 (stood_copied d.one p copies stood)))
+  | inl stood ↦ absurd (none_not_some (new_place r p) stays ((moved_are before between moved later o copies r d p).1 (stood_copied d.one p copies stood)))
   | inr beside ↦ beside
 ]
 
 pub stayed_is : (before between moved later : Log) (o : ℕ) (copies : List CopiedBlock) (r : RenamingFields) → Dropped before between moved later o copies r → (p : Place) → IsSome (of_kind Data o before.held p) → new_place r p ≡ None
     → of_kind Data o later.held p ≡ of_kind Data o before.held p
 stayed_is before between moved later o copies r d p some stays =
-    data_here before between moved later o copies r d p (not_stood before between moved later o copies r d p stays) ∙ ap (seen_as Data o) (d.appended.stays p (data_held o (before.held p) some))
+    data_here before between moved later o copies r d p (not_stood before between moved later o copies r d p stays) ∙ ap (seen_as Data o) (d.appended.stays p (seen_is_some Data o (before.held p) some))
 
 none_new : (before between moved later : Log) (o : ℕ) (copies : List CopiedBlock) (r : RenamingFields) → Dropped before between moved later o copies r → (p : Place) (new : Option Place) → new_place r p ≡ new → stood_at p copies ≡ false → new ≡ None
 none_new before between moved later o copies r d p None is beside = refl
@@ -184,7 +168,7 @@ old_or_new before between moved later o copies r d p some = elim (cases_Bool (st
   | inl stood ↦ absurd (false≢true (sym (ap is_some (data_later before between moved later o copies r d p ∙ cond-true (stood_at p copies) None (of_kind Data o between.held p) stood)) ∙ some))
   | inr beside ↦
       let here = data_here before between moved later o copies r d p beside in
-      let held : IsSome (between.held p) = data_held o (between.held p) (subst (λ (x : Option (List ℕ)). IsSome x) here some) in
+      let held : IsSome (between.held p) = seen_is_some Data o (between.held p) (subst (λ (x : Option (List ℕ)). IsSome x) here some) in
       elim (cases_Bool (is_some (before.held p))) [
         | inl was ↦ inl (here ∙ ap (seen_as Data o) (d.appended.stays p was), none_new before between moved later o copies r d p (new_place r p) refl beside)
         | inr none ↦ let gone = is_none (before.held p) none in inr (gone, d.appended.new p gone held)
@@ -208,7 +192,7 @@ only_data before between moved later o copies r d kind other beside = fun_ext (�
     there : (q : Place) → stood_at q copies ≡ true → IsSome (of_kind Data o moved.held q)
     there q stood =
         let was = copied_held before between moved later o copies r d q (stood_copied d.one q copies stood) in
-        ap (λ (v : Place → Option (List ℕ)). is_some (v q)) (d.metadata Data o refl) ∙ ap (λ (x : Option Stored). is_some (seen_as Data o x)) (d.appended.stays q (data_held o (before.held q) was)) ∙ was
+        ap (λ (v : Place → Option (List ℕ)). is_some (v q)) (d.metadata Data o refl) ∙ ap (λ (x : Option Stored). is_some (seen_as Data o x)) (d.appended.stays q (seen_is_some Data o (before.held q) was)) ∙ was
 
 pub others_are : (before between moved later : Log) (o : ℕ) (copies : List CopiedBlock) (r : RenamingFields) → Dropped before between moved later o copies r → OtherObjectsStay o before.held later.held
 others_are before between moved later o copies r d kind other beside =
@@ -233,11 +217,6 @@ pub same_blocks : RenamedEntriesTakeAsManyBytes → HolesTellBlocks → (r : Ren
 same_blocks law holes r c entries =
     ap (λ (sizes : List ℕ). kept_blocks (kept_renamed r c) + blocks_needed 0 sizes) (law r entries)
     ∙ ap (λ (n : ℕ). n + blocks_needed 0 (map entry_length entries)) (same_kept holes r c)
-
-pub behind : (n m : ℕ) (first between : Log) (p : Place) → TakesPlaces n first between → Contains (take m between.ahead) p → Contains (take (n + m) first.ahead) p
-behind n m first between p takes at =
-    subst (λ (places : List Place). Contains places p) (sym (take-add n m first.ahead))
-    (Contains-append_right (take n first.ahead) (take m (drop n first.ahead)) p (subst (λ (places : List Place). Contains (take m places) p) takes.ahead at))
 
 pub takes_all : PlacesAddUp → (n m : ℕ) (before between moved later : Log) → TakesPlaces n before between → TakesPlaces m between moved → TakesPlaces 0 moved later → TakesPlaces (n + m) before later
 takes_all law n m before between moved later first second third =

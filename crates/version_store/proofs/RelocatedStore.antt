@@ -1,5 +1,5 @@
 -- What the relocation of an object's blocks leaves of a whole store.
-use Rattle.std.proofs.Common.{◌≡◌, ◌⊎◌, inl, inr, ℕ, suc, ◌+◌, ◌<◌, ◌≤◌, ◌==◌, leb, cond, Bool, List, [], ◌∷◌, ◌++◌, length, map, take, Option, Some, None, IsSome, IfSome, is_some, MatchOption, option_map, unwrap_or, refl, sym, ap, subst, ◌∙◌, arith}
+use Rattle.std.proofs.Common.{◌≡◌, ◌⊎◌, inl, inr, ℕ, suc, ◌+◌, ◌<◌, ◌≤◌, ◌==◌, leb, cond, Bool, List, [], ◌∷◌, ◌++◌, length, map, take, Option, Some, None, IsSome, IfSome, is_some, MatchOption, option_map, refl, sym, ap, subst, ◌∙◌, arith}
 use Rattle.std.specs.List.{Contains}
 use Rattle.std.proofs.lemmas.Bool.{cases_Bool, cond-true, cond-false, eqb-true}
 use Rattle.std.proofs.lemmas.List.Elements.{All-map, All-weaker}
@@ -25,11 +25,13 @@ use Rattle.object_map.specs.Rows.{row_of}
 use Rattle.time_read.specs.Rows.{entries_of, checkpoint_of, inode_of}
 use Rattle.time_read.specs.Orderly.{IsFromTo, BeginsDead}
 use Rattle.journal_chain.specs.Push.{whole_blocks}
+use Rattle.time_read.proofs.Staying.{same_entries}
 use Rattle.row_changes.specs.Moving.{kept_blocks, moved_blocks}
 use Rattle.chain_rewriting.specs.Renaming.{RenamingFields, new_place, renamed, renamed_slot, renamed_entries, renamed_inode}
 use Rattle.chain_rewriting.specs.Apart.{Passes, HasCopies}
 use Rattle.chain_rewriting.specs.Places.{ARenamedChainTellsInOrder}
 use Rattle.chain_rewriting.specs.RenamingLaws.{APointerIsRenamed, ARenamedInodeMeansTheSame, RenamedEntriesHaveOldMoments, TheMomentsOfRenamedEntriesAreOld}
+use Rattle.chain_rewriting.proofs.Rules.{renamed_stays, renamed_moves}
 use Rattle.version_store.specs.declared.copies.CopiedBlock.{CopiedBlock}
 use Rattle.version_store.specs.Store.{HasNothing, StoreFields, IsStore, IsObject, IsLed, sides_told, pointers_aside, pointers_kept, pointers_named, pointers_of, pointers_of_sides, times_led}
 use Rattle.version_store.specs.Versions.{inode_by, inode_in, version_by, version_in}
@@ -38,7 +40,7 @@ use Rattle.version_store.specs.private.Below.{ChangesStand, SomeBlocksAreNeeded,
 use Rattle.version_store.specs.private.Relocating.{IsOldOrNew, NamesMove, Relocates, RelocatesIn}
 use Rattle.version_store.specs.private.Recounting.{Counts}
 use Rattle.version_store.proofs.Frames.{same_bytes}
-use Rattle.version_store.proofs.Telling.{Leads, same_entries}
+use Rattle.version_store.proofs.Telling.{Leads}
 use Rattle.version_store.proofs.Steps.{stamped_row, stamped_inode}
 use Rattle.version_store.proofs.Spending.{sum_stays}
 use Rattle.version_store.proofs.Across.{renewed_across}
@@ -70,17 +72,11 @@ pointers_renamed laws before later o row next copies r w =
     ∙ ap (λ (slots : List (Option Place)). slots ++ sides_told (renamed_entries r (entries_of before.held o row))) (kept_renamed r (checkpoint_of before.held o row))
     ∙ laws.tells r (of_pointers (pointers_kept (checkpoint_of before.held o row))) (entries_of before.held o row)
 
-renamed_stays : (r : RenamingFields) (p : Place) → new_place r p ≡ None → renamed r p ≡ p
-renamed_stays r p none = ap (λ (x : Option Place). unwrap_or x p) none
-
-renamed_goes : (r : RenamingFields) (p q : Place) → new_place r p ≡ Some q → renamed r p ≡ q
-renamed_goes r p q some = ap (λ (x : Option Place). unwrap_or x p) some
-
 -- where a block of the object was, one is at the renamed place, with the same bytes
 pub renamed_there : (before later : Log) (o : ℕ) (row next : Row) (copies : List CopiedBlock) (r : RenamingFields) → Relocates before o row copies next later r → (p : Place) (new : Option Place) → new_place r p ≡ new → IsSome (of_kind Data o before.held p)
     → of_kind Data o later.held (renamed r p) ≡ of_kind Data o before.held p
 renamed_there before later o row next copies r w p None is some = ap (λ (q : Place). of_kind Data o later.held q) (renamed_stays r p is) ∙ w.stayed p some is
-renamed_there before later o row next copies r w p (Some q) is some = ap (λ (x : Place). of_kind Data o later.held x) (renamed_goes r p q is) ∙ (w.copied p q is).1
+renamed_there before later o row next copies r w p (Some q) is some = ap (λ (x : Place). of_kind Data o later.held x) (renamed_moves r p q is) ∙ (w.copied p q is).1
 
 renamed_some : (before later : Log) (o : ℕ) (row next : Row) (copies : List CopiedBlock) (r : RenamingFields) → Relocates before o row copies next later r → (p : Place) → IsSome (of_kind Data o before.held p) → IsSome (of_kind Data o later.held (renamed r p))
 renamed_some before later o row next copies r w p some = ap is_some (renamed_there before later o row next copies r w p (new_place r p) refl some) ∙ some

@@ -3,6 +3,7 @@ use Rattle.std.proofs.Common.{◌≡◌, ℕ, ◌≤◌, Bool, true, List, Optio
 use Rattle.std.proofs.lemmas.List.Elements.{All-weaker}
 use Rattle.s4_types.specs.Pointer.{Place}
 use Rattle.s4_types.specs.declared.limits.TheConstants.{CHAIN_ENTRY_BYTES}
+use Rattle.lemmas.proofs.Option.{IfSome_from}
 use Rattle.block_log.specs.Log.{Stored, seen_as}
 use Rattle.block_log.specs.declared.kinds.BlockKind.TheVariants.{Data}
 use Rattle.codec.specs.Fields.{◌>>=◌}
@@ -37,10 +38,6 @@ slot_held : (held : Place → Option Stored) (o : ℕ) (slot : Option Place) →
 slot_held held o None led = tt
 slot_held held o (Some p) led = seen_held o (held p) led
 
-each_slot : (slot : Option Place) (Is : Place → Type 0) → ((p : Place) → slot ≡ Some p → Is p) → IfSome slot Is
-each_slot None Is h = tt
-each_slot (Some p) Is h = h p refl
-
 -- an inode of these pointers
 abbrev pub of_pointers : List (Option Place) → Inode
 of_pointers pointers = record (blank 0) { pointers = pointers }
@@ -52,7 +49,7 @@ told_held listed held o row led =
     let told : ToldWithin (Passes (is_held held)) (of_pointers (pointers_kept (checkpoint_of held o row))) (entries_of held o row) =
     (listed (is_held held) (of_pointers (pointers_kept (checkpoint_of held o row))) (entries_of held o row)).1 all in
     record {
-      pointers = λ k. each_slot (pointer_at (first_of held o row) k) (Passes (is_held held))
+      pointers = λ k. IfSome_from (pointer_at (first_of held o row) k) (Passes (is_held held))
           (λ p at. seen_held o (held p) (led_there held o (pointers_of held o row) p led (first_told row.created row.checkpoint_moment (entries_of held o row) (checkpoint_of held o row) k p at)));
       sides = told.sides;
     }

@@ -7,12 +7,15 @@ use Rattle.std.proofs.lemmas.List.Elements.{Contains-append_right}
 use Rattle.std.proofs.lemmas.Option.{none-some, same_Some}
 use Rattle.s4_types.specs.Pointer.{Place}
 use Rattle.s4_types.specs.declared.limits.TheConstants.{PAYLOAD_BLOCKS, ROW_POINTERS}
+use Rattle.lemmas.proofs.Contains.{contains_map}
 use Rattle.block_log.specs.Log.{Log, Stored, of_kind, seen_as, is_data, NamesAreOfData}
 use Rattle.block_log.specs.declared.kinds.BlockKind.TheVariants.{Data}
 use Rattle.chain_rewriting.specs.Renaming.{RenamingFields, move_of, new_place, renamed, renamed_slot}
 use Rattle.object_map.specs.declared.map.Row.{Row}
+use Rattle.block_log.proofs.BlockKinds.{seen_is_some, seen_is_data}
 use Rattle.row_changes.specs.Rewritten.{OnlyMetadataChanged}
 use Rattle.time_read.specs.Rows.{IsRow}
+use Rattle.chain_rewriting.proofs.Rules.{move_is}
 use Rattle.version_store.specs.declared.copies.CopiedBlock.{CopiedBlock}
 use Rattle.version_store.specs.Store.{DataIsNamed, IsLed, IsNamedBy, named_of, pointers_aside, pointers_named, pointers_of, times_led}
 use Rattle.version_store.specs.Relocating.{AreCopies, IsCopied, blocks_ascend_from}
@@ -21,10 +24,11 @@ use Rattle.version_store.specs.private.Names.{TakesAway, places_copied}
 use Rattle.version_store.specs.private.Recounting.{Recounts}
 use Rattle.version_store.specs.private.Relocating.{Appending, NamesMove, stood_at}
 use Rattle.version_store.proofs.Telling.{led_there}
-use Rattle.version_store.proofs.Named.{contained_times, data_named, named_alike, named_none, named_some, none_led, others_data, recounts_all, seen_data, taken_beside, taken_here, taken_stays, times_contained, times_few, times_joined}
+use Rattle.version_store.proofs.Named.{contained_times, named_alike, named_none, named_some, none_led, others_data, recounts_all, taken_beside, taken_here, taken_stays, times_contained, times_few, times_joined}
 use Rattle.version_store.proofs.Recounted.{all_led, data_is_named, told_led}
-use Rattle.version_store.proofs.Gathering.{contained_map, mapped_contains}
-use Rattle.version_store.proofs.RelocatedBlocks.{Dropped, block_seen, copied_held, copied_is, copied_stood, data_held, from_copy, moved_are, new_of, stood_copied}
+use Rattle.version_store.proofs.Gathering.{contained_map}
+use Rattle.version_store.proofs.RelocatedBlocks.{Dropped, block_seen, copied_held, copied_is, copied_stood, from_copy, moved_are, stood_copied}
+use Rattle.version_store.proofs.Counted.{held_data_is_named}
 
 -- ---- copies are few
 
@@ -45,7 +49,7 @@ copied_contained copies p there =
     (c, (among, sym (same_Some p c.place is)))
 
 pub contained_copied : (copies : List CopiedBlock) (p : Place) → IsCopied copies p → Contains (places_copied copies) (Some p)
-contained_copied copies p (c, (among, is)) = subst (λ (q : Place). Contains (places_copied copies) (Some q)) is (mapped_contains (λ (c : CopiedBlock). Some c.place) copies c among)
+contained_copied copies p (c, (among, is)) = subst (λ (q : Place). Contains (places_copied copies) (Some q)) is (contains_map (λ (c : CopiedBlock). Some c.place) copies c among)
 
 -- What is known once copies were appended.
 pub record Copied (before between : Log) (o : ℕ) (row : Row) (copies : List CopiedBlock) (r : RenamingFields) : Type 0 where
@@ -63,7 +67,7 @@ module _ (before between : Log) (o : ℕ) (row : Row) (copies : List CopiedBlock
   dropped = record { one = is.one; are = is.are; appended = is.appended; metadata = λ kind other h. refl; dropped = λ q. refl }
 
   pub stays : (p : Place) → IsSome (of_kind Data o before.held p) → IsSome (of_kind Data o between.held p)
-  stays p some = ap (λ (there : Option Stored). is_some (seen_as Data o there)) (is.appended.stays p (data_held o (before.held p) some)) ∙ some
+  stays p some = ap (λ (there : Option Stored). is_some (seen_as Data o there)) (is.appended.stays p (seen_is_some Data o (before.held p) some)) ∙ some
 
   was_copied : (p : Place) → IsCopied copies p → IsSome (of_kind Data o before.held p)
   was_copied p copied = copied_held before between between (record between { held = λ q. cond (stood_at q copies) None (between.held q) }) o copies r dropped p copied
@@ -103,7 +107,7 @@ module _ (before between : Log) (o : ℕ) (row : Row) (copies : List CopiedBlock
 
   renamed_there : (p : Place) (new : Option Place) → new_place r p ≡ new → IsSome (of_kind Data o before.held p) → IsSome (of_kind Data o between.held (renamed r p))
   renamed_there p None at some = subst (λ (q : Place). IsSome (of_kind Data o between.held q)) (sym (renamed_by p None at)) (stays p some)
-  renamed_there p (Some q) at some = subst (λ (x : Place). IsSome (of_kind Data o between.held x)) (sym (renamed_by p (Some q) at)) (move_there p.block q (new_of r p q at).1)
+  renamed_there p (Some q) at some = subst (λ (x : Place). IsSome (of_kind Data o between.held x)) (sym (renamed_by p (Some q) at)) (move_there p.block q (move_is r p q at).1)
 
   pub renamed_led : All (IsLed between.held o) (map (renamed_slot r) (pointers_of before.held o row))
   renamed_led = told_led between.held o (map (renamed_slot r) (pointers_of before.held o row)) (λ q there.
@@ -167,7 +171,7 @@ module _ (before between : Log) (o : ℕ) (row : Row) (copies : List CopiedBlock
   goes_on : (p q : Place) → Contains (pointers_of before.held o row) (Some p) → renamed r p ≡ q → 0 < times_led q (map (renamed_slot r) (pointers_of before.held o row))
   goes_on p q among leads =
       contained_times q (map (renamed_slot r) (pointers_of before.held o row))
-      (subst (λ (x : Place). Contains (map (renamed_slot r) (pointers_of before.held o row)) (Some x)) leads (mapped_contains (renamed_slot r) (pointers_of before.held o row) (Some p) among))
+      (subst (λ (x : Place). Contains (map (renamed_slot r) (pointers_of before.held o row)) (Some x)) leads (contains_map (renamed_slot r) (pointers_of before.held o row) (Some p) among))
 
   named_before : DataIsNamed before.held o row
   named_before = data_is_named is.one before o row is.names is.stands is.counted
@@ -189,7 +193,7 @@ module _ (before between : Log) (o : ℕ) (row : Row) (copies : List CopiedBlock
         old_named p (new_place r p) refl (ap (λ (there : Option Stored). is_some (seen_as Data o there)) (sym same) ∙ some)
     | inr none ↦
         let gone : before.held p ≡ None = is_none (before.held p) none in
-        let new = is.appended.new p gone (data_held o (between.held p) some) in
+        let new = is.appended.new p gone (seen_is_some Data o (between.held p) some) in
         let (q, goes) = from_copy before between between (record between { held = λ q. cond (stood_at q copies) None (between.held q) }) o copies r dropped p new in
         let old = (copied_is before between between (record between { held = λ q. cond (stood_at q copies) None (between.held q) }) o copies r dropped q p goes).0 in
         let least = goes_on q p (named_before q old) (renamed_by q (Some p) goes) in
@@ -248,7 +252,7 @@ module _ (before between : Log) (o : ℕ) (row : Row) (copies : List CopiedBlock
               false≢true (sym (ap is_some (ap (new_place r) same ∙ at)) ∙ moves)
           not_back p q (Some x) at leads copied =
               let same : p ≡ x = leads ∙ renamed_by q (Some x) at in
-              let free = is.appended.fresh q.block x (new_of r q x at).1 in
+              let free = is.appended.fresh q.block x (move_is r q x at).1 in
               false≢true (sym (ap (λ (there : Option Stored). is_some (seen_as Data o there)) (ap before.held same ∙ free)) ∙ was_copied p copied)
 
       module _ (last : Log) (takes : TakesAway moved (places_copied copies) last) where
@@ -264,11 +268,11 @@ module _ (before between : Log) (o : ℕ) (row : Row) (copies : List CopiedBlock
               let now = takes.named q in
               let gone : last.named q ≡ 0 = omega (arith, had, here, none, now) in
               takes.held q
-              ∙ cond-true (is_data (moved.held q) && last.named q == 0) None (moved.held q) (and_from (is_data (moved.held q)) (last.named q == 0) (seen_data o (moved.held q) some) (eq-eqb (last.named q) 0 gone))
+              ∙ cond-true (is_data (moved.held q) && last.named q == 0) None (moved.held q) (and_from (is_data (moved.held q)) (last.named q == 0) (seen_is_data o (moved.held q) some) (eq-eqb (last.named q) 0 gone))
               ∙ sym (cond-true (stood_at q copies) None (moved.held q) stood)
           | inr beside ↦
               taken_stays is.one o moved last (places_copied copies) rule moved_led takes q (λ of_data.
-              let least = data_named moved rule q of_data in
+              let least = held_data_is_named moved rule q of_data in
               let none = not_copied q beside in
               let now = takes.named q in
               omega (arith, least, none, now))

@@ -1,7 +1,7 @@
 -- What the replacement of an object's journal leaves of a whole store.
-use Rattle.std.proofs.Common.{◌≡◌, inl, inr, ℕ, ◌+◌, ◌<◌, ◌≤◌, ◌==◌, ◌||◌, ◌++◌, true, cond, List, [], ◌∷◌, length, Option, Some, None, IsSome, MatchOption, refl, sym, ap, subst, ◌∙◌, arith}
+use Rattle.std.proofs.Common.{◌≡◌, inl, inr, ℕ, ◌+◌, ◌<◌, ◌≤◌, ◌==◌, ◌||◌, ◌++◌, true, cond, List, [], ◌∷◌, length, Option, Some, IsSome, MatchOption, refl, sym, ap, subst, ◌∙◌, arith}
 use Rattle.std.specs.List.{Contains, AllByRecursion}
-use Rattle.std.proofs.lemmas.Bool.{and_right, le-leb, leb-true}
+use Rattle.std.proofs.lemmas.Bool.{and_right}
 use Rattle.std.proofs.lemmas.List.{append-nil}
 use Rattle.std.proofs.lemmas.List.Elements.{All-weaker, All-contains_itself, Contains-append_left, Contains-append_right}
 use Rattle.s4_types.specs.Pointer.{Place}
@@ -23,8 +23,10 @@ use Rattle.object_map.specs.declared.map.Row.{Row}
 use Rattle.object_map.specs.declared.sides.Side.{Side}
 use Rattle.object_map.specs.Objects.{with_value}
 use Rattle.object_map.specs.Rows.{row_of, with_row}
+use Rattle.undo_redo.proofs.RunLaws.{all_by_later}
 use Rattle.time_read.specs.Rows.{entries_of, checkpoint_of, inode_of}
 use Rattle.time_read.specs.Orderly.{IsOrderly, IsFromTo}
+use Rattle.time_read.proofs.Staying.{same_entries}
 use Rattle.version_store.specs.Store.{HasNothing, IsNamedBy, StoreFields, IsStore, IsObject, IsLed, named_of, pointers_aside, pointers_kept, pointers_named, pointers_of, pointers_of_sides, sides_told, times_led}
 use Rattle.version_store.specs.Versions.{inode_in, version_in}
 use Rattle.version_store.specs.Checkpointing.{last_entry}
@@ -34,13 +36,14 @@ use Rattle.version_store.specs.private.Below.{ChangesStand, OnePlace, IsByLater}
 use Rattle.version_store.specs.private.Recounting.{Counts, Recounts}
 use Rattle.version_store.specs.private.Replacing.{Rewrites, Replaces, AllAreDone, RunsEnd}
 use Rattle.version_store.proofs.Frames.{same_bytes}
-use Rattle.version_store.proofs.Telling.{same_entries, Leads, redone_cases, undone_cases, by_told, slot_there, led_there}
+use Rattle.version_store.proofs.Telling.{Leads, redone_cases, undone_cases, by_told, slot_there, led_there}
 use Rattle.version_store.proofs.Steps.{stamped_row, stamped_inode}
 use Rattle.version_store.proofs.Spending.{sum_stays}
 use Rattle.version_store.proofs.Across.{renewed_across}
 use Rattle.version_store.proofs.CheckpointSteps.{next_store, keeps_rules, holes_all, some_place}
 use Rattle.version_store.proofs.Named.{contained_times, named_alike, named_there, recounts_data, recounts_kept, there_named, times_contained}
 use Rattle.version_store.proofs.Changed.{Changes, some_keeps, some_stays, changed_inodes, changed_store, changed_versions, store_others}
+use Rattle.version_store.proofs.Recounted.{pointer_is_held}
 
 -- ---- what is asked of the checkpoint
 
@@ -145,12 +148,8 @@ told_there s later o row present entries object can swaps p there =
     let was = led_there s.log.held o (pointers_of s.log.held o row) p object.led (can.pointers p there) in
     (was, subst (λ (seen : Option (List ℕ)). IsSome seen) (sym (swaps.kept p there)) was)
 
-slot_led : (later : Place → Option Stored) (o : ℕ) (pointers : List (Option Place)) → ((p : Place) → Contains pointers (Some p) → IsSome (of_kind Data o later p)) → (x : Option Place) → Contains pointers x → IsLed later o x
-slot_led later o pointers leads None there = tt
-slot_led later o pointers leads (Some p) there = leads p there
-
 told_led : (later : Place → Option Stored) (o : ℕ) (pointers : List (Option Place)) → ((p : Place) → Contains pointers (Some p) → IsSome (of_kind Data o later p)) → Leads later o pointers
-told_led later o pointers leads = All-weaker (Contains pointers) (IsLed later o) (slot_led later o pointers leads) pointers (All-contains_itself pointers)
+told_led later o pointers leads = All-weaker (Contains pointers) (IsLed later o) (pointer_is_held later o pointers leads) pointers (All-contains_itself pointers)
 
 told_agree : (s : StoreFields) (later : Place → Option Stored) (o : ℕ) (row : Row) (present : Inode) (entries : List EntryFields) (t : ℕ) → IsObject s.log.held o row s.latest → CanReplace s o row present entries → Swaps s.log.held later o present entries
     → AgreeAt (contents_of s.log.held) (contents_of later) (inode_led present entries t)
@@ -289,12 +288,8 @@ replaced rest s rows log o row next present entries m store can know is swaps wr
 
 -- ---- the inode beside the row
 
-by_later : (a b : ℕ) (entries : List EntryFields) → a ≤ b → AllBy a entries → AllBy b entries
-by_later a b [] le by = tt
-by_later a b (e ∷ entries) le by = (le-leb e.moment b (let at : e.moment ≤ a = leb-true e.moment a by.0 in omega (arith, at, le)), by_later a b entries le by.1)
-
 pub led_later : AllAreDone → RunsEnd → (s : StoreFields) (o : ℕ) (row : Row) (present : Inode) (entries : List EntryFields) (m : ℕ) → Known s o row present entries m → CanReplace s o row present entries → inode_led present entries s.latest ≡ present
-led_later done end s o row present entries m know can = led_last done end present entries s.latest can.run (by_later m s.latest entries know.within.1 know.by)
+led_later done end s o row present entries m know can = led_last done end present entries s.latest can.run (all_by_later m s.latest entries know.within.1 know.by)
 
 -- the inode beside each row is its present one, where one was changed with its row
 pub kept_beside : (o : ℕ) (values after : ℕ → Option Inode) (present : Inode) (latest : ℕ) (s later : StoreFields) (led : ℕ → Inode) → led latest ≡ present

@@ -6,18 +6,16 @@ use Rattle.block_log.specs.Log.{Log}
 use Rattle.block_log.specs.declared.kinds.BlockKind.TheVariants.{Journal}
 use Rattle.object_map.specs.declared.map.Row.{Row}
 use Rattle.object_map.specs.Rows.{row_of}
+use Rattle.time_read.proofs.Staying.{same_entries}
 use Rattle.version_store.specs.Store.{StoreFields, IsStore}
 use Rattle.version_store.specs.Replacing.{IsRemoved}
 use Rattle.version_store.specs.private.Below.{ChangesStand}
 use Rattle.version_store.specs.private.Recounting.{Uncounts}
 use Rattle.version_store.specs.private.Replacing.{Removes}
-use Rattle.version_store.proofs.Telling.{same_entries}
 use Rattle.version_store.proofs.Changed.{Changes, changed_inodes, changed_store, changed_versions, store_others}
 use Rattle.version_store.proofs.Spending.{sum_stays}
 use Rattle.version_store.proofs.Across.{fewer_across}
 use Rattle.version_store.proofs.CheckpointSteps.{next_store}
-
--- ---- the other objects
 
 -- ---- an object is removed
 

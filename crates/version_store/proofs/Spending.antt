@@ -1,6 +1,5 @@
 -- What places that were taken leave of the sum of those and of the ones ahead.
-use Rattle.std.proofs.Common.{◌≡◌, ℕ, ◌+◌, ◌-◌, ◌≤◌, List, length, drop, Option, None, IsSome, is_some, refl, sym, ap, ◌∙◌, arith}
-use Rattle.std.proofs.lemmas.Bool.{false≢true}
+use Rattle.std.proofs.Common.{◌≡◌, ℕ, ◌+◌, ◌-◌, ◌≤◌, List, length, drop, ap, ◌∙◌, arith}
 use Rattle.std.proofs.lemmas.List.{length-drop}
 use Rattle.s4_types.specs.Pointer.{Place}
 use Rattle.block_log.specs.Log.{Log}
@@ -18,18 +17,6 @@ sum_stays n before after takes room =
     let count : length after.ahead + n ≡ length before.ahead = taken_places before.ahead after.ahead n takes.ahead room in
     let more : after.spent ≡ n + before.spent = takes.spent in
     omega (arith, count, more)
-
--- what is not held is not there
-pub not_both : {X : Type 0} (there : Option X) → there ≡ None → IsSome there → ⊥
-not_both there none some = false≢true (sym (ap is_some none) ∙ some)
-
--- nothing changed, and no place was taken
-pub none_taken : (log : Log) → TakesPlaces 0 log log
-none_taken log = record {
-  ahead = refl;
-  spent = omega arith;
-  among = λ p none some. absurd (not_both (log.held p) none some);
-}
 
 -- nothing and this many are this many
 pub none_more : (n : ℕ) → 0 + n ≡ n

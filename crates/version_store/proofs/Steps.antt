@@ -28,6 +28,7 @@ use Rattle.time_read.specs.Rows.{IsRow, IsSide, inode_of}
 use Rattle.version_store.proofs.Spending.{sum_stays}
 use Rattle.version_store.specs.Store.{StoreFields, IsStore, IsObject, IsNamedBy, HasNothing, named_of, pointers_aside, pointers_named, pointers_of, sides_told, times_led, IsLed}
 use Rattle.time_read.specs.Orderly.{IsOrderly}
+use Rattle.time_read.proofs.Staying.{same_entries}
 use Rattle.row_changes.specs.Recent.{IsBy}
 use Rattle.version_store.specs.Versions.{inode_by, version_by, version_in}
 use Rattle.version_store.specs.Taking.{RowChanges, IsAboveAll}
@@ -35,7 +36,7 @@ use Rattle.version_store.specs.private.Turning.{IsOpenFor, Turns, times_given}
 use Rattle.version_store.specs.private.Recounting.{Counts}
 use Rattle.version_store.specs.private.Below.{ChangesStand, OnePlace, OrderlyStays, RowStays, RowInodeStays, IsByStays, IsByLater, FreshRowStands, FreshRowIsBy, FreshInode, BlankCount, BlankHoles}
 use Rattle.version_store.proofs.Frames.{DataStays, data_there, data_agree, data_pointers, stays_object, growth_stays, journal_stays, version_by_stays}
-use Rattle.version_store.proofs.Telling.{Leads, Grows, leads_later, same_entries, grown_leads, fresh_pointers}
+use Rattle.version_store.proofs.Telling.{Leads, Grows, leads_later, grown_leads, fresh_pointers}
 use Rattle.version_store.proofs.Named.{named_none}
 use Rattle.version_store.proofs.Handed.{IsInHand, grown_counted, none_contained}
 use Rattle.version_store.proofs.Changed.{OthersKeep, Changes, own_within, some_keeps, some_stays, journal_others, changed_store, changed_versions}

@@ -17,6 +17,7 @@ use Rattle.checkpoint.proofs.OwnBlocks.{none_seen}
 use Rattle.object_map.specs.declared.map.Row.{Row}
 use Rattle.object_map.specs.declared.sides.Side.{Side}
 use Rattle.object_map.specs.Rows.{row_of}
+use Rattle.block_log.proofs.Places.{same_place_turned}
 use Rattle.time_read.specs.Rows.{IsRow, IsSide, SidesAscend, inode_of, all_places_of, side_places}
 use Rattle.segment_table.specs.Counts.{held_names, log_names}
 use Rattle.version_store.specs.Store.{StoreFields, IsStore, IsObject, named_of, pointers_named, times_led, is_at}
@@ -99,21 +100,12 @@ at_joined q xs ys = sum_by-append (λ (p : Place). cond (same_place p q) 1 0) xs
 pub at_first : (q p : Place) (xs : List Place) → times_at q (p ∷ xs) ≡ cond (same_place p q) 1 0 + times_at q xs
 at_first q p xs = sum_by-cons (λ (r : Place). cond (same_place r q) 1 0) p xs
 
-same_back : OnePlace → (p q : Place) → same_place p q ≡ same_place q p
-same_back one p q = elim (cases_Bool (same_place p q)) [
-  | inl is ↦ let e = one p q is in ap (λ (r : Place). same_place p r) (sym e) ∙ ap (λ (r : Place). same_place r p) e
-  | inr isnt ↦ elim (cases_Bool (same_place q p)) [
-    | inl back ↦ let e = one q p back in ap (λ (r : Place). same_place p r) e ∙ ap (λ (r : Place). same_place r p) (sym e)
-    | inr neither ↦ isnt ∙ sym neither
-  ]
-]
-
 -- as chains count
 times_is : OnePlace → (q : Place) (places : List Place) → times q places ≡ times_at q places
 unfolding times
 times_is one q [] = refl
 times_is one q (p ∷ places) =
-    let here : bit (same_place q p) ≡ bit (same_place p q) = ap bit (same_back one q p) in
+    let here : bit (same_place q p) ≡ bit (same_place p q) = ap bit (same_place_turned q p) in
     let rest = times_is one q places in
     let first = at_first q p places in
     omega (arith, here, rest, first)

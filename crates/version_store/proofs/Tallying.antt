@@ -19,10 +19,11 @@ use Rattle.time_read.specs.Rows.{all_places_of}
 use Rattle.segment_word.specs.Frames.{Frame}
 use Rattle.segment_word.specs.Layout.{frame_at, block_bytes}
 use Rattle.segment_table.specs.declared.slots.Slot.{Slot}
-use Rattle.segment_table.specs.Slots.{no_slot, is_held}
+use Rattle.segment_table.specs.Slots.{is_held}
 use Rattle.segment_table.specs.Table.{Table, slots_at, block_slot, stored, held_block, held_at}
 use Rattle.segment_table.specs.Room.{log_of}
 use Rattle.segment_table.specs.Counts.{held_names, log_names, place_at}
+use Rattle.segment_table.proofs.Reading.{used_when_held}
 use Rattle.version_store.specs.Store.{StoreOf, StoreFields, IsStore, fields_of, is_at, pointers_named, times_led}
 use Rattle.version_store.specs.Tallies.{places_named, times_at, times_in, times_named, named_below, NoRowFrom, AreTallies}
 use Rattle.version_store.specs.private.Below.{OnePlace, CheckpointsHaveBlocks}
@@ -39,13 +40,6 @@ pub record IsPlaced (t : Table) (p : Place) : Type 0 where
   pub low : 1 ≤ p.block
   pub high : p.block ≤ 15
   pub own : p.generation ≡ (frame_at t.seat.frames p.frame).generation
-
-used_there : (s : List Slot) (b : ℕ) → is_held (block_slot s b) ≡ true → (1 ≤ b) × (b ≤ length s)
-used_there s zero held = absurd (false≢true held)
-used_there s (suc b) held = elim (cases_lt b (length s)) [
-  | inl low ↦ (omega arith, omega (arith, low))
-  | inr past ↦ absurd (false≢true (sym (ap (λ (x : Slot). is_held x) (get_or_past s b no_slot past)) ∙ held))
-]
 
 stored_held : (slot : Slot) (bytes : List ℕ) → IsSome (stored slot bytes) → is_held slot ≡ true
 stored_held slot bytes some = elim (cases_Bool (is_held slot)) [
@@ -72,7 +66,7 @@ pub placed : (t : Table) → IsSized t → (p : Place) → IsSome (held_at t p) 
 placed t sized p some =
     let s : List Slot = slots_at t.slots p.frame in
     let (own, held) = block_there (frame_at t.seat.frames p.frame) s p.block p.generation some in
-    let (low, high) = used_there s p.block held in
+    let (low, high) = used_when_held s p.block held in
     let sizes = sized.frames in
     let inside : p.frame < length t.seat.frames = elim (cases_lt p.frame (length t.slots)) [
       | inl below ↦ omega (arith, below, sizes)

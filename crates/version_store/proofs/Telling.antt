@@ -1,5 +1,5 @@
 -- The pointers that a row refers to: where they come from, and that those of each inode are among them.
-use Rattle.std.proofs.Common.{◌≡◌, ◌⊎◌, ℕ, zero, suc, List, [], ◌∷◌, ◌++◌, get_or, replicate, Option, Some, None, MatchOption, IsSome, unwrap_or, refl, sym, ap, subst, ◌∙◌, inl, inr, arith}
+use Rattle.std.proofs.Common.{◌≡◌, ◌⊎◌, ℕ, zero, suc, List, [], ◌∷◌, ◌++◌, get_or, replicate, Option, Some, None, MatchOption, IsSome, refl, sym, ap, subst, ◌∙◌, inl, inr, arith}
 use Rattle.std.specs.List.{All, Contains, AllByRecursion}
 use Rattle.std.proofs.Math.ListN.{set}
 use Rattle.std.proofs.lemmas.Bool.{cases_Bool, cond-true, cond-false}
@@ -19,13 +19,15 @@ use Rattle.codec.specs.declared.inodes.Inode.{Inode}
 use Rattle.undo_redo.specs.Between.{AreOf}
 use Rattle.undo_redo.specs.Redone.{redone, undone, with_after, with_before}
 use Rattle.undo_redo.specs.Runs.{blank, redone_all, undone_all, entry_is_by, entries_by}
-use Rattle.checkpoint.specs.Held.{of_checkpoints, checkpoint_held, checkpoint_in}
-use Rattle.journal_chain.specs.Chain.{BlockView, chain_entries, chain_links, links_from, entries_in}
+use Rattle.checkpoint.specs.Held.{of_checkpoints, checkpoint_held}
+use Rattle.journal_chain.specs.Chain.{chain_entries, chain_links, links_from}
 use Rattle.journal_chain.specs.Packing.{joined}
 use Rattle.inode.specs.Tidiness.{PointersHeld}
 use Rattle.object_map.specs.declared.map.Row.{Row}
 use Rattle.object_map.specs.Rows.{fresh_row}
 use Rattle.time_read.specs.Rows.{IsRow, entries_of, checkpoint_of, inode_before, first_of, inode_of}
+use Rattle.time_read.proofs.Staying.{same_entries}
+use Rattle.row_changes.proofs.Pushing.{same_checkpoint}
 use Rattle.version_store.specs.Store.{sides_of, sides_told, pointers_kept, pointers_of, IsLed}
 
 -- ---- the pointers of an inode are told by what it was made of
@@ -202,9 +204,6 @@ pub record Grows (held later : Place → Option Stored) (o : ℕ) (row next : Ro
   pub entries : entries_of later o next ≡ entries_of held o row ++ new
   pub checkpoint : checkpoint_of later o next ≡ checkpoint_of held o row
 
-pub same_checkpoint : (held later : Place → Option Stored) (o : ℕ) (place : Option Place) → of_checkpoints o later ≡ of_checkpoints o held → (place >>= checkpoint_held later o) ≡ (place >>= checkpoint_held held o)
-same_checkpoint held later o place same = ap (λ (v : BlockView). place >>= λ p. checkpoint_in v p) same
-
 pub grown_sides : (held later : Place → Option Stored) (o : ℕ) (row next : Row) (new : List EntryFields) → Grows held later o row next new → sides_told (entries_of later o next) ≡ sides_told (entries_of held o row) ++ sides_told new
 grown_sides held later o row next new grows = ap sides_told grows.entries ∙ flat_map-append (λ (e : EntryFields). sides_of e.triples) (entries_of held o row) new
 
@@ -229,11 +228,6 @@ grown_leads held later o row next new grows was told =
     (subst (λ (sides : List (Option Place)). Leads later o (kept ++ sides)) (sym (grown_sides held later o row next new grows))
     (All-append (IsLed later o) kept (old ++ sides_told new) (leads_front later o kept old was)
     (All-append (IsLed later o) old (sides_told new) (leads_back later o kept old was) told)))
-
--- a row leads where it led while its journal and checkpoints stay
-pub same_entries : (held later : Place → Option Stored) (o : ℕ) (row : Row) → of_kind Journal o later ≡ of_kind Journal o held → entries_of later o row ≡ entries_of held o row
-unfolding chain_entries
-same_entries held later o row same = ap (λ (v : BlockView). unwrap_or (entries_in v o row.head) []) same
 
 pub same_pointers : (held later : Place → Option Stored) (o : ℕ) (row : Row) → of_kind Journal o later ≡ of_kind Journal o held → of_checkpoints o later ≡ of_checkpoints o held → pointers_of later o row ≡ pointers_of held o row
 same_pointers held later o row journal checkpoints =

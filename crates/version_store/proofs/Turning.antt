@@ -25,13 +25,14 @@ use Rattle.time_read.specs.Rows.{IsRow, chain_of, entries_of, checkpoint_of, ino
 use Rattle.time_read.specs.Orderly.{IsOrderly}
 use Rattle.row_changes.specs.Recent.{IsBy}
 use Rattle.object_map.specs.declared.sides.Side.{Side}
+use Rattle.row_changes.proofs.Pushing.{same_checkpoint}
 use Rattle.version_store.specs.Store.{IsLed, StoreFields, named_of, pointers_aside, pointers_kept, pointers_named, pointers_of, pointers_of_sides, sides_told, times_led}
 use Rattle.version_store.specs.Costs.{row_or_fresh, subject_row}
 use Rattle.version_store.specs.Taking.{RowChanges}
 use Rattle.version_store.specs.private.Turning.{CanTurn, IsOpenFor, Turns, blocks_turned, times_given}
 use Rattle.version_store.specs.private.Recounting.{Counts, Recounts}
 use Rattle.version_store.specs.private.Below.{ChangesStand, OnePlace, OrderlyStays, IsByLater, LastInodeStays, EntriesAreAt}
-use Rattle.version_store.proofs.Telling.{Grows, between_led, grown_sides, inode_told, leads_later, same_checkpoint}
+use Rattle.version_store.proofs.Telling.{Grows, between_led, grown_sides, inode_told, leads_later}
 use Rattle.version_store.proofs.Named.{contained_times, named_alike, named_there, recounts_all, there_named, times_contained, times_few, times_joined}
 use Rattle.version_store.proofs.Recounted.{names_few, pointers_few, same_aside, told_led}
 use Rattle.version_store.proofs.Steps.{Records, recorded}

@@ -90,7 +90,7 @@ fn data_blocks(change: &Change, inode: &Inode) -> usize
 
 /// How many bytes two attributes take in an entry: none where they are equal, else both with a byte
 /// each for their length.
-#[tactic(auto, using(crate::proofs::Costing::pair_found, crate::proofs::Costing::pair_other))]
+#[tactic(auto, using(crate::proofs::Costing::pair_found, chain_rewriting::proofs::Bytes::pair_whole))]
 fn pair_bytes(before: &[u8], after: &[u8]) -> usize
     requires before { length before.now ≤ 64 }
     requires after { length after.now ≤ 64 }
@@ -104,7 +104,7 @@ fn pair_bytes(before: &[u8], after: &[u8]) -> usize
 }
 
 /// How many bytes the attributes before and after a change of an inode take in its entries.
-#[tactic(auto, using(crate::proofs::Costing::pair_same))]
+#[tactic(auto, using(chain_rewriting::proofs::Bytes::pair_none))]
 fn attribute_bytes(change: &Change, inode: &Inode) -> usize
     requires { Fits change.now }
     ensures exact { result

@@ -8,11 +8,12 @@ use Rattle.window.specs.declared.chunks.Chunk.{Chunk}
 use Rattle.window.specs.Runs.{is_before, Ascend, joined_span, with_span, AllEndFrom, is_live, is_live_in, span_is_of}
 use Rattle.window.specs.Chunks.{flat, AreWithin, Parted, AllDated, holder, put}
 use Rattle.window.proofs.Ordering.{before_from, with_span_past, with_span_before, with_span_joined, all_with_span, all_filter}
-use Rattle.window.proofs.Counting.{count_cons, tally}
+use Rattle.window.proofs.Counting.{count_cons}
 use Rattle.window.proofs.Dividing.{ordered_front, ordered_back, all_front, all_back}
 use Rattle.window.proofs.Live.{all_live}
 use Rattle.std.proofs.lemmas.List.Elements.{filter-append}
 use Rattle.std.proofs.lemmas.List.{length-append}
+use Rattle.lemmas.proofs.Range.{tally}
 
 -- a span goes past runs of earlier lists
 past_earlier : (span : Span) (front back : List Span) → AllByRecursion (λ run. run.object < span.object) front → with_span span (front ++ back) ≡ front ++ with_span span back

@@ -5,20 +5,18 @@ use Rattle.std.proofs.lemmas.List.Sums.{sum_by-cons}
 use Rattle.std.proofs.lemmas.Bool.{and_parts, and_from, and_cases, and_left, and_right, or_cases, le-leb, lt-leb, leb-true, leb-false, lt-ltb, le-ltb, eqb-true, eq-eqb, ne_eqb, cases_Bool, cases_order, cases_lt, cases_eq, both_ways, false_from_ne_true}
 use Rattle.std.proofs.lemmas.Bool.Decides.{nat_tests}
 use Rattle.s4_types.specs.declared.spans.Span.{Span}
+use Rattle.lemmas.proofs.Bool.{or_false}
+use Rattle.lemmas.proofs.Range.{count_by_range, below, sum_by_range_more, tally}
 use Rattle.s4_model.specs.Visible.{is_within}
 use Rattle.s4_model.specs.Runs.{is_covered, is_first, run_count, run_count_of_all}
 use Rattle.s4_model.specs.Sound.{IsOfGiven}
 use Rattle.s4_model.specs.RunCounting.{AllEndBy}
 use Rattle.window.specs.Runs.{covers, IsBeforeAll, Ascend, is_live, is_live_in}
 use Rattle.window.proofs.Ordering.{before_parts}
-use Rattle.window.proofs.Ranges.{below, count_by-range, sum_by-range-more}
 
 -- the runs of one list more
 run_count_of_all-more : (floor clock k : ℕ) (spans : List Span) → run_count_of_all floor spans clock (suc k) ≡ run_count_of_all floor spans clock k + run_count (is_covered floor spans k) clock
-run_count_of_all-more floor clock k spans = sum_by-range-more (λ list. run_count (is_covered floor spans list) clock) k
-
-abbrev pub tally : Bool → ℕ
-tally b = cond b 1 0
+run_count_of_all-more floor clock k spans = sum_by_range_more (λ list. run_count (is_covered floor spans list) clock) k
 
 below-same : (p q : ℕ → Bool) (n : ℕ) → ((t : ℕ) → p t ≡ q t) → below p n ≡ below q n
 below-same p q zero same = refl
@@ -69,7 +67,7 @@ first_same f g t same =
 -- sets with the same moments have as many runs
 pub run_count-same : (f g : ℕ → Bool) (clock : ℕ) → ((t : ℕ) → f t ≡ g t) → run_count f clock ≡ run_count g clock
 run_count-same f g clock same =
-    count_by-range (is_first f) (clock + 1) ∙ below-same (is_first f) (is_first g) (clock + 1) (λ t. first_same f g t same) ∙ sym (count_by-range (is_first g) (clock + 1))
+    count_by_range (is_first f) (clock + 1) ∙ below-same (is_first f) (is_first g) (clock + 1) (λ t. first_same f g t same) ∙ sym (count_by_range (is_first g) (clock + 1))
 
 -- where a stretch of moments alone is a run, it begins at its first
 abbrev in_stretch : ℕ → ℕ → ℕ → Bool
@@ -96,10 +94,6 @@ near m l t le = elim (cases_order t m) [
         ap (λ b. tally (b && not (nat_lt 0 t && in_stretch m l (t - 1)))) in_it ∙ ap (λ b. tally (not b)) held ∙ sym (ap tally (ne_eqb t m (λ (e : t ≡ m). omega arith))))
   ]
 ]
-
-pub or_false : (a : Bool) → (a || false) ≡ a
-or_false true = refl
-or_false false = refl
 
 add_none : (a b : ℕ) (c : Bool) → a ≡ b → c ≡ false → a ≡ b + tally c
 add_none a b c e f = let g : tally c ≡ 0 = ap tally f in omega arith
@@ -202,7 +196,7 @@ all_before clock (run ∷ runs) ends = let e : run.last ≤ clock = ends.0 in (o
 
 pub count_live : (floor list clock : ℕ) (runs : List Span) → Ascend runs → AllEndBy clock runs → run_count (is_covered floor runs list) clock ≡ count_by (is_live_in floor list) runs
 count_live floor list clock runs h ends =
-    count_by-range (is_first (is_covered floor runs list)) (clock + 1) ∙ below_live floor list (clock + 1) runs h (all_before clock runs ends)
+    count_by_range (is_first (is_covered floor runs list)) (clock + 1) ∙ below_live floor list (clock + 1) runs h (all_before clock runs ends)
 
 -- of the lists below a number
 abbrev is_live_below : ℕ → ℕ → Span → Bool

@@ -4,7 +4,8 @@ use Rattle.std.specs.List.{list_any}
 use Rattle.std.proofs.lemmas.Bool.{and_right, lt-leb, leb-false, cond_both}
 use Rattle.std.proofs.lemmas.Bool.Decides.{nat_tests}
 use Rattle.s4_types.specs.declared.spans.Span.{Span}
-use Rattle.s4_model.specs.Visible.{is_within, hides}
+use Rattle.lemmas.proofs.Bool.{or_assoc}
+use Rattle.s4_model.specs.Visible.{is_within}
 use Rattle.window.specs.Runs.{is_before, Ascend, joined_span, with_span, covers, is_live}
 use Rattle.window.proofs.Ordering.{Touch, touch_from}
 
@@ -13,10 +14,6 @@ swap true true c = refl
 swap true false c = refl
 swap false true c = refl
 swap false false c = refl
-
-assoc : (a b c : Bool) → ((a || b) || c) ≡ (a || (b || c))
-assoc true b c = refl
-assoc false b c = refl
 
 and_or : (a b c : Bool) → (a && (b || c)) ≡ ((a && b) || (a && c))
 and_or true b c = refl
@@ -42,7 +39,7 @@ covers_with_span list t span (run ∷ runs) o h =
     (λ _. refl)
     (λ earlier. covers_with_span list t (joined_span span run) runs (omega (arith, h.0)) h.2
     ∙ ap (λ b. b || list_any (covers list t) runs) (covers_joined list t span run o h.0 (touch_from span run earlier later))
-    ∙ assoc (covers list t span) (covers list t run) (list_any (covers list t) runs)))
+    ∙ or_assoc (covers list t span) (covers list t run) (list_any (covers list t) runs)))
 
 dead_covers : (floor list t : ℕ) (run : Span) → floor ≤ t → is_live floor run ≡ false → covers list t run ≡ false
 dead_covers floor list t run le dead =
@@ -63,20 +60,3 @@ pub covers_push : (list t : ℕ) (spans : List Span) (span : Span) → list_any 
 covers_push list t [] span = refl
 covers_push list t (first ∷ spans) span =
     ap (λ b. covers list t first || b) (covers_push list t spans span) ∙ swap (covers list t first) (covers list t span) (list_any (covers list t) spans)
-
-either_or : (a b w x y z : Bool) → x ≡ (y || z) → (((a || b) && w) || x) ≡ (((a && w) || y) || ((b && w) || z))
-either_or true true true x y z e = refl
-either_or true true false x y z e = e
-either_or true false true x y z e = refl
-either_or true false false x y z e = e
-either_or false true true x true z e = refl
-either_or false true true x false z e = refl
-either_or false true false x y z e = e
-either_or false false true x y z e = e
-either_or false false false x y z e = e
-
--- a moment of an object is hidden where the list of all objects or its own covers it
-pub hides_either : (o t : ℕ) (spans : List Span) → list_any (hides o t) spans ≡ (list_any (covers 0 t) spans || list_any (covers o t) spans)
-hides_either o t [] = refl
-hides_either o t (span ∷ spans) =
-    either_or (span.object == 0) (span.object == o) (is_within span t) (list_any (hides o t) spans) (list_any (covers 0 t) spans) (list_any (covers o t) spans) (hides_either o t spans)

@@ -4,10 +4,11 @@ use Rattle.std.specs.List.{list_any, AllByRecursion}
 use Rattle.std.proofs.lemmas.Bool.Decides.{nat_tests}
 use Rattle.s4_types.specs.declared.spans.Span.{Span}
 use Rattle.s4_types.specs.declared.limits.TheConstants.{RUNS_IN_A_LIST}
+use Rattle.lemmas.proofs.Range.{tally}
 use Rattle.window.specs.Runs.{covers, IsBeforeAll, Ascend, AllEndFrom, AllBeginFrom, AreFewInEachList, cut, span_is_of}
 use Rattle.window.specs.Timeline.{CoverAlike}
 use Rattle.window.proofs.Ordering.{Before, before_parts, before_from}
-use Rattle.window.proofs.Counting.{count_cons, tally}
+use Rattle.window.proofs.Counting.{count_cons}
 
 -- from the floor on there is nothing to cut
 pub cut_none : (floor : ℕ) (runs : List Span) → AllBeginFrom floor runs → map (cut floor) runs ≡ runs

@@ -1,6 +1,5 @@
 pub mod Ordering
 pub mod Covering
-pub mod Ranges
 pub mod Counting
 pub mod Live
 pub mod Chunked

@@ -2,9 +2,10 @@
 use Rattle.std.proofs.Common.{◌≡◌, inl, inr, ℕ, ◌+◌, ◌-◌, ◌^◌, ◌<◌, ◌≤◌, ◌==◌, nat_le, min, List, [], ◌∷◌, count_by, filter, refl, sym, ap, ◌∙◌, arith}
 use Rattle.std.proofs.lemmas.Bool.{cond_both, cond-true, cond-false, cases_Bool, leb-true, leb-false, le-leb, lt-leb, and_right}
 use Rattle.s4_types.specs.declared.spans.Span.{Span}
+use Rattle.lemmas.proofs.Range.{tally}
 use Rattle.window.specs.Runs.{AllEndFrom, AllEndBefore, earliest, is_live, is_live_in}
 use Rattle.s4_model.specs.RunCounting.{AllEndBy}
-use Rattle.window.proofs.Counting.{count_cons, tally}
+use Rattle.window.proofs.Counting.{count_cons}
 
 pub from_later : (a b : ℕ) (runs : List Span) → a ≤ b → AllEndFrom b runs → AllEndFrom a runs
 from_later a b [] le all = tt

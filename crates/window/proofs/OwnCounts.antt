@@ -1,12 +1,14 @@
 -- How many runs each list has, with one more span and without what lies below the floor.
-use Rattle.std.proofs.Common.{◌≡◌, ◌≢◌, inl, inr, ℕ, Bool, true, false, ◌==◌, ◌&&◌, ◌+◌, ◌≤◌, nat_le, min, List, [], ◌∷◌, count_by, filter, refl, sym, ap, subst, ◌∙◌, arith}
+use Rattle.std.proofs.Common.{◌≡◌, ◌≢◌, inl, inr, ℕ, Bool, ◌==◌, ◌+◌, ◌≤◌, nat_le, min, List, [], ◌∷◌, count_by, filter, refl, sym, ap, subst, ◌∙◌, arith}
 use Rattle.std.proofs.lemmas.Bool.{cond_both, cases_Bool, cases_eq, le-leb, ne_eqb}
 use Rattle.s4_types.specs.declared.spans.Span.{Span}
 use Rattle.s4_types.specs.declared.limits.TheConstants.{RUNS_IN_A_LIST}
+use Rattle.lemmas.proofs.Bool.{and_true}
+use Rattle.lemmas.proofs.Range.{tally}
 use Rattle.window.specs.Runs.{Ascend, is_before, joined_span, with_span, AllEndFrom, AreFewInEachList, is_live, is_live_in, span_is_of}
 use Rattle.window.proofs.Ordering.{touch_from, with_span_past, with_span_before, with_span_joined, all_with_span, all_filter, Ascend-with_span, Ascend-filter}
 use Rattle.window.proofs.Live.{live_from, from_later}
-use Rattle.window.proofs.Counting.{count_cons, tally}
+use Rattle.window.proofs.Counting.{count_cons}
 
 -- some of the runs are no more than all
 pub count_in_some : (p q : Span → Bool) (runs : List Span) → count_by p (filter q runs) ≤ count_by p runs
@@ -24,10 +26,6 @@ few_in_some q runs few list =
     let some : count_by (span_is_of list) (filter q runs) ≤ count_by (span_is_of list) runs = count_in_some (span_is_of list) q runs in
     omega arith
 
-and_all : (a b : Bool) → b ≡ true → (a && b) ≡ a
-and_all true b e = e
-and_all false b e = refl
-
 -- where all runs reach the floor, those of a list that do are those of the list
 pub count_where_live : (floor list : ℕ) (runs : List Span) → AllEndFrom floor runs → count_by (is_live_in floor list) runs ≡ count_by (span_is_of list) runs
 count_where_live floor list [] live = refl
@@ -35,7 +33,7 @@ count_where_live floor list (run ∷ runs) live =
     let rest : count_by (is_live_in floor list) runs ≡ count_by (span_is_of list) runs = count_where_live floor list runs live.1 in
     let a : count_by (is_live_in floor list) (run ∷ runs) ≡ tally (is_live_in floor list run) + count_by (is_live_in floor list) runs = count_cons (is_live_in floor list) run runs in
     let b : count_by (span_is_of list) (run ∷ runs) ≡ tally (span_is_of list run) + count_by (span_is_of list) runs = count_cons (span_is_of list) run runs in
-    let here : tally (is_live_in floor list run) ≡ tally (span_is_of list run) = ap tally (and_all (run.object == list) (nat_le floor run.last) (le-leb floor run.last live.0)) in
+    let here : tally (is_live_in floor list run) ≡ tally (span_is_of list run) = ap tally (and_true (run.object == list) (nat_le floor run.last) (le-leb floor run.last live.0)) in
     omega arith
 
 not_of : (list : ℕ) (run : Span) → list ≢ run.object → tally (span_is_of list run) ≡ 0

@@ -23,8 +23,10 @@ use Rattle.window.specs.Chunks.{flat, AllNumbered}
 use Rattle.window.specs.Timeline.{Timeline, CoverAlike, StandsFor, Plan, chunks_by, IsMade, HasMoved}
 use Rattle.s4_model.specs.Effect.{is_of_versions}
 use Rattle.s4_model.specs.RunCounting.{AllEndBy}
+use Rattle.s4_model.proofs.SoundLemmas.{next_by-grows}
+use Rattle.s4_model.proofs.ListLaws.{any_hides}
 use Rattle.window.proofs.Ordering.{Ascend-with_span, Ascend-filter, all_with_span, all_filter}
-use Rattle.window.proofs.Covering.{covers_with_span, covers_live, covers_push, hides_either}
+use Rattle.window.proofs.Covering.{covers_with_span, covers_live, covers_push}
 use Rattle.window.proofs.Live.{live_twice, count_live_in}
 use Rattle.window.proofs.Counting.{count_live, count_live_of_all, run_count-same, run_count_of_all-same}
 
@@ -36,16 +38,6 @@ pub spans_took : (s : State) (a : Accepted) (found : Option Span) → span_of a 
 spans_took s a found e =
     ap (λ xs. s.spans ++ xs) (filter_map-append span_of s.changes (a ∷ []) ∙ ap (λ xs. filter_map span_of s.changes ++ xs) (spans_at_end a found e))
     ∙ sym (append_assoc s.spans (filter_map span_of s.changes) (cons_option found []))
-
-next_grows : (c : Change) (next : ℕ) → next ≤ next_by c next
-next_grows (Create o attribute) next = omega arith
-next_grows (Delete o) next = omega arith
-next_grows (Write o offset bytes) next = omega arith
-next_grows (Truncate o size) next = omega arith
-next_grows (SetAttr o attribute) next = omega arith
-next_grows (SetWindow w) next = omega arith
-next_grows (Flush first last) next = omega arith
-next_grows (FlushO o first last) next = omega arith
 
 all_given : (next later : ℕ) (runs : List Span) → next ≤ later → AllByRecursion (IsOfGiven next) runs → AllByRecursion (IsOfGiven later) runs
 all_given next later [] le given = tt
@@ -86,7 +78,7 @@ stands_took w s a moment window at set none stands = record {
   window = set;
   floor = floor_after w.floor s.floor moment a.moment window (window_by a.change s.window) stands.floor (sym at) set;
   alike = λ list t le. stands.alike list t (omega arith) ∙ ap (λ spans. list_any (covers list t) spans) (sym (spans_took s a None none ∙ append-nil (spans_of s)));
-  owned = all_given s.next (next_by a.change s.next) w.runs (next_grows a.change s.next) stands.owned;
+  owned = all_given s.next (next_by a.change s.next) w.runs (next_by-grows a.change s.next) stands.owned;
 }
 
 -- runs with a span cover what the spans with it do
@@ -101,7 +93,7 @@ pub stands_took_span : (w : Timeline) (s : State) (a : Accepted) (span : Span) (
 stands_took_span w s a span runs chunks moment at is planned ordered given ascend stands =
     let window : window_by a.change s.window ≡ s.window = span_leaves_window a.change span s.window is in
     let set : w.window ≡ window_by a.change s.window = stands.window ∙ sym window in
-    let next : s.next ≤ next_by a.change s.next = next_grows a.change s.next in
+    let next : s.next ≤ next_by a.change s.next = next_by-grows a.change s.next in
     let P : List Span → Type 0 = λ xs. AllByRecursion (IsOfGiven (next_by a.change s.next)) xs in
     record {
       clock = sym at;
@@ -185,7 +177,7 @@ too_many_is w s span stands ascend ends ordered past given =
 -- from the floor on, a moment is hidden where the runs of all objects or the object's own cover it
 pub hidden_is : (w : Timeline) (s : State) (o t : ℕ) → StandsFor w s → s.floor ≤ t → is_hidden s o t ≡ (list_any (covers 0 t) w.runs || list_any (covers o t) w.runs)
 hidden_is w s o t stands le =
-    hides_either o t (spans_of s)
+    any_hides o t (spans_of s)
     ∙ ap (λ b. b || list_any (covers o t) (spans_of s)) (sym (stands.alike 0 t le))
     ∙ ap (λ b. list_any (covers 0 t) w.runs || b) (sym (stands.alike o t le))
 

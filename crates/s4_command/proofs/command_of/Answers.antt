@@ -1,10 +1,11 @@
 use Rattle.std.proofs.Common.{◌≡◌, ◌≢◌, IfOk, IfErr, Option, List, map, true, sym, subst}
+use Rattle.std.proofs.lemmas.Result.{IfErr-weaker}
 use Rattle.clap.specs.Simple.{App, subcommand_of}
 use Rattle.clap.specs.Takes.{takes}
 use Rattle.clap.specs.Walk.{Row, Text}
 use Rattle.s4_command.specs.CommandLine.{line, Spells, SpellsNone}
 use Rattle.s4_command.specs.declared.NoCommand.TheVariants.{NoMemory}
-use Rattle.s4_command.proofs.Refusals.{among_own, among_refused, if_err, under_premise}
+use Rattle.s4_command.proofs.Refusals.{among_own, among_refused, under_premise}
 use Rattle.s4_command.proofs.Simple.{no_fault, same_fault, same_subcommand}
 use Rattle.s4_command.proofs.command_of.Goals as goal
 
@@ -32,7 +33,7 @@ pub returns-in-Err-clause-refused : goal.returns-in-Err-clause-refused
 returns-in-Err-clause-refused g c = λ _. c.refused.ensures.refused _ (same_fault _ (map g.S.AsStr.text c.args.words.now) c.in-Err.error c.in_ok-parser.ensures c.in-Err.ensures.kinds)
 
 pub returns-in-Ok-clause-asked : goal.returns-in-Ok-clause-asked
-returns-in-Ok-clause-asked g c = if_err c.command_in.result (among_own _) c.command_in.ensures.own
+returns-in-Ok-clause-asked g c = IfErr-weaker c.command_in.result _ _ (among_own _) c.command_in.ensures.own
 
 pub returns-in-Err-clause-asked : goal.returns-in-Err-clause-asked
 returns-in-Err-clause-asked g c = among_refused _ _ (c.refused.ensures.refused _ (same_fault _ (map g.S.AsStr.text c.args.words.now) c.in-Err.error c.in_ok-parser.ensures c.in-Err.ensures.kinds))

@@ -1,6 +1,6 @@
 use Rattle.std.proofs.Common.{◌+◌, ◌<◌, length, get_or, arith}
 use Rattle.s4_types.specs.declared.limits.TheConstants.{SHORTEST_ENTRY_BYTES}
-use Rattle.codec.proofs.Exact.{IsBytes}
+use Rattle.lemmas.proofs.Bytes.{IsBytes}
 use Rattle.codec.proofs.Fronts.{front_of, there_front}
 use Rattle.codec.proofs.entry_reader.front_bytes.Goals as goal
 

@@ -1,8 +1,8 @@
 use Rattle.std.proofs.Common.{ap, is_some, arith}
+use Rattle.lemmas.proofs.Bytes.{IsBytes}
 use Rattle.codec.specs.Fields.{all_of}
 use Rattle.codec.specs.Journal.{journal_at_by}
-use Rattle.codec.proofs.Exact.{IsBytes}
-use Rattle.codec.proofs.Starts.{is_there, spells, spelled_there, length_there, previous_there}
+use Rattle.codec.proofs.Starts.{spells, spelled_there, length_there, previous_there}
 use Rattle.codec.proofs.entry_reader.says_previous.Goals as goal
 
 pub returns-clause-long : goal.returns-clause-long

@@ -1,8 +1,8 @@
 use Rattle.std.proofs.Common.{◌+◌, ◌<◌, length, sym, ap, subst, arith, lit<}
 use Rattle.std.specs.List.{AllByRecursion}
 use Rattle.s4_types.specs.declared.limits.TheConstants.{JOURNAL_HEAD_BYTES, JOURNAL_ENTRIES}
+use Rattle.lemmas.proofs.Bytes.{IsBytes}
 use Rattle.codec.specs.Reader.{BeginsAt}
-use Rattle.codec.proofs.Exact.{IsBytes}
 use Rattle.codec.proofs.JournalEntries.{rules_say_by}
 use Rattle.codec.proofs.Starts.{Scanned, Next, Ready, ready, ready_next, scan_begins, all_scanned, count_there, length_there, spelled_there, spells, starts_push}
 use Rattle.codec.proofs.entry_reader.starts_of.Goals as goal

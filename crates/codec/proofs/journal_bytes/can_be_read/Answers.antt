@@ -1,5 +1,5 @@
 use Rattle.std.proofs.Common.{arith}
-use Rattle.codec.proofs.Exact.{IsBytes}
+use Rattle.lemmas.proofs.Bytes.{IsBytes}
 use Rattle.codec.proofs.Patched.{spells_decoded}
 use Rattle.codec.proofs.journal_bytes.can_be_read.Goals as goal
 

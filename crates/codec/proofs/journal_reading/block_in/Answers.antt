@@ -1,7 +1,7 @@
 use Rattle.std.proofs.Common.{Option, arith, subst}
+use Rattle.lemmas.proofs.Bytes.{IsBytes}
 use Rattle.codec.specs.Fields.{Reads, kept}
 use Rattle.codec.specs.Journal.{JournalFields, journal_rules}
-use Rattle.codec.proofs.Exact.{IsBytes}
 use Rattle.codec.proofs.JournalLaws.{journal_kept}
 use Rattle.codec.proofs.journal_reading.block_in.Goals as goal
 

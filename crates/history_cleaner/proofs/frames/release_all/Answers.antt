@@ -1,6 +1,7 @@
 use Rattle.std.proofs.Common.{◌≡◌, ℕ, ◌+◌, ◌-◌, ◌<◌, sym, subst, ◌∙◌, arith}
+use Rattle.lemmas.proofs.Result.{OnErr_from}
 use Rattle.history_cleaner.specs.Emptying.{EndsAtReader}
-use Rattle.history_cleaner.proofs.Emptied.{ReleasesSoFar, release_step, skip_step, missed_ends, on_err_of}
+use Rattle.history_cleaner.proofs.Emptied.{ReleasesSoFar, release_step, skip_step, missed_ends}
 use Rattle.history_cleaner.proofs.frames.release_all.Goals as goal
 use Rattle.history_cleaner.proofs.frames.release_all.Goals.{then-is_draining+in_ok-release, else-is_draining}
 
@@ -33,4 +34,4 @@ returns-in_err-release-clause-ended g c =
     let ended : EndsAtReader count c.args.drive.now.store.table.seat c.release.new.self.store.table.seat =
     missed_ends (count - index) count frame c.args.drive.now c.loop-index.drive c.is_draining.new.self c.release.new.self next c.loop-index.invariant c.is_draining.ensures.same
     (sym c.is_draining.ensures.draining ∙ c.if-is_draining.true) c.in_err-release.ensures.frame.missed in
-    on_err_of c.from_residual.result ended
+    OnErr_from c.from_residual.result ended

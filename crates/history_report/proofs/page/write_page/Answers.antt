@@ -1,4 +1,5 @@
 use Rattle.std.proofs.Common.{◌≡◌, ◌∙◌, ◌++◌, false, List, sym, subst}
+use Rattle.std.proofs.lemmas.Result.{on_ok_weaker}
 use Rattle.s4_types.specs.declared.spans.Span.{Span}
 use Rattle.s4_model.specs.State.{State}
 use Rattle.s4_model.specs.Visible.{spans_of}
@@ -9,7 +10,7 @@ use Rattle.window.specs.Timeline.{CoverAlike}
 use Rattle.drive.specs.Fields.{state_in, store_of}
 use Rattle.history_report.specs.Report.{timeline_of, table_of, since_of}
 use Rattle.history_report.specs.private.Sections.{WritesSince, WritesTable}
-use Rattle.history_report.proofs.Pages.{appends_two, on_ok}
+use Rattle.history_report.proofs.Pages.{appends_two}
 use Rattle.history_report.proofs.Rows.{state_stays}
 use Rattle.history_report.proofs.page.write_page.Goals as goal
 
@@ -30,7 +31,7 @@ returns-clause-page g c =
     subst (λ (t : StoreFields). WritesTable s t x y) c.write_timeline.ensures.store
     (subst (λ (t : State). WritesTable t (store_of c.write_timeline.new.drive) x y) (state_stays c.write_timeline.new.drive d c.write_timeline.ensures.ledger) c.in_ok-write_table.ensures.table) in
     let state : state_in c.write_table.new.drive ≡ s = state_stays c.write_table.new.drive d (c.write_table.ensures.ledger ∙ c.write_timeline.ensures.ledger) in
-    on_ok c.write_since.result
+    on_ok_weaker c.write_since.result
     (λ done. let since : WritesSince s from y z = subst (λ (t : State). WritesSince t from y z) state done in
     record {
       runs = runs;

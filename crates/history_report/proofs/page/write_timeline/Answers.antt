@@ -1,11 +1,12 @@
 use Rattle.std.proofs.Common.{subst, flat_map}
 use Rattle.std.specs.Io.KnownBytes.{Appends}
+use Rattle.std.proofs.lemmas.Result.{on_ok_weaker}
 use Rattle.drive.specs.Fields.{state_in, store_of}
 use Rattle.history_report.specs.declared.scale.Scale.{Scale}
 use Rattle.history_report.specs.Page.{page_text}
 use Rattle.history_report.specs.Timeline.{scale_of, strip_of}
 use Rattle.history_report.specs.Report.{head_of}
-use Rattle.history_report.proofs.Pages.{appends_two, on_ok}
+use Rattle.history_report.proofs.Pages.{appends_two}
 use Rattle.history_report.proofs.page.write_timeline.Goals as goal
 
 pub returns-clause-timeline : goal.returns-clause-timeline
@@ -17,7 +18,7 @@ returns-clause-timeline g c =
     let x = passed c.args.writer.now in
     let y = passed c.write_head.new.writer in
     let z = passed c.write_strips.new.writer in
-    on_ok c.write_strips.result
+    on_ok_weaker c.write_strips.result
     (λ done. record {
       objects = done.objects;
       have_rows = done.have_rows;

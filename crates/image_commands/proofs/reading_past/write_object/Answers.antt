@@ -1,10 +1,10 @@
 use Rattle.std.proofs.Common.{inl, inr, ⊎_elim}
+use Rattle.std.proofs.lemmas.Result.{on_ok_weaker, IfErr-weaker}
 use Rattle.s4_types.specs.History.{Base}
 use Rattle.segment_table.specs.Room.{log_of}
 use Rattle.version_store.specs.Store.{fields_of}
 use Rattle.drive.specs.Opened.{base_of}
 use Rattle.image_parts.specs.Image.{image_in}
-use Rattle.image_commands.proofs.Done.{for_ok, if_err}
 use Rattle.image_commands.proofs.Said.{refused_of}
 use Rattle.image_commands.proofs.reading_past.write_object.Goals as goal
 
@@ -15,7 +15,7 @@ returns-in-Ok-open g c =
     let base : Base = base_of (fields_of log_of opened.store) opened.timeline opened.next in
     let told = c.in-Ok-open.ensures.base verified.bytes (image_in verified.bytes) verified.spelled verified.told in
     record {
-      object = for_ok c.write_named.result
+      object = on_ok_weaker c.write_named.result
           (λ gives. record {
             image = c.in-Ok.image;
             verified = verified;
@@ -24,7 +24,7 @@ returns-in-Ok-open g c =
             gives = gives;
           })
           c.write_named.ensures.version;
-      fault = if_err c.write_named.result
+      fault = IfErr-weaker c.write_named.result _ _
           (λ fault says. ⊎_elim
           (λ refused. inr (inl (refused_of (g.F.Files.contents c.args.files.now c.args.asked.image.now) c.in-Ok.image verified base told c.args.asked.object c.args.asked.moment fault refused)))
           (λ unwritten. inr (inr unwritten))

@@ -1,6 +1,7 @@
 use Rattle.std.proofs.Common.{◌+◌, arith}
 use Rattle.codec.specs.Versions.{chain_entry_bytes_by}
-use Rattle.image_objects.proofs.Bytes.{by_next, too_many}
+use Rattle.codec.proofs.JournalEntries.{by_next}
+use Rattle.image_objects.proofs.Bytes.{too_many}
 use Rattle.image_objects.proofs.chains.bytes_of.Goals as goal
 
 pub returns-then-bytes-most : goal.returns-then-bytes-most

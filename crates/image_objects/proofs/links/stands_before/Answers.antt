@@ -2,8 +2,9 @@ use Rattle.std.proofs.Common.{◌≡◌, true, Option, sym, ap, ◌∙◌, subst
 use Rattle.std.specs.Prelude.{IfSome}
 use Rattle.std.specs.List.{list_all}
 use Rattle.codec.specs.declared.entries.Pair.{Pair}
+use Rattle.time_read.proofs.Undone.{triples_ascend}
 use Rattle.image_objects.specs.private.Standing.{is_earlier}
-use Rattle.image_objects.proofs.Earlier.{ascends, told_before, are_told}
+use Rattle.image_objects.proofs.Earlier.{told_before, are_told}
 use Rattle.image_objects.proofs.links.stands_before.Goals as goal
 
 pub returns-then-not-has_status-clause-only : goal.returns-then-not-has_status-clause-only
@@ -29,4 +30,4 @@ pub returns-clause-only : goal.returns-clause-only
 returns-clause-only c = λ s.
     let i = c.args.inode.now in
     let e = c.args.entry.now in
-    c.are_earlier.ensures ∙ ap (list_all (is_earlier i)) c.triples.ensures.triples ∙ are_told i 0 e.triples (ascends e c.triples.ensures.rules) s.pointers
+    c.are_earlier.ensures ∙ ap (list_all (is_earlier i)) c.triples.ensures.triples ∙ are_told i 0 e.triples (triples_ascend e c.triples.ensures.rules) s.pointers

@@ -1,7 +1,8 @@
 use Rattle.std.proofs.Common.{[], ◌∷◌, sym, ◌∙◌}
+use Rattle.lemmas.proofs.List.{all_of_one}
 use Rattle.codec.specs.declared.entries.Triple.{Triple}
 use Rattle.version_store.specs.Store.{IsLed}
-use Rattle.image_objects.proofs.Parts.{part_more, parts_taken, part_there}
+use Rattle.image_objects.proofs.Parts.{part_more, parts_taken}
 use Rattle.image_objects.proofs.pointers.are_triples_led.Goals as goal
 
 pub loop-triple-preserved : goal.loop-triple-preserved
@@ -12,7 +13,7 @@ loop-triple-preserved g c =
 pub returns-then-not-are_sides_led-clause-only : goal.returns-then-not-are_sides_led-clause-only
 returns-then-not-are_sides_led-clause-only g c = λ h.
     sym c.if-not-are_sides_led.true
-    ∙ c.are_sides_led.ensures.only (part_there (IsLed (g.U.UsedBlocks.used c.args.used.now) c.args.object) (λ (t : Triple). t.before ∷ t.after ∷ []) c.args.triples.now c.loop-triple.triple-index c.triple-item.result c.loop-triple-test.true c.triple-item.is h)
+    ∙ c.are_sides_led.ensures.only (all_of_one (IsLed (g.U.UsedBlocks.used c.args.used.now) c.args.object) (λ (t : Triple). t.before ∷ t.after ∷ []) c.args.triples.now c.loop-triple.triple-index c.triple-item.result c.loop-triple-test.true c.triple-item.is h)
 
 pub returns-clause-is : goal.returns-clause-is
 returns-clause-is g c = λ _.

@@ -2,7 +2,8 @@ use Rattle.std.proofs.Common.{ℕ, ◌+◌, ◌<◌, length, sym, ap, ◌∙◌,
 use Rattle.codec.specs.declared.inodes.Inode.{Inode}
 use Rattle.inode.specs.Contents.{contents_of}
 use Rattle.inode.specs.Tidiness.{Tidy}
-use Rattle.image_objects.proofs.Moments.{begun, judged_more, next_holds, last_holds, all_hold, redone_count, Judged}
+use Rattle.undo_redo.proofs.ComposeLaws.{redone_count}
+use Rattle.image_objects.proofs.Moments.{begun, judged_more, next_holds, last_holds, all_hold, Judged}
 use Rattle.image_objects.proofs.tidiness.are_tidy.Goals as goal
 
 pub loop-entry-init : goal.loop-entry-init

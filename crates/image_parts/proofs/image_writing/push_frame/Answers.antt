@@ -1,5 +1,5 @@
 use Rattle.std.proofs.Common.{ℕ, List, [], ◌++◌, ◌∙◌, ap, get_or, arith}
-use Rattle.image_parts.proofs.Bytes.{joined_more}
+use Rattle.codec.proofs.Payload.{joined_more}
 use Rattle.image_parts.proofs.image_writing.push_frame.Goals as goal
 
 pub loop-block-preserved : goal.loop-block-preserved

@@ -1,7 +1,8 @@
 use Rattle.std.proofs.Common.{◌≡◌, List, [], ℕ, get_or, ap, ◌∙◌, arith}
 use Rattle.image_parts.specs.Frames.{blocks_of}
 use Rattle.segment_table.specs.Slots.{unheld}
-use Rattle.image_salvage.proofs.Seeing.{summary_number, slots_there}
+use Rattle.verifier.proofs.Frames.{slots_there}
+use Rattle.image_salvage.proofs.Seeing.{summary_number}
 use Rattle.image_salvage.proofs.frames.set_whole.Goals as goal
 
 pub set_used-requires-clause-number : goal.set_used-requires-clause-number

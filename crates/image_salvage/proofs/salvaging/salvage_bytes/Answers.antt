@@ -1,8 +1,8 @@
 use Rattle.std.proofs.Common.{inr, List, subst, rules}
 use Rattle.image_parts.specs.declared.rows.RowPart.{RowPart}
 use Rattle.segment_table.specs.Used.{used_at}
+use Rattle.verifier.proofs.Faults.{split_fault}
 use Rattle.image_salvage.specs.Unlisted.{FindsUnlisted}
-use Rattle.image_salvage.proofs.Whole.{split_fault}
 use Rattle.image_salvage.proofs.salvaging.salvage_bytes.Goals as goal
 
 pub returns-clause-salvaged : goal.returns-clause-salvaged

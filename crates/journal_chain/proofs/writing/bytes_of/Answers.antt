@@ -1,6 +1,7 @@
 use Rattle.std.proofs.Common.{refl, arith}
 use Rattle.codec.specs.Entry.{entries_length}
-use Rattle.journal_chain.proofs.Loops.{bytes_more, fit_more}
+use Rattle.codec.proofs.JournalEntries.{entries_next}
+use Rattle.journal_chain.proofs.Loops.{fit_more}
 use Rattle.journal_chain.proofs.writing.bytes_of.Goals as goal
 
 pub loop-entry-init : goal.loop-entry-init
@@ -13,7 +14,7 @@ loop-entry-preserved c =
     let i = c.loop-entry.entry-index in
     let e = c.entry-item.result in
     record {
-      exact = omega (arith, bytes_more xs i e c.loop-entry-test.true c.entry-item.is, c.loop-entry.invariant.exact, c.byte_count-bytes.ensures.exact);
+      exact = omega (arith, entries_next i xs e c.loop-entry-test.true c.entry-item.is, c.loop-entry.invariant.exact, c.byte_count-bytes.ensures.exact);
       most = omega (arith, c.loop-entry.invariant.most, c.byte_count-bytes.ensures.most);
       few = c.loop-entry.invariant.few;
       fit = fit_more xs i e c.loop-entry-test.true c.entry-item.is c.loop-entry.invariant.fit (omega (arith, c.byte_count-bytes.ensures.exact, c.byte_count-bytes.ensures.most));

@@ -3,11 +3,12 @@ use Rattle.checkpoint.specs.Held.{checkpoint_blocks, checkpoint_places, of_check
 use Rattle.object_map.specs.declared.map.Row.{Row}
 use Rattle.object_map.specs.declared.sides.Side.{Side}
 use Rattle.object_map.specs.Sides.{sides_after, place_of}
+use Rattle.journal_chain.proofs.Tables.{only-refl}
 use Rattle.time_read.specs.Rows.{IsRow, inode_of}
 use Rattle.time_read.specs.Orderly.{IsOrderly}
 use Rattle.row_changes.specs.Recent.{IsBy}
 use Rattle.row_changes.specs.Moved.{IsMoved}
-use Rattle.row_changes.proofs.Places.{CheckpointLaws, Put, older_still, no_journal_yet, moved, put_only, taken_first}
+use Rattle.row_changes.proofs.Places.{CheckpointLaws, Put, older_still, moved, put_only, taken_first}
 use Rattle.row_changes.proofs.SetAside.{Parted, parted_aside, goes_there, keeps}
 use Rattle.row_changes.proofs.CheckpointLemmas.{Laws, with_checkpoint, written, written_row, written_by, written_inode}
 use Rattle.row_changes.proofs.OrderKept.{written_orderly}
@@ -41,7 +42,7 @@ returns g c =
       laws = known;
       there = goes_there known log.held o row gone parts.goes;
       put = c.in_ok-place.ensures.growth;
-      journal = no_journal_yet o between.held;
+      journal = only-refl o between.held;
     } in
     let dropped = c.drop_side.ensures.dropped in
     let kept_all = keeps c.a_checkpoint_is_in_its_blocks.ensures.apart log.held between.held later.held o row place m gone kept c.requires.row parts put dropped in
@@ -86,6 +87,6 @@ drop_side-requires g c =
       laws = known;
       there = goes_there known log.held o row gone parts.goes;
       put = c.in_ok-place.ensures.growth;
-      journal = no_journal_yet o between.held;
+      journal = only-refl o between.held;
     } in
     record { held = older_still log.held between.held between.held o place (place_of gone) put }

@@ -1,7 +1,8 @@
 use Rattle.std.proofs.Common.{◌++◌, List, sym, ap, ◌∙◌}
 use Rattle.s4_types.specs.Pointer.{Place}
 use Rattle.checkpoint.specs.Held.{checkpoint_blocks, checkpoint_places}
-use Rattle.row_changes.proofs.Places.{CheckpointLaws, Put, older_there, older_still, checkpoint_alone, no_journal_yet, told_on, new_alone, new_among, new_places, put_only, taken_first}
+use Rattle.journal_chain.proofs.Tables.{only-refl}
+use Rattle.row_changes.proofs.Places.{CheckpointLaws, Put, older_there, older_still, checkpoint_alone, told_on, new_alone, new_among, new_places, put_only, taken_first}
 use Rattle.row_changes.proofs.writing.put_anew.Goals as goal
 
 pub drop_checkpoint-requires : goal.drop_checkpoint-requires
@@ -19,7 +20,7 @@ drop_checkpoint-requires g c =
       laws = known;
       there = older_there known log.held o row c.requires.row;
       put = c.put_ahead-place.ensures.growth;
-      journal = no_journal_yet o between.held;
+      journal = only-refl o between.held;
     } in
     record { held = older_still log.held between.held between.held o c.put_ahead-place.result row.checkpoint s }
 
@@ -41,7 +42,7 @@ returns g c =
       laws = known;
       there = older_there known log.held o row c.requires.row;
       put = c.put_ahead-place.ensures.growth;
-      journal = no_journal_yet o between.held;
+      journal = only-refl o between.held;
     } in
     let d = c.drop_checkpoint.ensures.dropped in
     let only = checkpoint_alone log.held o row c.requires.row c.requires.sides in

@@ -1,14 +1,15 @@
 use Rattle.std.proofs.Common.{refl, sym, ap, ◌∙◌, subst, rules, List, IsSome, option_copied}
 use Rattle.block_log.specs.declared.kinds.BlockKind.TheVariants.{Journal}
+use Rattle.block_log.proofs.Taking.{among_later}
 use Rattle.codec.specs.Entry.{EntryFields}
 use Rattle.time_read.specs.Rows.{chain_of, entries_of}
 use Rattle.checkpoint.specs.Held.{places_named, is_one_of}
 use Rattle.journal_chain.specs.Chain.{BlockView, Holds}
 use Rattle.journal_chain.specs.Push.{whole_blocks}
+use Rattle.time_read.proofs.Staying.{same_entries}
 use Rattle.row_changes.specs.Moving.{kept_blocks}
 use Rattle.row_changes.proofs.Places.{journal_views}
-use Rattle.row_changes.proofs.Recently.{same_entries}
-use Rattle.row_changes.proofs.WrittenRow.{Stands, with_written, holds_told, told_still, written_row, written_first, written_inode, written_orderly, metadata_alone, among_first, among_later, row_in_order}
+use Rattle.row_changes.proofs.WrittenRow.{Stands, with_written, holds_told, told_still, written_row, written_first, written_inode, written_orderly, metadata_alone, among_first, row_in_order}
 use Rattle.row_changes.proofs.writing.write_row.Goals as goal
 
 pub write_chain-chain-requires-clause-held : goal.write_chain-chain-requires-clause-held

@@ -1,8 +1,8 @@
-use Rattle.image_commands.proofs.Done.{for_ok}
+use Rattle.std.proofs.lemmas.Result.{on_ok_weaker}
 use Rattle.s4_compact.proofs.compacting.compact_by.Goals as goal
 
 pub returns-clause-compacts : goal.returns-clause-compacts
-returns-clause-compacts g c = for_ok c.change_image.result
+returns-clause-compacts g c = on_ok_weaker c.change_image.result
     (λ done. record {
       drive = done.drive;
       told = done.told;

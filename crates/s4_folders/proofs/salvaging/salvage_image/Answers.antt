@@ -1,6 +1,6 @@
 use Rattle.std.proofs.Common.{◌∙◌, List, ℕ, subst}
+use Rattle.std.proofs.lemmas.Result.{IfOk-weaker}
 use Rattle.image_salvage.specs.Salvaging.{IsSalvageOf}
-use Rattle.s4_images.proofs.Done.{if_ok}
 use Rattle.s4_folders.proofs.salvaging.salvage_image.Goals as goal
 
 pub returns : goal.returns
@@ -9,7 +9,7 @@ returns g c =
     let image = c.in_ok-image.image in
     let of : IsSalvageOf bytes image = subst (λ (l : List ℕ). IsSalvageOf l image) c.as_slice.ensures.value c.in_ok-image.ensures.salvaged in
     record {
-      salvages = if_ok c.salvage_into.result
+      salvages = IfOk-weaker c.salvage_into.result _ _
           (λ verdict into. record {
             bytes = bytes;
             read = c.in_ok-bytes.ensures.bytes;

@@ -1,4 +1,4 @@
-use Rattle.s4d.proofs.Ends.{if_err, if_ok}
+use Rattle.std.proofs.lemmas.Result.{IfOk-weaker, IfErr-weaker}
 use Rattle.s4d.proofs.Left.{kept_on, kept_or_left, left_anew, untouched}
 use Rattle.s4d.proofs.Said.{unopened, unwritable}
 use Rattle.s4d.proofs.running.place_apart.Goals as goal
@@ -17,11 +17,11 @@ returns-clause-kept g c = λ other.
 
 pub returns-clause-anew : goal.returns-clause-anew
 returns-clause-anew g c =
-    if_ok c.beside.result
+    IfOk-weaker c.beside.result _ _
     (λ place unknown other is known. left_anew _ _ known
     (kept_or_left g.F.Files.leads g.F.Files.reserves c.args.claim c.args.path.now other _ _ c.requires.claimed (c.remove_leftovers.ensures.others other) (c.remove_leftovers.ensures.whole other))
     (unknown other is))
     c.beside.ensures.unknown
 
 pub returns-clause-fault : goal.returns-clause-fault
-returns-clause-fault g c = if_err c.beside.result (λ fault says known. unwritable known c.args.path.now c.args.sessions.now fault says) c.beside.ensures.fault
+returns-clause-fault g c = IfErr-weaker c.beside.result _ _ (λ fault says known. unwritable known c.args.path.now c.args.sessions.now fault says) c.beside.ensures.fault

@@ -2,6 +2,7 @@ use Rattle.std.proofs.Common.{◌≡◌, ◌↔◌, ◌≤◌, ◌&&◌, ℕ, Al
 use Rattle.std.specs.Io.KnownBytes.{Keeps}
 use Rattle.std.specs.List.{AllZip}
 use Rattle.std.proofs.KnownBytes.{Keeps-trans}
+use Rattle.std.proofs.lemmas.Result.{on_ok_weaker, on_err_weaker, IfErr-weaker}
 use Rattle.s4_types.specs.History.{Base}
 use Rattle.serving.specs.declared.ends.ServeEnd.TheVariants.{Ended}
 use Rattle.server.specs.Drawing.{ClockFields}
@@ -11,7 +12,7 @@ use Rattle.image_commands.specs.Leaving.{IsBeside, IsKeptOrLeft}
 use Rattle.s4d_command.specs.declared.sessions.RunSession.{RunSession}
 use Rattle.s4d.specs.Opening.{HoldsAt}
 use Rattle.s4d.specs.Running.{HasFiles, IsSavedIn, IsUnwritten, LeavesDrive, RunsSessions, SaysUnrun}
-use Rattle.s4d.proofs.Ends.{if_err, if_err_with, if_ok_with, on_err, on_ok}
+use Rattle.s4d.proofs.Ends.{if_err_with, if_ok_with}
 use Rattle.s4d.proofs.Left.{kept_past}
 use Rattle.s4d.proofs.Said.{unopened, unrun_on}
 use Rattle.s4d.proofs.Settled.{left_for, saved_in, sessions_ran}
@@ -101,10 +102,10 @@ returns g c =
           (leaves (f path) (λ k s lt. on (get_or sessions k s).output.now (subst (λ p. g.F.Files.apart p (get_or sessions k s).output.now) (sym same) (c.in-Ok.ensures.image k s lt)) (c.in-Ok.ensures.beside k s lt))
           (subst (λ p. MatchResult saved (λ bytes. AreKnown (f p) bytes.items) (λ _. ⊥)) same holds.1)))
           c.put_saved.ensures.saved c.put_saved.ensures.elsewhere;
-      apart = on_ok result (λ _. c.in-Ok.ensures.apart) c.put_saved.ensures.elsewhere;
-      others = on_ok result (λ on other from unwritten. kept other unwritten (λ not. on other (subst (λ p. g.F.Files.apart p other) (sym same) from) not)) c.put_saved.ensures.elsewhere;
-      unsaved = on_err result (λ on other unwritten. kept other unwritten (λ not. on other not)) c.put_saved.ensures.others;
-      unserved = if_err result (λ fault never unserved. absurd (never unserved)) c.put_saved.ensures.unsaved;
+      apart = on_ok_weaker result (λ _. c.in-Ok.ensures.apart) c.put_saved.ensures.elsewhere;
+      others = on_ok_weaker result (λ on other from unwritten. kept other unwritten (λ not. on other (subst (λ p. g.F.Files.apart p other) (sym same) from) not)) c.put_saved.ensures.elsewhere;
+      unsaved = on_err_weaker result (λ on other unwritten. kept other unwritten (λ not. on other not)) c.put_saved.ensures.others;
+      unserved = IfErr-weaker result _ _ (λ fault never unserved. absurd (never unserved)) c.put_saved.ensures.unsaved;
       fault = if_err_with result
           (λ fault says on known. unrun_on known path sessions (λ has. MatchResult saved (λ bytes. AreKnown has bytes.items) (λ _. ⊥)) (λ has. (is_ended : Bool) × Leaves has is_ended) f
           (λ has holds. (ended, leaves has (λ k s lt. on (get_or sessions k s).output.now (c.in-Ok.ensures.beside k s lt)) holds)) fault

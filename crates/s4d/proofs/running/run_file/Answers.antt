@@ -1,4 +1,5 @@
 use Rattle.std.proofs.Common.{ℕ, All, Bool, IfOk, List, OnOk, Option, subst, sym}
+use Rattle.std.proofs.lemmas.Result.{on_ok_weaker, on_err_weaker, IfOk-weaker, IfErr-weaker}
 use Rattle.segment_table.specs.Room.{log_of}
 use Rattle.version_store.specs.Store.{fields_of}
 use Rattle.s4_types.specs.History.{Base}
@@ -7,7 +8,6 @@ use Rattle.image_parts.specs.Image.{image_in}
 use Rattle.s4d_command.specs.declared.sessions.RunSession.{RunSession}
 use Rattle.s4d.specs.Opening.{HoldsAt}
 use Rattle.s4d.specs.Running.{IsSavedIn, IsUnwritten, LeavesDrive, RunsImage, RunsSessions, SaysUnrun}
-use Rattle.s4d.proofs.Ends.{if_err, if_ok, on_err, on_ok}
 use Rattle.s4d.proofs.Promised.{promised}
 use Rattle.s4d.proofs.Said.{unrun_on}
 use Rattle.s4d.proofs.running.run_file.Goals as goal
@@ -35,15 +35,15 @@ returns-in-Ok-open g c =
       leaves = subst (λ (start : ℕ). LeavesDrive base (RunsSessions base (record { start = start; tick = c.args.asked.tick }) c.args.asked.upkeep opens a f sessions ended) (IsSavedIn saved)) c.clock.ensures
           (subst (λ (ss : List RunSession). LeavesDrive base (RunsSessions base (record { start = c.clock.result; tick = c.args.asked.tick }) c.args.asked.upkeep opens a f ss ended) (IsSavedIn saved)) all left);
     } in
-    let runs : IfOk result (λ ran. RunsImage opens c.args.asked a f (f path) ran.is_ended) = if_ok result (λ ran left. image (f path) ran.is_ended left) c.run_begun.ensures.left in
+    let runs : IfOk result (λ ran. RunsImage opens c.args.asked a f (f path) ran.is_ended) = IfOk-weaker result _ _ (λ ran left. image (f path) ran.is_ended left) c.run_begun.ensures.left in
     record {
       image = runs;
-      promise = if_ok result (λ ran. promised c.what_is_saved_goes_on.ensures opens c.args.asked a f ran.is_ended) runs;
+      promise = IfOk-weaker result _ _ (λ ran. promised c.what_is_saved_goes_on.ensures opens c.args.asked a f ran.is_ended) runs;
       apart = subst (λ (ss : List RunSession). OnOk result (All (λ written. All (λ read. g.F.Files.apart read.input.now written.output.now) ss) ss)) all c.run_begun.ensures.apart;
-      others = on_ok result (λ kept other from unwritten. kept other from (subst (λ (ss : List RunSession). IsUnwritten g.F.Files.apart ss other) (sym all) unwritten)) c.run_begun.ensures.others;
-      unsaved = on_err result (λ kept other unwritten. kept other (subst (λ (ss : List RunSession). IsUnwritten g.F.Files.apart ss other) (sym all) unwritten)) c.run_begun.ensures.unsaved;
+      others = on_ok_weaker result (λ kept other from unwritten. kept other from (subst (λ (ss : List RunSession). IsUnwritten g.F.Files.apart ss other) (sym all) unwritten)) c.run_begun.ensures.others;
+      unsaved = on_err_weaker result (λ kept other unwritten. kept other (subst (λ (ss : List RunSession). IsUnwritten g.F.Files.apart ss other) (sym all) unwritten)) c.run_begun.ensures.unsaved;
       unserved = c.run_begun.ensures.unserved;
-      fault = if_err result
+      fault = IfErr-weaker result _ _
           (λ fault says. unrun_on (a path) path sessions (λ saved. (ended : Bool) × LeavesDrive base (RunsSessions base (record { start = c.clock.result; tick = c.args.asked.tick }) c.args.asked.upkeep opens a f c.as_slice.result.now ended) (IsSavedIn saved)) (λ saved. (ended : Bool) × RunsImage opens c.args.asked a f saved ended) f (λ saved left. (left.0, image saved left.0 left.1)) fault
           (subst (λ (ss : List RunSession). SaysUnrun (a path) path ss (λ saved. (ended : Bool) × LeavesDrive base
           (RunsSessions base (record { start = c.clock.result; tick = c.args.asked.tick }) c.args.asked.upkeep opens a f c.as_slice.result.now ended) (IsSavedIn saved)) f fault) all (says (a path))))

@@ -4,8 +4,9 @@ use Rattle.std.proofs.KnownBytes.{Keeps-refl, Keeps-trans}
 use Rattle.std.proofs.lemmas.Iterator.Adapters.{YieldsList-from_vec}
 use Rattle.std.proofs.lemmas.Iterator.Consumers.{YieldsList-end, YieldsList-turn}
 use Rattle.std.proofs.lemmas.List.Elements.{All-push}
+use Rattle.std.proofs.lemmas.List.{map-id}
 use Rattle.image_commands.specs.Files.{AreKnown}
-use Rattle.s4d.proofs.Zips.{map_same, zip_push}
+use Rattle.s4d.proofs.Zips.{zip_push}
 use Rattle.s4d.proofs.session_files.clients_of.Goals as goal
 
 pub loop-session-init : goal.loop-session-init
@@ -61,4 +62,4 @@ returns-clause-asked g c =
     let end = YieldsList-end road c.loop-session.yielded c.loop-session.session-iterator c.loop-session.yielded_by c.next.result c.next.new.self c.in-None.is c.next.ensures.steps in
     subst (λ xs. AllZip (λ o y. (y.role ≡ o.session.role) × (g.F.Reader.Read.remaining y.reader.reader ≡ g.F.Reader.Read.remaining o.reader)
     × AreKnown (g.F.Writer.Write.contents y.writer.writer) [] × g.F.Files.writes y.writer.writer o.session.output.now) xs c.loop-session.clients.items)
-    (sym (map_same c.loop-session.yielded) ∙ end.0) c.loop-session.invariant.asked
+    (sym (map-id c.loop-session.yielded) ∙ end.0) c.loop-session.invariant.asked

@@ -5,7 +5,8 @@ use Rattle.segment_word.specs.Handles.{Held, IsAmong}
 use Rattle.segment_word.specs.Counting.{pins_in}
 use Rattle.segment_word.specs.Layout.{block_bytes}
 use Rattle.time_read.specs.Plans.{contents_pinned}
-use Rattle.segment_copier.proofs.Kept.{counted_at, read_bytes, one_more}
+use Rattle.time_read.proofs.Pins.{pinned_bytes}
+use Rattle.segment_copier.proofs.Kept.{counted_at, one_more}
 use Rattle.segment_copier.proofs.plans.copies_by.Goals as goal
 
 pub loop-place-preserved : goal.loop-place-preserved
@@ -13,7 +14,7 @@ loop-place-preserved c =
     let p : Place = c.place-item.result in
     let pins : List Pinned = c.args.pin.now.pins in
     let counted = counted_at pins c.args.places.now c.loop-place.place-index p c.requires.inside c.loop-place-test.true c.place-item.is in
-    let bytes : c.read_block-bytes.result ≡ block_bytes (contents_pinned p.frame pins) p.block = read_bytes p.frame p.block pins c.read_block-bytes.result counted.0
+    let bytes : c.read_block-bytes.result ≡ block_bytes (contents_pinned p.frame pins) p.block = pinned_bytes p.frame p.block pins c.read_block-bytes.result counted.0
     (λ q among number. c.read_block-bytes.ensures.bytes q (subst (λ (held : Held). IsAmong q held.pins) (sym c.loop-place.invariant.same) among) (number ∙ sym c.frame.ensures)
     ∙ ap (λ (b : ℕ). block_bytes q.contents b) c.block.ensures.block) in
     record {

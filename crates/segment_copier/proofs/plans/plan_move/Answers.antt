@@ -8,9 +8,11 @@ use Rattle.segment_word.specs.Layout.{frame_at}
 use Rattle.segment_table.specs.Table.{Table, held_at}
 use Rattle.segment_table.specs.Room.{pointers_in}
 use Rattle.segment_table.specs.Laws.{IsListed}
+use Rattle.segment_table.proofs.Emptying.{sealed_is}
+use Rattle.segment_table.proofs.Listing.{of_some}
 use Rattle.drive.specs.Fields.{DriveFields}
 use Rattle.segment_copier.specs.Moves.{is_data, data_in}
-use Rattle.segment_copier.proofs.Listed.{first_listed, of_some, sealed_phase}
+use Rattle.segment_copier.proofs.Listed.{first_listed}
 use Rattle.segment_copier.proofs.Kept.{pin_over}
 use Rattle.segment_copier.proofs.plans.plan_move.Goals as goal
 
@@ -25,7 +27,7 @@ pin-requires-clause-sealed g c =
     let t : Table = c.args.drive.now.store.table in
     let first : IsListed t c.args.object c.args.frame c.in-Some-first.first.now = first_listed c.what_is_listed_is_held.ensures t c.args.object c.args.frame c.as_slice.result.now c.in-Some-first.first.now (c.as_slice.ensures.value ∙ c.in_ok-held.ensures.pointers) c.in-Some-first.ensures.value in
     subst (λ (d : DriveFields). (frame_at d.store.table.seat.frames c.in-Some-first.first.now.frame).phase ≡ Sealed) (sym c.held_in.ensures.same)
-    (ap (λ (n : ℕ). (frame_at t.seat.frames n).phase) first.frame ∙ sealed_phase (frame_at t.seat.frames c.args.frame).phase first.sealed)
+    (ap (λ (n : ℕ). (frame_at t.seat.frames n).phase) first.frame ∙ sealed_is (frame_at t.seat.frames c.args.frame).phase first.sealed)
 
 pub invariant_of-result-2 : goal.invariant_of-result-2
 invariant_of-result-2 g c =

@@ -1,6 +1,6 @@
 use Rattle.std.proofs.Common.{ap, ◌∙◌}
 use Rattle.journal_chain.specs.Chain.{ChainFields}
-use Rattle.version_store.proofs.Dropping.{no_bytes, journal_gone}
+use Rattle.row_changes.proofs.MovedBlocks.{journal_gone, no_bytes}
 use Rattle.version_store.proofs.data_blocks.drop_journal.Goals as goal
 
 pub rewrite-requires-clause-limit : goal.rewrite-requires-clause-limit

@@ -3,12 +3,13 @@ use Rattle.std.specs.List.{All}
 use Rattle.std.proofs.lemmas.List.{length-append}
 use Rattle.std.proofs.lemmas.List.Concat.{flat_map-append}
 use Rattle.s4_types.specs.Pointer.{Place}
+use Rattle.lemmas.proofs.List.{all_front, all_back}
 use Rattle.codec.specs.Entry.{EntryFields}
 use Rattle.codec.specs.declared.entries.Triple.{Triple}
 use Rattle.version_store.specs.Store.{sides_of, sides_told}
 use Rattle.version_store.specs.private.Names.{IsOfData, Gives}
 use Rattle.version_store.proofs.Named.{times_few, gives_join}
-use Rattle.version_store.proofs.Gathering.{all_back, all_front, none_given}
+use Rattle.version_store.proofs.Gathering.{none_given}
 use Rattle.version_store.proofs.names.hold_between.Goals as goal
 
 abbrev one : EntryFields → List (Option Place)

@@ -1,9 +1,10 @@
 use Rattle.std.proofs.Common.{◌+◌, ◌∷◌, [], List, Option, Some, take, sym, subst}
 use Rattle.std.proofs.lemmas.List.{take_all}
 use Rattle.s4_types.specs.Pointer.{Place}
+use Rattle.lemmas.proofs.List.{map_take_next}
 use Rattle.version_store.specs.declared.copies.CopiedBlock.{CopiedBlock}
 use Rattle.version_store.specs.private.Names.{IsOfData, Gives, places_copied}
-use Rattle.version_store.proofs.Gathering.{mapped_take, all_mapped_at, none_given, gives_more, mapped_room}
+use Rattle.version_store.proofs.Gathering.{all_mapped_at, none_given, gives_more, mapped_room}
 use Rattle.version_store.proofs.names.hold_copied.Goals as goal
 
 abbrev one : CopiedBlock → Option Place
@@ -23,7 +24,7 @@ pub loop-copy-preserved : goal.loop-copy-preserved
 loop-copy-preserved g c =
     gives_more g.met.B.Blocks.places_taken_add_up (g.B.Blocks.log c.args.table.now) (g.B.Blocks.log c.loop-copy.table) (g.B.Blocks.log c.hold_name.new.table)
     (places_copied (take (c.loop-copy.copy-index + 1) c.args.copies.now)) (places_copied (take c.loop-copy.copy-index c.args.copies.now)) (one c.copy-item.result ∷ [])
-    (mapped_take one c.args.copies.now c.loop-copy.copy-index c.copy-item.result c.loop-copy-test.true c.copy-item.is)
+    (map_take_next one c.args.copies.now c.loop-copy.copy-index c.copy-item.result c.loop-copy-test.true c.copy-item.is)
     c.loop-copy.invariant (record { named = c.hold_name.ensures.named; held = c.hold_name.ensures.held; takes = c.hold_name.ensures.takes })
 
 pub returns : goal.returns

@@ -3,10 +3,11 @@ use Rattle.std.specs.List.{flat_map}
 use Rattle.std.proofs.lemmas.List.{take_all}
 use Rattle.std.proofs.lemmas.List.Elements.{All-contains}
 use Rattle.s4_types.specs.Pointer.{Place}
+use Rattle.lemmas.proofs.List.{flat_map_next}
 use Rattle.block_log.specs.Log.{Log}
 use Rattle.checkpoint.specs.Held.{of_checkpoints, places_in, HasItsBlocks}
 use Rattle.object_map.specs.declared.sides.Side.{Side}
-use Rattle.version_store.proofs.Listing.{more_added, sides_mapped}
+use Rattle.version_store.proofs.Listing.{sides_mapped}
 use Rattle.version_store.proofs.row_places.add_older.Goals as goal
 
 pub loop-side-init : goal.loop-side-init
@@ -25,7 +26,7 @@ loop-side-preserved g c =
     let log = g.B.Blocks.log in
     let piece : Side → List (Option Place) = λ side. map Some (places_in (of_checkpoints c.args.object (log c.args.table.now).held) side.place) in
     record {
-      added = more_added piece c.args.sides.now c.loop-side.side-index c.side-item.result c.args.pointers.now.items c.loop-side.pointers.items _ c.loop-side-test.true c.side-item.is c.loop-side.invariant.added
+      added = flat_map_next piece c.args.sides.now c.loop-side.side-index c.side-item.result c.args.pointers.now.items c.loop-side.pointers.items _ c.loop-side-test.true c.side-item.is c.loop-side.invariant.added
           (c.in_ok-add_places.ensures.added ∙ ap (λ (l : Log). c.loop-side.pointers.items ++ map Some (places_in (of_checkpoints c.args.object l.held) c.side-item.result.place)) c.loop-side.invariant.same);
       same = c.in_ok-add_places.ensures.same ∙ c.loop-side.invariant.same;
     }

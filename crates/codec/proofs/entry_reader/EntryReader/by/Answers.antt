@@ -1,15 +1,16 @@
 use Rattle.std.proofs.Common.{◌≤◌, length, ap, arith}
+use Rattle.lemmas.proofs.Option.{value_there}
 use Rattle.codec.specs.Fields.{all_of}
 use Rattle.codec.specs.Journal.{journal_at_by}
 use Rattle.codec.specs.Reader.{entries_begun_at, object_decoded}
-use Rattle.codec.proofs.Starts.{is_there, whole_is, as_many, object_there}
+use Rattle.codec.proofs.Starts.{whole_is, as_many, object_there}
 use Rattle.codec.proofs.entry_reader.EntryReader.by.Goals as goal
 
 pub returns-clause-reads : goal.returns-clause-reads
 returns-clause-reads c =
     let v = c.args.version in
     let block = c.args.block in
-    let (j, e) = is_there (all_of (journal_at_by v) block) c.requires in
+    let (j, e) = value_there (all_of (journal_at_by v) block) c.requires in
     let previous = c.previous_of-previous in
     let starts = c.starts_of-starts in
     let (rest, is) = c.says_previous.ensures.previous j e in

@@ -3,11 +3,12 @@ use Rattle.std.specs.Option.{option_to_list}
 use Rattle.block_log.specs.Log.{Log}
 use Rattle.block_log.specs.Taken.{TakesPlaces}
 use Rattle.codec.specs.Entry.{entry_length, entries_length}
+use Rattle.codec.proofs.JournalEntries.{entries_append}
 use Rattle.journal_chain.specs.Sizes.{filled_with, breaks}
 use Rattle.journal_chain.specs.Chain.{entries_held}
 use Rattle.journal_chain.specs.Writing.{reopened}
 use Rattle.journal_chain.proofs.Calls.{Pushed, pushed, pushed_names, pushed_holds, takes_last}
-use Rattle.journal_chain.proofs.Adding.{joined-packed, bytes-append}
+use Rattle.journal_chain.proofs.Adding.{joined-packed}
 use Rattle.journal_chain.proofs.Rule.{few_packed}
 use Rattle.journal_chain.proofs.chain.Chain.append.Goals as goal
 
@@ -28,7 +29,7 @@ returns-clause-holds g c =
     c.take_others.ensures.unfinished c.take_others.ensures.others c.take_others.ensures.object c.finish-head.ensures.finished c.finish-head.ensures.others in
     pushed_holds log.held log2.held log3.held chain c.set_head.new.self old (first ∷ later) (option_to_list c.reopened-stale.result) c.take_others.new.block c.finish-head.result
     c.args.bytes c.entry_bytes.result c.requires.held p c.requires.fit c.requires.bytes c.requires.limit c.entry_bytes.ensures.exact c.set_head.ensures
-    joined-packed bytes-append few_packed
+    joined-packed entries_append few_packed
 
 pub returns-clause-others : goal.returns-clause-others
 returns-clause-others g c =

@@ -1,5 +1,6 @@
-use Rattle.journal_chain.proofs.Adding.{bytes-append, bytes-sum}
+use Rattle.codec.proofs.JournalEntries.{entries_append}
+use Rattle.journal_chain.proofs.Adding.{bytes-sum}
 use Rattle.journal_chain.proofs.packing.laws.bytes_add_up.Goals as goal
 
 pub returns : goal.returns
-returns c = record { joined = bytes-append; sizes = bytes-sum }
+returns c = record { joined = entries_append; sizes = bytes-sum }

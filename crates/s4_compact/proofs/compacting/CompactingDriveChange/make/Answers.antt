@@ -1,5 +1,5 @@
 use Rattle.std.proofs.Common.{◌∙◌, subst, sym}
-use Rattle.image_commands.proofs.Done.{for_ok}
+use Rattle.std.proofs.lemmas.Result.{on_ok_weaker}
 use Rattle.version_store.specs.Store.{StoreFields}
 use Rattle.drive.specs.Fields.{state_in, store_of}
 use Rattle.drive.specs.Keeping.{KeepsVersions}
@@ -8,7 +8,7 @@ use Rattle.s4_compact.proofs.compacting.CompactingDriveChange.make.Goals as goal
 
 pub returns : goal.returns
 returns g c = record {
-  changes = for_ok c.write_report.result
+  changes = on_ok_weaker c.write_report.result
       (λ wrote. record {
         by = record {
           report = record { cleans = c.cleans.result; compaction = c.in_ok-compaction.compaction; past = c.past_blocks.result };

@@ -1,12 +1,13 @@
 use Rattle.std.proofs.Common.{rules, ◌≡◌, ◌+◌, ◌^◌, ◌<◌, ◌≤◌, ℕ, length, slice_set, ap, subst, ◌∙◌, arith}
 use Rattle.std.specs.Prelude.{Ok, vec_capacity}
 use Rattle.std.proofs.lemmas.List.{length-set}
+use Rattle.lemmas.proofs.Result.{OnErr_from}
 use Rattle.segment_word.specs.Layout.{frame_at}
 use Rattle.segment_word.specs.Steps.{released}
 use Rattle.segment_table.specs.Table.{Table}
 use Rattle.segment_table.specs.Room.{log_of}
 use Rattle.segment_table.specs.Changes.{IsReleased, ReleasesFrame}
-use Rattle.segment_table.proofs.Emptying.{same_log, on_err}
+use Rattle.segment_table.proofs.Emptying.{same_log}
 use Rattle.segment_table.proofs.Freeing.{frames_are, list_short, list_again, list_kept, release_is, released_generation, sound_released, released_so}
 use Rattle.segment_table.proofs.segments.Segments.release.Goals as goal
 
@@ -90,7 +91,7 @@ returns-in_err-release c =
       missed = search rules;
       idle = search rules;
       refused = search rules;
-      log = on_err c.from_residual.result (subst L c.self.view_is (same_log old c.release.new.self c.in_err-release.ensures.refused.1));
+      log = OnErr_from c.from_residual.result (subst L c.self.view_is (same_log old c.release.new.self c.in_err-release.ensures.refused.1));
       table = search rules;
       refusal = search rules;
     }
