@@ -1,5 +1,5 @@
 -- No moment is in two chains, exactly where the moments of all chains, each of them once, have none twice.
-use Rattle.std.proofs.Common.{◌≡◌, inl, inr, ℕ, ◌<◌, ◌≤◌, true, false, leb, List, [], ◌∷◌, ◌++◌, get_or, map, Option, refl, sym, ap, ◌∙◌, subst, arith}
+use Rattle.std.proofs.Common.{◌≡◌, inl, inr, ℕ, ◌<◌, ◌≤◌, true, false, leb, List, [], ◌∷◌, ◌++◌, get_or, map, Option, sym, ap, ◌∙◌, subst, arith}
 use Rattle.std.specs.Prelude.{nat_eq}
 use Rattle.std.specs.List.{AllByRecursion, Contains, IsDistinct, dedup_from}
 use Rattle.std.proofs.lemmas.Bool.{cases_Bool, cases_lt, cond-true, cond-false, and_parts, leb-true, eq-eqb, eqb-true, ne_eqb, false≢true}
@@ -7,6 +7,7 @@ use Rattle.std.proofs.lemmas.List.Elements.{All-contains, All-from_recursion, re
 use Rattle.std.proofs.lemmas.List.Kept.{Contains-dedup_nat, Contains-from_dedup}
 use Rattle.std.proofs.lemmas.Map.Keys.{IsDistinct-head, IsDistinct-tail, IsDistinct-cons}
 use Rattle.s4_types.specs.Pointer.{Place}
+use Rattle.lemmas.proofs.Contains.{contains_first, contains_later, contains_none, contains_cases}
 use Rattle.block_log.specs.Log.{Stored}
 use Rattle.codec.specs.Entry.{EntryFields}
 use Rattle.codec.specs.declared.versions.ImageVersion.{ImageVersion}
@@ -20,15 +21,8 @@ use Rattle.image_objects.specs.Rows.{RowsStand}
 use Rattle.image_objects.specs.Moments.{moments_of_chain, moments_of, moments_used, ChainsShareNoMoment, StandOnce}
 use Rattle.image_objects.specs.Versions.{entries_used_by, moments_used_by, ObjectStandsBy, RowsStandBy}
 use Rattle.image_objects.proofs.Grouping.{groups_of_a_version}
-use Rattle.image_objects.proofs.Listed.{none_listed, listed_cases}
 
 -- ---- elements of lists that are made of others
-
-first_listed : {X : Type 0} (x : X) (xs : List X) → Contains (x ∷ xs) x
-first_listed x xs = Contains-append_left (x ∷ []) xs x (0, omega arith, refl)
-
-behind_listed : {X : Type 0} (x : X) (xs : List X) (y : X) → Contains xs y → Contains (x ∷ xs) y
-behind_listed x xs y there = Contains-append_right (x ∷ []) xs y there
 
 -- the moments of entries are those of the entries, and no others
 moments : List EntryFields → List ℕ
@@ -36,10 +30,10 @@ moments entries = map (λ e. e.moment) entries
 
 mapped_there : (entries : List EntryFields) (e : EntryFields) → Contains entries e → Contains (moments entries) e.moment
 unfolding moments
-mapped_there [] e there = absurd (none_listed e there)
-mapped_there (x ∷ entries) e there = elim (listed_cases x entries e there) [
-  | inl is ↦ subst (λ (f : EntryFields). Contains (x.moment ∷ moments entries) f.moment) is (first_listed x.moment (moments entries))
-  | inr behind ↦ behind_listed x.moment (moments entries) e.moment (mapped_there entries e behind)
+mapped_there [] e there = absurd (contains_none e there)
+mapped_there (x ∷ entries) e there = elim (contains_cases x entries e there) [
+  | inl is ↦ subst (λ (f : EntryFields). Contains (x.moment ∷ moments entries) f.moment) is (contains_first x.moment (moments entries))
+  | inr behind ↦ contains_later x.moment (moments entries) e.moment (mapped_there entries e behind)
 ]
 
 -- an entry of a moment
@@ -50,10 +44,10 @@ record OfMoment (entries : List EntryFields) (m : ℕ) : Type 0 where
 
 mapped_from : (entries : List EntryFields) (m : ℕ) → Contains (moments entries) m → OfMoment entries m
 unfolding moments
-mapped_from [] m there = absurd (none_listed m there)
-mapped_from (x ∷ entries) m there = elim (listed_cases x.moment (moments entries) m there) [
-  | inl is ↦ record { entry = x; listed = first_listed x entries; moment = is }
-  | inr behind ↦ (let found : OfMoment entries m = mapped_from entries m behind in record { entry = found.entry; listed = behind_listed x entries found.entry found.listed; moment = found.moment })
+mapped_from [] m there = absurd (contains_none m there)
+mapped_from (x ∷ entries) m there = elim (contains_cases x.moment (moments entries) m there) [
+  | inl is ↦ record { entry = x; listed = contains_first x entries; moment = is }
+  | inr behind ↦ (let found : OfMoment entries m = mapped_from entries m behind in record { entry = found.entry; listed = contains_later x entries found.entry found.listed; moment = found.moment })
 ]
 
 told : (entries : List EntryFields) (e : EntryFields) → Contains entries e → Contains (moments_of_chain entries) e.moment
@@ -66,8 +60,8 @@ of_moment entries m there = mapped_from entries m (Contains-from_dedup nat_eq (m
 
 -- a moment of one of the rows is told
 moment_told : (chain : ImageRow → List EntryFields) (rows : List ImageRow) (row : ImageRow) (m : ℕ) → Contains rows row → Contains (moments_of_chain (chain row)) m → Contains (moments_of chain rows) m
-moment_told chain [] row m there at = absurd (none_listed row there)
-moment_told chain (x ∷ rows) row m there at = elim (listed_cases x rows row there) [
+moment_told chain [] row m there at = absurd (contains_none row there)
+moment_told chain (x ∷ rows) row m there at = elim (contains_cases x rows row there) [
   | inl is ↦
       Contains-append_left (moments_of_chain (chain x)) (moments_of chain rows) m (subst (λ (r : ImageRow). Contains (moments_of_chain (chain r)) m) (sym is) at)
   | inr behind ↦ Contains-append_right (moments_of_chain (chain x)) (moments_of chain rows) m (moment_told chain rows row m behind at)
@@ -79,10 +73,10 @@ record OfARow (chain : ImageRow → List EntryFields) (rows : List ImageRow) (m 
   found : OfMoment (chain row) m
 
 of_a_row : (chain : ImageRow → List EntryFields) (rows : List ImageRow) (m : ℕ) → Contains (moments_of chain rows) m → OfARow chain rows m
-of_a_row chain [] m there = absurd (none_listed m there)
+of_a_row chain [] m there = absurd (contains_none m there)
 of_a_row chain (x ∷ rows) m there = elim (Contains-append_cases (moments_of_chain (chain x)) (moments_of chain rows) m there) [
-  | inl here ↦ record { row = x; listed = first_listed x rows; found = of_moment (chain x) m here }
-  | inr behind ↦ (let r : OfARow chain rows m = of_a_row chain rows m behind in record { row = r.row; listed = behind_listed x rows r.row r.listed; found = r.found })
+  | inl here ↦ record { row = x; listed = contains_first x rows; found = of_moment (chain x) m here }
+  | inr behind ↦ (let r : OfARow chain rows m = of_a_row chain rows m behind in record { row = r.row; listed = contains_later x rows r.row r.listed; found = r.found })
 ]
 
 -- ---- numbers that are once in joined lists
@@ -96,8 +90,8 @@ once_behind [] ys once = once
 once_behind (x ∷ xs) ys once = once_behind xs ys (IsDistinct-tail nat_eq x (xs ++ ys) once)
 
 once_apart : (xs ys : List ℕ) (m : ℕ) → StandOnce (xs ++ ys) → Contains xs m → Contains ys m → ⊥
-once_apart [] ys m once first second = none_listed m first
-once_apart (x ∷ xs) ys m once first second = elim (listed_cases x xs m first) [
+once_apart [] ys m once first second = contains_none m first
+once_apart (x ∷ xs) ys m once first second = elim (contains_cases x xs m first) [
   | inl is ↦
       let P : ℕ → Type 0 = λ y. nat_eq x y ≡ false in
       let apart : nat_eq x m ≡ false = All-contains P (xs ++ ys) m (All-from_recursion P (xs ++ ys) (IsDistinct-head nat_eq x (xs ++ ys) once)) (Contains-append_right xs ys m second) in
@@ -107,15 +101,15 @@ once_apart (x ∷ xs) ys m once first second = elim (listed_cases x xs m first) 
 
 apart_joined : (x : ℕ) (xs ys : List ℕ) → AllByRecursion (λ y. nat_eq x y ≡ false) xs → (Contains ys x → ⊥) → AllByRecursion (λ y. nat_eq x y ≡ false) (xs ++ ys)
 apart_joined x [] [] front none = tt
-apart_joined x [] (y ∷ ys) front none = (ne_eqb x y (λ (is : x ≡ y). none (subst (λ m. Contains (y ∷ ys) m) (sym is) (first_listed y ys))), apart_joined x [] ys front (λ there. none (behind_listed y ys x there)))
+apart_joined x [] (y ∷ ys) front none = (ne_eqb x y (λ (is : x ≡ y). none (subst (λ m. Contains (y ∷ ys) m) (sym is) (contains_first y ys))), apart_joined x [] ys front (λ there. none (contains_later y ys x there)))
 apart_joined x (z ∷ xs) ys front none = (front.0, apart_joined x xs ys front.1 none)
 
 once_joined : (xs ys : List ℕ) → StandOnce xs → StandOnce ys → ((m : ℕ) → Contains xs m → Contains ys m → ⊥) → StandOnce (xs ++ ys)
 once_joined [] ys first second apart = second
 once_joined (x ∷ xs) ys first second apart =
     IsDistinct-cons nat_eq x (xs ++ ys)
-    (apart_joined x xs ys (IsDistinct-head nat_eq x xs first) (λ there. apart x (first_listed x xs) there))
-    (once_joined xs ys (IsDistinct-tail nat_eq x xs first) second (λ m one other. apart m (behind_listed x xs m one) other))
+    (apart_joined x xs ys (IsDistinct-head nat_eq x xs first) (λ there. apart x (contains_first x xs) there))
+    (once_joined xs ys (IsDistinct-tail nat_eq x xs first) second (λ m one other. apart m (contains_later x xs m one) other))
 
 -- ---- the moments of one chain
 
