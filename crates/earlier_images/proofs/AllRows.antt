@@ -1,5 +1,5 @@
 -- The rows of an image that were read, one after another.
-use Rattle.std.proofs.Common.{◌≡◌, ℕ, List, [], ◌∷◌, ◌++◌, Bool, true, false, MatchBool, Option, None, Some, IfSome, IfNone, refl, sym, ap, ◌∙◌, subst, append_assoc}
+use Rattle.std.proofs.Common.{◌≡◌, ℕ, List, [], ◌∷◌, ◌++◌, Bool, true, false, MatchBool, Option, None, Some, IfSome, sym, ap, ◌∙◌, subst}
 use Rattle.std.specs.List.{AllByRecursion, Contains}
 use Rattle.std.proofs.lemmas.List.{append-nil}
 use Rattle.std.proofs.lemmas.List.Elements.{All-contains, All-from_recursion, recursion_from_All, All-push}
@@ -12,6 +12,7 @@ use Rattle.image_objects.specs.declared.rows.ImageRow.{ImageRow}
 use Rattle.image_objects.specs.Moments.{moments_of_chain, StandOnce}
 use Rattle.image_objects.specs.Versions.{entries_used_by, moments_used_by, ObjectStandsBy, RowsShareNoMomentBy, RowsStandBy}
 use Rattle.verifier.specs.Rows.{SpellsRow, SpellRows}
+use Rattle.verifier.proofs.SpelledRows.{no_rows}
 use Rattle.earlier_images.specs.declared.rows.ReadRows.{ReadRows}
 use Rattle.earlier_images.specs.private.OneRow.{IsRowRead, PartStands}
 
@@ -41,10 +42,6 @@ moments_more used rows row =
     let f : ImageRow → List ℕ = λ r. moments_of_chain (entries_used_by First used r) in
     flat_map-append f rows (row ∷ []) ∙ ap (λ (l : List ℕ). moments_used_by First used rows ++ l) (append-nil (f row))
 
-none_spelled : (rows : List ImageRow) → SpellRows [] rows → rows ≡ []
-none_spelled [] spelled = refl
-none_spelled (r ∷ rows) spelled = absurd spelled
-
 -- ---- what was read
 
 -- These rows are what the parts encode, and nothing else is; their objects keep the rules, and these are the moments of their chains.
@@ -61,7 +58,7 @@ HaveRead used clock done now = AreRowsOf used clock done now.rows.items now.mome
 pub none_read : (used : Place → Option Stored) (clock : ℕ) (now : ReadRows) → now.rows.items ≡ [] → now.moments.items ≡ [] → HaveRead used clock [] now
 none_read used clock now rows moments =
     let R : List ImageRow → Type 0 = λ l. AreRowsOf used clock [] l now.moments.items in
-    subst R (sym rows) (record { spelled = tt; only = none_spelled; stand = tt; moments_are = moments })
+    subst R (sym rows) (record { spelled = tt; only = no_rows; stand = tt; moments_are = moments })
 
 pub one_read : Next → Only → (used : Place → Option Stored) (clock : ℕ) (done : List RowPart) (part : RowPart) (old new : ReadRows) → HaveRead used clock done old → IsRowRead used part clock old new → HaveRead used clock (done ++ part ∷ []) new
 one_read next only used clock done part old new h r =
@@ -107,9 +104,6 @@ pub row_falls : (b : Bool) (used : Place → Option Stored) (part : RowPart) (cl
     → MatchBool b (IsRowRead used part clock old new) (PartStands used part clock → ⊥) → PartStands used part clock → ⊥
 row_falls b used part clock old new is h = subst (λ x. MatchBool x (IsRowRead used part clock old new) (PartStands used part clock → ⊥)) is h
 
-pub one_on : (all done : List RowPart) (part : RowPart) (left rest : List RowPart) → all ≡ done ++ left → left ≡ part ∷ rest → all ≡ (done ++ part ∷ []) ++ rest
-one_on all done part left rest whole is = whole ∙ ap (λ (l : List RowPart). done ++ l) is ∙ sym (append_assoc done (part ∷ []) rest)
-
 pub have_all : (used : Place → Option Stored) (clock : ℕ) (all done left : List RowPart) (now : ReadRows) → HaveRead used clock done now → all ≡ done ++ left → left ≡ [] → HaveRead used clock all now
 have_all used clock all done left now h whole is =
     subst (λ (l : List RowPart). HaveRead used clock l now) (sym (whole ∙ ap (λ (l : List RowPart). done ++ l) is ∙ append-nil done)) h
@@ -119,7 +113,3 @@ have_all used clock all done left now h whole is =
 pub both_some : {A : Type 0} (o : Option A) (P Q R : A → Type 0) → ((x : A) → P x → Q x → R x) → IfSome o P → IfSome o Q → IfSome o R
 both_some None P Q R f p q = tt
 both_some (Some x) P Q R f p q = f x p q
-
-pub none_then : {A : Type 0} (o : Option A) (P Q : Type 0) → IfNone o P → (P → Q) → IfNone o Q
-none_then None P Q h f = f h
-none_then (Some x) P Q h f = tt

@@ -9,7 +9,7 @@ use Rattle.s4_types.specs.Pointer.{Place}
 use Rattle.block_log.specs.Log.{Stored, of_kind, same_place}
 use Rattle.block_log.specs.declared.kinds.BlockKind.{BlockKind}
 use Rattle.block_log.specs.declared.kinds.BlockKind.TheVariants.{Journal, Checkpoint, Data, Pointers}
-use Rattle.block_log.proofs.Places.{one_place}
+use Rattle.block_log.proofs.Places.{one_place, same_place_itself}
 use Rattle.checkpoint.specs.Held.{is_one_of}
 use Rattle.codec.specs.Summary.{SpellsSummary}
 use Rattle.codec.specs.declared.summaries.BlockRole.{BlockRole}
@@ -36,7 +36,6 @@ use Rattle.verifier.specs.Grammar.{SpellsDrive}
 use Rattle.verifier.specs.Reading.{AreKept}
 use Rattle.verifier.specs.Rows.{ChainsStand, SpellRows}
 use Rattle.verifier.specs.Tables.{IsFrameOf, IsTableOf, block_in, no_part}
-use Rattle.migration.proofs.Moving.{same_itself}
 
 -- ---- whether rows name a block
 
@@ -69,7 +68,7 @@ names_truly used row Pointers p h = and_parts (is_one_of (checkpoint_places_used
 named_so : (used : Place → Option Stored) (row : ImageRow) (kind : BlockKind) (p : Place) → NamesUsed used row kind p → names used row kind p ≡ true
 named_so used row Journal p n = lt-ltb 0 (times p (chain_places (of_kind Journal row.object used) row.object row.head)) n
 named_so used row Checkpoint p n = and_from (is_one_of (checkpoint_places_used used row) p) (is_some (of_kind Checkpoint row.object used p)) n.0 n.1
-named_so used row Data p n = list_any_at (refers p) (pointers_used used row) n.0 (Some p) n.1 (ap (refers p) n.2 ∙ same_itself p)
+named_so used row Data p n = list_any_at (refers p) (pointers_used used row) n.0 (Some p) n.1 (ap (refers p) n.2 ∙ same_place_itself p)
 named_so used row Pointers p n = and_from (is_one_of (checkpoint_places_used used row) p) (is_some (of_kind Pointers row.object used p)) n.0 n.1
 
 -- whether a row of its object names a block as what it is

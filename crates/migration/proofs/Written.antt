@@ -1,15 +1,16 @@
 -- An object whose data was copied and whose row was written then.
-use Rattle.std.proofs.Common.{◌≡◌, ℕ, ◌≤◌, ◌==◌, true, false, List, [], ◌++◌, length, map, reverse, Option, Some, None, IsSome, MatchOption, option_map, is_some, refl, sym, ap, subst, ◌∙◌}
+use Rattle.std.proofs.Common.{◌≡◌, ℕ, ◌≤◌, ◌==◌, true, false, List, [], ◌++◌, length, map, reverse, Option, Some, None, IsSome, MatchOption, is_some, refl, sym, ap, subst, ◌∙◌}
 use Rattle.std.specs.Prelude.{◌||◌}
 use Rattle.std.specs.List.{All, Contains}
 use Rattle.std.proofs.lemmas.Bool.{and_right}
 use Rattle.std.proofs.lemmas.List.{append-nil}
 use Rattle.std.proofs.lemmas.List.Elements.{All-weaker, All-map}
 use Rattle.s4_types.specs.Pointer.{Place}
-use Rattle.block_log.specs.Log.{Log, Stored, of_kind, same_kind, seen_as}
+use Rattle.lemmas.proofs.Contains.{contains_map}
+use Rattle.block_log.specs.Log.{Log, Stored, of_kind, same_kind}
 use Rattle.block_log.specs.Taken.{TakesPlaces}
 use Rattle.block_log.specs.declared.kinds.BlockKind.{BlockKind}
-use Rattle.block_log.specs.declared.kinds.BlockKind.TheVariants.{Journal, Checkpoint, Data, Pointers}
+use Rattle.block_log.specs.declared.kinds.BlockKind.TheVariants.{Journal, Data}
 use Rattle.codec.specs.Checkpoint.{pointer_at}
 use Rattle.codec.specs.Entry.{EntryFields, entries_length}
 use Rattle.codec.specs.declared.inodes.Inode.{Inode}
@@ -17,7 +18,7 @@ use Rattle.undo_redo.specs.Runs.{inode_after}
 use Rattle.inode.specs.Contents.{contents_of, meaning}
 use Rattle.inode.specs.Tidiness.{Tidy}
 use Rattle.journal_chain.specs.Chain.{chain_places}
-use Rattle.checkpoint.specs.Held.{is_one_of, seen_of, is_checkpoint_kind, or_others, begun_by}
+use Rattle.checkpoint.specs.Held.{is_one_of, is_checkpoint_kind}
 use Rattle.object_map.specs.declared.map.Row.{Row}
 use Rattle.object_map.specs.Rows.{fresh_row}
 use Rattle.time_read.specs.Rows.{IsRow, entries_of, checkpoint_of, inode_of, checkpoint_places_of}
@@ -36,7 +37,7 @@ use Rattle.migration.specs.private.CopyLaws.{CopyLaws}
 use Rattle.migration.specs.private.Copying.{Copying, AreApart, IsUsedData}
 use Rattle.migration.proofs.Ascending.{apart, ascend_with}
 use Rattle.migration.proofs.Moving.{OnePlace, old_places, from_places, copied_at, comes_from, moved_is}
-use Rattle.migration.proofs.Mapping.{same_blocks, held_stays, GoesSomewhere, each_goes, told_within, same_bytes, beginning_mapped, mapped_pointers, some_mapped, kept_pointers, of_pointers, contains_mapped, is_told}
+use Rattle.migration.proofs.Mapping.{same_blocks, held_stays, GoesSomewhere, each_goes, told_within, same_bytes, beginning_mapped, mapped_pointers, some_mapped, kept_pointers, of_pointers, is_told}
 
 -- what is told of the row that was written, in place of this one
 pub record Wrote (o : ℕ) (start : Row) (m : ℕ) (kept : Option Inode) (entries : List EntryFields) (middle after : Log) (later : Row) : Type 0 where
@@ -50,13 +51,6 @@ pub record Wrote (o : ℕ) (start : Row) (m : ℕ) (kept : Option Inode) (entrie
   pub others : OnlyMetadataChanged o middle.held after.held
   pub takes : TakesPlaces (moved_blocks kept entries) middle after
   pub order : middle.ahead ≡ checkpoint_places_of after.held o later ++ (reverse (chain_places (of_kind Journal o after.held) o later.head) ++ after.ahead)
-
--- ---- before
-
-pub no_checkpoints : (o : ℕ) (x : Option Stored) → seen_as Checkpoint o x ≡ None → seen_as Pointers o x ≡ None → seen_of o x ≡ None
-no_checkpoints o x first parts =
-    ap (λ (b : Option (List ℕ)). or_others (option_map (begun_by Checkpoint) b) (option_map (begun_by Pointers) (seen_as Pointers o x))) first
-    ∙ ap (λ (b : Option (List ℕ)). or_others None (option_map (begun_by Pointers) b)) parts
 
 -- ---- after
 
@@ -152,7 +146,7 @@ copied_row moves laws used row kept entries before middle after later can nothin
       named = λ p some.
           let came = comes_from laws.one moves p (subst (λ (x : List Place). AreApart x) (sym from) (apart (data_places kept entries) (ascend_with [] (data_pointers kept entries) tt))) (is.only p some) in
           let told : Contains (data_pointers kept entries) (Some came.place) = is_told laws.one (data_pointers kept entries) came.place (ap (λ (x : List Place). is_one_of x came.place) (sym from) ∙ sym (moved_is moves came.place) ∙ came.moved) in
-          let there : Contains (map (mapped_slot f) (data_pointers kept entries)) (Some (f came.place)) = contains_mapped (mapped_slot f) (data_pointers kept entries) (Some came.place) told in
+          let there : Contains (map (mapped_slot f) (data_pointers kept entries)) (Some (f came.place)) = contains_map (mapped_slot f) (data_pointers kept entries) (Some came.place) told in
           subst (λ (x : List (Option Place)). Contains x (Some p)) (sym led) (subst (λ (q : Place). Contains (map (mapped_slot f) (data_pointers kept entries)) (Some q)) came.goes there);
       copies = λ p moved. (is.copied p moved).1;
       others = others;

@@ -1,5 +1,5 @@
 -- The rows of an image that were read, one after another.
-use Rattle.std.proofs.Common.{◌≡◌, ℕ, List, [], ◌∷◌, ◌++◌, Bool, true, false, MatchBool, Option, None, Some, IfSome, IfNone, refl, sym, ap, ◌∙◌, subst, append_assoc}
+use Rattle.std.proofs.Common.{◌≡◌, ℕ, List, [], ◌∷◌, ◌++◌, Bool, true, false, MatchBool, Option, None, Some, IfSome, refl, sym, ap, ◌∙◌, subst, append_assoc}
 use Rattle.std.specs.List.{AllByRecursion, Contains}
 use Rattle.std.proofs.lemmas.List.{append-nil}
 use Rattle.std.proofs.lemmas.List.Elements.{All-contains, All-from_recursion, recursion_from_All, All-push, Contains-append_left, Contains-push}
@@ -24,7 +24,7 @@ use Rattle.verifier.specs.private.Holding.{IsUsedAlike}
 use Rattle.verifier.specs.private.OneRow.{IsRowRead, PartStands}
 use Rattle.verifier.proofs.Holding.{alike_itself, alike_on, same_used, holds_none}
 use Rattle.verifier.proofs.Counting.{names_none}
-use Rattle.verifier.proofs.SpelledRows.{spell_more, IsListed, listed, none_spelled, only_more}
+use Rattle.verifier.proofs.SpelledRows.{IsListed, listed, only_more, rows_push, no_rows}
 
 -- ---- one row more
 
@@ -62,7 +62,7 @@ pub none_read : (start : Table) (clock : ℕ) (now : ReadRows) → ((p : Place) 
 none_read start clock now nothing names table objects moments = record {
   rows = [];
   spelled = tt;
-  only = none_spelled;
+  only = no_rows;
   stand = tt;
   kept = subst (λ (l : List OpenedFields). AreKept (used_at start) [] l) (sym objects) tt;
   held = subst (λ (t : Table). HoldsWhatIsNamed (used_at start) (held_at t) []) (sym table) (holds_none (used_at start) (held_at start) nothing);
@@ -77,7 +77,7 @@ one_read start clock done part old new h read =
     let r : IsRowRead used part clock old new = subst (λ (u : Place → Option Stored). IsRowRead u part clock old new) (same_used start old.table h.alike) read in
     record {
       rows = h.rows ++ r.row ∷ [];
-      spelled = spell_more done h.rows part r.row h.spelled r.spelled;
+      spelled = rows_push done h.rows part r.row h.spelled r.spelled;
       only = only_more done part h.rows r.row h.only r.only;
       stand = objects_more used clock h.rows r.row h.stand r.stands;
       kept = subst (λ (l : List OpenedFields). AreKept used (h.rows ++ r.row ∷ []) l) (sym r.objects) (kept_more used h.rows old.objects.items r.row r.opened h.kept r.kept);
@@ -134,10 +134,6 @@ one_on all done part left rest whole is = whole ∙ ap (λ (l : List RowPart). d
 pub have_all : (start : Table) (clock : ℕ) (all done left : List RowPart) (now : ReadRows) → HaveRead start clock done now → all ≡ done ++ left → left ≡ [] → HaveRead start clock all now
 have_all start clock all done left now h whole is =
     subst (λ (l : List RowPart). HaveRead start clock l now) (sym (whole ∙ ap (λ (l : List RowPart). done ++ l) is ∙ append-nil done)) h
-
-pub none_then : {A : Type 0} (o : Option A) (P Q : Type 0) → IfNone o P → (P → Q) → IfNone o Q
-none_then None P Q h f = f h
-none_then (Some x) P Q h f = tt
 
 pub all_of : {A : Type 0} (o : Option A) (P Q R : A → Type 0) → IfSome o P → IfSome o Q → IfSome o R → IfSome o (λ x. P x × Q x × R x)
 all_of None P Q R p q r = tt

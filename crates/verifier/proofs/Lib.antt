@@ -1,12 +1,12 @@
-mod AllRows
-mod SpelledRows
+pub mod AllRows
+pub mod SpelledRows
 mod Holding
 mod Counting
 mod Telling
-mod Frames
+pub mod Frames
 mod Ends
-mod Faults
-mod Retold
+pub mod Faults
+pub mod Retold
 mod SpanOrder
 mod KeptRows
 mod Verified
@@ -16,8 +16,8 @@ mod ListedRows
 mod SavedRows
 mod SavedSpans
 mod FewRows
-mod SavedWhole
-mod OpenedRows
+pub mod SavedWhole
+pub mod OpenedRows
 mod OpenedBase
 mod OpenedSaved
 pub mod SavedFrames

@@ -14,7 +14,7 @@ use Rattle.image_objects.specs.Saved.{saved_row, saved_rows}
 use Rattle.verifier.specs.Rows.{SpellsRow, SpellRows}
 use Rattle.verifier.specs.SavedRows.{AreSavedUpTo, AreSaved}
 use Rattle.verifier.proofs.ListedRows.{none_beyond, found_as_before, found_last, ascend_push}
-use Rattle.verifier.proofs.AllRows.{rows_push}
+use Rattle.verifier.proofs.SpelledRows.{rows_push}
 
 -- none is saved yet, where no row is of object 0
 pub none_saved : (all : List (ℕ × Row)) → row_of all 0 ≡ None → AreSavedUpTo all 0 []

@@ -6,11 +6,11 @@ use Rattle.image_parts.specs.declared.rows.RowPart.{RowPart}
 use Rattle.image_objects.specs.declared.rows.ImageRow.{ImageRow}
 use Rattle.verifier.specs.Rows.{SpellsRow, SpellRows}
 
-pub spell_more : (parts : List RowPart) (rows : List ImageRow) (part : RowPart) (row : ImageRow) → SpellRows parts rows → SpellsRow part row → SpellRows (parts ++ part ∷ []) (rows ++ row ∷ [])
-spell_more [] [] part row front last = (last, tt)
-spell_more [] (r ∷ rows) part row front last = absurd front
-spell_more (x ∷ parts) [] part row front last = absurd front
-spell_more (x ∷ parts) (r ∷ rows) part row front last = (front.0, spell_more parts rows part row front.1 last)
+pub rows_push : (parts : List RowPart) (rows : List ImageRow) (part : RowPart) (row : ImageRow) → SpellRows parts rows → SpellsRow part row → SpellRows (parts ++ part ∷ []) (rows ++ row ∷ [])
+rows_push [] [] part row front last = (last, tt)
+rows_push [] (r ∷ rows) part row front last = absurd front
+rows_push (x ∷ parts) [] part row front last = absurd front
+rows_push (x ∷ parts) (r ∷ rows) part row front last = (front.0, rows_push parts rows part row front.1 last)
 
 -- ---- rows that parts encode, one of which is looked at
 
@@ -31,15 +31,15 @@ spelled_at (x ∷ done) part rest (r ∷ rows) spelled =
     let s : SpelledAt done part rest rows = spelled_at done part rest rows spelled.1 in
     record { front = r ∷ s.front; row = s.row; behind = s.behind; before = (spelled.0, s.before); here = s.here; after = s.after; is = ap (λ (l : List ImageRow). r ∷ l) s.is }
 
-pub none_spelled : (rows : List ImageRow) → SpellRows [] rows → rows ≡ []
-none_spelled [] spelled = refl
-none_spelled (r ∷ rows) spelled = absurd spelled
+pub no_rows : (rows : List ImageRow) → SpellRows [] rows → rows ≡ []
+no_rows [] spelled = refl
+no_rows (r ∷ rows) spelled = absurd spelled
 
 pub only_more : (done : List RowPart) (part : RowPart) (rows : List ImageRow) (row : ImageRow) → ((others : List ImageRow) → SpellRows done others → others ≡ rows) → ((other : ImageRow) → SpellsRow part other → other ≡ row)
     → (others : List ImageRow) → SpellRows (done ++ part ∷ []) others → others ≡ rows ++ row ∷ []
 only_more done part rows row front last others spelled =
     let s : SpelledAt done part [] others = spelled_at done part [] others spelled in
-    s.is ∙ ap (λ (l : List ImageRow). s.front ++ s.row ∷ l) (none_spelled s.behind s.after)
+    s.is ∙ ap (λ (l : List ImageRow). s.front ++ s.row ∷ l) (no_rows s.behind s.after)
     ∙ ap (λ (l : List ImageRow). l ++ s.row ∷ []) (front s.front s.before) ∙ ap (λ (r : ImageRow). rows ++ r ∷ []) (last s.row s.here)
 
 -- a part among others encodes one of the rows

@@ -1,9 +1,11 @@
 use Rattle.std.proofs.Common.{◌++◌, List, ◌∙◌, sym, ap}
+use Rattle.lemmas.proofs.Option.{IfNone_weaker}
 use Rattle.codec.specs.declared.versions.ImageVersion.TheVariants.{First}
 use Rattle.image_parts.specs.declared.rows.RowPart.{RowPart}
 use Rattle.image_objects.specs.Versions.{entries_used_by}
+use Rattle.verifier.proofs.AllRows.{one_on}
 use Rattle.earlier_images.specs.Used.{used_in}
-use Rattle.earlier_images.proofs.AllRows.{HaveRead, none_read, one_read, row_read, row_falls, one_on, one_falls, have_all, all_stand, moments_fall, both_some, none_then}
+use Rattle.earlier_images.proofs.AllRows.{HaveRead, none_read, one_read, row_read, row_falls, one_falls, have_all, all_stand, moments_fall, both_some}
 use Rattle.earlier_images.proofs.rows.read_rows.Goals.{After-finish}
 use Rattle.earlier_images.proofs.rows.read_rows.Goals as goal
 
@@ -43,4 +45,4 @@ returns-clause-stand c =
 pub returns-clause-none : goal.returns-clause-none
 returns-clause-none c =
     let used = used_in c.args.frames.now in
-    none_then c.finish.result _ _ c.finish.ensures.none (moments_fall used c.args.clock c.args.parts.now.rows c.loop-part.reading (all c) (c.moments_told_once_are_not_shared.ensures.standing_by First used))
+    IfNone_weaker c.finish.result _ _ c.finish.ensures.none (moments_fall used c.args.clock c.args.parts.now.rows c.loop-part.reading (all c) (c.moments_told_once_are_not_shared.ensures.standing_by First used))

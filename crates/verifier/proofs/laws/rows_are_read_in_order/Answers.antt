@@ -1,8 +1,8 @@
-use Rattle.verifier.proofs.SpelledRows.{spell_more, only_more, listed}
+use Rattle.verifier.proofs.SpelledRows.{only_more, listed, rows_push}
 use Rattle.verifier.proofs.laws.rows_are_read_in_order.Goals as goal
 
 pub returns-clause-next : goal.returns-clause-next
-returns-clause-next c = spell_more
+returns-clause-next c = rows_push
 
 pub returns-clause-only : goal.returns-clause-only
 returns-clause-only c = only_more

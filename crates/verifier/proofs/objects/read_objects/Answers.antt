@@ -1,12 +1,13 @@
 use Rattle.std.proofs.Common.{◌≡◌, List, ◌++◌, ◌∙◌, sym, ap, map}
 use Rattle.std.proofs.lemmas.Option.{IfSome_then}
+use Rattle.lemmas.proofs.Option.{IfNone_weaker}
 use Rattle.image_objects.specs.Chains.{entries_used}
 use Rattle.image_objects.specs.Moments.{StandOnce}
 use Rattle.segment_table.specs.Table.{Table, slots_at}
 use Rattle.segment_table.specs.Used.{used_at}
 use Rattle.image_parts.specs.declared.rows.RowPart.{RowPart}
 use Rattle.verifier.specs.declared.objects.Read.{Read}
-use Rattle.verifier.proofs.AllRows.{HaveRead, none_read, one_read, row_read, row_falls, one_on, one_falls, have_all, all_read, moments_fall, none_then, all_of}
+use Rattle.verifier.proofs.AllRows.{HaveRead, none_read, one_read, row_read, row_falls, one_on, one_falls, have_all, all_read, moments_fall, all_of}
 use Rattle.verifier.proofs.objects.read_objects.Goals as goal
 
 pub loop-part-init : goal.loop-part-init
@@ -45,7 +46,7 @@ returns-clause-found c =
     (λ (read : Read) found. all_read c.args.table c.args.clock c.args.parts.now.rows reading read.table read.objects.items (all c) (λ used. c.moments_told_once_are_not_shared.ensures.apart (entries_used used)) found)
 
 pub returns-clause-none : goal.returns-clause-none
-returns-clause-none c = none_then c.finish.result _ _ c.finish.ensures.none
+returns-clause-none c = IfNone_weaker c.finish.result _ _ c.finish.ensures.none
     (moments_fall c.args.table c.args.clock c.args.parts.now.rows c.loop-part.reading (all c) c.moments_told_once_are_not_shared.ensures.standing)
 
 pub returns-clause-used : goal.returns-clause-used
