@@ -12,4 +12,3 @@ mod Parts
 mod Fronts
 mod Filled
 mod Done
-mod Reading

@@ -1,15 +1,11 @@
-//! Laws of what is copied and written, for the layers above: each function does nothing, and its contract is
+//! A law of what is copied, for the layers above: its function does nothing, and the contract is
 //! the law.
-ghost use Rattle.std.specs.Prelude.{◌≡◌, ℕ, true, List, length, Option, Some};
+ghost use Rattle.std.specs.Prelude.{◌≡◌, true, List, Option, Some};
 ghost use Rattle.std.specs.List.{Contains};
 ghost use Rattle.s4_types.specs.Pointer.{Place};
 ghost use Rattle.codec.specs.declared.inodes.Inode.{Inode};
 ghost use Rattle.codec.specs.Entry.{EntryFields};
 ghost use Rattle.checkpoint.specs.Held.{is_one_of};
-ghost use Rattle.image_parts.specs.Image.{Image as ImageParts};
-ghost use Rattle.verifier.specs.Images.{ImageFields, IsImageOf};
-ghost use Rattle.verifier.specs.Opened.{IsReadOf};
-ghost use Rattle.migration.specs.Migrated.{Migrates};
 ghost use Rattle.migration.specs.Places.{Ascend, data_places, data_pointers};
 
 use block_log::laws::one_place_has_one_name;
@@ -28,12 +24,3 @@ pub fn places_of_data_ascend()
 {
     one_place_has_one_name();
 }
-
-/// The bytes of a new image are read as an image: there is what `verify` gives of them. Whatever is
-/// read of an image has as many objects as it has rows.
-pub fn a_new_image_is_read()
-    ensures read { (bytes new : List ℕ) → Migrates bytes new
-        → (image : ImageFields) × IsReadOf new image }
-    ensures objects { (parts : ImageParts) (image : ImageFields) → IsImageOf parts image
-        → length image.objects ≡ length parts.rows }
-{}

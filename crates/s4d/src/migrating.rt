@@ -20,12 +20,13 @@ ghost use Rattle.s4d.specs.Migrating.{SaysUnmigrated, SaysUntaken, parts_line};
 use codec::ImageVersion;
 use image_commands::{Fault, Files, Obstacle, Place, Placed, number_line, read_whole, writing};
 use image_parts::split_parts;
-use migration::laws::a_new_image_is_read;
 use migration::migrated;
 use s4_types::Refusal;
 use s4d_command::Migrate;
 use std::alloc::{AllocError, Global};
-use verifier::laws::{what_has_a_fault_spells_nothing, what_has_no_fault_is_an_image};
+use verifier::laws::{
+    an_encoded_drive_is_read, what_has_a_fault_spells_nothing, what_has_no_fault_is_an_image,
+};
 
 /// A new image that is in its place.
 #[derive(Drop)]
@@ -167,7 +168,7 @@ fn save_migrated(alloc: Global, bytes: Vec<u8>) -> Result<Saved, Refusal>
         ⊎ ((cause : Found) × (e ≡ Damaged cause) × FirstEarlierFault bytes.items (Some cause)))) }
 {
     what_has_no_fault_is_an_image();
-    a_new_image_is_read();
+    an_encoded_drive_is_read();
     let new = match migrated(alloc, bytes.as_slice()) {
         Ok(new) => new,
         Err(refusal) => return Err(refusal),

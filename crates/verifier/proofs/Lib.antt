@@ -26,3 +26,4 @@ mod OneRows
 mod OneFrames
 mod OneImage
 mod SavedTold
+mod Encoded

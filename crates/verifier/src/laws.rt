@@ -1,6 +1,6 @@
 //! Laws of the images of drives, for the layers above: each function does nothing, and its contract
 //! is the law.
-ghost use Rattle.std.specs.Prelude.{◌≡◌, ◌↔◌, ℕ, List, [], ◌∷◌, ◌++◌, Option, Some, None};
+ghost use Rattle.std.specs.Prelude.{◌≡◌, ◌↔◌, ℕ, List, [], ◌∷◌, ◌++◌, length, Option, Some, None};
 ghost use Rattle.std.specs.List.{Contains};
 ghost use Rattle.s4_types.specs.declared.refusals.Cause.{Cause as Found};
 ghost use Rattle.s4_types.specs.declared.spans.Span.{Span as Hidden};
@@ -12,6 +12,8 @@ ghost use Rattle.window.specs.Runs.{Ascend, AllBeginFrom};
 ghost use Rattle.window.specs.Timeline.{CoverAlike};
 ghost use Rattle.drive.specs.Fields.{DriveFields};
 ghost use Rattle.verifier.specs.Grammar.{SpellsDrive, FirstFault};
+ghost use Rattle.verifier.specs.Images.{ImageFields, IsImageOf};
+ghost use Rattle.verifier.specs.Opened.{IsReadOf};
 ghost use Rattle.verifier.specs.Saved.{SpellsSaved};
 ghost use Rattle.verifier.specs.Rows.{SpellsRow, SpellRows};
 
@@ -36,6 +38,15 @@ pub fn what_has_no_fault_is_an_image()
     an_image_is_read();
     what_no_test_refuses_is_an_image();
 }
+
+/// Bytes that encode the image of a drive are read as one: there is what `verify` gives of them.
+/// Whatever is read of an image has as many objects as it has rows.
+pub fn an_encoded_drive_is_read()
+    ensures read { (bytes : List ℕ) (parts : ImageParts) → SpellsDrive bytes parts
+        → (image : ImageFields) × IsReadOf bytes image }
+    ensures objects { (parts : ImageParts) (image : ImageFields) → IsImageOf parts image
+        → length image.objects ≡ length parts.rows }
+{}
 
 /// The tests come to one cause, or to none.
 pub fn one_first_fault()

@@ -24,6 +24,6 @@ pub returns-clause-line : goal.returns-clause-line
 returns-clause-line c =
     let new : List ℕ = c.in-Ok.new.items in
     let line : List ℕ = string_bytes c.in_ok-line.line in
-    let read = c.a_new_image_is_read.ensures.read c.as_slice.result.now new c.in-Ok.ensures.migrates in
+    let read = c.an_encoded_drive_is_read.ensures.read new c.in-Ok.ensures.migrates.is c.in-Ok.ensures.migrates.written in
     let told : line ≡ parts_line (image_in new) = subst (λ (bytes : List ℕ). line ≡ parts_line (image_in bytes)) c.as_slice-2.ensures.value c.in_ok-line.ensures.line in
-    (read.0, read.1, line_read c.a_new_image_is_read.ensures.objects c.what_has_no_fault_is_an_image.ensures.read new read.0 line read.1 told)
+    (read.0, read.1, line_read c.an_encoded_drive_is_read.ensures.objects c.what_has_no_fault_is_an_image.ensures.read new read.0 line read.1 told)
