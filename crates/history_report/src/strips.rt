@@ -1,8 +1,8 @@
 //! The strips of a timeline: one for each object.
-ghost use Rattle.std.specs.Prelude.{◌≡◌, ◌++◌, ◌+◌, ◌^◌, ◌<◌, nat_le, filter, IfOk, OnOk};
+ghost use Rattle.std.specs.Prelude.{◌≡◌, ◌++◌, ◌+◌, ◌^◌, ◌<◌, IfOk, OnOk};
 ghost use Rattle.std.specs.Prelude.{string_bytes};
 ghost use Rattle.std.specs.Io.KnownBytes.{Appends};
-ghost use Rattle.window.specs.Runs.{Ascend, span_is_of};
+ghost use Rattle.window.specs.Runs.{Ascend};
 ghost use Rattle.drive.specs.Fields.{state_in, store_of};
 ghost use Rattle.history_report.specs.Page.{page_text};
 ghost use Rattle.history_report.specs.Timeline.{strip_by, strip_head, strip_of};
@@ -18,32 +18,7 @@ use s4_types::{ObjectId, Span};
 use segment_word::Naming;
 use serving::Sink;
 use std::alloc::{AllocError, Global};
-
-// The runs from those of a list on. Logarithmic in the runs.
-fn from_list(runs: &[Span], list: ObjectId) -> &[Span]
-    requires { Ascend runs.now }
-    ensures { result.now ≡ filter (λ run. nat_le list run.object) runs.now }
-{
-    let before = runs.partition_point(|run| run.object < list);
-    &runs[before..]
-}
-
-// The runs up to those of a list. Logarithmic in the runs.
-fn up_to_list(runs: &[Span], list: ObjectId) -> &[Span]
-    requires { Ascend runs.now }
-    ensures { result.now ≡ filter (λ run. nat_le run.object list) runs.now }
-{
-    let count = runs.partition_point(|run| run.object <= list);
-    &runs[..count]
-}
-
-// The runs of one list, which are side by side. Logarithmic in the runs.
-fn of_list(runs: &[Span], list: ObjectId) -> &[Span]
-    requires { Ascend runs.now }
-    ensures { result.now ≡ filter (span_is_of list) runs.now }
-{
-    up_to_list(from_list(runs, list), list)
-}
+use window::of_list;
 
 fn strip_head(alloc: Global, object: ObjectId) -> Result<String, AllocError>
     ensures { IfOk result (λ text. string_bytes text ≡ page_text (strip_head object)) }

@@ -20,4 +20,5 @@ pub mod laws;
 mod runs;
 mod window;
 
+pub use runs::of_list;
 pub use window::{FlushPlan, Window};
