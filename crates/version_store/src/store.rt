@@ -252,6 +252,7 @@ impl<B: Blocks> Store<B> {
         ensures same { fields_of B.log self.new ≡ fields_of B.log self.old }
     {
         held_pointers_lead();
+        the_last_inode_is_current();
         the_present_stays();
         let Some(kept) = self.objects.get(object) else {
             return Err(Refusal::NoObject);
@@ -260,7 +261,15 @@ impl<B: Blocks> Store<B> {
             return read_live(self.alloc, &mut self.table, &kept.value.inode, reader);
         }
         let mut inode = kept.value.inode;
-        self.lead_back(object, at, &mut inode);
+        lead_back(
+            self.alloc,
+            &mut self.table,
+            &mut self.cache,
+            object,
+            kept,
+            at,
+            &mut inode,
+        );
         read_live(self.alloc, &mut self.table, &inode, reader)
     }
 }

@@ -1,10 +1,13 @@
 use Rattle.std.proofs.Common.{◌≡◌, ◌≤◌, Some, sym, ap, subst, ◌∙◌}
 use Rattle.std.proofs.lemmas.Map.Keys.{le_from_is_le}
+use Rattle.block_log.specs.Log.{Log}
 use Rattle.codec.specs.declared.inodes.Inode.{Inode}
 use Rattle.inode.specs.Tidiness.{PointersHeld}
 use Rattle.version_store.specs.Store.{StoreOf, StoreFields, IsStore, fields_of}
-use Rattle.version_store.specs.Versions.{inode_in}
-use Rattle.version_store.proofs.Beside.{inode_kept}
+use Rattle.version_store.specs.Versions.{inode_by, inode_in}
+use Rattle.time_read.specs.Presents.{IsIndexOf}
+use Rattle.version_store.proofs.Beside.{entries_here, inode_kept, index_kept, present_last, beside_added}
+use Rattle.version_store.proofs.Cached.{true_of}
 use Rattle.version_store.proofs.Present.{can_read}
 use Rattle.version_store.proofs.ReadByInode.{read_by_inode, unread_by_inode}
 use Rattle.version_store.proofs.store.Store.read_at.Goals as goal
@@ -16,11 +19,40 @@ read_live-requires-clause-lead g c =
     c.held_pointers_lead.ensures s.log.held c.args.object c.in-Some.kept.now.value.inode
     (can_read s c.args.object s.latest c.in-Some.kept.now.value.inode store (sym (inode_kept c.self.inside.objects.values c.self.inside.cache.pairs s c.args.object c.in-Some.kept.now.value c.in-Some.ensures.value c.self.invariant))).1
 
+pub lead_back-requires-clause-row : goal.lead_back-requires-clause-row
+lead_back-requires-clause-row g c =
+    let s : StoreFields = record { rows = c.self.inside.objects.rows; log = g.B.Blocks.log c.self.inside.table; latest = c.self.inside.latest } in
+    let store : IsStore s = subst (λ (v : StoreOf _). IsStore (fields_of g.B.Blocks.log v)) (sym c.self.view_is) c.requires in
+    (store.objects c.args.object c.in-Some.kept.now.row (sym c.in-Some.ensures.row)).stands
+
+pub lead_back-requires-clause-index : goal.lead_back-requires-clause-index
+lead_back-requires-clause-index g c =
+    let s : StoreFields = record { rows = c.self.inside.objects.rows; log = g.B.Blocks.log c.self.inside.table; latest = c.self.inside.latest } in
+    let kept = c.in-Some.kept.now in
+    subst (IsIndexOf kept.value.index) (entries_here s c.args.object kept.row (sym c.in-Some.ensures.row))
+    (index_kept c.self.inside.objects.values c.self.inside.cache.pairs s c.args.object kept.value c.in-Some.ensures.value c.self.invariant)
+
+pub lead_back-requires-clause-cached : goal.lead_back-requires-clause-cached
+lead_back-requires-clause-cached g c =
+    true_of (g.B.Blocks.log c.self.inside.table).held c.self.inside.objects.rows c.args.object c.in-Some.kept.now.row c.self.inside.cache.pairs (sym c.in-Some.ensures.row) c.self.invariant.cached
+
+pub lead_back-requires-clause-present : goal.lead_back-requires-clause-present
+lead_back-requires-clause-present g c =
+    let s : StoreFields = record { rows = c.self.inside.objects.rows; log = g.B.Blocks.log c.self.inside.table; latest = c.self.inside.latest } in
+    let store : IsStore s = subst (λ (v : StoreOf _). IsStore (fields_of g.B.Blocks.log v)) (sym c.self.view_is) c.requires in
+    let kept = c.in-Some.kept.now in
+    present_last c.the_last_inode_is_current.ensures s c.args.object kept.row kept.value.inode store (sym c.in-Some.ensures.row)
+    (sym (inode_kept c.self.inside.objects.values c.self.inside.cache.pairs s c.args.object kept.value c.in-Some.ensures.value c.self.invariant))
+
 pub read_live-requires-2-clause-lead : goal.read_live-requires-2-clause-lead
 read_live-requires-2-clause-lead g c =
-    let held = (can_read (fields_of g.B.Blocks.log c.args.self.now) c.args.object c.args.at c.lead_back.new.inode c.requires c.lead_back.ensures.inode).1 in
-    c.held_pointers_lead.ensures (g.B.Blocks.log c.self-2.inside.table).held c.args.object c.lead_back.new.inode
-    (subst (λ (s : StoreFields). PointersHeld s.log.held c.args.object c.lead_back.new.inode) (sym (ap (fields_of g.B.Blocks.log) c.self-2.view_is ∙ c.lead_back.ensures.same)) held)
+    let s : StoreFields = record { rows = c.self.inside.objects.rows; log = g.B.Blocks.log c.self.inside.table; latest = c.self.inside.latest } in
+    let store : IsStore s = subst (λ (v : StoreOf _). IsStore (fields_of g.B.Blocks.log v)) (sym c.self.view_is) c.requires in
+    let there : inode_in s c.args.object c.args.at ≡ Some c.lead_back.new.inode =
+    ap (inode_by s.log.held c.args.object c.args.at) (sym c.in-Some.ensures.row) ∙ ap (λ (i : Inode). Some i) (sym c.lead_back.ensures.inode) in
+    let held = (can_read s c.args.object c.args.at c.lead_back.new.inode store there).1 in
+    c.held_pointers_lead.ensures (g.B.Blocks.log c.lead_back.new.table).held c.args.object c.lead_back.new.inode
+    (subst (λ (l : Log). PointersHeld l.held c.args.object c.lead_back.new.inode) (sym c.lead_back.ensures.same) held)
 
 pub returns-then-le-clause-reads : goal.returns-then-le-clause-reads
 returns-then-le-clause-reads g c =
@@ -43,3 +75,25 @@ returns-then-le-clause-refused g c =
     let there : inode_in s c.args.object c.args.at ≡ Some i = (c.the_present_stays.ensures s c.args.object c.args.at store past).0 ∙ sym kept in
     unread_by_inode c.read_live.result (fields_of g.B.Blocks.log c.args.self.now) c.args.object c.args.at i _
     (subst (λ (v : StoreOf _). inode_in (fields_of g.B.Blocks.log v) c.args.object c.args.at ≡ Some i) c.self.view_is there) c.read_live.ensures.refused
+
+pub invariant_of-self-2 : goal.invariant_of-self-2
+invariant_of-self-2 g c =
+    let s : StoreFields = record { rows = c.self.inside.objects.rows; log = g.B.Blocks.log c.self.inside.table; latest = c.self.inside.latest } in
+    beside_added c.self.inside.objects.values c.self.inside.cache.pairs c.lead_back.new.cache.pairs s (g.B.Blocks.log c.read_live-2.new.table) c.args.object c.in-Some.kept.now.row
+    (c.read_live-2.ensures.same ∙ c.lead_back.ensures.same) (sym c.in-Some.ensures.row) c.lead_back.ensures.added c.self.invariant
+
+pub returns-clause-reads : goal.returns-clause-reads
+returns-clause-reads g c =
+    let s : StoreFields = record { rows = c.self.inside.objects.rows; log = g.B.Blocks.log c.self.inside.table; latest = c.self.inside.latest } in
+    let there : inode_in s c.args.object c.args.at ≡ Some c.lead_back.new.inode =
+    ap (inode_by s.log.held c.args.object c.args.at) (sym c.in-Some.ensures.row) ∙ ap (λ (i : Inode). Some i) (sym c.lead_back.ensures.inode) in
+    read_by_inode c.read_live-2.result (fields_of g.B.Blocks.log c.args.self.now) c.args.object c.args.at c.lead_back.new.inode _
+    (subst (λ (v : StoreOf _). inode_in (fields_of g.B.Blocks.log v) c.args.object c.args.at ≡ Some c.lead_back.new.inode) c.self.view_is there) c.read_live-2.ensures.reads
+
+pub returns-clause-refused : goal.returns-clause-refused
+returns-clause-refused g c =
+    let s : StoreFields = record { rows = c.self.inside.objects.rows; log = g.B.Blocks.log c.self.inside.table; latest = c.self.inside.latest } in
+    let there : inode_in s c.args.object c.args.at ≡ Some c.lead_back.new.inode =
+    ap (inode_by s.log.held c.args.object c.args.at) (sym c.in-Some.ensures.row) ∙ ap (λ (i : Inode). Some i) (sym c.lead_back.ensures.inode) in
+    unread_by_inode c.read_live-2.result (fields_of g.B.Blocks.log c.args.self.now) c.args.object c.args.at c.lead_back.new.inode _
+    (subst (λ (v : StoreOf _). inode_in (fields_of g.B.Blocks.log v) c.args.object c.args.at ≡ Some c.lead_back.new.inode) c.self.view_is there) c.read_live-2.ensures.refused
