@@ -8,7 +8,6 @@ use Rattle.block_log.specs.Log.{Log, Stored, of_kind}
 use Rattle.block_log.specs.declared.kinds.BlockKind.TheVariants.{Journal}
 use Rattle.codec.specs.declared.inodes.Inode.{Inode}
 use Rattle.codec.specs.Entry.{EntryFields}
-use Rattle.undo_redo.specs.Runs.{AllBy}
 use Rattle.journal_chain.specs.Chain.{OnlyJournalChanged}
 use Rattle.inode.specs.Growth.{GrowsBy}
 use Rattle.time_read.specs.Undoings.{Undoing}
@@ -22,6 +21,7 @@ use Rattle.time_read.specs.declared.presents.Present.{Present}
 use Rattle.version_store.specs.Store.{StoreFields, IsStore}
 use Rattle.version_store.specs.Versions.{entries_of_row, entries_of_object, inode_by, inode_in}
 use Rattle.time_read.specs.Presents.{IsIndexOf, KeepsIndexOf}
+use Rattle.version_store.specs.private.Below.{LastIsCurrent}
 use Rattle.version_store.specs.private.Beside.{inode_beside, IsBeside}
 use Rattle.version_store.specs.Checkpointing.{last_entry, IsCheckpointed}
 use Rattle.version_store.specs.Replacing.{OtherObjectsStay, IsRemoved}
@@ -173,10 +173,6 @@ beside_added values pairs after s log o row same there adds beside =
     })
 
 -- ---- an inode at a moment by the index
-
--- from the moment of its last entry on, an object's inode is the one after all entries
-abbrev pub LastIsCurrent : Type 0
-LastIsCurrent = (held : Place → Option Stored) (o t : ℕ) (row : Row) → AllBy t (entries_of held o row) → inode_of held o row t ≡ last_inode held o row
 
 -- the present inode is the one after all entries
 pub present_last : LastIsCurrent → (s : StoreFields) (o : ℕ) (row : Row) (present : Inode) → IsStore s → row_of s.rows o ≡ Some row → inode_in s o s.latest ≡ Some present → present ≡ last_inode s.log.held o row

@@ -11,7 +11,9 @@ ghost use Rattle.version_store.specs.Replacing.{AJournalCanBeCut, ACutJournalSho
 ghost use Rattle.version_store.specs.Stamps.{EachStepTells};
 ghost use Rattle.version_store.specs.Tallies.{CountsAreOfRows};
 ghost use Rattle.version_store.specs.private.Below.{ChangesStand, RowStays, RowInodeStays};
+ghost use Rattle.version_store.specs.private.Below.{LastIsCurrent};
 ghost use Rattle.version_store.specs.private.Below.{OrderlyStays, RunsEnd, HolesTellBlocks};
+ghost use Rattle.inode.specs.Laws.{HeldPointersLead};
 ghost use Rattle.chain_rewriting.specs.Places.{WhatIsToldIsListed, ATestTellsApart};
 ghost use Rattle.chain_rewriting.specs.Places.{ARenamedChainTellsInOrder};
 ghost use Rattle.chain_rewriting.specs.RenamingLaws.{RenamingCommutesWithRedoOfAll};
@@ -42,7 +44,7 @@ use journal_chain::packing::laws::{bytes_add_up, chains_are_short};
 use row_changes::laws::{
     a_fresh_row_stands, a_row_is_by_later_moments, a_row_keeps_the_making, the_last_inode_stays,
 };
-use time_read::laws::{a_row_is_its_own_blocks, an_orderly_row_stays};
+use time_read::laws::{a_row_is_its_own_blocks, an_orderly_row_stays, the_last_inode_is_current};
 use undo_redo::laws::{
     a_blank_inode_has_holes_alone, entries_determine_a_run, groups_part_at_a_moment,
     the_entries_between_two_inodes,
@@ -152,6 +154,18 @@ pub fn a_cut_journal_shows_the_same()
     entries_determine_a_run();
     groups_part_at_a_moment();
     a_row_keeps_the_making();
+}
+
+// That the present stays, and what the crates below say of an object's inodes, for the functions that
+// read by one of them.
+pub(crate) fn what_reads_rest_on()
+    ensures present { ThePresentStays }
+    ensures last { LastIsCurrent }
+    ensures lead { HeldPointersLead }
+{
+    the_present_stays();
+    the_last_inode_is_current();
+    held_pointers_lead();
 }
 
 // What the crates below say of rows, inodes and entries, for the functions that change an object or

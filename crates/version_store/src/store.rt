@@ -20,19 +20,17 @@ mod replacements;
 mod tallying;
 mod upkeep;
 
-use crate::laws::{an_object_has_an_inode_at_all_moments_or_at_none, the_present_stays};
+use crate::laws::{an_object_has_an_inode_at_all_moments_or_at_none, what_reads_rest_on};
 use crate::leading::lead_back;
 use crate::readers::{Reader, read_live};
 use block_log::Blocks;
 use checkpoint::InodeCache;
 use codec::{Entry, Inode};
-use inode::laws::held_pointers_lead;
 use object_map::{ObjectMap, Row};
 use s4_types::limits::RESERVE_BLOCKS;
 use s4_types::{Moment, ObjectId, Refusal};
 use std::alloc::Global;
 use std::marker::Model;
-use time_read::laws::the_last_inode_is_current;
 use time_read::{Present, inode_at_counted};
 
 /// The rows of all objects, and the table that their blocks are in.
@@ -160,8 +158,7 @@ impl<B: Blocks> Store<B> {
         ensures inode { inode_in (fields_of B.log self.old) object at ≡ Some inode.new }
         ensures same { fields_of B.log self.new ≡ fields_of B.log self.old }
     {
-        the_last_inode_is_current();
-        the_present_stays();
+        what_reads_rest_on();
         if self.latest <= at {
             return;
         }
@@ -251,9 +248,7 @@ impl<B: Blocks> Store<B> {
             (λ inode. R.refuses reader self.new.table inode e) e) }
         ensures same { fields_of B.log self.new ≡ fields_of B.log self.old }
     {
-        held_pointers_lead();
-        the_last_inode_is_current();
-        the_present_stays();
+        what_reads_rest_on();
         let Some(kept) = self.objects.get(object) else {
             return Err(Refusal::NoObject);
         };

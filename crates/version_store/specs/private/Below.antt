@@ -18,7 +18,7 @@ use Rattle.checkpoint.specs.Held.{checkpoint_held, checkpoint_blocks, HasItsBloc
 use Rattle.inode.specs.Laws.{OnlyItsBlocksMatter, HeldPointersLead}
 use Rattle.object_map.specs.declared.map.Row.{Row}
 use Rattle.object_map.specs.Rows.{fresh_row}
-use Rattle.time_read.specs.Rows.{IsRow, inode_of}
+use Rattle.time_read.specs.Rows.{IsRow, entries_of, inode_of, last_inode}
 use Rattle.time_read.specs.Orderly.{IsOrderly}
 use Rattle.row_changes.specs.Recent.{IsBy}
 
@@ -40,6 +40,10 @@ IsByStays = (held later : Place → Option Stored) (o : ℕ) (row : Row) (t : �
 
 abbrev pub LastInodeStays : Type 0
 LastInodeStays = (held : Place → Option Stored) (o : ℕ) (row : Row) (a t : ℕ) → IsBy held o row a → a ≤ t → inode_of held o row t ≡ inode_of held o row a
+
+-- from the moment of its last entry on, an object's inode is the one after all entries
+abbrev pub LastIsCurrent : Type 0
+LastIsCurrent = (held : Place → Option Stored) (o t : ℕ) (row : Row) → AllBy t (entries_of held o row) → inode_of held o row t ≡ last_inode held o row
 
 abbrev pub FreshRowStands : Type 0
 FreshRowStands = (held : Place → Option Stored) (o created : ℕ) → 1 ≤ o → ((p : Place) → of_kind Journal o held p ≡ None) → ((p : Place) → of_checkpoints o held p ≡ None) → IsRow held o (fresh_row created)

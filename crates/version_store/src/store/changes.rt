@@ -17,6 +17,7 @@ ghost use Rattle.std.specs.List.{AllByRecursion};
 ghost use Rattle.s4_types.specs.declared.limits.TheConstants.{JOURNAL_ENTRY_BYTES, OBJECT_BLOCKS};
 ghost use Rattle.s4_model.specs.Effect.{object_of};
 ghost use Rattle.version_store.specs.Taking.{Takes, RowChanges, AppendsBy};
+ghost use Rattle.version_store.specs.private.Below.{ChangesStand};
 ghost use Rattle.version_store.specs.private.Turning.{CanTake, CanTurn, Turns, IsTaken};
 ghost use Rattle.version_store.specs.private.Turning.{blocks_turned};
 
@@ -30,7 +31,6 @@ use inode::{
     blocks_of_truncate, blocks_of_write, created, deleted, truncate, with_attribute, write,
 };
 use object_map::{Kept, Row};
-use row_changes::laws::a_fresh_row_stands;
 use row_changes::record_change;
 use s4_types::limits::{BLOCK_BYTES, OBJECT_BLOCKS};
 use s4_types::{Change, Moment, ObjectId, Ptr, Refusal};
@@ -92,6 +92,7 @@ impl<B: Blocks> Store<B> {
         inode: &Inode,
         moment: Moment,
     ) -> Result<usize, Refusal>
+        requires laws { ChangesStand }
         requires store { IsStore (fields_of B.log self.now) }
         requires takes { Takes (fields_of B.log self.now) change.now }
         requires row { row.now
@@ -104,7 +105,6 @@ impl<B: Blocks> Store<B> {
         ensures answer { MatchResult result (λ _. change_refusal (fields_of B.log self.now) change.now moment ≡ None)
             (λ e. change_refusal (fields_of B.log self.now) change.now moment ≡ Some e) }
     {
-        what_changes_rest_on();
         bytes_of_entries(self.room(), change, row, inode)
     }
 
@@ -122,6 +122,7 @@ impl<B: Blocks> Store<B> {
         hand: &[Option<Ptr>],
         moment: Moment,
     )
+        requires laws { ChangesStand }
         requires can { CanTurn (fields_of B.log self.old) object plan.now.inode.now after.now hand.now
             moment }
         requires row { row_of self.old.rows object ≡ Some plan.now.row.now }
@@ -133,7 +134,6 @@ impl<B: Blocks> Store<B> {
             (blocks_turned (fields_of B.log self.old) object plan.now.inode.now after.now moment)
             (fields_of B.log self.new) }
     {
-        what_changes_rest_on();
         let entries = EntriesBetween::within(plan.inode, after, first, end, moment);
         let next = record_change(
             &mut self.table,
@@ -152,13 +152,13 @@ impl<B: Blocks> Store<B> {
 
     /// Takes a deletion.
     fn delete(&mut self, object: ObjectId, plan: &PlannedChange<'_>, moment: Moment)
+        requires laws { ChangesStand }
         requires can { CanTake (fields_of B.log self.old) (Delete object) moment plan.now.inode.now }
         requires row { plan.now.row.now ≡ subject_row (fields_of B.log self.old) object moment }
         requires bytes { plan.now.bytes ≡ sum (sizes_by (Delete object) plan.now.inode.now) }
         ensures { IsTaken (fields_of B.log self.old) (Delete object) moment plan.now.inode.now
             (fields_of B.log self.new) }
     {
-        what_changes_rest_on();
         let after = deleted(plan.inode);
         self.turn(object, plan, &after, 0, 0, &[], moment);
     }
@@ -171,6 +171,7 @@ impl<B: Blocks> Store<B> {
         plan: &PlannedChange<'_>,
         moment: Moment,
     )
+        requires laws { ChangesStand }
         requires can { CanTake (fields_of B.log self.old) (SetAttr object attribute.now) moment
             plan.now.inode.now }
         requires row { plan.now.row.now ≡ subject_row (fields_of B.log self.old) object moment }
@@ -179,7 +180,6 @@ impl<B: Blocks> Store<B> {
         ensures { IsTaken (fields_of B.log self.old) (SetAttr object attribute.now) moment
             plan.now.inode.now (fields_of B.log self.new) }
     {
-        what_changes_rest_on();
         let attribute = attribute_of(attribute);
         let after = with_attribute(plan.inode, attribute, moment);
         self.turn(object, plan, &after, 0, 0, &[], moment);
@@ -194,6 +194,7 @@ impl<B: Blocks> Store<B> {
         plan: &PlannedChange<'_>,
         moment: Moment,
     )
+        requires laws { ChangesStand }
         requires can { CanTake (fields_of B.log self.old) (Write object offset bytes.now) moment
             plan.now.inode.now }
         requires row { plan.now.row.now ≡ subject_row (fields_of B.log self.old) object moment }
@@ -202,7 +203,6 @@ impl<B: Blocks> Store<B> {
         ensures { IsTaken (fields_of B.log self.old) (Write object offset bytes.now) moment
             plan.now.inode.now (fields_of B.log self.new) }
     {
-        what_changes_rest_on();
         let mut after = *plan.inode;
         write(
             &mut self.table,
@@ -222,6 +222,7 @@ impl<B: Blocks> Store<B> {
 
     /// Takes a truncation.
     fn truncate(&mut self, object: ObjectId, size: u64, plan: &PlannedChange<'_>, moment: Moment)
+        requires laws { ChangesStand }
         requires can { CanTake (fields_of B.log self.old) (Truncate object size) moment
             plan.now.inode.now }
         requires row { plan.now.row.now ≡ subject_row (fields_of B.log self.old) object moment }
@@ -229,7 +230,6 @@ impl<B: Blocks> Store<B> {
         ensures { IsTaken (fields_of B.log self.old) (Truncate object size) moment plan.now.inode.now
             (fields_of B.log self.new) }
     {
-        what_changes_rest_on();
         let after = truncate(&mut self.table, object, plan.inode, moment, size as u32);
         self.table.names();
         let first = size as usize / BLOCK_BYTES;
@@ -240,6 +240,7 @@ impl<B: Blocks> Store<B> {
     /// Gives an object its first row, and its inode beside it. NoMemory where they couldn't be
     /// stored; then nothing has changed.
     fn add_object(&mut self, object: ObjectId, first: &Inode, moment: Moment) -> Result<(), Refusal>
+        requires laws { ChangesStand }
         requires none { row_of self.old.rows object ≡ None }
         requires first { first.now ≡ blank moment }
         ensures added { OnOk result
@@ -250,7 +251,6 @@ impl<B: Blocks> Store<B> {
         ensures refusal { IfErr result (λ e. e ≡ NoMemory) }
         ensures unchanged { OnErr result (fields_of B.log self.new ≡ fields_of B.log self.old) }
     {
-        a_fresh_row_stands();
         let present = Present {
             inode: *first,
             index: Some(UndoIndex::new(self.alloc)),
@@ -269,6 +269,7 @@ impl<B: Blocks> Store<B> {
         plan: &PlannedChange<'_>,
         moment: Moment,
     ) -> Result<(), Refusal>
+        requires laws { ChangesStand }
         requires can { CanTake (fields_of B.log self.old) (Create object attribute.now) moment
             plan.now.inode.now }
         requires row { plan.now.row.now ≡ subject_row (fields_of B.log self.old) object moment }
@@ -280,7 +281,6 @@ impl<B: Blocks> Store<B> {
         ensures refusal { IfErr result (λ e. e ≡ NoMemory) }
         ensures unchanged { OnErr result (fields_of B.log self.new ≡ fields_of B.log self.old) }
     {
-        what_changes_rest_on();
         let attribute = attribute_of(attribute);
         self.add_object(object, plan.inode, moment)?;
         let after = created(attribute, moment);
@@ -297,6 +297,7 @@ impl<B: Blocks> Store<B> {
         plan: &PlannedChange<'_>,
         moment: Moment,
     ) -> Result<(), Refusal>
+        requires laws { ChangesStand }
         requires can { CanTake (fields_of B.log self.old) change.now moment plan.now.inode.now }
         requires row { plan.now.row.now
             ≡ subject_row (fields_of B.log self.old) (object_of change.now) moment }
@@ -356,6 +357,8 @@ impl<B: Blocks> Store<B> {
             × (row_of self.old.rows (object_of change.now) ≡ None)) }
         ensures unchanged { OnErr result (fields_of B.log self.new ≡ fields_of B.log self.old) }
     {
+        // Here alone: all that a change calls from here on has these laws as a premise.
+        what_changes_rest_on();
         let bytes = self.count(change, row, inode, moment)?;
         let plan = PlannedChange { row, inode, bytes };
         self.perform(change, &plan, moment)

@@ -24,7 +24,7 @@ invariant_of-self-2 g c =
     let put = c.in_ok-add.ensures.added in
     let none = subst (λ (v : StoreOf _). row_of v.rows o ≡ None) (sym c.self.view_is) c.requires.none in
     record {
-      inodes = added_keeps c.a_fresh_row_stands.ensures.inode s c.add.new.self.rows o m c.args.first.now (inode_beside c.self.inside.objects.values) (inode_beside c.add.new.self.values) c.requires.first
+      inodes = added_keeps c.requires.laws.fresh_inode s c.add.new.self.rows o m c.args.first.now (inode_beside c.self.inside.objects.values) (inode_beside c.add.new.self.values) c.requires.first
           put.rows (inode_put c.self.inside.objects.values c.add.new.self.values o beside put.values) c.self.invariant.inodes;
       indexes = added_indexed s c.add.new.self.rows o m beside c.self.inside.objects.values c.add.new.self.values (ap (λ (us : List Undoing). Some us) c.new.ensures) put.rows put.values c.self.invariant.indexes;
       cached = put_true s.log.held s.log.held s.rows c.add.new.self.rows o (fresh_row m) c.self.inside.cache.pairs (λ old there. absurd (none-some old (sym none ∙ there))) put.rows (λ q other. refl) c.self.invariant.cached;

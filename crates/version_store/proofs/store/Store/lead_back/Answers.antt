@@ -12,7 +12,7 @@ pub returns-then-le-clause-inode : goal.returns-then-le-clause-inode
 returns-then-le-clause-inode g c =
     let s : StoreFields = fields_of g.B.Blocks.log c.args.self.now in
     let past : s.latest ≤ c.args.at = subst (λ (v : StoreOf _). v.latest ≤ c.args.at) c.self.view_is (le_from_is_le c.self.inside.latest c.args.at (sym c.if-le.ensures)) in
-    (c.the_present_stays.ensures s c.args.object c.args.at c.requires.store past).0 ∙ c.requires.present
+    (c.what_reads_rest_on.ensures.present s c.args.object c.args.at c.requires.store past).0 ∙ c.requires.present
 
 pub lead_back-requires-clause-row : goal.lead_back-requires-clause-row
 lead_back-requires-clause-row g c =
@@ -35,7 +35,7 @@ pub lead_back-requires-clause-present : goal.lead_back-requires-clause-present
 lead_back-requires-clause-present g c =
     let s : StoreFields = record { rows = c.self.inside.objects.rows; log = g.B.Blocks.log c.self.inside.table; latest = c.self.inside.latest } in
     let store : IsStore s = subst (λ (v : StoreOf _). IsStore (fields_of g.B.Blocks.log v)) (sym c.self.view_is) c.requires.store in
-    present_last c.the_last_inode_is_current.ensures s c.args.object c.in-Some.kept.now.row c.args.inode.now store (sym c.in-Some.ensures.row)
+    present_last c.what_reads_rest_on.ensures.last s c.args.object c.in-Some.kept.now.row c.args.inode.now store (sym c.in-Some.ensures.row)
     (subst (λ (v : StoreOf _). inode_in (fields_of g.B.Blocks.log v) c.args.object v.latest ≡ Some c.args.inode.now) (sym c.self.view_is) c.requires.present)
 
 pub invariant_of-self : goal.invariant_of-self

@@ -16,7 +16,7 @@ pub read_live-requires-clause-lead : goal.read_live-requires-clause-lead
 read_live-requires-clause-lead g c =
     let s : StoreFields = record { rows = c.self.inside.objects.rows; log = g.B.Blocks.log c.self.inside.table; latest = c.self.inside.latest } in
     let store : IsStore s = subst (λ (v : StoreOf _). IsStore (fields_of g.B.Blocks.log v)) (sym c.self.view_is) c.requires in
-    c.held_pointers_lead.ensures s.log.held c.args.object c.in-Some.kept.now.value.inode
+    c.what_reads_rest_on.ensures.lead s.log.held c.args.object c.in-Some.kept.now.value.inode
     (can_read s c.args.object s.latest c.in-Some.kept.now.value.inode store (sym (inode_kept c.self.inside.objects.values c.self.inside.cache.pairs s c.args.object c.in-Some.kept.now.value c.in-Some.ensures.value c.self.invariant))).1
 
 pub lead_back-requires-clause-row : goal.lead_back-requires-clause-row
@@ -41,7 +41,7 @@ lead_back-requires-clause-present g c =
     let s : StoreFields = record { rows = c.self.inside.objects.rows; log = g.B.Blocks.log c.self.inside.table; latest = c.self.inside.latest } in
     let store : IsStore s = subst (λ (v : StoreOf _). IsStore (fields_of g.B.Blocks.log v)) (sym c.self.view_is) c.requires in
     let kept = c.in-Some.kept.now in
-    present_last c.the_last_inode_is_current.ensures s c.args.object kept.row kept.value.inode store (sym c.in-Some.ensures.row)
+    present_last c.what_reads_rest_on.ensures.last s c.args.object kept.row kept.value.inode store (sym c.in-Some.ensures.row)
     (sym (inode_kept c.self.inside.objects.values c.self.inside.cache.pairs s c.args.object kept.value c.in-Some.ensures.value c.self.invariant))
 
 pub read_live-requires-2-clause-lead : goal.read_live-requires-2-clause-lead
@@ -51,7 +51,7 @@ read_live-requires-2-clause-lead g c =
     let there : inode_in s c.args.object c.args.at ≡ Some c.lead_back.new.inode =
     ap (inode_by s.log.held c.args.object c.args.at) (sym c.in-Some.ensures.row) ∙ ap (λ (i : Inode). Some i) (sym c.lead_back.ensures.inode) in
     let held = (can_read s c.args.object c.args.at c.lead_back.new.inode store there).1 in
-    c.held_pointers_lead.ensures (g.B.Blocks.log c.lead_back.new.table).held c.args.object c.lead_back.new.inode
+    c.what_reads_rest_on.ensures.lead (g.B.Blocks.log c.lead_back.new.table).held c.args.object c.lead_back.new.inode
     (subst (λ (l : Log). PointersHeld l.held c.args.object c.lead_back.new.inode) (sym c.lead_back.ensures.same) held)
 
 pub returns-then-le-clause-reads : goal.returns-then-le-clause-reads
@@ -61,7 +61,7 @@ returns-then-le-clause-reads g c =
     let kept : Some i ≡ inode_in s c.args.object s.latest = inode_kept c.self.inside.objects.values c.self.inside.cache.pairs s c.args.object c.in-Some.kept.now.value c.in-Some.ensures.value c.self.invariant in
     let past : s.latest ≤ c.args.at = le_from_is_le c.self.inside.latest c.args.at (sym c.if-le.ensures) in
     let store : IsStore s = subst (λ (v : StoreOf _). IsStore (fields_of g.B.Blocks.log v)) (sym c.self.view_is) c.requires in
-    let there : inode_in s c.args.object c.args.at ≡ Some i = (c.the_present_stays.ensures s c.args.object c.args.at store past).0 ∙ sym kept in
+    let there : inode_in s c.args.object c.args.at ≡ Some i = (c.what_reads_rest_on.ensures.present s c.args.object c.args.at store past).0 ∙ sym kept in
     read_by_inode c.read_live.result (fields_of g.B.Blocks.log c.args.self.now) c.args.object c.args.at i _
     (subst (λ (v : StoreOf _). inode_in (fields_of g.B.Blocks.log v) c.args.object c.args.at ≡ Some i) c.self.view_is there) c.read_live.ensures.reads
 
@@ -72,7 +72,7 @@ returns-then-le-clause-refused g c =
     let kept : Some i ≡ inode_in s c.args.object s.latest = inode_kept c.self.inside.objects.values c.self.inside.cache.pairs s c.args.object c.in-Some.kept.now.value c.in-Some.ensures.value c.self.invariant in
     let past : s.latest ≤ c.args.at = le_from_is_le c.self.inside.latest c.args.at (sym c.if-le.ensures) in
     let store : IsStore s = subst (λ (v : StoreOf _). IsStore (fields_of g.B.Blocks.log v)) (sym c.self.view_is) c.requires in
-    let there : inode_in s c.args.object c.args.at ≡ Some i = (c.the_present_stays.ensures s c.args.object c.args.at store past).0 ∙ sym kept in
+    let there : inode_in s c.args.object c.args.at ≡ Some i = (c.what_reads_rest_on.ensures.present s c.args.object c.args.at store past).0 ∙ sym kept in
     unread_by_inode c.read_live.result (fields_of g.B.Blocks.log c.args.self.now) c.args.object c.args.at i _
     (subst (λ (v : StoreOf _). inode_in (fields_of g.B.Blocks.log v) c.args.object c.args.at ≡ Some i) c.self.view_is there) c.read_live.ensures.refused
 

@@ -32,15 +32,16 @@ turn-requires g c =
     let s : StoreFields = record { rows = c.self.inside.objects.rows; log = g.B.Blocks.log c.self.inside.table; latest = c.self.inside.latest } in
     let can = subst (λ (v : StoreOf _). CanTake (fields_of g.B.Blocks.log v) (Truncate c.args.object c.args.size) c.args.moment c.args.plan.now.inode.now) (sym c.self.view_is) c.requires.can in
     let subject = can_subject s (Truncate c.args.object c.args.size) c.args.moment c.args.plan.now.inode.now can can.takes.ready in
-    let makes = truncated_makes c.what_changes_rest_on.ensures.one_place c.what_changes_rest_on.ensures.pointers_lead s c.args.object c.args.moment c.args.size (g.B.Blocks.log c.truncate-after.new.table) c.args.plan.now.inode.now c.truncate-after.result can subject c.truncate-after.ensures.growth c.truncate-after.ensures.log c.truncate-after.ensures.inode c.truncate-after.ensures.tidy c.truncate-after.ensures.pointers c.truncate-after.ensures.meaning in
+    let makes = truncated_makes c.requires.laws.one_place c.requires.laws.pointers_lead s c.args.object c.args.moment c.args.size (g.B.Blocks.log c.truncate-after.new.table) c.args.plan.now.inode.now c.truncate-after.result can subject c.truncate-after.ensures.growth c.truncate-after.ensures.log c.truncate-after.ensures.inode c.truncate-after.ensures.tidy c.truncate-after.ensures.pointers c.truncate-after.ensures.meaning in
     let row = subst (λ (v : StoreOf _). c.args.plan.now.row.now ≡ subject_row (fields_of g.B.Blocks.log v) c.args.object c.args.moment) (sym c.self.view_is) c.requires.row in
     record {
-      can = can_turn c.what_changes_rest_on.ensures.one_place c.what_changes_rest_on.ensures.orderly c.what_changes_rest_on.ensures.row c.what_changes_rest_on.ensures.inode c.what_changes_rest_on.ensures.journal c.what_changes_rest_on.ensures.meaning c.what_changes_rest_on.ensures.entry_sizes c.what_changes_rest_on.ensures.sizes_add_up
+      laws = c.requires.laws;
+      can = can_turn c.requires.laws.one_place c.requires.laws.orderly c.requires.laws.row c.requires.laws.inode c.requires.laws.journal c.requires.laws.meaning c.requires.laws.entry_sizes c.requires.laws.sizes_add_up
           s (Truncate c.args.object c.args.size) c.args.moment (g.B.Blocks.log c.truncate-after.new.table) c.args.plan.now.inode.now c.truncate-after.result c.appended-hand.result.now can subject makes
           (truncated_hand s c.args.object c.args.moment c.args.size (g.B.Blocks.log c.truncate-after.new.table) c.args.plan.now.inode.now c.truncate-after.result c.appended-hand.result.now can subject c.truncate-after.ensures.growth c.truncate-after.ensures.log c.truncate-after.ensures.inode c.truncate-after.ensures.tidy
           (c.appended-hand.ensures ∙ ap (λ (n : ℕ). take n (drop (c.args.size / 512) c.truncate-after.result.pointers)) c.blocks_of_truncate.ensures) c.names.ensures);
       row = subject_is s c.args.object c.args.moment c.args.plan.now.inode.now c.args.plan.now.row.now subject row;
-      bytes = bytes_made c.what_changes_rest_on.ensures.entry_sizes c.what_changes_rest_on.ensures.sizes_add_up s (Truncate c.args.object c.args.size) c.args.moment c.args.plan.now.inode.now (g.B.Blocks.log c.truncate-after.new.table) c.truncate-after.result c.args.plan.now.bytes makes c.requires.bytes;
+      bytes = bytes_made c.requires.laws.entry_sizes c.requires.laws.sizes_add_up s (Truncate c.args.object c.args.size) c.args.moment c.args.plan.now.inode.now (g.B.Blocks.log c.truncate-after.new.table) c.truncate-after.result c.args.plan.now.bytes makes c.requires.bytes;
       range = (let most = can.takes.fits in omega (arith, most), omega arith);
       same = same_uncut s.log.ahead c.args.moment c.args.size c.args.plan.now.inode.now c.truncate-after.result c.truncate-after.ensures.inode;
     }
@@ -50,10 +51,10 @@ returns g c =
     let s : StoreFields = record { rows = c.self.inside.objects.rows; log = g.B.Blocks.log c.self.inside.table; latest = c.self.inside.latest } in
     let can = subst (λ (v : StoreOf _). CanTake (fields_of g.B.Blocks.log v) (Truncate c.args.object c.args.size) c.args.moment c.args.plan.now.inode.now) (sym c.self.view_is) c.requires.can in
     let subject = can_subject s (Truncate c.args.object c.args.size) c.args.moment c.args.plan.now.inode.now can can.takes.ready in
-    let makes = truncated_makes c.what_changes_rest_on.ensures.one_place c.what_changes_rest_on.ensures.pointers_lead s c.args.object c.args.moment c.args.size (g.B.Blocks.log c.truncate-after.new.table) c.args.plan.now.inode.now c.truncate-after.result can subject c.truncate-after.ensures.growth c.truncate-after.ensures.log c.truncate-after.ensures.inode c.truncate-after.ensures.tidy c.truncate-after.ensures.pointers c.truncate-after.ensures.meaning in
+    let makes = truncated_makes c.requires.laws.one_place c.requires.laws.pointers_lead s c.args.object c.args.moment c.args.size (g.B.Blocks.log c.truncate-after.new.table) c.args.plan.now.inode.now c.truncate-after.result can subject c.truncate-after.ensures.growth c.truncate-after.ensures.log c.truncate-after.ensures.inode c.truncate-after.ensures.tidy c.truncate-after.ensures.pointers c.truncate-after.ensures.meaning in
     let later : StoreFields = fields_of g.B.Blocks.log c.turn.new.self in
     subst (λ (v : StoreOf _). IsTaken (fields_of g.B.Blocks.log v) (Truncate c.args.object c.args.size) c.args.moment c.args.plan.now.inode.now later) c.self.view_is
-    (taken_of c.what_changes_rest_on.ensures.places_add_up c.what_changes_rest_on.ensures.inode c.what_changes_rest_on.ensures.meaning c.what_changes_rest_on.ensures.entry_sizes
+    (taken_of c.requires.laws.places_add_up c.requires.laws.inode c.requires.laws.meaning c.requires.laws.entry_sizes
     s later (Truncate c.args.object c.args.size) c.args.moment (g.B.Blocks.log c.truncate-after.new.table) c.args.plan.now.inode.now c.truncate-after.result can subject makes c.turn.ensures)
 
 pub invariant_of-self : goal.invariant_of-self
@@ -62,7 +63,7 @@ invariant_of-self g c =
     let log = g.B.Blocks.log c.truncate-after.new.table in
     let blocks = blocks_cut (contents_of s.log.held) c.args.plan.now.inode.now c.args.size in
     record {
-      inodes = grown_keeps c.what_changes_rest_on.ensures.inode s log c.args.object blocks (inode_beside c.self.inside.objects.values) c.truncate-after.ensures.growth c.self.invariant.inodes;
+      inodes = grown_keeps c.requires.laws.inode s log c.args.object blocks (inode_beside c.self.inside.objects.values) c.truncate-after.ensures.growth c.self.invariant.inodes;
       indexes = grown_indexed s log c.args.object blocks c.self.inside.objects.values c.truncate-after.ensures.growth c.self.invariant.indexes;
       cached = stays_true s.log.held log.held s.rows c.self.inside.cache.pairs (λ q. (growth_stays c.args.object blocks s.log log q c.truncate-after.ensures.growth).checkpoints) c.self.invariant.cached;
     }

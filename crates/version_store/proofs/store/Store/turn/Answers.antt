@@ -42,7 +42,7 @@ record_change-next-requires-clause-earlier g c =
     let before = c.args.plan.now.inode.now in
     let can = subst (λ (v : StoreOf _). CanTurn (fields_of g.B.Blocks.log v) o before c.args.after.now c.args.hand.now c.args.moment) (sym c.self.view_is) c.requires.can in
     let there = subst (λ (v : StoreOf _). row_of v.rows o ≡ Some row) (sym c.self.view_is) c.requires.row in
-    (known c.what_changes_rest_on.ensures.later c.what_changes_rest_on.ensures.last s o before c.args.after.now c.args.hand.now c.args.moment row can there).earlier
+    (known c.requires.laws.later c.requires.laws.last s o before c.args.after.now c.args.hand.now c.args.moment row can there).earlier
 
 pub record_change-next-requires-clause-room : goal.record_change-next-requires-clause-room
 record_change-next-requires-clause-room g c =
@@ -52,14 +52,14 @@ record_change-next-requires-clause-room g c =
     let before = c.args.plan.now.inode.now in
     let can = subst (λ (v : StoreOf _). CanTurn (fields_of g.B.Blocks.log v) o before c.args.after.now c.args.hand.now c.args.moment) (sym c.self.view_is) c.requires.can in
     let there = subst (λ (v : StoreOf _). row_of v.rows o ≡ Some row) (sym c.self.view_is) c.requires.row in
-    let room = (known c.what_changes_rest_on.ensures.later c.what_changes_rest_on.ensures.last s o before c.args.after.now c.args.hand.now c.args.moment row can there).room in
+    let room = (known c.requires.laws.later c.requires.laws.last s o before c.args.after.now c.args.hand.now c.args.moment row can there).room in
     subst (HasRoom (chain_of o row) s.log.ahead) (sym c.within-entries.ensures) room
 
 pub count_change-requires : goal.count_change-requires
 count_change-requires g c =
     let s : StoreFields = record { rows = c.self.inside.objects.rows; log = g.B.Blocks.log c.self.inside.table; latest = c.self.inside.latest } in
     let log = g.B.Blocks.log c.record_change-next.new.table in
-    let rest = c.what_changes_rest_on.ensures in
+    let rest = c.requires.laws in
     let o = c.args.object in
     let m = c.args.moment in
     let row = c.args.plan.now.row.now in
@@ -90,7 +90,7 @@ pub returns : goal.returns
 returns g c =
     let s : StoreFields = record { rows = c.self.inside.objects.rows; log = g.B.Blocks.log c.self.inside.table; latest = c.self.inside.latest } in
     let log = g.B.Blocks.log c.record_change-next.new.table in
-    let rest = c.what_changes_rest_on.ensures in
+    let rest = c.requires.laws in
     let o = c.args.object in
     let m = c.args.moment in
     let row = c.args.plan.now.row.now in
@@ -121,7 +121,7 @@ pub invariant_of-self : goal.invariant_of-self
 invariant_of-self g c =
     let s : StoreFields = record { rows = c.self.inside.objects.rows; log = g.B.Blocks.log c.self.inside.table; latest = c.self.inside.latest } in
     let log = g.B.Blocks.log c.record_change-next.new.table in
-    let rest = c.what_changes_rest_on.ensures in
+    let rest = c.requires.laws in
     let o = c.args.object in
     let m = c.args.moment in
     let row = c.args.plan.now.row.now in
