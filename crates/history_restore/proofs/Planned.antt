@@ -1,16 +1,18 @@
 -- Changes that are stored one after the other, and where one of them finds a journal too full.
-use Rattle.std.proofs.Common.{◌≡◌, ◌∙◌, ◌+◌, ◌-◌, ◌<◌, ◌≤◌, ℕ, min, Result, List, [], ◌∷◌, ◌++◌, length, take, drop, Option, None, Some, OnOk, IfErr, inl, inr, refl, sym, ap, subst, arith}
+use Rattle.std.proofs.Common.{◌≡◌, ◌∙◌, ◌+◌, ◌-◌, ◌<◌, ◌≤◌, ℕ, min, Result, Ok, Err, List, [], ◌∷◌, ◌++◌, length, take, drop, Option, None, Some, OnOk, IfErr, inl, inr, refl, sym, ap, subst, arith}
 use Rattle.std.proofs.lemmas.List.{take_all, length-append, length-take, length-drop}
 use Rattle.std.proofs.lemmas.Result.{IfErr-weaker, on_ok_weaker}
 use Rattle.s4_types.specs.declared.changes.Change.{Change}
 use Rattle.s4_types.specs.declared.changes.Change.TheVariants as change
 use Rattle.s4_types.specs.declared.refusals.Refusal.{Refusal}
+use Rattle.s4_types.specs.declared.refusals.Refusal.TheVariants.{NoMemory}
 use Rattle.s4_types.specs.declared.requests.Request.{Request}
 use Rattle.s4_model.specs.State.{State}
 use Rattle.s4_model.specs.Step.{change_of}
 use Rattle.version_store.specs.Store.{StoreFields}
+use Rattle.drive.specs.Fields.{DriveFields, state_in, store_of}
 use Rattle.history_restore.specs.declared.plans.Patch.{Patch}
-use Rattle.history_restore.specs.Asking.{AreStored, FindsFull, IsFullFor, IsFullForOne, IsWithinChanges, StoresAsked}
+use Rattle.history_restore.specs.Asking.{AreStored, AsksFor, FindsFull, IsFullFor, IsFullForOne, IsWithinChanges, StoresAsked}
 use Rattle.history_restore.specs.Plans.{IsPatch, IsWritten, made_changes, written_changes}
 
 -- ---- one after the other
@@ -35,13 +37,38 @@ clock_front cs ds s later now within = let both : length (cs ++ ds) ≡ length c
 pub clock_after : (cs ds : List Change) (s middle later : State) (now : ℕ) → IsWithinChanges s now (length cs) middle → IsWithinChanges middle now (length ds) later → IsWithinChanges s now (length (cs ++ ds)) later
 clock_after cs ds s middle later now first second = let both : length (cs ++ ds) ≡ length cs + length ds = length-append cs ds in omega (arith, both, first, second)
 
--- ---- the change that a request asks for
+-- ---- what asking for changes comes to
 
-pub stored_asked : {T E : Type 0} (r : Result T E) (s : State) (store after : StoreFields) (request : Request) (c : Change) → change_of s request ≡ Some c → OnOk r (StoresAsked store s request after) → OnOk r (AreStored store (c ∷ []) after)
-stored_asked r s store after request c is stored = on_ok_weaker r (λ (asked : StoresAsked store s request after). (after, asked c is, refl)) stored
+-- for the change that a request asks for
+pub asked_one : {T : Type 0} (r : Result T Refusal) (d d' : DriveFields) (now : ℕ) (request : Request) (c : Change) → change_of (state_in d) request ≡ Some c → OnOk r (StoresAsked (store_of d) (state_in d) request (store_of d'))
+    → IfErr r (IsFullFor (store_of d) (state_in d) request) → IsWithinChanges (state_in d) now 1 (state_in d') → AsksFor d now (c ∷ []) r d'
+asked_one r d d' now request c is stored full clock = record {
+  stored = on_ok_weaker r (λ (asked : StoresAsked (store_of d) (state_in d) request (store_of d')). (store_of d', asked c is, refl)) stored;
+  full = IfErr-weaker r _ _ (λ e asked refused. inl (asked refused c is)) full;
+  clock = clock;
+}
 
-pub full_asked : {T : Type 0} (r : Result T Refusal) (s : State) (store : StoreFields) (request : Request) (c : Change) → change_of s request ≡ Some c → IfErr r (IsFullFor store s request) → IfErr r (IsFullForOne store (c ∷ []))
-full_asked r s store request c is full = IfErr-weaker r _ _ (λ e asked refused. inl (asked refused c is)) full
+-- for none, and where memory was refused before anything was asked for
+pub asked_none : {T : Type 0} (x : T) (d : DriveFields) (now : ℕ) → AsksFor d now [] (Ok x) d
+asked_none x d now = record { stored = refl; full = tt; clock = omega arith }
+
+pub asked_nothing : {T : Type 0} (d : DriveFields) (now : ℕ) (cs : List Change) → AsksFor {T = T} d now cs (Err NoMemory) d
+asked_nothing d now cs = record { stored = tt; full = λ e. cc; clock = omega arith }
+
+-- for those of which one of the first was refused, or all of the first were granted
+pub asked_front : {T U : Type 0} (cs ds : List Change) (d d' : DriveFields) (now : ℕ) (e : Refusal) → AsksFor {T = T} d now cs (Err e) d' → AsksFor {T = U} d now (cs ++ ds) (Err e) d'
+asked_front cs ds d d' now e first = record {
+  stored = tt;
+  full = λ full. full_in_front cs ds (store_of d) (first.full full);
+  clock = clock_front cs ds (state_in d) (state_in d') now first.clock;
+}
+
+pub asked_then : {T U : Type 0} (r : Result U Refusal) (cs ds : List Change) (d middle d' : DriveFields) (now : ℕ) (x : T) → AsksFor d now cs (Ok x) middle → AsksFor middle now ds r d' → AsksFor d now (cs ++ ds) r d'
+asked_then r cs ds d middle d' now x first second = record {
+  stored = on_ok_weaker r (stored_on cs ds (store_of d) (store_of middle) (store_of d') first.stored) second.stored;
+  full = IfErr-weaker r _ _ (λ e last full. full_after cs ds (store_of d) (store_of middle) first.stored (last full)) second.full;
+  clock = clock_after cs ds (state_in d) (state_in middle) (state_in d') now first.clock second.clock;
+}
 
 -- ---- all bytes of an object that has none
 

@@ -1,5 +1,5 @@
 -- What a request for a change of an object leaves.
-use Rattle.std.specs.Prelude.{◌≡◌, ◌⊎◌, ℕ, ◌≤◌, ◌+◌, max, Bool, true, List, [], ◌∷◌, Option, Some}
+use Rattle.std.specs.Prelude.{◌≡◌, ◌⊎◌, ℕ, ◌≤◌, ◌+◌, max, Bool, true, List, [], ◌∷◌, length, Option, Some, Result, OnOk, IfErr}
 use Rattle.s4_types.specs.declared.changes.Change.{Change}
 use Rattle.s4_types.specs.declared.refusals.Refusal.{Refusal}
 use Rattle.s4_types.specs.declared.refusals.Refusal.TheVariants.{ChainFull, ClockEnd}
@@ -13,6 +13,7 @@ use Rattle.s4_model.specs.Step.{change_of}
 use Rattle.version_store.specs.Costs.{change_refusal}
 use Rattle.version_store.specs.Store.{StoreFields}
 use Rattle.drive.specs.Answering.{StoresVersion}
+use Rattle.drive.specs.Fields.{DriveFields, state_in, store_of}
 use Rattle.history_restore.specs.Content.{content_of}
 
 -- A change was made: its object has the content that the change's effect on its version has.
@@ -67,3 +68,10 @@ IsFullForOne store changes refusal = refusal ≡ ChainFull → FindsFull store c
 -- This many changes since a state were made by moments of a clock, or none was: the clock passed the greater of both by that number at most.
 abbrev pub IsWithinChanges : State → ℕ → ℕ → State → Type 0
 IsWithinChanges s now count later = later.clock ≤ max s.clock now + count
+
+-- What asking for changes came to, one after the other, by moments of a clock: where all were granted they were stored, a refusal for a full
+-- journal is so of one of them, and each moved the clock on by one at most.
+pub record AsksFor {T : Type 0} (d : DriveFields) (now : ℕ) (changes : List Change) (answer : Result T Refusal) (d' : DriveFields) : Type 0 where
+  pub stored : OnOk answer (AreStored (store_of d) changes (store_of d'))
+  pub full : IfErr answer (IsFullForOne (store_of d) changes)
+  pub clock : IsWithinChanges (state_in d) now (length changes) (state_in d')

@@ -103,10 +103,9 @@ fn counting<J: Naming>(
             Err(refusal) => return Err(unread(&aim, refusal)),
         };
         if counts {
-            match found.push(*stand_in) {
-                Ok(()) => {}
-                Err(_) => return Err(unread(&aim, Refusal::NoMemory)),
-            }
+            let Ok(()) = found.push(*stand_in) else {
+                return Err(unread(&aim, Refusal::NoMemory));
+            };
         }
     }
     Ok(found)
@@ -180,13 +179,11 @@ pub fn aim_at<J: Naming>(
     ensures state { state_in drive.new ≡ state_in drive.old }
     ensures store { store_of drive.new ≡ store_of drive.old }
 {
-    match object_at(alloc, drive, session, stand_ins, number, at) {
-        Ok(object) => Ok(Aim {
-            object,
-            target: number,
-        }),
-        Err(failure) => Err(failure),
-    }
+    let object = object_at(alloc, drive, session, stand_ins, number, at)?;
+    Ok(Aim {
+        object,
+        target: number,
+    })
 }
 
 /// The aims of rows, by the stand-ins that count.
@@ -260,10 +257,7 @@ pub fn all_aims<J: Naming>(
         Ok(rows) => rows,
         Err(refusal) => return Err(unread(&none, refusal)),
     };
-    let found = match counting(alloc, drive, session, stand_ins, at) {
-        Ok(found) => found,
-        Err(failure) => return Err(failure),
-    };
+    let found = counting(alloc, drive, session, stand_ins, at)?;
     match aims_by(alloc, found.as_slice(), rows.as_slice()) {
         Ok(aims) => Ok(aims),
         Err(_) => Err(unread(&none, Refusal::NoMemory)),
@@ -289,10 +283,7 @@ pub fn asked_aims<J: Naming>(
     ensures state { state_in drive.new ≡ state_in drive.old }
     ensures store { store_of drive.new ≡ store_of drive.old }
 {
-    let whole = match all_aims(alloc, drive, session, stand_ins, at) {
-        Ok(whole) => whole,
-        Err(failure) => return Err(failure),
-    };
+    let whole = all_aims(alloc, drive, session, stand_ins, at)?;
     let none = own_aim(ObjectId::new(0));
     match asked_among(alloc, whole.as_slice(), asked) {
         Ok(aims) => Ok(aims),

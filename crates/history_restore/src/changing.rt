@@ -1,5 +1,5 @@
 //! What a plan asks for, done by requests.
-ghost use Rattle.std.specs.Prelude.{◌≡◌, ◌+◌, ◌≤◌, [], ◌∷◌, if◌then◌else◌, true, false, length};
+ghost use Rattle.std.specs.Prelude.{◌≡◌, ◌+◌, ◌≤◌, [], ◌∷◌, true, false, length};
 ghost use Rattle.std.specs.Prelude.{IfOk, IfErr, OnOk};
 ghost use Rattle.s4_types.specs.declared.changes.Change.TheVariants as change;
 ghost use Rattle.s4_types.specs.declared.limits.TheConstants.{OBJECT_BYTES, ATTRIBUTE_BYTES};
@@ -13,7 +13,7 @@ ghost use Rattle.history_restore.specs.Plans.{next_by_plan, FitsCut, IsWithinByt
 ghost use Rattle.history_restore.specs.Plans.{IsThereFor};
 ghost use Rattle.history_restore.specs.Plans.{cut_changes, written_changes, attribute_changes};
 ghost use Rattle.history_restore.specs.Plans.{made_changes, changes_by};
-ghost use Rattle.history_restore.specs.Asking.{is_left, AreStored, IsFullForOne, IsWithinChanges};
+ghost use Rattle.history_restore.specs.Asking.{is_left, AsksFor};
 ghost use Rattle.history_restore.specs.Keeping.{LeavesPast, LeavesOthers};
 
 use crate::asking::ask;
@@ -68,11 +68,7 @@ fn cut<J: Naming>(
     ensures refused { IfErr result
         (λ e. is_absent (present (state_in drive.old) object) ≡ false → FitsCut size
         → is_left e ≡ true) }
-    ensures stored { OnOk result
-        (AreStored (store_of drive.old) (cut_changes object size) (store_of drive.new)) }
-    ensures full { IfErr result (IsFullForOne (store_of drive.old) (cut_changes object size)) }
-    ensures clock { IsWithinChanges (state_in drive.old) now (length (cut_changes object size))
-        (state_in drive.new) }
+    ensures asked { AsksFor drive.old now (cut_changes object size) result drive.new }
     ensures others { LeavesOthers object (state_in drive.old) (state_in drive.new) }
     ensures past { LeavesPast (state_in drive.old) (state_in drive.new) }
 {
@@ -107,13 +103,8 @@ fn write_patch<J: Naming>(
     ensures refused { IfErr result
         (λ e. is_absent (present (state_in drive.old) object) ≡ false
         → length bytes.now ≤ OBJECT_BYTES → is_left e ≡ true) }
-    ensures stored { OnOk result
-        (AreStored (store_of drive.old) (written_changes object bytes.now (Some patch))
-        (store_of drive.new)) }
-    ensures full { IfErr result
-        (IsFullForOne (store_of drive.old) (written_changes object bytes.now (Some patch))) }
-    ensures clock { IsWithinChanges (state_in drive.old) now
-        (length (written_changes object bytes.now (Some patch))) (state_in drive.new) }
+    ensures asked { AsksFor drive.old now (written_changes object bytes.now (Some patch)) result
+        drive.new }
     ensures others { LeavesOthers object (state_in drive.old) (state_in drive.new) }
     ensures past { LeavesPast (state_in drive.old) (state_in drive.new) }
 {
@@ -148,13 +139,8 @@ fn write<J: Naming>(
     ensures refused { IfErr result
         (λ e. is_absent (present (state_in drive.old) object) ≡ false
         → length bytes.now ≤ OBJECT_BYTES → is_left e ≡ true) }
-    ensures stored { OnOk result
-        (AreStored (store_of drive.old) (written_changes object bytes.now patch)
-        (store_of drive.new)) }
-    ensures full { IfErr result
-        (IsFullForOne (store_of drive.old) (written_changes object bytes.now patch)) }
-    ensures clock { IsWithinChanges (state_in drive.old) now
-        (length (written_changes object bytes.now patch)) (state_in drive.new) }
+    ensures asked { AsksFor drive.old now (written_changes object bytes.now patch) result
+        drive.new }
     ensures others { LeavesOthers object (state_in drive.old) (state_in drive.new) }
     ensures past { LeavesPast (state_in drive.old) (state_in drive.new) }
 {
@@ -183,13 +169,8 @@ fn set_attribute<J: Naming>(
     ensures refused { IfErr result
         (λ e. is_absent (present (state_in drive.old) object) ≡ false
         → length attribute.now ≤ ATTRIBUTE_BYTES → is_left e ≡ true) }
-    ensures stored { OnOk result
-        (AreStored (store_of drive.old) (attribute_changes object attribute.now wanted)
-        (store_of drive.new)) }
-    ensures full { IfErr result
-        (IsFullForOne (store_of drive.old) (attribute_changes object attribute.now wanted)) }
-    ensures clock { IsWithinChanges (state_in drive.old) now
-        (length (attribute_changes object attribute.now wanted)) (state_in drive.new) }
+    ensures asked { AsksFor drive.old now (attribute_changes object attribute.now wanted) result
+        drive.new }
     ensures others { LeavesOthers object (state_in drive.old) (state_in drive.new) }
     ensures past { LeavesPast (state_in drive.old) (state_in drive.new) }
 {
@@ -227,13 +208,8 @@ fn change<J: Naming>(
     ensures refused { IfErr result
         (λ e. IsWithinLimits before.now
         → is_absent (present (state_in drive.old) object) ≡ false → is_left e ≡ true) }
-    ensures stored { OnOk result
-        (AreStored (store_of drive.old) (changes_by before.now (Plan.Change changes) 0 object)
-        (store_of drive.new)) }
-    ensures full { IfErr result
-        (IsFullForOne (store_of drive.old) (changes_by before.now (Plan.Change changes) 0 object)) }
-    ensures clock { IsWithinChanges (state_in drive.old) now
-        (length (changes_by before.now (Plan.Change changes) 0 object)) (state_in drive.new) }
+    ensures asked { AsksFor drive.old now (changes_by before.now (Plan.Change changes) 0 object)
+        result drive.new }
     ensures others { LeavesOthers object (state_in drive.old) (state_in drive.new) }
     ensures past { LeavesPast (state_in drive.old) (state_in drive.new) }
 {
@@ -267,14 +243,8 @@ fn create<J: Naming>(
     ensures next { OnOk result ((state_in drive.new).next ≡ (state_in drive.old).next + 1) }
     ensures refused { IfErr result
         (λ e. length attribute.now ≤ ATTRIBUTE_BYTES → is_left e ≡ true) }
-    ensures stored { OnOk result
-        (AreStored (store_of drive.old) (change.Create (state_in drive.old).next attribute.now ∷ [])
-        (store_of drive.new)) }
-    ensures full { IfErr result
-        (IsFullForOne (store_of drive.old)
-        (change.Create (state_in drive.old).next attribute.now ∷ [])) }
-    ensures clock { IsWithinChanges (state_in drive.old) now
-        (length (change.Create (state_in drive.old).next attribute.now ∷ [])) (state_in drive.new) }
+    ensures asked { AsksFor drive.old now
+        (change.Create (state_in drive.old).next attribute.now ∷ []) result drive.new }
     ensures others { LeavesOthers (state_in drive.old).next (state_in drive.old)
         (state_in drive.new) }
     ensures past { LeavesPast (state_in drive.old) (state_in drive.new) }
@@ -301,19 +271,9 @@ fn remake<J: Naming>(
         ≡ holding (bytes_of before.now) (attribute_of before.now)) }
     ensures next { OnOk result ((state_in drive.new).next ≡ (state_in drive.old).next + 1) }
     ensures refused { IfErr result (λ e. IsWithinLimits before.now → is_left e ≡ true) }
-    ensures stored { OnOk result
-        (AreStored (store_of drive.old)
+    ensures asked { AsksFor drive.old now
         (change.Create (state_in drive.old).next (attribute_of before.now)
-        ∷ made_changes (state_in drive.old).next (bytes_of before.now))
-        (store_of drive.new)) }
-    ensures full { IfErr result
-        (IsFullForOne (store_of drive.old)
-        (change.Create (state_in drive.old).next (attribute_of before.now)
-        ∷ made_changes (state_in drive.old).next (bytes_of before.now))) }
-    ensures clock { IsWithinChanges (state_in drive.old) now
-        (length
-        (change.Create (state_in drive.old).next (attribute_of before.now)
-        ∷ made_changes (state_in drive.old).next (bytes_of before.now))) (state_in drive.new) }
+        ∷ made_changes (state_in drive.old).next (bytes_of before.now)) result drive.new }
     ensures others { LeavesOthers (state_in drive.old).next (state_in drive.old)
         (state_in drive.new) }
     ensures past { LeavesPast (state_in drive.old) (state_in drive.new) }
@@ -346,15 +306,8 @@ pub(crate) fn perform<J: Naming>(
     ensures refused { IfErr result
         (λ e. IsWithinLimits before.now
         → IsThereFor plan (present (state_in drive.old) object) → is_left e ≡ true) }
-    ensures stored { OnOk result
-        (AreStored (store_of drive.old)
-        (changes_by before.now plan (state_in drive.old).next object) (store_of drive.new)) }
-    ensures full { IfErr result
-        (IsFullForOne (store_of drive.old)
-        (changes_by before.now plan (state_in drive.old).next object)) }
-    ensures clock { IsWithinChanges (state_in drive.old) now
-        (length (changes_by before.now plan (state_in drive.old).next object))
-        (state_in drive.new) }
+    ensures asked { AsksFor drive.old now
+        (changes_by before.now plan (state_in drive.old).next object) result drive.new }
     ensures others { LeavesOthers (number_by plan (state_in drive.old).next object)
         (state_in drive.old) (state_in drive.new) }
     ensures past { LeavesPast (state_in drive.old) (state_in drive.new) }

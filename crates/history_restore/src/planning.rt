@@ -61,14 +61,10 @@ pub fn plan_each<J: Naming>(
 {
     let mut plans = Vec::new(alloc);
     for aim in aims {
-        let planned = match plan_one(alloc, drive, session, aim, at) {
-            Ok(planned) => planned,
-            Err(failure) => return Err(failure),
+        let planned = plan_one(alloc, drive, session, aim, at)?;
+        let Ok(()) = plans.push(planned) else {
+            return Err(unread(aim, Refusal::NoMemory));
         };
-        match plans.push(planned) {
-            Ok(()) => {}
-            Err(_) => return Err(unread(aim, Refusal::NoMemory)),
-        }
     }
     Ok(plans)
 }
@@ -94,10 +90,7 @@ pub fn plan_objects<J: Naming>(
     ensures state { state_in drive.new ≡ state_in drive.old }
     ensures store { store_of drive.new ≡ store_of drive.old }
 {
-    let aims = match asked_aims(alloc, drive, session, stand_ins, asked, at) {
-        Ok(aims) => aims,
-        Err(failure) => return Err(failure),
-    };
+    let aims = asked_aims(alloc, drive, session, stand_ins, asked, at)?;
     plan_each(alloc, drive, session, aims.as_slice(), at)
 }
 
@@ -118,10 +111,7 @@ pub fn plan_all<J: Naming>(
     ensures state { state_in drive.new ≡ state_in drive.old }
     ensures store { store_of drive.new ≡ store_of drive.old }
 {
-    let aims = match all_aims(alloc, drive, session, stand_ins, at) {
-        Ok(aims) => aims,
-        Err(failure) => return Err(failure),
-    };
+    let aims = all_aims(alloc, drive, session, stand_ins, at)?;
     plan_each(alloc, drive, session, aims.as_slice(), at)
 }
 

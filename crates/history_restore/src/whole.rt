@@ -59,10 +59,9 @@ fn restore_each<J: Naming>(
     let mut all = Vec::new(alloc);
     for aim in aims {
         let restored = restore_object(alloc, drive, session, aim, at, now)?;
-        match all.push(restored) {
-            Ok(()) => {}
-            Err(_) => return Err(unread(aim, Refusal::NoMemory)),
-        }
+        let Ok(()) = all.push(restored) else {
+            return Err(unread(aim, Refusal::NoMemory));
+        };
     }
     Ok(all)
 }
@@ -152,10 +151,7 @@ pub fn restore_objects<J: Naming>(
     ensures past { LeavesPast (state_in drive.old) (state_in drive.new) }
 {
     drive.rules();
-    let aims = match asked_aims(alloc, drive, session, stand_ins, asked, at) {
-        Ok(aims) => aims,
-        Err(failure) => return Err(failure),
-    };
+    let aims = asked_aims(alloc, drive, session, stand_ins, asked, at)?;
     restore_each(alloc, drive, session, aims.as_slice(), at, now)
 }
 
@@ -186,9 +182,6 @@ pub fn restore_all<J: Naming>(
     ensures past { LeavesPast (state_in drive.old) (state_in drive.new) }
 {
     drive.rules();
-    let aims = match all_aims(alloc, drive, session, stand_ins, at) {
-        Ok(aims) => aims,
-        Err(failure) => return Err(failure),
-    };
+    let aims = all_aims(alloc, drive, session, stand_ins, at)?;
     restore_each(alloc, drive, session, aims.as_slice(), at, now)
 }

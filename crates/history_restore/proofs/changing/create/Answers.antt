@@ -1,9 +1,12 @@
-use Rattle.std.proofs.Common.{◌∙◌, ℕ, List, [], ◌∷◌, inl, refl, ap, subst}
+use Rattle.std.proofs.Common.{◌∙◌, ℕ, List, [], ◌∷◌, Ok, Err, refl, ap, subst}
 use Rattle.std.proofs.lemmas.Result.{err_from_is_err_and}
 use Rattle.s4_types.specs.declared.changes.Change.TheVariants as change
-use Rattle.drive.specs.Fields.{state_in, store_of}
-use Rattle.history_restore.specs.Asking.{AreStored, FindsFull}
+use Rattle.s4_types.specs.declared.requests.Request.TheVariants as request
+use Rattle.s4_types.specs.declared.requests.ObjectRequest.TheVariants as object_request
+use Rattle.drive.specs.Fields.{state_in}
+use Rattle.history_restore.specs.Asking.{AsksFor}
 use Rattle.history_restore.specs.Content.{holding}
+use Rattle.history_restore.proofs.Planned.{asked_one}
 use Rattle.history_restore.proofs.changing.create.Goals as goal
 
 pub returns-clause-content : goal.returns-clause-content
@@ -12,15 +15,17 @@ returns-clause-content g c = (c.in_ok-ask.ensures.granted (change.Create (state_
 pub returns-clause-next : goal.returns-clause-next
 returns-clause-next g c = (c.in_ok-ask.ensures.granted (change.Create (state_in c.args.drive.now).next c.in-Ok.attribute) refl).next
 
-pub returns-clause-stored : goal.returns-clause-stored
-returns-clause-stored g c =
-    let s = state_in c.args.drive.now in
-    let after = store_of c.ask.new.drive in
-    subst (λ (a : List ℕ). AreStored (store_of c.args.drive.now) (change.Create s.next a ∷ []) after) c.in-Ok.ensures
-    (after, c.in_ok-ask.ensures.stored (change.Create s.next c.in-Ok.attribute) refl, refl)
+pub returns-clause-asked : goal.returns-clause-asked
+returns-clause-asked g c =
+    let d = c.args.drive.now in
+    let next = (state_in d).next in
+    subst (λ (a : List ℕ). AsksFor d c.args.now (change.Create next a ∷ []) (Ok c.next-number.result) c.ask.new.drive) c.in-Ok.ensures
+    (asked_one (Ok c.next-number.result) d c.ask.new.drive c.args.now (request.Update (object_request.Create c.in-Ok.attribute)) (change.Create next c.in-Ok.attribute) refl c.in_ok-ask.ensures.stored tt c.ask.ensures.clock)
 
-pub returns-in_err-ask-clause-full : goal.returns-in_err-ask-clause-full
-returns-in_err-ask-clause-full g c =
-    let s = state_in c.args.drive.now in
+pub returns-in_err-ask-clause-asked : goal.returns-in_err-ask-clause-asked
+returns-in_err-ask-clause-asked g c =
     let p = err_from_is_err_and c.from_residual.result c.from_residual.ensures.1 in
-    rw (p.1, p.2) (λ full. subst (λ (a : List ℕ). FindsFull (store_of c.args.drive.now) (change.Create s.next a ∷ [])) c.in-Ok.ensures (inl (c.in_err-ask.ensures.full full (change.Create s.next c.in-Ok.attribute) refl)))
+    let d = c.args.drive.now in
+    let next = (state_in d).next in
+    rw (p.1, p.2) (subst (λ (a : List ℕ). AsksFor d c.args.now (change.Create next a ∷ []) (Err c.in_err-ask.field-0.0) c.ask.new.drive) c.in-Ok.ensures
+    (asked_one (Err c.in_err-ask.field-0.0) d c.ask.new.drive c.args.now (request.Update (object_request.Create c.in-Ok.attribute)) (change.Create next c.in-Ok.attribute) refl tt c.in_err-ask.ensures.full c.ask.ensures.clock))

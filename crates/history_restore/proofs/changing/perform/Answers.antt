@@ -1,13 +1,16 @@
-use Rattle.std.proofs.Common.{◌≡◌, ◌∙◌, ℕ, List, OnOk, inl, refl, sym, ap, subst}
+use Rattle.std.proofs.Common.{◌≡◌, ◌∙◌, ℕ, List, OnOk, Ok, Err, refl, sym, ap, subst}
 use Rattle.std.proofs.lemmas.Result.{err_from_is_err_and, on_ok_weaker}
 use Rattle.s4_types.specs.declared.changes.Change.TheVariants as change
+use Rattle.s4_types.specs.declared.requests.Request.TheVariants as request
+use Rattle.s4_types.specs.declared.requests.ObjectRequest.TheVariants as object_request
 use Rattle.s4_model.specs.Refusals.{present}
-use Rattle.drive.specs.Fields.{state_in, store_of}
-use Rattle.history_restore.specs.Asking.{AreStored, FindsFull}
+use Rattle.drive.specs.Fields.{state_in}
+use Rattle.history_restore.specs.Asking.{AsksFor}
 use Rattle.history_restore.specs.declared.plans.Plan.{Plan}
 use Rattle.history_restore.specs.Content.{content_of, bytes_of, attribute_of, holding}
 use Rattle.history_restore.specs.Plans.{changes_by, number_by, next_by_plan, turned}
 use Rattle.history_restore.proofs.Patching.{written_over_none}
+use Rattle.history_restore.proofs.Planned.{asked_one}
 use Rattle.history_restore.proofs.changing.perform.Goals as goal
 
 pub returns-in_ok-ask-in-Delete-clause-content : goal.returns-in_ok-ask-in-Delete-clause-content
@@ -32,18 +35,20 @@ returns-in-Remake-clause-content g c =
     subst (λ (p : Plan). OnOk c.remake.result (content_of (present later (number_by p s.next o)) ≡ content_of (turned before p o 0 (present s o)))) (sym c.in-Remake.is)
     (on_ok_weaker c.remake.result (λ (done : content_of (present later s.next) ≡ holding (bytes_of before) (attribute_of before)). done ∙ ap (λ (b : List ℕ). holding b (attribute_of before)) (sym (written_over_none (bytes_of before)))) c.remake.ensures.content)
 
-pub returns-in_ok-ask-in-Delete-clause-stored : goal.returns-in_ok-ask-in-Delete-clause-stored
-returns-in_ok-ask-in-Delete-clause-stored g c =
-    let s = state_in c.args.drive.now in
-    let store = store_of c.args.drive.now in
-    let after = store_of c.ask.new.drive in
+pub returns-in_ok-ask-in-Delete-clause-asked : goal.returns-in_ok-ask-in-Delete-clause-asked
+returns-in_ok-ask-in-Delete-clause-asked g c =
+    let d = c.args.drive.now in
+    let d' = c.ask.new.drive in
     let o = c.args.object in
-    subst (λ (p : Plan). AreStored store (changes_by c.args.before.now p s.next o) after) (sym c.in-Delete.is) (after, c.in_ok-ask-in-Delete.ensures.stored (change.Delete o) refl, refl)
+    subst (λ (p : Plan). AsksFor d c.args.now (changes_by c.args.before.now p (state_in d).next o) (Ok o) d') (sym c.in-Delete.is)
+    (asked_one (Ok o) d d' c.args.now (request.Update (object_request.Delete o)) (change.Delete o) refl c.in_ok-ask-in-Delete.ensures.stored tt c.ask.ensures.clock)
 
-pub returns-in_err-ask-in-Delete-clause-full : goal.returns-in_err-ask-in-Delete-clause-full
-returns-in_err-ask-in-Delete-clause-full g c =
+pub returns-in_err-ask-in-Delete-clause-asked : goal.returns-in_err-ask-in-Delete-clause-asked
+returns-in_err-ask-in-Delete-clause-asked g c =
     let p = err_from_is_err_and c.from_residual.result c.from_residual.ensures.1 in
-    let s = state_in c.args.drive.now in
-    let store = store_of c.args.drive.now in
+    let d = c.args.drive.now in
+    let d' = c.ask.new.drive in
     let o = c.args.object in
-    rw (p.1, p.2) (λ full. subst (λ (q : Plan). FindsFull store (changes_by c.args.before.now q s.next o)) (sym c.in-Delete.is) (inl (c.in_err-ask-in-Delete.ensures.full full (change.Delete o) refl)))
+    let e = c.in_err-ask-in-Delete.field-0.0 in
+    rw (p.1, p.2) (subst (λ (q : Plan). AsksFor {T = ℕ} d c.args.now (changes_by c.args.before.now q (state_in d).next o) (Err e) d') (sym c.in-Delete.is)
+    (asked_one (Err e) d d' c.args.now (request.Update (object_request.Delete o)) (change.Delete o) refl tt c.in_err-ask-in-Delete.ensures.full c.ask.ensures.clock))

@@ -1,15 +1,15 @@
-use Rattle.std.proofs.Common.{◌≡◌, ℕ, Bool, true, List, [], ◌∷◌, OnOk, IfErr, length, refl, sym, subst}
+use Rattle.std.proofs.Common.{◌≡◌, ℕ, Bool, true, List, [], ◌∷◌, OnOk, refl, sym, subst}
 use Rattle.s4_types.specs.declared.changes.Change.TheVariants as change
 use Rattle.s4_types.specs.declared.requests.Request.TheVariants as request
 use Rattle.s4_types.specs.declared.requests.ObjectRequest.TheVariants as object_request
 use Rattle.s4_model.specs.Effect.{effect}
 use Rattle.s4_model.specs.Refusals.{present}
-use Rattle.drive.specs.Fields.{state_in, store_of}
-use Rattle.history_restore.specs.Asking.{AreStored, IsFullForOne, IsWithinChanges}
+use Rattle.drive.specs.Fields.{state_in}
+use Rattle.history_restore.specs.Asking.{AsksFor}
 use Rattle.history_restore.specs.Content.{content_of}
 use Rattle.history_restore.specs.Plans.{attribute_by, attribute_changes}
 use Rattle.history_restore.proofs.Asked.{content_granted, next_granted}
-use Rattle.history_restore.proofs.Planned.{full_asked, stored_asked}
+use Rattle.history_restore.proofs.Planned.{asked_one}
 use Rattle.history_restore.proofs.changing.set_attribute.Goals as goal
 
 pub returns-clause-content : goal.returns-clause-content
@@ -28,25 +28,12 @@ returns-clause-next g c =
     let o = c.args.object in
     next_granted c.ask.result (state_in c.args.drive.now) (state_in c.ask.new.drive) (request.Update (object_request.SetAttr o c.in-Ok.attribute)) (change.SetAttr o c.in-Ok.attribute) refl c.ask.ensures.granted
 
-pub returns-clause-stored : goal.returns-clause-stored
-returns-clause-stored g c =
-    let store = store_of c.args.drive.now in
-    let after = store_of c.ask.new.drive in
+pub returns-clause-asked : goal.returns-clause-asked
+returns-clause-asked g c =
+    let d = c.args.drive.now in
+    let d' = c.ask.new.drive in
     let o = c.args.object in
     let new : List ℕ = c.in-Ok.attribute in
-    subst (λ (w : Bool). OnOk c.ask.result (AreStored store (attribute_changes o c.args.attribute.now w) after)) (sym c.if-not-wanted.false)
-    (subst (λ (a : List ℕ). OnOk c.ask.result (AreStored store (change.SetAttr o a ∷ []) after)) c.in-Ok.ensures
-    (stored_asked c.ask.result (state_in c.args.drive.now) store after (request.Update (object_request.SetAttr o new)) (change.SetAttr o new) refl c.ask.ensures.stored))
-
-pub returns-clause-full : goal.returns-clause-full
-returns-clause-full g c =
-    let store = store_of c.args.drive.now in
-    let o = c.args.object in
-    let new : List ℕ = c.in-Ok.attribute in
-    subst (λ (w : Bool). IfErr c.ask.result (IsFullForOne store (attribute_changes o c.args.attribute.now w))) (sym c.if-not-wanted.false)
-    (subst (λ (a : List ℕ). IfErr c.ask.result (IsFullForOne store (change.SetAttr o a ∷ []))) c.in-Ok.ensures
-    (full_asked c.ask.result (state_in c.args.drive.now) store (request.Update (object_request.SetAttr o new)) (change.SetAttr o new) refl c.ask.ensures.full))
-
-pub returns-clause-clock : goal.returns-clause-clock
-returns-clause-clock g c =
-    subst (λ (w : Bool). IsWithinChanges (state_in c.args.drive.now) c.args.now (length (attribute_changes c.args.object c.args.attribute.now w)) (state_in c.ask.new.drive)) (sym c.if-not-wanted.false) c.ask.ensures.clock
+    subst (λ (w : Bool). AsksFor d c.args.now (attribute_changes o c.args.attribute.now w) c.ask.result d') (sym c.if-not-wanted.false)
+    (subst (λ (a : List ℕ). AsksFor d c.args.now (change.SetAttr o a ∷ []) c.ask.result d') c.in-Ok.ensures
+    (asked_one c.ask.result d d' c.args.now (request.Update (object_request.SetAttr o new)) (change.SetAttr o new) refl c.ask.ensures.stored c.ask.ensures.full c.ask.ensures.clock))

@@ -1,15 +1,15 @@
-use Rattle.std.proofs.Common.{◌≡◌, ◌∙◌, ℕ, List, [], ◌∷◌, OnOk, IfErr, refl, subst}
+use Rattle.std.proofs.Common.{◌≡◌, ◌∙◌, ℕ, List, [], ◌∷◌, OnOk, refl, subst}
 use Rattle.s4_types.specs.declared.changes.Change.TheVariants as change
 use Rattle.s4_types.specs.declared.requests.Request.TheVariants as request
 use Rattle.s4_types.specs.declared.requests.ObjectRequest.TheVariants as object_request
 use Rattle.s4_model.specs.Effect.{effect}
 use Rattle.s4_model.specs.Refusals.{present}
 use Rattle.s4_model.specs.Step.{part}
-use Rattle.drive.specs.Fields.{state_in, store_of}
-use Rattle.history_restore.specs.Asking.{AreStored, IsFullForOne}
+use Rattle.drive.specs.Fields.{state_in}
+use Rattle.history_restore.specs.Asking.{AsksFor}
 use Rattle.history_restore.specs.Content.{content_of}
 use Rattle.history_restore.proofs.Asked.{content_granted, next_granted}
-use Rattle.history_restore.proofs.Planned.{full_asked, stored_asked}
+use Rattle.history_restore.proofs.Planned.{asked_one}
 use Rattle.history_restore.proofs.changing.write_patch.Goals as goal
 
 pub returns-clause-content : goal.returns-clause-content
@@ -29,23 +29,11 @@ returns-clause-next g c =
     let offset = c.args.patch.offset in
     next_granted c.ask.result (state_in c.args.drive.now) (state_in c.ask.new.drive) (request.Update (object_request.Write o offset c.in-Ok.bytes)) (change.Write o offset c.in-Ok.bytes) refl c.ask.ensures.granted
 
-pub returns-clause-stored : goal.returns-clause-stored
-returns-clause-stored g c =
-    let store = store_of c.args.drive.now in
-    let after = store_of c.ask.new.drive in
+pub returns-clause-asked : goal.returns-clause-asked
+returns-clause-asked g c =
     let o = c.args.object in
     let patch = c.args.patch in
     let new : List ℕ = c.in-Ok.bytes in
     let is : new ≡ part c.args.bytes.now patch.offset patch.length = c.in-Ok.ensures ∙ c.part-new.ensures in
-    subst (λ (b : List ℕ). OnOk c.ask.result (AreStored store (change.Write o patch.offset b ∷ []) after)) is
-    (stored_asked c.ask.result (state_in c.args.drive.now) store after (request.Update (object_request.Write o patch.offset new)) (change.Write o patch.offset new) refl c.ask.ensures.stored)
-
-pub returns-clause-full : goal.returns-clause-full
-returns-clause-full g c =
-    let store = store_of c.args.drive.now in
-    let o = c.args.object in
-    let patch = c.args.patch in
-    let new : List ℕ = c.in-Ok.bytes in
-    let is : new ≡ part c.args.bytes.now patch.offset patch.length = c.in-Ok.ensures ∙ c.part-new.ensures in
-    subst (λ (b : List ℕ). IfErr c.ask.result (IsFullForOne store (change.Write o patch.offset b ∷ []))) is
-    (full_asked c.ask.result (state_in c.args.drive.now) store (request.Update (object_request.Write o patch.offset new)) (change.Write o patch.offset new) refl c.ask.ensures.full)
+    subst (λ (b : List ℕ). AsksFor c.args.drive.now c.args.now (change.Write o patch.offset b ∷ []) c.ask.result c.ask.new.drive) is
+    (asked_one c.ask.result c.args.drive.now c.ask.new.drive c.args.now (request.Update (object_request.Write o patch.offset new)) (change.Write o patch.offset new) refl c.ask.ensures.stored c.ask.ensures.full c.ask.ensures.clock)

@@ -1,5 +1,5 @@
 use Rattle.std.proofs.Common.{IfErr, IfOk, List, sym, subst}
-use Rattle.std.proofs.lemmas.Result.{IfOk-weaker}
+use Rattle.std.proofs.lemmas.Result.{IfOk-weaker, err_from_is_err_and}
 use Rattle.s4_model.specs.State.{State}
 use Rattle.drive.specs.Fields.{state_in, store_of}
 use Rattle.history_restore.specs.declared.aims.Aim.{Aim}
@@ -17,57 +17,31 @@ restore_each-requires g c =
     let s = state_in c.args.drive.now in
     subst (λ (k : State). AscendBelow 0 k.next (targets_of c.as_slice.result.now)) (sym c.asked_aims.ensures.state)
     (subst (λ (l : List Aim). AscendBelow 0 s.next (targets_of l)) (sym c.as_slice.ensures.value)
-    (asked_aims_ascend s (store_of c.args.drive.now) c.args.at c.args.stand_ins.now c.args.asked.now c.in-Ok.aims.items c.rules.ensures.unborn c.in-Ok.ensures.aims))
+    (asked_aims_ascend s (store_of c.args.drive.now) c.args.at c.args.stand_ins.now c.args.asked.now c.in_ok-aims.aims.items c.rules.ensures.unborn c.in_ok-aims.ensures.aims))
 
-pub returns-clause-asked : goal.returns-clause-asked
-returns-clause-asked g c =
+pub returns : goal.returns
+returns g c =
     let s = state_in c.args.drive.now in
     let later = state_in c.restore_each.new.drive in
     let store = store_of c.args.drive.now in
+    let at = c.args.at in
+    let stand_ins = c.args.stand_ins.now in
+    let asked = c.args.asked.now in
     let aims = c.as_slice.result.now in
     let stays = c.asked_aims.ensures.state in
-    let are : AreAskedAims s store c.args.at c.args.stand_ins.now c.args.asked.now aims = subst (λ (l : List Aim). AreAskedAims s store c.args.at c.args.stand_ins.now c.args.asked.now l) (sym c.as_slice.ensures.value) c.in-Ok.ensures.aims in
+    let are : AreAskedAims s store at stand_ins asked aims = subst (λ (l : List Aim). AreAskedAims s store at stand_ins asked l) (sym c.as_slice.ensures.value) c.in_ok-aims.ensures.aims in
     let rest : LeavesRest s later aims = subst (λ (k : State). LeavesRest k later aims) stays c.restore_each.ensures.rest in
-    let each = subst (λ (k : State). IfOk c.restore_each.result (λ all. RestoresEach k later c.args.at aims all.items)) stays c.restore_each.ensures.each in
-    IfOk-weaker c.restore_each.result _ _
-    (λ all done. restores_asked s later store c.args.at c.args.stand_ins.now c.args.asked.now aims all.items c.rules.ensures.decodes c.rules.ensures.sound c.rules.ensures.unborn are done rest) each
+    let each = subst (λ (k : State). IfOk c.restore_each.result (λ all. RestoresEach k later at aims all.items)) stays c.restore_each.ensures.each in
+    record {
+      asked = IfOk-weaker c.restore_each.result _ _ (λ all done. restores_asked s later store at stand_ins asked aims all.items c.rules.ensures.decodes c.rules.ensures.sound c.rules.ensures.unborn are done rest) each;
+      planned = IfOk-weaker c.restore_each.result _ _ (λ all done. plans_asked s store at stand_ins asked aims (plans_of all.items) are (plans_done s later at aims all.items done)) each;
+      counted = subst (λ (k : State). IfOk c.restore_each.result (λ all. IsCounted k later c.args.now all.items)) stays c.restore_each.ensures.counted;
+      stopped = subst (λ (k : State). IfErr c.restore_each.result (StopsAll k later at)) stays c.restore_each.ensures.stopped;
+      unasked = leaves_unasked s later store at stand_ins asked aims are rest;
+      past = subst (λ (k : State). LeavesPast k later) stays c.restore_each.ensures.past;
+    }
 
-pub returns-clause-planned : goal.returns-clause-planned
-returns-clause-planned g c =
-    let s = state_in c.args.drive.now in
-    let later = state_in c.restore_each.new.drive in
-    let store = store_of c.args.drive.now in
-    let aims = c.as_slice.result.now in
-    let stays = c.asked_aims.ensures.state in
-    let are : AreAskedAims s store c.args.at c.args.stand_ins.now c.args.asked.now aims = subst (λ (l : List Aim). AreAskedAims s store c.args.at c.args.stand_ins.now c.args.asked.now l) (sym c.as_slice.ensures.value) c.in-Ok.ensures.aims in
-    let each = subst (λ (k : State). IfOk c.restore_each.result (λ all. RestoresEach k later c.args.at aims all.items)) stays c.restore_each.ensures.each in
-    IfOk-weaker c.restore_each.result _ _ (λ all done. plans_asked s store c.args.at c.args.stand_ins.now c.args.asked.now aims (plans_of all.items) are (plans_done s later c.args.at aims all.items done)) each
-
-pub returns-clause-unasked : goal.returns-clause-unasked
-returns-clause-unasked g c =
-    let s = state_in c.args.drive.now in
-    let later = state_in c.restore_each.new.drive in
-    let store = store_of c.args.drive.now in
-    let aims = c.as_slice.result.now in
-    let stays = c.asked_aims.ensures.state in
-    let are : AreAskedAims s store c.args.at c.args.stand_ins.now c.args.asked.now aims = subst (λ (l : List Aim). AreAskedAims s store c.args.at c.args.stand_ins.now c.args.asked.now l) (sym c.as_slice.ensures.value) c.in-Ok.ensures.aims in
-    let rest : LeavesRest s later aims = subst (λ (k : State). LeavesRest k later aims) stays c.restore_each.ensures.rest in
-    leaves_unasked s later store c.args.at c.args.stand_ins.now c.args.asked.now aims are rest
-
-pub returns-clause-counted : goal.returns-clause-counted
-returns-clause-counted g c =
-    let later = state_in c.restore_each.new.drive in
-    subst (λ (k : State). IfOk c.restore_each.result (λ all. IsCounted k later c.args.now all.items)) c.asked_aims.ensures.state c.restore_each.ensures.counted
-
-pub returns-clause-stopped : goal.returns-clause-stopped
-returns-clause-stopped g c =
-    let later = state_in c.restore_each.new.drive in
-    subst (λ (k : State). IfErr c.restore_each.result (StopsAll k later c.args.at)) c.asked_aims.ensures.state c.restore_each.ensures.stopped
-
-pub returns-clause-past : goal.returns-clause-past
-returns-clause-past g c =
-    let later = state_in c.restore_each.new.drive in
-    subst (λ (k : State). LeavesPast k later) c.asked_aims.ensures.state c.restore_each.ensures.past
-
-pub returns-in-Err-clause-stopped : goal.returns-in-Err-clause-stopped
-returns-in-Err-clause-stopped g c = stops_unplanned (state_in c.args.drive.now) (state_in c.asked_aims.new.drive) c.args.at c.in-Err.failure c.asked_aims.ensures.state c.in-Err.ensures.unplanned
+pub returns-in_err-aims-clause-stopped : goal.returns-in_err-aims-clause-stopped
+returns-in_err-aims-clause-stopped g c =
+    let p = err_from_is_err_and c.from_residual.result c.from_residual.ensures.1 in
+    rw (p.1, p.2) (stops_unplanned (state_in c.args.drive.now) (state_in c.asked_aims.new.drive) c.args.at c.in_err-aims.field-0.0 c.asked_aims.ensures.state c.in_err-aims.ensures.unplanned)
