@@ -4,8 +4,7 @@ ghost use Rattle.std.specs.Io.KnownBytes.{Appends};
 ghost use Rattle.drive.specs.Fields.{state_in, store_of};
 ghost use Rattle.history_diff.specs.Differences.{told_of};
 ghost use Rattle.history_diff.specs.Diffing.{TellsDifferences, IsFaultOf, WritesAsked};
-ghost use Rattle.history_diff.specs.Diffing.{comparison_of, object_asked, row_of, json_of};
-ghost use Rattle.history_diff.specs.Diffing.{detail_lines};
+ghost use Rattle.history_diff.specs.Diffing.{comparison_of, detail_lines, object_asked, row_of};
 ghost use Rattle.history_diff.specs.Lines.{difference_line};
 ghost use Rattle.history_diff.specs.Texts.{detail_of, text_shown};
 ghost use Rattle.history_diff.specs.private.Writing.{WritesLines};
@@ -198,28 +197,11 @@ fn write_lines<W: Sink>(
     let (old, new) = (content_of(&found.before), content_of(&found.after));
     let shown = shown_of(alloc, found.object, comparison, old, new)?;
     if comparison.json {
-        return write_json(alloc, found, &shown, writer);
+        let line = difference_json(alloc, found.object, old, new, &found.difference, &shown)?;
+        return write_out(writer, line.as_bytes());
     }
     write_line(alloc, found, writer)?;
     write_detail(alloc, found, &shown, writer)
-}
-
-// Writes the line of a difference for programs.
-fn write_json<W: Sink>(
-    alloc: Global,
-    found: &DifferingObject,
-    shown: &Shown,
-    writer: &mut W,
-) -> Result<(), Stop>
-    requires writer { W.failures writer.old + 1 < 2 ^ 64 }
-    ensures line { OnOk result
-        (Appends (W.passed writer.old) (W.passed writer.new)
-        (json_of (detail_of shown.now) (row_of found.now) (text_shown shown.now))) }
-    ensures failures { OnOk result (W.failures writer.new ≡ W.failures writer.old) }
-{
-    let (old, new) = (content_of(&found.before), content_of(&found.after));
-    let line = difference_json(alloc, found.object, old, new, &found.difference, shown)?;
-    write_out(writer, line.as_bytes())
 }
 
 // Writes what follows the line of a difference for people.

@@ -1,8 +1,9 @@
-use Rattle.std.proofs.Common.{rules, true, false}
+use Rattle.std.proofs.Common.{◌≡◌, rules, true, false, subst}
+use Rattle.std.specs.Io.KnownBytes.{Appends}
 use Rattle.std.proofs.KnownBytes.{Appends-trans}
 use Rattle.std.proofs.lemmas.Result.{on_ok_weaker}
 use Rattle.history_diff.specs.Differences.{content_of, told_of}
-use Rattle.history_diff.specs.Diffing.{detail_lines, row_of}
+use Rattle.history_diff.specs.Diffing.{detail_lines, json_of, row_of}
 use Rattle.history_diff.specs.Lines.{difference_line}
 use Rattle.history_diff.specs.Texts.{IsAskedText, detail_of, text_shown}
 use Rattle.history_diff.proofs.Written.{lines_written}
@@ -14,9 +15,14 @@ returns-then-comparison-clause-lines g c =
     let shown = c.in_ok-shown.shown in
     let found = c.args.found.now in
     let unified : IsAskedText c.args.comparison.now.detail found.object c.args.comparison.now (content_of found.before) (content_of found.after) (text_shown shown) = search rules in
-    on_ok_weaker c.write_json.result
-    (λ wrote. lines_written c.args.comparison.now (row_of found) true (detail_of shown) (text_shown shown) (passed c.args.writer.now) (passed c.write_json.new.writer) c.if-comparison.true c.in_ok-shown.ensures.detail unified wrote)
-    c.write_json.ensures.line
+    let row = row_of found in
+    let json = json_of (detail_of shown) row (text_shown shown) in
+    let x = passed c.args.writer.now in
+    let y = passed c.write_out.new.writer in
+    let is : c.as_bytes.result.now ≡ json = search rules in
+    on_ok_weaker c.write_out.result
+    (λ wrote. lines_written c.args.comparison.now row true (detail_of shown) (text_shown shown) x y c.if-comparison.true c.in_ok-shown.ensures.detail unified (subst (Appends x y) is wrote))
+    c.write_out.ensures.bytes
 
 pub returns-clause-lines : goal.returns-clause-lines
 returns-clause-lines g c =
