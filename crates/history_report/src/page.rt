@@ -1,11 +1,11 @@
 //! The page about a drive.
-ghost use Rattle.std.specs.Prelude.{◌≡◌, ◌≢◌, ◌+◌, ◌^◌, ◌<◌, ◌∷◌, Some, IfOk, IfErr, OnOk};
+ghost use Rattle.std.specs.Prelude.{◌≡◌, ◌≢◌, ◌+◌, ◌^◌, ◌<◌, Some, IfOk, IfErr, OnOk};
 ghost use Rattle.std.specs.Prelude.{string_bytes};
 ghost use Rattle.std.specs.Io.KnownBytes.{Appends};
 ghost use Rattle.s4_model.specs.Visible.{IsVisible};
 ghost use Rattle.window.specs.Runs.{Ascend};
 ghost use Rattle.drive.specs.Fields.{state_in, store_of};
-ghost use Rattle.history_report.specs.Page.{Constant, page_text};
+ghost use Rattle.history_report.specs.Page.{page_text};
 ghost use Rattle.history_report.specs.Report.{IsFaultOf, IsSince, Reports, axis_of, end_of};
 ghost use Rattle.history_report.specs.Report.{WritesPage, head_of, none_text, numbers_of};
 ghost use Rattle.history_report.specs.private.Sections.{WritesSince, WritesTable, WritesTimeline};
@@ -126,23 +126,6 @@ fn axis_text<J: Naming>(alloc: Global, drive: &Drive<J>) -> Result<String, Alloc
     format!(in alloc; "<div class=\"axis\"><span>{floor}</span><span>{clock}</span></div>\n")
 }
 
-// Writes what is above the strips.
-fn write_axis<J: Naming, W: Sink>(
-    alloc: Global,
-    drive: &Drive<J>,
-    writer: &mut W,
-) -> Result<(), Stop>
-    requires writer { W.failures writer.old + 1 < 2 ^ 64 }
-    ensures axis { OnOk result
-        (Appends (W.passed writer.old) (W.passed writer.new)
-        (page_text (Constant TIMELINE_HEAD.now ∷ axis_of (state_in drive.now)))) }
-    ensures failures { OnOk result (W.failures writer.new ≡ W.failures writer.old) }
-{
-    let axis = axis_text(alloc, drive)?;
-    write_out(writer, TIMELINE_HEAD.as_bytes())?;
-    write_out(writer, axis.as_bytes())
-}
-
 // Writes the beginning of a page.
 fn write_head<J: Naming, W: Sink>(
     alloc: Global,
@@ -157,9 +140,11 @@ fn write_head<J: Naming, W: Sink>(
     ensures failures { OnOk result (W.failures writer.new ≡ W.failures writer.old) }
 {
     let numbers = numbers_text(alloc, drive, from)?;
+    let axis = axis_text(alloc, drive)?;
     write_out(writer, PAGE_HEAD.as_bytes())?;
     write_out(writer, numbers.as_bytes())?;
-    write_axis(alloc, drive, writer)
+    write_out(writer, TIMELINE_HEAD.as_bytes())?;
+    write_out(writer, axis.as_bytes())
 }
 
 // Writes the beginning of a page, and the strips.

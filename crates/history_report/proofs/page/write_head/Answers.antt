@@ -1,4 +1,4 @@
-use Rattle.std.proofs.Common.{rules, ◌++◌, ◌∷◌, subst}
+use Rattle.std.proofs.Common.{rules, ◌∙◌, ◌++◌, ◌∷◌, subst}
 use Rattle.std.specs.Io.KnownBytes.{Appends}
 use Rattle.std.proofs.KnownBytes.{Appends-trans}
 use Rattle.std.proofs.lemmas.Result.{on_ok_weaker}
@@ -14,11 +14,17 @@ returns-clause-head g c =
     let passed = g.W.Sink.passed in
     let s = state_in c.args.drive.now in
     let numbers = numbers_of s c.args.from in
-    let axis = Constant TIMELINE_HEAD.now ∷ axis_of s in
-    let w = passed c.args.writer.now in
-    let x = passed c.write_out.new.writer in
-    let y = passed c.write_out-2.new.writer in
-    let z = passed c.write_axis.new.writer in
-    let first : Appends w x PAGE_HEAD.now = search rules in
-    let second : Appends x y (page_text numbers) = search rules in
-    on_ok_weaker c.write_axis.result (λ wrote. Appends-trans w x z PAGE_HEAD.now (page_text (numbers ++ axis)) first (appends_two x y z numbers axis second wrote)) c.write_axis.ensures.axis
+    let axis = axis_of s in
+    let v = passed c.args.writer.now in
+    let w = passed c.write_out.new.writer in
+    let x = passed c.write_out-2.new.writer in
+    let y = passed c.write_out-3.new.writer in
+    let z = passed c.write_out-4.new.writer in
+    let first : Appends v w PAGE_HEAD.now = search rules in
+    let second : Appends w x (page_text numbers) = search rules in
+    let third : Appends x y TIMELINE_HEAD.now = search rules in
+    on_ok_weaker c.write_out-4.result
+    (λ wrote. let last : Appends y z (page_text axis) = subst (Appends y z) (c.as_bytes-4.ensures.value ∙ c.in_ok-axis.ensures) wrote in
+    Appends-trans v w z PAGE_HEAD.now (page_text (numbers ++ Constant TIMELINE_HEAD.now ∷ axis)) first
+    (appends_two w x z numbers (Constant TIMELINE_HEAD.now ∷ axis) second (Appends-trans x y z TIMELINE_HEAD.now (page_text axis) third last)))
+    c.write_out-4.ensures.bytes
