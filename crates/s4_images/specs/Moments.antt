@@ -17,6 +17,11 @@ use Rattle.s4_images.specs.declared.faults.Failure.TheVariants.{Future, Unreadab
 abbrev pub moment_said : State → MomentWord → ℕ
 moment_said s word = moment_of word s.clock
 
+-- the moment that is asked for, if one is
+abbrev pub moment_given : State → Option MomentWord → Option ℕ
+moment_given s None = None
+moment_given s (Some word) = Some (moment_said s word)
+
 -- the moment that is asked for, and the clock's where none is
 abbrev pub moment_asked : State → Option MomentWord → ℕ
 moment_asked s None = s.clock

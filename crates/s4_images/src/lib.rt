@@ -24,8 +24,8 @@ pub use changing::{DriveChange, change_image};
 pub use commands::{DriveCommand, Verdict, over_image};
 pub use faults::{Failure, as_number};
 pub use moments::{
-    check_object, moment_asked, moment_or_clock, moment_said, object_asked, object_in_either,
-    unreadable,
+    check_object, moment_asked, moment_given, moment_or_clock, moment_said, object_asked,
+    object_in_either, unreadable,
 };
 pub use printing::{Prints, write_line, write_lines};
 pub use showing::{ImageCommand, show_image};

@@ -6,7 +6,7 @@ ghost use Rattle.drive.specs.Fields.{state_in, store_of};
 ghost use Rattle.history_view.specs.Names.{IsNameRefusal, IsOnlyNamed};
 ghost use Rattle.s4_images.specs.Moments.{IsNamedInEither, IsObjectAsked, IsObjectInEither};
 ghost use Rattle.s4_images.specs.Moments.{IsUnreadable, TellsUnreadable};
-ghost use Rattle.s4_images.specs.Moments.{moment_asked, moment_said};
+ghost use Rattle.s4_images.specs.Moments.{moment_asked, moment_given, moment_said};
 
 use crate::faults::{Failure, as_number};
 use drive::Drive;
@@ -20,6 +20,16 @@ pub fn moment_said<J: Naming>(drive: &Drive<J>, word: MomentWord) -> Moment
     ensures { result ≡ moment_said (state_in drive.now) word }
 {
     Moment::new(moment_of(word, drive.clock().number()))
+}
+
+/// The moment that is asked for, if one is, whether it can be read or not.
+pub fn moment_given<J: Naming>(drive: &Drive<J>, word: Option<MomentWord>) -> Option<Moment>
+    ensures { result ≡ moment_given (state_in drive.now) word }
+{
+    match word {
+        Some(word) => Some(moment_said(drive, word)),
+        None => None,
+    }
 }
 
 /// The moment that is asked for, the clock's where none is, whether it can be read or not.

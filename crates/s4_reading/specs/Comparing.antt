@@ -1,5 +1,5 @@
 -- What `diff` asks for, what it prints, and what its status tells.
-use Rattle.std.specs.Prelude.{ℕ, if◌then◌else◌, Bool, true, false, List, Option, Some, None, option_map}
+use Rattle.std.specs.Prelude.{ℕ, if◌then◌else◌, Bool, true, false, List, Option, option_map}
 use Rattle.s4_model.specs.State.{State}
 use Rattle.drive.specs.Fields.{DriveFields, state_in, store_of}
 use Rattle.s4_command.specs.declared.changes.DiffAsked.{DiffAsked as Words}
@@ -7,16 +7,10 @@ use Rattle.history_diff.specs.Diffing.{TellsDifferences}
 use Rattle.history_diff.specs.declared.diffing.DiffAsked.{DiffAsked}
 use Rattle.history_diff.specs.declared.texts.Detail.{Detail}
 use Rattle.history_diff.specs.declared.texts.Detail.TheVariants.{Ranges, Bytes, Lines}
-use Rattle.moment_words.specs.declared.words.MomentWord.{MomentWord}
 use Rattle.moment_words.specs.Texts.{style_of}
-use Rattle.s4_images.specs.Moments.{IsObjectInEither, moment_asked, moment_said}
+use Rattle.s4_images.specs.Moments.{IsObjectInEither, moment_asked, moment_given, moment_said}
 use Rattle.s4_images.specs.declared.commands.Verdict.{Verdict}
 use Rattle.s4_images.specs.declared.commands.Verdict.TheVariants.{Fine, Differs}
-
--- the moment that is given, and none where none is
-abbrev pub moment_given : State → Option MomentWord → Option ℕ
-moment_given s None = None
-moment_given s (Some word) = Some (moment_said s word)
 
 -- how much is asked for of the bytes that differ
 abbrev pub detail_asked : Words → Detail

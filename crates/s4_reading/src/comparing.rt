@@ -3,17 +3,16 @@ ghost use Rattle.std.specs.Prelude.{◌≡◌, ◌+◌, ◌^◌, ◌<◌, IfOk};
 ghost use Rattle.drive.specs.Fields.{state_in};
 ghost use Rattle.history_diff.specs.Diffing.{TellsDifferences};
 ghost use Rattle.s4_reading.specs.Comparing.{Compares, comparison_asked, detail_asked, differs_by};
-ghost use Rattle.s4_reading.specs.Comparing.{moment_given};
 
 use drive::Drive;
 use history_diff::{Detail, DiffFault, Stop, write_differences};
-use moment_words::{MomentWord, style_of};
+use moment_words::style_of;
 use s4_command::DiffAsked;
 use s4_images::{
-    DriveCommand, Failure, ImageCommand, Verdict, moment_or_clock, moment_said, object_in_either,
-    unreadable,
+    DriveCommand, Failure, ImageCommand, Verdict, moment_given, moment_or_clock, moment_said,
+    object_in_either, unreadable,
 };
-use s4_types::{Moment, ObjectId, Refusal};
+use s4_types::{ObjectId, Refusal};
 use segment_word::Naming;
 use serving::Sink;
 use std::alloc::Global;
@@ -97,15 +96,6 @@ fn detail_asked(asked: &DiffAsked<'_>) -> Detail
         (true, _) => Detail::Bytes,
         (false, true) => Detail::Lines,
         (false, false) => Detail::Ranges,
-    }
-}
-
-fn moment_given<J: Naming>(drive: &Drive<J>, word: Option<MomentWord>) -> Option<Moment>
-    ensures { result ≡ moment_given (state_in drive.now) word }
-{
-    match word {
-        Some(word) => Some(moment_said(drive, word)),
-        None => None,
     }
 }
 

@@ -1,15 +1,13 @@
 //! `report`: a page about a drive.
-ghost use Rattle.std.specs.Prelude.{◌≡◌, false};
-ghost use Rattle.drive.specs.Fields.{state_in};
-ghost use Rattle.s4_report.specs.Reporting.{ReportsDrive, since_asked};
+ghost use Rattle.std.specs.Prelude.{false};
+ghost use Rattle.s4_report.specs.Reporting.{ReportsDrive};
 
 use drive::Drive;
 use history_diff::Stop;
 use history_report::{ReportFault, write_report};
-use moment_words::MomentWord;
 use s4_command::ReportAsked;
-use s4_images::{DriveCommand, Failure, ImageCommand, Verdict, moment_said, unreadable};
-use s4_types::{Moment, ObjectId, Refusal};
+use s4_images::{DriveCommand, Failure, ImageCommand, Verdict, moment_given, unreadable};
+use s4_types::{ObjectId, Refusal};
 use segment_word::Naming;
 use serving::Sink;
 use std::alloc::Global;
@@ -41,21 +39,11 @@ impl DriveCommand for Reporting<'_> {
         drive: &mut Drive<J>,
         writer: &mut W,
     ) -> Result<Verdict, Failure> {
-        let since = since_asked(drive, self.0.since);
+        let since = moment_given(drive, self.0.since);
         match write_report(alloc, drive, since, writer) {
             Ok(()) => Ok(Verdict::Fine),
             Err(fault) => Err(failure_of(drive, &fault)),
         }
-    }
-}
-
-// The moment since which differences are asked for, by the drive's clock.
-fn since_asked<J: Naming>(drive: &Drive<J>, since: Option<MomentWord>) -> Option<Moment>
-    ensures { result ≡ since_asked (state_in drive.now) since }
-{
-    match since {
-        Some(word) => Some(moment_said(drive, word)),
-        None => None,
     }
 }
 
