@@ -61,12 +61,40 @@ pub(crate) fn lead_back<B: Blocks>(
         cache.new.pairs }
     ensures same { B.log table.new ≡ B.log table.old }
 {
-    // With an index no inode is made beside the one that is led back. It is led back in one place
-    // alone, so that the compiler puts that call in line.
+    // With an index no inode is made beside the one that is led back.
     if kept.value.index.is_none()
         && lead_from_nearest(alloc, table, cache, object, &kept.row, at, inode)
     {
         return;
     }
     kept.value.lead_back(table, object, &kept.row, at, inode);
+}
+
+/// Makes of an object's inode after all its entries the one at a moment, in its place, for a read.
+pub(crate) fn lead_back_to_read<B: Blocks>(
+    alloc: Global,
+    table: &mut B,
+    cache: &mut InodeCache,
+    object: ObjectId,
+    kept: &Kept<Present>,
+    at: Moment,
+    inode: &mut Inode,
+)
+    requires row { IsRow (B.log table.old).held object kept.now.row }
+    requires index { IsIndexOf kept.now.value.index
+        (entries_of (B.log table.old).held object kept.now.row) }
+    requires cached { IsTrueOf cache.old.pairs (B.log table.old).held object kept.now.row }
+    requires present { inode.old ≡ last_inode (B.log table.old).held object kept.now.row }
+    ensures inode { inode.new ≡ inode_of (B.log table.old).held object kept.now.row at }
+    ensures added { AddsTrue (B.log table.old).held object kept.now.row cache.old.pairs
+        cache.new.pairs }
+    ensures same { B.log table.new ≡ B.log table.old }
+{
+    // Mostly there is an index. All else needs room on the stack for more inodes: it is a call of
+    // its own, which the compiler leaves one, so that no read with an index clears that room.
+    let Some(index) = &kept.value.index else {
+        lead_back(alloc, table, cache, object, kept, at, inode);
+        return;
+    };
+    index.undo_past(at, inode);
 }

@@ -21,7 +21,7 @@ mod tallying;
 mod upkeep;
 
 use crate::laws::{an_object_has_an_inode_at_all_moments_or_at_none, what_reads_rest_on};
-use crate::leading::lead_back;
+use crate::leading::{lead_back, lead_back_to_read};
 use crate::readers::{Reader, read_live};
 use block_log::Blocks;
 use checkpoint::InodeCache;
@@ -256,7 +256,7 @@ impl<B: Blocks> Store<B> {
             return read_live(self.alloc, &mut self.table, &kept.value.inode, reader);
         }
         let mut inode = kept.value.inode;
-        lead_back(
+        lead_back_to_read(
             self.alloc,
             &mut self.table,
             &mut self.cache,

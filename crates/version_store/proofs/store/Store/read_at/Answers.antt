@@ -19,25 +19,25 @@ read_live-requires-clause-lead g c =
     c.what_reads_rest_on.ensures.lead s.log.held c.args.object c.in-Some.kept.now.value.inode
     (can_read s c.args.object s.latest c.in-Some.kept.now.value.inode store (sym (inode_kept c.self.inside.objects.values c.self.inside.cache.pairs s c.args.object c.in-Some.kept.now.value c.in-Some.ensures.value c.self.invariant))).1
 
-pub lead_back-requires-clause-row : goal.lead_back-requires-clause-row
-lead_back-requires-clause-row g c =
+pub lead_back_to_read-requires-clause-row : goal.lead_back_to_read-requires-clause-row
+lead_back_to_read-requires-clause-row g c =
     let s : StoreFields = record { rows = c.self.inside.objects.rows; log = g.B.Blocks.log c.self.inside.table; latest = c.self.inside.latest } in
     let store : IsStore s = subst (λ (v : StoreOf _). IsStore (fields_of g.B.Blocks.log v)) (sym c.self.view_is) c.requires in
     (store.objects c.args.object c.in-Some.kept.now.row (sym c.in-Some.ensures.row)).stands
 
-pub lead_back-requires-clause-index : goal.lead_back-requires-clause-index
-lead_back-requires-clause-index g c =
+pub lead_back_to_read-requires-clause-index : goal.lead_back_to_read-requires-clause-index
+lead_back_to_read-requires-clause-index g c =
     let s : StoreFields = record { rows = c.self.inside.objects.rows; log = g.B.Blocks.log c.self.inside.table; latest = c.self.inside.latest } in
     let kept = c.in-Some.kept.now in
     subst (IsIndexOf kept.value.index) (entries_here s c.args.object kept.row (sym c.in-Some.ensures.row))
     (index_kept c.self.inside.objects.values c.self.inside.cache.pairs s c.args.object kept.value c.in-Some.ensures.value c.self.invariant)
 
-pub lead_back-requires-clause-cached : goal.lead_back-requires-clause-cached
-lead_back-requires-clause-cached g c =
+pub lead_back_to_read-requires-clause-cached : goal.lead_back_to_read-requires-clause-cached
+lead_back_to_read-requires-clause-cached g c =
     true_of (g.B.Blocks.log c.self.inside.table).held c.self.inside.objects.rows c.args.object c.in-Some.kept.now.row c.self.inside.cache.pairs (sym c.in-Some.ensures.row) c.self.invariant.cached
 
-pub lead_back-requires-clause-present : goal.lead_back-requires-clause-present
-lead_back-requires-clause-present g c =
+pub lead_back_to_read-requires-clause-present : goal.lead_back_to_read-requires-clause-present
+lead_back_to_read-requires-clause-present g c =
     let s : StoreFields = record { rows = c.self.inside.objects.rows; log = g.B.Blocks.log c.self.inside.table; latest = c.self.inside.latest } in
     let store : IsStore s = subst (λ (v : StoreOf _). IsStore (fields_of g.B.Blocks.log v)) (sym c.self.view_is) c.requires in
     let kept = c.in-Some.kept.now in
@@ -48,11 +48,11 @@ pub read_live-requires-2-clause-lead : goal.read_live-requires-2-clause-lead
 read_live-requires-2-clause-lead g c =
     let s : StoreFields = record { rows = c.self.inside.objects.rows; log = g.B.Blocks.log c.self.inside.table; latest = c.self.inside.latest } in
     let store : IsStore s = subst (λ (v : StoreOf _). IsStore (fields_of g.B.Blocks.log v)) (sym c.self.view_is) c.requires in
-    let there : inode_in s c.args.object c.args.at ≡ Some c.lead_back.new.inode =
-    ap (inode_by s.log.held c.args.object c.args.at) (sym c.in-Some.ensures.row) ∙ ap (λ (i : Inode). Some i) (sym c.lead_back.ensures.inode) in
-    let held = (can_read s c.args.object c.args.at c.lead_back.new.inode store there).1 in
-    c.what_reads_rest_on.ensures.lead (g.B.Blocks.log c.lead_back.new.table).held c.args.object c.lead_back.new.inode
-    (subst (λ (l : Log). PointersHeld l.held c.args.object c.lead_back.new.inode) (sym c.lead_back.ensures.same) held)
+    let there : inode_in s c.args.object c.args.at ≡ Some c.lead_back_to_read.new.inode =
+    ap (inode_by s.log.held c.args.object c.args.at) (sym c.in-Some.ensures.row) ∙ ap (λ (i : Inode). Some i) (sym c.lead_back_to_read.ensures.inode) in
+    let held = (can_read s c.args.object c.args.at c.lead_back_to_read.new.inode store there).1 in
+    c.what_reads_rest_on.ensures.lead (g.B.Blocks.log c.lead_back_to_read.new.table).held c.args.object c.lead_back_to_read.new.inode
+    (subst (λ (l : Log). PointersHeld l.held c.args.object c.lead_back_to_read.new.inode) (sym c.lead_back_to_read.ensures.same) held)
 
 pub returns-then-le-clause-reads : goal.returns-then-le-clause-reads
 returns-then-le-clause-reads g c =
@@ -79,21 +79,21 @@ returns-then-le-clause-refused g c =
 pub invariant_of-self-2 : goal.invariant_of-self-2
 invariant_of-self-2 g c =
     let s : StoreFields = record { rows = c.self.inside.objects.rows; log = g.B.Blocks.log c.self.inside.table; latest = c.self.inside.latest } in
-    beside_added c.self.inside.objects.values c.self.inside.cache.pairs c.lead_back.new.cache.pairs s (g.B.Blocks.log c.read_live-2.new.table) c.args.object c.in-Some.kept.now.row
-    (c.read_live-2.ensures.same ∙ c.lead_back.ensures.same) (sym c.in-Some.ensures.row) c.lead_back.ensures.added c.self.invariant
+    beside_added c.self.inside.objects.values c.self.inside.cache.pairs c.lead_back_to_read.new.cache.pairs s (g.B.Blocks.log c.read_live-2.new.table) c.args.object c.in-Some.kept.now.row
+    (c.read_live-2.ensures.same ∙ c.lead_back_to_read.ensures.same) (sym c.in-Some.ensures.row) c.lead_back_to_read.ensures.added c.self.invariant
 
 pub returns-clause-reads : goal.returns-clause-reads
 returns-clause-reads g c =
     let s : StoreFields = record { rows = c.self.inside.objects.rows; log = g.B.Blocks.log c.self.inside.table; latest = c.self.inside.latest } in
-    let there : inode_in s c.args.object c.args.at ≡ Some c.lead_back.new.inode =
-    ap (inode_by s.log.held c.args.object c.args.at) (sym c.in-Some.ensures.row) ∙ ap (λ (i : Inode). Some i) (sym c.lead_back.ensures.inode) in
-    read_by_inode c.read_live-2.result (fields_of g.B.Blocks.log c.args.self.now) c.args.object c.args.at c.lead_back.new.inode _
-    (subst (λ (v : StoreOf _). inode_in (fields_of g.B.Blocks.log v) c.args.object c.args.at ≡ Some c.lead_back.new.inode) c.self.view_is there) c.read_live-2.ensures.reads
+    let there : inode_in s c.args.object c.args.at ≡ Some c.lead_back_to_read.new.inode =
+    ap (inode_by s.log.held c.args.object c.args.at) (sym c.in-Some.ensures.row) ∙ ap (λ (i : Inode). Some i) (sym c.lead_back_to_read.ensures.inode) in
+    read_by_inode c.read_live-2.result (fields_of g.B.Blocks.log c.args.self.now) c.args.object c.args.at c.lead_back_to_read.new.inode _
+    (subst (λ (v : StoreOf _). inode_in (fields_of g.B.Blocks.log v) c.args.object c.args.at ≡ Some c.lead_back_to_read.new.inode) c.self.view_is there) c.read_live-2.ensures.reads
 
 pub returns-clause-refused : goal.returns-clause-refused
 returns-clause-refused g c =
     let s : StoreFields = record { rows = c.self.inside.objects.rows; log = g.B.Blocks.log c.self.inside.table; latest = c.self.inside.latest } in
-    let there : inode_in s c.args.object c.args.at ≡ Some c.lead_back.new.inode =
-    ap (inode_by s.log.held c.args.object c.args.at) (sym c.in-Some.ensures.row) ∙ ap (λ (i : Inode). Some i) (sym c.lead_back.ensures.inode) in
-    unread_by_inode c.read_live-2.result (fields_of g.B.Blocks.log c.args.self.now) c.args.object c.args.at c.lead_back.new.inode _
-    (subst (λ (v : StoreOf _). inode_in (fields_of g.B.Blocks.log v) c.args.object c.args.at ≡ Some c.lead_back.new.inode) c.self.view_is there) c.read_live-2.ensures.refused
+    let there : inode_in s c.args.object c.args.at ≡ Some c.lead_back_to_read.new.inode =
+    ap (inode_by s.log.held c.args.object c.args.at) (sym c.in-Some.ensures.row) ∙ ap (λ (i : Inode). Some i) (sym c.lead_back_to_read.ensures.inode) in
+    unread_by_inode c.read_live-2.result (fields_of g.B.Blocks.log c.args.self.now) c.args.object c.args.at c.lead_back_to_read.new.inode _
+    (subst (λ (v : StoreOf _). inode_in (fields_of g.B.Blocks.log v) c.args.object c.args.at ≡ Some c.lead_back_to_read.new.inode) c.self.view_is there) c.read_live-2.ensures.refused
