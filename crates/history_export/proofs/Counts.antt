@@ -19,7 +19,8 @@ use Rattle.history_export.specs.declared.checking.CheckReport.{CheckReport}
 use Rattle.history_export.specs.declared.checking.Checked.{Checked}
 use Rattle.history_export.specs.declared.checking.Reading.{Reading}
 use Rattle.history_export.specs.Versions.{begins, begun_behind, beginnings_of, seen_from, pairs_at, pairs_of, size_at, bytes_at, content_in, contents_at}
-use Rattle.history_export.specs.Checks.{ChecksAll, HasRead, HaveRowsFrom, capped, none_read, with_read}
+use Rattle.history_export.specs.Checks.{ChecksAll, HasRead, capped, none_read, with_read}
+use Rattle.history_view.specs.Logs.{AreRowsFrom}
 use Rattle.history_view.proofs.Fronts.{IsFront, front_begun, front_more, front_whole, flat_more}
 
 -- ---- counts
@@ -112,14 +113,14 @@ all_read s store o first entries i last c d begun are over before =
 -- the versions of the objects up to one were read
 pub record CheckedTo (s : State) (store : StoreFields) (last : ℕ) (d : Reading) (told told' : Option (List ℕ)) : Type 0 where
   pub objects : List ℕ
-  pub front : IsFront (HaveRowsFrom store) objects last
+  pub front : IsFront (AreRowsFrom store) objects last
   pub counts : d.checked ≡ with_read s none_read (flat_map (pairs_of s store) objects)
   pub hashed : Holds256 d.hasher (contents_at s (flat_map (pairs_of s store) objects))
   pub objects_told : Appends told told' objects
 
 -- none was at first
 pub none_checked : (s : State) (store : StoreFields) (d : Reading) (told : Option (List ℕ)) → d.checked ≡ none_read → Holds256 d.hasher [] → CheckedTo s store 0 d told told
-none_checked s store d told none empty = record { objects = []; front = front_begun (HaveRowsFrom store); counts = none; hashed = empty; objects_told = Appends-nil told }
+none_checked s store d told none empty = record { objects = []; front = front_begun (AreRowsFrom store); counts = none; hashed = empty; objects_told = Appends-nil told }
 
 -- the next one's were
 pub checked_on : (s : State) (store : StoreFields) (last o : ℕ) (d d' : Reading) (a b b' : Option (List ℕ)) → CheckedTo s store last d a b → IsNextAbove store.rows last o → HasRead s (pairs_of s store o) d d' → Appends b b' (o ∷ [])
@@ -130,7 +131,7 @@ checked_on s store last o d d' a b b' before next read told =
     let more : flat_map (pairs_of s store) (before.objects ++ o ∷ []) ≡ done ++ pairs = flat_more (pairs_of s store) before.objects o in
     record {
       objects = before.objects ++ o ∷ [];
-      front = front_more (HaveRowsFrom store) before.objects o last o before.front (λ rest more. (next, more));
+      front = front_more (AreRowsFrom store) before.objects o last o before.front (λ rest more. (next, more));
       counts = read.counts ∙ ap (λ x. with_read s x pairs) before.counts ∙ counted_together s none_read done pairs ∙ ap (with_read s none_read) (sym more);
       hashed = subst (Holds256 d'.hasher) (sym (contents_together s done pairs) ∙ ap (contents_at s) (sym more)) (read.hashed (contents_at s done) before.hashed);
       objects_told = Appends-trans a b b' before.objects (o ∷ []) before.objects_told told;
@@ -141,7 +142,7 @@ pub all_checked : (s : State) (store : StoreFields) (last : ℕ) (d : Reading) (
     → report.checked ≡ d.checked → ((message : List ℕ) → Holds256 d.hasher message → report.digest ≡ sha256 message) → ChecksAll s store report a b
 all_checked s store last d report a b before none counts digest = record {
   objects = before.objects;
-  have_rows = front_whole (HaveRowsFrom store) before.objects last before.front none;
+  have_rows = front_whole (AreRowsFrom store) before.objects last before.front none;
   read = counts ∙ before.counts;
   digest = digest (contents_at s (flat_map (pairs_of s store) before.objects)) before.hashed;
   objects_told = before.objects_told;

@@ -1,13 +1,12 @@
 -- What a check of a drive has read.
-use Rattle.std.specs.Prelude.{◌≡◌, ℕ, ◌+◌, ◌-◌, ◌^◌, ◌<◌, ◌++◌, min, List, [], ◌∷◌, length, Option, None}
+use Rattle.std.specs.Prelude.{◌≡◌, ℕ, ◌+◌, ◌-◌, ◌^◌, ◌++◌, min, List, length, Option}
 use Rattle.std.specs.List.{flat_map}
 use Rattle.std.specs.Io.KnownBytes.{Appends}
 use Rattle.sha2.specs.Hashers.{Holds256}
 use Rattle.sha2.specs.Sha256.{sha256}
 use Rattle.s4_model.specs.State.{State}
-use Rattle.object_map.specs.Objects.{IsNextAbove}
-use Rattle.object_map.specs.Rows.{row_of}
 use Rattle.version_store.specs.Store.{StoreFields}
+use Rattle.history_view.specs.Logs.{AreRowsFrom}
 use Rattle.history_export.specs.Versions.{pairs_of, bytes_at, contents_at}
 use Rattle.history_export.specs.declared.checking.CheckReport.{CheckReport}
 use Rattle.history_export.specs.declared.checking.Checked.{Checked}
@@ -25,11 +24,6 @@ with_read s c pairs = record { versions = capped (c.versions + length pairs); by
 abbrev pub none_read : Checked
 none_read = record { versions = 0; bytes = 0 }
 
--- These are all objects above one that have a row, by ascending number.
-abbrev pub HaveRowsFrom : StoreFields → ℕ → List ℕ → Type 0
-HaveRowsFrom store after [] = (o : ℕ) → after < o → row_of store.rows o ≡ None
-HaveRowsFrom store after (o ∷ objects) = IsNextAbove store.rows after o × HaveRowsFrom store o objects
-
 -- The versions of these objects at these moments were read: they are counted, and their bytes were hashed after what had been.
 pub record HasRead (s : State) (pairs : List (ℕ × ℕ)) (before after : Reading) : Type 0 where
   pub counts : after.checked ≡ with_read s before.checked pairs
@@ -39,7 +33,7 @@ pub record HasRead (s : State) (pairs : List (ℕ × ℕ)) (before after : Readi
 -- digest. Whoever is told was told of each object.
 pub record ChecksAll (s : State) (store : StoreFields) (report : CheckReport) (told told' : Option (List ℕ)) : Type 0 where
   pub objects : List ℕ
-  pub have_rows : HaveRowsFrom store 0 objects
+  pub have_rows : AreRowsFrom store 0 objects
   pub read : report.checked ≡ with_read s none_read (flat_map (pairs_of s store) objects)
   pub digest : report.digest ≡ sha256 (contents_at s (flat_map (pairs_of s store) objects))
   pub objects_told : Appends told told' objects

@@ -12,7 +12,7 @@ use Rattle.window.specs.Runs.{Ascend}
 use Rattle.window.specs.Timeline.{CoverAlike}
 use Rattle.history_view.specs.declared.listing.Listed.{Listed}
 use Rattle.history_view.specs.Listing.{AreListedFrom}
-use Rattle.history_export.specs.Checks.{HaveRowsFrom}
+use Rattle.history_view.specs.Logs.{AreRowsFrom}
 use Rattle.history_report.specs.declared.faults.ReportFault.{ReportFault}
 use Rattle.history_report.specs.declared.faults.ReportFault.TheVariants.{Unreadable, Stopped}
 use Rattle.history_report.specs.declared.texts.TheConstants.{PAGE_HEAD, TIMELINE_HEAD, TABLE_HEAD, DIFFERENCES_HEAD, NO_DIFFERENCE, PAGE_END}
@@ -78,7 +78,7 @@ pub record WritesPage (s : State) (store : StoreFields) (from : ℕ) (output out
   pub hidden : CoverAlike s.floor runs (spans_of s)
   pub ordered : Ascend runs
   pub objects : List ℕ
-  pub have_rows : HaveRowsFrom store 0 objects
+  pub have_rows : AreRowsFrom store 0 objects
   pub rows : List Listed
   pub listed : AreListedFrom s store true s.clock 0 rows
   pub differences : List ShownDifference

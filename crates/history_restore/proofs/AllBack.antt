@@ -10,8 +10,8 @@ use Rattle.s4_model.specs.Refusals.{present}
 use Rattle.s4_model.specs.Sound.{IsSound}
 use Rattle.version_store.specs.Store.{StoreFields}
 use Rattle.drive.specs.Keeping.{DecodesWhereVisible}
+use Rattle.history_view.specs.Logs.{AreRowsFrom}
 use Rattle.history_view.proofs.Shown.{clock_is_visible}
-use Rattle.history_restore.specs.Rows.{AreRowsFrom}
 use Rattle.history_restore.proofs.Rows.{no_row, rowless_is_absent}
 
 -- an object that has no row isn't there at any moment that can be read; nor is number 0

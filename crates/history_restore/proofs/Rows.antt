@@ -1,7 +1,7 @@
 -- The objects that have a row.
-use Rattle.std.proofs.Common.{◌≡◌, ◌≢◌, ◌∙◌, ◌+◌, ◌++◌, ◌<◌, ◌≤◌, ℕ, zero, suc, List, [], ◌∷◌, length, drop, get_or, Option, None, inl, inr, sym, ap, subst, append_assoc, arith}
+use Rattle.std.proofs.Common.{◌≡◌, ◌≢◌, ◌∙◌, ◌+◌, ◌<◌, ◌≤◌, ℕ, zero, suc, List, [], ◌∷◌, length, drop, get_or, Option, None, inl, inr, sym, ap, subst, arith}
 use Rattle.std.specs.List.{AllByRecursion}
-use Rattle.std.proofs.lemmas.List.{append-nil, drop_all}
+use Rattle.std.proofs.lemmas.List.{drop_all}
 use Rattle.std.proofs.lemmas.Bool.{cases_lt}
 use Rattle.s4_types.specs.declared.versions.Version.TheVariants.{Absent}
 use Rattle.lemmas.proofs.Option.{none_not_some}
@@ -9,28 +9,15 @@ use Rattle.s4_model.specs.State.{State}
 use Rattle.s4_model.specs.VersionAt.{version_of}
 use Rattle.s4_model.specs.Visible.{IsVisible}
 use Rattle.object_map.specs.declared.map.Row.{Row}
-use Rattle.object_map.specs.Objects.{IsNextAbove}
 use Rattle.object_map.specs.Rows.{row_of}
 use Rattle.version_store.specs.Store.{StoreFields}
 use Rattle.version_store.specs.Versions.{inode_by, version_by}
 use Rattle.drive.specs.Keeping.{DecodesWhereVisible}
 use Rattle.drive.specs.Opened.{NoneFrom}
+use Rattle.history_view.specs.Logs.{AreRowsFrom}
 use Rattle.history_restore.specs.declared.aims.Aim.{Aim}
 use Rattle.history_restore.specs.Aims.{targets_of}
-use Rattle.history_restore.specs.Rows.{AreRowsFrom, AscendBelow}
-
--- with each list of the rows above a number, these are all rows
-abbrev pub AreFirst : StoreFields → List ℕ → ℕ → Type 0
-AreFirst store rows last = (rest : List ℕ) → AreRowsFrom store last rest → AreRowsFrom store 0 (rows ++ rest)
-
-pub first_none : (store : StoreFields) → AreFirst store [] 0
-first_none store rest more = more
-
-pub first_more : (store : StoreFields) (rows : List ℕ) (last o : ℕ) → AreFirst store rows last → IsNextAbove store.rows last o → AreFirst store (rows ++ o ∷ []) o
-first_more store rows last o whole next rest more = subst (AreRowsFrom store 0) (sym (append_assoc rows (o ∷ []) rest)) (whole (o ∷ rest) (next, more))
-
-pub first_all : (store : StoreFields) (rows : List ℕ) (last : ℕ) → AreFirst store rows last → ((q : ℕ) → last < q → row_of store.rows q ≡ None) → AreRowsFrom store 0 rows
-first_all store rows last whole none = subst (AreRowsFrom store 0) (append-nil rows) (whole [] none)
+use Rattle.history_restore.specs.Rows.{AscendBelow}
 
 -- they ascend, below a number from which on there are none
 pub rows_ascend : (store : StoreFields) (next after : ℕ) (objects : List ℕ) → NoneFrom next store → AreRowsFrom store after objects → AscendBelow after next objects

@@ -5,9 +5,10 @@ use Rattle.s4_model.specs.State.{State}
 use Rattle.s4_model.specs.VersionAt.{version_of}
 use Rattle.s4_model.specs.Refusals.{present, is_absent}
 use Rattle.version_store.specs.Store.{StoreFields}
+use Rattle.history_view.specs.Logs.{AreRowsFrom}
 use Rattle.history_restore.specs.declared.aims.Aim.{Aim}
 use Rattle.history_restore.specs.declared.aims.StandIn.{StandIn}
-use Rattle.history_restore.specs.Rows.{AreRowsFrom, is_among}
+use Rattle.history_restore.specs.Rows.{is_among}
 
 -- the numbers under which objects are restored
 abbrev pub targets_of : List Aim → List ℕ

@@ -1,14 +1,6 @@
--- The objects of a drive that have a row.
-use Rattle.std.specs.Prelude.{◌≡◌, ℕ, ◌<◌, ◌==◌, Bool, List, [], ◌∷◌, None}
+-- Numbers of objects.
+use Rattle.std.specs.Prelude.{ℕ, ◌<◌, ◌==◌, Bool, List, [], ◌∷◌}
 use Rattle.std.specs.List.{list_any}
-use Rattle.object_map.specs.Objects.{IsNextAbove}
-use Rattle.object_map.specs.Rows.{row_of}
-use Rattle.version_store.specs.Store.{StoreFields}
-
--- These are all objects above one that have a row, by ascending number.
-abbrev pub AreRowsFrom : StoreFields → ℕ → List ℕ → Type 0
-AreRowsFrom store after [] = (o : ℕ) → after < o → row_of store.rows o ≡ None
-AreRowsFrom store after (o ∷ objects) = IsNextAbove store.rows after o × AreRowsFrom store o objects
 
 -- numbers that ascend strictly, from above one, and are below another
 abbrev pub AscendBelow : ℕ → ℕ → List ℕ → Type 0

@@ -10,8 +10,9 @@ ghost use Rattle.history_restore.specs.Restoring.{IsUnread};
 
 use crate::comparing::compare;
 use crate::failures::{Failure, unread};
-use crate::whole::{is_among, rows};
+use crate::whole::is_among;
 use drive::{Drive, Session};
+use history_view::all_objects;
 use s4_types::{Moment, ObjectId, Refusal, Version};
 use segment_word::Naming;
 use std::alloc::{AllocError, Global};
@@ -253,9 +254,8 @@ pub fn all_aims<J: Naming>(
     ensures store { store_of drive.new ≡ store_of drive.old }
 {
     let none = own_aim(ObjectId::new(0));
-    let rows = match rows(alloc, drive) {
-        Ok(rows) => rows,
-        Err(refusal) => return Err(unread(&none, refusal)),
+    let Ok(rows) = all_objects(alloc, drive) else {
+        return Err(unread(&none, Refusal::NoMemory));
     };
     let found = counting(alloc, drive, session, stand_ins, at)?;
     match aims_by(alloc, found.as_slice(), rows.as_slice()) {

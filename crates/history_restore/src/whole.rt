@@ -1,10 +1,9 @@
 //! All objects of a drive are made what they were at a moment.
 ghost use Rattle.std.specs.Prelude.{◌≡◌, ◌<◌, IfOk, IfErr, MatchBool};
-ghost use Rattle.s4_types.specs.declared.refusals.Refusal.TheVariants.{NoMemory};
 ghost use Rattle.drive.specs.Fields.{state_in, store_of};
 ghost use Rattle.history_restore.specs.Keeping.{LeavesPast};
 ghost use Rattle.history_restore.specs.Aims.{targets_of};
-ghost use Rattle.history_restore.specs.Rows.{AreRowsFrom, AscendBelow, is_among};
+ghost use Rattle.history_restore.specs.Rows.{AscendBelow, is_among};
 ghost use Rattle.history_restore.specs.Whole.{RestoresEach, RestoresAsked, RestoresAll, StopsAll};
 ghost use Rattle.history_restore.specs.Whole.{IsCounted, LeavesRest, LeavesUnasked, PlansAll};
 ghost use Rattle.history_restore.specs.Whole.{PlansAsked, plans_of};
@@ -16,20 +15,6 @@ use drive::{Drive, Session};
 use s4_types::{Moment, ObjectId, Refusal};
 use segment_word::Naming;
 use std::alloc::Global;
-
-/// All objects that have a row, by ascending number.
-pub(crate) fn rows<J: Naming>(alloc: Global, drive: &Drive<J>) -> Result<Vec<ObjectId>, Refusal>
-    ensures rows { IfOk result (λ rows. AreRowsFrom (store_of drive.now) 0 rows.items) }
-    ensures refusal { IfErr result (λ e. e ≡ NoMemory) }
-{
-    let mut rows = Vec::new(alloc);
-    let mut last = ObjectId::new(0);
-    while let Some(object) = drive.next_row(last) {
-        rows.push(object)?;
-        last = object;
-    }
-    Ok(rows)
-}
 
 /// Whether an object is among those that are asked for.
 pub(crate) fn is_among(asked: &[ObjectId], object: ObjectId) -> bool

@@ -32,8 +32,8 @@ pub struct LogQuery {
     pub order: LogOrder,
 }
 
-// All objects that have a row, by ascending number.
-fn all_objects<J: Naming>(alloc: Global, drive: &Drive<J>) -> Result<Vec<ObjectId>, AllocError>
+/// All objects that have a row, by ascending number.
+pub fn all_objects<J: Naming>(alloc: Global, drive: &Drive<J>) -> Result<Vec<ObjectId>, AllocError>
     ensures { IfOk result (λ objects. AreRowsFrom (store_of drive.now) 0 objects.items) }
 {
     let mut objects = Vec::new(alloc);

@@ -10,7 +10,7 @@ use Rattle.moment_words.specs.Texts.{style_of}
 use Rattle.history_diff.specs.Diffing.{has_any}
 use Rattle.history_view.specs.declared.listing.Listed.{Listed}
 use Rattle.history_view.specs.Listing.{AreListedFrom}
-use Rattle.history_export.specs.Checks.{HaveRowsFrom}
+use Rattle.history_view.specs.Logs.{AreRowsFrom}
 use Rattle.history_report.specs.declared.scale.Scale.{Scale}
 use Rattle.history_report.specs.Page.{page_text}
 use Rattle.history_report.specs.Timeline.{strip_of}
@@ -21,7 +21,7 @@ use Rattle.history_report.specs.Report.{timeline_of, table_of, since_of}
 -- The output has the strip of each object that has a row after it, by ascending number.
 pub record WritesStrips (scale : Scale) (s : State) (store : StoreFields) (runs : List Span) (output output' : Option (List ℕ)) : Type 0 where
   pub objects : List ℕ
-  pub have_rows : HaveRowsFrom store 0 objects
+  pub have_rows : AreRowsFrom store 0 objects
   pub wrote : Appends output output' (page_text (flat_map (strip_of scale s store runs) objects))
 
 -- The output has the row of each object that is listed at a moment after it, by ascending number.
@@ -40,7 +40,7 @@ pub record WritesDifferences (s : State) (from until : ℕ) (differs : Bool) (ou
 -- The output has the beginning of a page after it, and the strips.
 pub record WritesTimeline (s : State) (store : StoreFields) (runs : List Span) (from : ℕ) (output output' : Option (List ℕ)) : Type 0 where
   pub objects : List ℕ
-  pub have_rows : HaveRowsFrom store 0 objects
+  pub have_rows : AreRowsFrom store 0 objects
   pub wrote : Appends output output' (page_text (timeline_of s store runs from objects))
 
 -- The output has the table after it.

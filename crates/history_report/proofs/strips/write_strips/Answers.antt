@@ -5,7 +5,7 @@ use Rattle.object_map.specs.Rows.{row_of}
 use Rattle.s4_model.specs.State.{State}
 use Rattle.version_store.specs.Store.{StoreFields}
 use Rattle.drive.specs.Fields.{state_in, store_of}
-use Rattle.history_export.specs.Checks.{HaveRowsFrom}
+use Rattle.history_view.specs.Logs.{AreRowsFrom}
 use Rattle.history_view.proofs.Fronts.{front_whole}
 use Rattle.history_report.specs.Page.{page_text}
 use Rattle.history_report.specs.Timeline.{strip_of}
@@ -22,7 +22,7 @@ loop-object-init g c =
       failures = refl;
       ledger = refl;
       store = refl;
-      strips = subst (λ (o : ℕ). WrittenTo (HaveRowsFrom store) strip o out out) (sym c.new-last.ensures) (none_written (HaveRowsFrom store) strip out);
+      strips = subst (λ (o : ℕ). WrittenTo (AreRowsFrom store) strip o out out) (sym c.new-last.ensures) (none_written (AreRowsFrom store) strip out);
     }
 
 pub write_strip-requires : goal.write_strip-requires
@@ -47,7 +47,7 @@ loop-object-preserved g c =
       failures = c.in_ok-write_strip.ensures.failures ∙ before.failures;
       ledger = c.write_strip.ensures.ledger ∙ before.ledger;
       store = c.write_strip.ensures.store ∙ before.store;
-      strips = written_on (HaveRowsFrom store) (strip_of scale s store runs) c.loop-object.last o o (passed c.args.writer.now) a b before.strips (λ rest more. (next, more)) wrote;
+      strips = written_on (AreRowsFrom store) (strip_of scale s store runs) c.loop-object.last o o (passed c.args.writer.now) a b before.strips (λ rest more. (next, more)) wrote;
     }
 
 pub returns-clause-strips : goal.returns-clause-strips
@@ -55,7 +55,7 @@ returns-clause-strips g c =
     let before = c.loop-object.invariant in
     record {
       objects = before.strips.elements;
-      have_rows = front_whole (HaveRowsFrom (store_of c.args.drive.now)) before.strips.elements c.loop-object.last before.strips.front
+      have_rows = front_whole (AreRowsFrom (store_of c.args.drive.now)) before.strips.elements c.loop-object.last before.strips.front
           (λ o above. subst (λ (x : StoreFields). row_of x.rows o ≡ None) before.store (c.in_default.ensures.none o above));
       wrote = before.strips.wrote;
     }

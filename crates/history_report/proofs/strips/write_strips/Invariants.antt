@@ -1,6 +1,6 @@
 use Rattle.std.proofs.Common.{◌≡◌, ◌-◌, ◌^◌}
 use Rattle.drive.specs.Fields.{state_in, store_of}
-use Rattle.history_export.specs.Checks.{HaveRowsFrom}
+use Rattle.history_view.specs.Logs.{AreRowsFrom}
 use Rattle.history_report.specs.Timeline.{strip_of}
 use Rattle.history_report.proofs.Written.{WrittenTo}
 use Rattle.history_report.proofs.strips.write_strips.Given as goal
@@ -11,7 +11,7 @@ invariant-loop-object g l = record {
   failures : g.W.Sink.failures l.writer ≡ g.W.Sink.failures l.initial.writer;
   ledger : l.drive.ledger ≡ l.initial.drive.ledger;
   store : store_of l.drive ≡ store_of l.initial.drive;
-  strips : WrittenTo (HaveRowsFrom (store_of l.initial.drive)) (strip_of l.scale (state_in l.initial.drive) (store_of l.initial.drive) l.runs) l.last (g.W.Sink.passed l.initial.writer) (g.W.Sink.passed l.writer);
+  strips : WrittenTo (AreRowsFrom (store_of l.initial.drive)) (strip_of l.scale (state_in l.initial.drive) (store_of l.initial.drive) l.runs) l.last (g.W.Sink.passed l.initial.writer) (g.W.Sink.passed l.writer);
 }
 
 abbrev pub decreases-loop-object : goal.decreases-loop-object
