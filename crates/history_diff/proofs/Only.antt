@@ -7,7 +7,8 @@ use Rattle.s4_model.specs.VersionAt.{version_of}
 use Rattle.history_diff.specs.declared.ranges.ByteRange.{ByteRange}
 use Rattle.history_diff.specs.declared.differences.AttributePair.{AttributePair}
 use Rattle.history_diff.specs.declared.differences.DifferenceKind.{DifferenceKind}
-use Rattle.history_diff.specs.Differences.{AreAlike, Told, TellsAttributes, IsDifferenceOf, content_of, attribute_of}
+use Rattle.history_view.specs.Contents.{attribute_of, content_of}
+use Rattle.history_diff.specs.Differences.{AreAlike, Told, TellsAttributes, IsDifferenceOf}
 use Rattle.history_diff.specs.Diffing.{ObjectDifference, IsPassed, IsDifferenceAt, AreDifferencesFrom, AreDifferencesOf, DifferencesAreOnly}
 use Rattle.history_diff.proofs.Apart.{ranges_are_only}
 

@@ -3,7 +3,7 @@ use Rattle.std.proofs.Common.{◌≡◌, ◌∙◌, ℕ, Bool, List, Option, if�
 use Rattle.std.specs.Io.KnownBytes.{Appends}
 use Rattle.history_diff.specs.declared.diffing.Comparison.{Comparison}
 use Rattle.history_diff.specs.declared.texts.Detail.{Detail}
-use Rattle.history_diff.specs.Differences.{content_of}
+use Rattle.history_view.specs.Contents.{content_of}
 use Rattle.history_diff.specs.Diffing.{ObjectDifference, json_of, text_of}
 use Rattle.history_diff.specs.Texts.{IsAskedText}
 use Rattle.history_diff.specs.private.Writing.{WritesLines}

@@ -1,24 +1,14 @@
 -- What differs between two versions of an object.
-use Rattle.std.specs.Prelude.{◌≡◌, ◌≢◌, ℕ, if◌then◌else◌, List, [], length, Option, Some, None}
+use Rattle.std.specs.Prelude.{◌≡◌, ◌≢◌, ℕ, if◌then◌else◌, List, length, Option, Some, None}
 use Rattle.s4_types.specs.declared.versions.Version.{Version}
-use Rattle.s4_types.specs.declared.versions.Version.TheVariants.{Absent, Live}
 use Rattle.s4_model.specs.Refusals.{is_absent}
+use Rattle.history_view.specs.Contents.{attribute_of, content_of}
 use Rattle.history_diff.specs.declared.ranges.ByteRange.{ByteRange}
 use Rattle.history_diff.specs.declared.differences.AttributePair.{AttributePair}
 use Rattle.history_diff.specs.declared.differences.Difference.{Difference}
 use Rattle.history_diff.specs.declared.differences.DifferenceKind.{DifferenceKind}
 use Rattle.history_diff.specs.declared.differences.DifferenceKind.TheVariants.{Made, Deleted, Changed}
 use Rattle.history_diff.specs.Ranges.{AreRangesOf}
-
--- the bytes of a version; an absent one counts as empty
-abbrev pub content_of : Version → List ℕ
-content_of Absent = []
-content_of (Live content attribute created changed) = content
-
--- the attribute of a version; that of an absent one counts as empty
-abbrev pub attribute_of : Version → List ℕ
-attribute_of Absent = []
-attribute_of (Live content attribute created changed) = attribute
 
 -- Two versions are alike: both are absent, or both are live, with the same bytes and the same attribute. Their moments may differ.
 pub record AreAlike (before after : Version) : Type 0 where

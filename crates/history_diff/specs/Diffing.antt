@@ -13,7 +13,8 @@ use Rattle.history_diff.specs.declared.differing.DifferingObject.{DifferingObjec
 use Rattle.history_diff.specs.declared.diffing.DiffAsked.{DiffAsked}
 use Rattle.history_diff.specs.declared.faults.DiffFault.{DiffFault}
 use Rattle.history_diff.specs.declared.faults.DiffFault.TheVariants.{Unreadable, Stopped}
-use Rattle.history_diff.specs.Differences.{AreAlike, IsDifferenceOf, Told, content_of, told_of}
+use Rattle.history_view.specs.Contents.{content_of}
+use Rattle.history_diff.specs.Differences.{AreAlike, IsDifferenceOf, Told, told_of}
 use Rattle.history_diff.specs.Lines.{difference_line}
 use Rattle.history_diff.specs.Patches.{patch_lines}
 use Rattle.history_diff.specs.Json.{difference_data, ranges_data, text_members, has_bytes}

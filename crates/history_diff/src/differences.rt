@@ -1,12 +1,13 @@
 //! What differs between two versions of an object.
 ghost use Rattle.std.specs.Prelude.{◌≡◌, ◌≢◌, ◌&&◌, MatchBool, IfOk, IfSome, IfNone};
 ghost use Rattle.s4_model.specs.Refusals.{is_absent};
-ghost use Rattle.history_diff.specs.Differences.{content_of, attribute_of, AreAlike};
-ghost use Rattle.history_diff.specs.Differences.{IsDifferenceOf, TellsAttributes, kind_between};
-ghost use Rattle.history_diff.specs.Differences.{told_of};
+ghost use Rattle.history_view.specs.Contents.{attribute_of, content_of};
+ghost use Rattle.history_diff.specs.Differences.{AreAlike, IsDifferenceOf, TellsAttributes};
+ghost use Rattle.history_diff.specs.Differences.{kind_between, told_of};
 
 use crate::ranges::{ByteRange, ranges_of};
-use crate::versions::{attribute_of, content_of, is_absent};
+use crate::versions::is_absent;
+use history_view::{attribute_of, content_of};
 use s4_types::{Bytes, Version};
 use std::alloc::{AllocError, Global};
 

@@ -34,4 +34,3 @@ pub use output::write_out;
 pub use patches::{PATCH_LINE_BYTES, write_patch};
 pub use ranges::{ByteRange, ranges_of};
 pub use texts::{Detail, Shown, hunks_between};
-pub use versions::content_of;

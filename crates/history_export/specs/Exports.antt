@@ -12,7 +12,7 @@ use Rattle.history_export.specs.declared.faults.ExportError.{ExportError}
 use Rattle.history_export.specs.declared.faults.ExportError.TheVariants.{NotEmpty, CannotRead, CannotWrite, Refused}
 use Rattle.history_export.specs.Folders.{NamedFile, AreFiles, HasFiles, with_file, with_bytes}
 use Rattle.history_export.specs.Manifest.{manifest_name, manifest_line, file_name}
-use Rattle.history_export.specs.Versions.{content_of}
+use Rattle.history_view.specs.Contents.{content_of}
 
 -- the bytes that a listed object has at a moment
 abbrev pub content_at : State → ℕ → Listed → List ℕ

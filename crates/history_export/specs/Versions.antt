@@ -1,19 +1,13 @@
 -- The versions of objects that can be read: their bytes, and the moments at which they can be read first.
 use Rattle.std.specs.Prelude.{ℕ, zero, suc, ◌+◌, ◌-◌, nat_lt, if◌then◌else◌, Bool, List, [], ◌∷◌, length, map}
 use Rattle.std.specs.List.{flat_map, sum_by}
-use Rattle.s4_types.specs.declared.versions.Version.{Version}
-use Rattle.s4_types.specs.declared.versions.Version.TheVariants.{Absent, Live}
 use Rattle.s4_model.specs.State.{State}
 use Rattle.s4_model.specs.VersionAt.{version_of}
 use Rattle.codec.specs.Entry.{EntryFields}
 use Rattle.version_store.specs.Store.{StoreFields}
 use Rattle.version_store.specs.Versions.{entries_of_object}
+use Rattle.history_view.specs.Contents.{content_of}
 use Rattle.history_view.specs.Listing.{is_visible}
-
--- the bytes of a version; none where the object isn't there
-abbrev pub content_of : Version → List ℕ
-content_of Absent = []
-content_of (Live content attribute created changed) = content
 
 -- the first moment that passes a test, of a moment and this many after it; the last of them where none does
 abbrev pub first_from : (ℕ → Bool) → ℕ → ℕ → ℕ

@@ -9,9 +9,10 @@ ghost use Rattle.drive.specs.Fields.{state_in, store_of};
 ghost use Rattle.history_export.specs.Versions.{begins, pairs_of, seen_from};
 ghost use Rattle.history_export.specs.Checks.{ChecksAll, HasRead};
 
-use crate::versions::{content_of, first_seen, version_seen};
+use crate::versions::{first_seen, version_seen};
 use codec::Entry;
 use drive::{Drive, Session};
+use history_view::content_of;
 use s4_types::{Moment, ObjectId, Refusal};
 use segment_word::Naming;
 use sha2::{Digest, Sha256};

@@ -4,7 +4,7 @@ ghost use Rattle.s4_types.specs.declared.refusals.Refusal.TheVariants.{NoMemory,
 ghost use Rattle.s4_model.specs.VersionAt.{version_of};
 ghost use Rattle.s4_model.specs.Visible.{IsVisible};
 ghost use Rattle.drive.specs.Fields.{state_in, store_of};
-ghost use Rattle.history_export.specs.Versions.{content_of, seen_from};
+ghost use Rattle.history_export.specs.Versions.{seen_from};
 
 use drive::{Drive, Session};
 use history_view::version_at;
@@ -27,16 +27,6 @@ pub(crate) fn version_seen<J: Naming>(
     ensures store { store_of drive.new ≡ store_of drive.old }
 {
     version_at(alloc, drive, session, object, at)
-}
-
-/// The bytes of a version; none where the object isn't there.
-pub(crate) fn content_of(version: &Version) -> &[u8]
-    ensures { result.now ≡ content_of version.now }
-{
-    match version {
-        Version::Absent => &[],
-        Version::Live { bytes, .. } => bytes.as_slice(),
-    }
 }
 
 /// The first moment of an object, from one on, that can be read. The clock's can, so there is one.

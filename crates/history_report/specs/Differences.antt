@@ -2,7 +2,7 @@
 use Rattle.std.specs.Prelude.{◌≡◌, ℕ, zero, suc, ◌+◌, ◌++◌, ◌==◌, nat_lt, if◌then◌else◌, Bool, List, [], ◌∷◌, map, length, take, Option, Some, None, codes, decimal}
 use Rattle.std.specs.List.{AllByRecursion}
 use Rattle.s4_model.specs.State.{State}
-use Rattle.history_diff.specs.Differences.{content_of}
+use Rattle.history_view.specs.Contents.{content_of}
 use Rattle.history_diff.specs.Diffing.{ObjectDifference, AreDifferencesFrom}
 use Rattle.history_diff.specs.Lines.{difference_line}
 use Rattle.history_diff.specs.Patches.{patch_lines}

@@ -11,9 +11,9 @@ ghost use Rattle.history_report.specs.private.Writing.{AreLines, WritesDetail, W
 use crate::escaping::{data_text, number_text};
 use drive::Drive;
 use history_diff::{
-    DifferingObject, Stop, content_of, hunks_between, next_differing, write_line, write_out,
-    write_patch,
+    DifferingObject, Stop, hunks_between, next_differing, write_line, write_out, write_patch,
 };
+use history_view::content_of;
 use s4_types::{Moment, ObjectId, Role};
 use segment_word::Naming;
 use serving::{MemorySink, Sink};

@@ -7,8 +7,9 @@ use Rattle.s4_types.specs.declared.versions.Version.{Version}
 use Rattle.s4_types.specs.declared.versions.Version.TheVariants.{Absent, Live}
 use Rattle.s4_model.specs.Limits.{IsWithinLimits}
 use Rattle.s4_model.specs.Refusals.{is_absent}
+use Rattle.history_view.specs.Contents.{attribute_of, content_of as bytes_of}
 use Rattle.history_restore.specs.declared.plans.Patch.{Patch}
-use Rattle.history_restore.specs.Content.{content_of, bytes_of, attribute_of}
+use Rattle.history_restore.specs.Content.{content_of}
 use Rattle.history_restore.specs.Plans.{cut_by, written_by}
 
 -- an object is there where it has a content

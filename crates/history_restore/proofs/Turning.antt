@@ -3,11 +3,12 @@ use Rattle.std.proofs.Common.{◌≡◌, ◌≢◌, ◌∙◌, ℕ, Bool, true, 
 use Rattle.std.specs.Prelude.{MatchBool}
 use Rattle.s4_types.specs.declared.versions.Version.{Version}
 use Rattle.s4_types.specs.declared.versions.Version.TheVariants.{Absent, Live}
+use Rattle.history_view.specs.Contents.{content_of as bytes_of}
 use Rattle.history_restore.specs.declared.plans.Patch.{Patch}
 use Rattle.history_restore.specs.declared.plans.Changes.{Changes}
 use Rattle.history_restore.specs.declared.plans.Plan.{Plan}
 use Rattle.history_restore.specs.declared.plans.Plan.TheVariants.{Keep, Delete, Remake, Change}
-use Rattle.history_restore.specs.Content.{content_of, holding, bytes_of}
+use Rattle.history_restore.specs.Content.{content_of, holding}
 use Rattle.history_restore.specs.Plans.{IsPlan, IsPlanBetween, IsChangesOf, IsCut, IsWritten, IsCutWithin, IsWithinBytes, IsWithinPlan, IsThereFor, turned, attribute_by, written_by, cut_by, number_by}
 use Rattle.history_restore.specs.Restoring.{number_from}
 use Rattle.history_restore.proofs.Patching.{cut_bytes, written_bytes, rewritten_bytes, written_over_none}

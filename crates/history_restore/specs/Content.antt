@@ -1,5 +1,5 @@
 -- What an object is apart from its moments: its bytes and its attribute.
-use Rattle.std.specs.Prelude.{ℕ, List, [], Option, None, Some}
+use Rattle.std.specs.Prelude.{ℕ, List, Option, None, Some}
 use Rattle.s4_types.specs.declared.versions.Version.{Version}
 use Rattle.s4_types.specs.declared.versions.Version.TheVariants.{Absent, Live}
 
@@ -17,17 +17,7 @@ abbrev pub content_of : Version → Option Content
 content_of Absent = None
 content_of (Live bytes attribute created changed) = holding bytes attribute
 
--- the bytes of a version; none where the object isn't there
-abbrev pub bytes_of : Version → List ℕ
-bytes_of Absent = []
-bytes_of (Live bytes attribute created changed) = bytes
-
--- its attribute
-abbrev pub attribute_of : Version → List ℕ
-attribute_of Absent = []
-attribute_of (Live bytes attribute created changed) = attribute
-
--- the moment of its last change
+-- the moment of a version's last change
 abbrev pub changed_in : Version → ℕ
 changed_in Absent = 0
 changed_in (Live bytes attribute created changed) = changed

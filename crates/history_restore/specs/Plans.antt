@@ -8,11 +8,12 @@ use Rattle.s4_types.specs.declared.versions.Version.TheVariants.{Absent, Live}
 use Rattle.s4_model.specs.Effect.{effect}
 use Rattle.s4_model.specs.Refusals.{is_absent}
 use Rattle.s4_model.specs.Step.{part}
+use Rattle.history_view.specs.Contents.{attribute_of, content_of as bytes_of}
 use Rattle.history_restore.specs.declared.plans.Patch.{Patch}
 use Rattle.history_restore.specs.declared.plans.Changes.{Changes}
 use Rattle.history_restore.specs.declared.plans.Plan.{Plan}
 use Rattle.history_restore.specs.declared.plans.Plan.TheVariants.{Keep, Delete, Remake, Change}
-use Rattle.history_restore.specs.Content.{content_of, bytes_of, attribute_of}
+use Rattle.history_restore.specs.Content.{content_of}
 
 -- An object is cut exactly where it has more bytes now than it had, and then to as many as it had.
 abbrev pub IsCut : List ℕ → List ℕ → Option ℕ → Type 0

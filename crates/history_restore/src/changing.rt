@@ -7,7 +7,8 @@ ghost use Rattle.s4_model.specs.Limits.{IsWithinLimits};
 ghost use Rattle.s4_model.specs.Refusals.{present, is_absent};
 ghost use Rattle.s4_model.specs.Step.{part};
 ghost use Rattle.drive.specs.Fields.{state_in, store_of};
-ghost use Rattle.history_restore.specs.Content.{content_of, holding, bytes_of, attribute_of};
+ghost use Rattle.history_view.specs.Contents.{attribute_of, content_of as bytes_of};
+ghost use Rattle.history_restore.specs.Content.{content_of, holding};
 ghost use Rattle.history_restore.specs.Plans.{cut_by, written_by, attribute_by, turned, number_by};
 ghost use Rattle.history_restore.specs.Plans.{next_by_plan, FitsCut, IsWithinBytes, IsWithinPlan};
 ghost use Rattle.history_restore.specs.Plans.{IsThereFor};
@@ -19,29 +20,10 @@ ghost use Rattle.history_restore.specs.Keeping.{LeavesPast, LeavesOthers};
 use crate::asking::ask;
 use crate::plans::{Changes, Patch, Plan, patch_between};
 use drive::{Drive, Session};
+use history_view::{attribute_of, content_of};
 use s4_types::{Bytes, Moment, ObjectId, ObjectRequest, Refusal, Version};
 use segment_word::Naming;
 use std::alloc::Global;
-
-/// The bytes of a version; none where the object isn't there.
-fn bytes_of(version: &Version) -> &[u8]
-    ensures { result.now ≡ bytes_of version.now }
-{
-    match version {
-        Version::Absent => &[],
-        Version::Live { bytes, .. } => bytes.as_slice(),
-    }
-}
-
-/// The attribute of a version; none where the object isn't there.
-fn attribute_of(version: &Version) -> &[u8]
-    ensures { result.now ≡ attribute_of version.now }
-{
-    match version {
-        Version::Absent => &[],
-        Version::Live { attribute, .. } => attribute.as_slice(),
-    }
-}
 
 /// The bytes that a patch names.
 fn part(bytes: &[u8], patch: Patch) -> &[u8]
@@ -213,7 +195,7 @@ fn change<J: Naming>(
     ensures others { LeavesOthers object (state_in drive.old) (state_in drive.new) }
     ensures past { LeavesPast (state_in drive.old) (state_in drive.new) }
 {
-    let bytes = bytes_of(before);
+    let bytes = content_of(before);
     let attribute = attribute_of(before);
     cut(drive, session, object, changes.cut, now)?;
     write(alloc, drive, session, object, bytes, changes.written, now)?;
@@ -279,7 +261,7 @@ fn remake<J: Naming>(
     ensures past { LeavesPast (state_in drive.old) (state_in drive.new) }
 {
     let number = create(alloc, drive, session, attribute_of(before), now)?;
-    let bytes = bytes_of(before);
+    let bytes = content_of(before);
     let patch = patch_between(bytes, &[]);
     write(alloc, drive, session, number, bytes, patch, now)?;
     Ok(number)

@@ -1,4 +1,5 @@
 pub mod Changes
+pub mod Contents
 pub mod Listing
 pub mod LogRows
 pub mod Logs

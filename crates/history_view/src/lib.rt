@@ -30,4 +30,4 @@ pub use moments::{earliest, is_visible};
 pub use names::{NameRefusal, named_object};
 pub use rows::{LogOrder, LogRow};
 pub use stats::{KindCounts, ObjectStat, log_stats};
-pub use versions::{moment_refusal, version_at};
+pub use versions::{attribute_of, content_of, moment_refusal, version_at};

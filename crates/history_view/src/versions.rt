@@ -12,6 +12,7 @@ ghost use Rattle.s4_model.specs.VersionAt.{version_of};
 ghost use Rattle.s4_model.specs.Visible.{IsVisible};
 ghost use Rattle.version_store.specs.Versions.{inode_in};
 ghost use Rattle.drive.specs.Fields.{state_in, store_of};
+ghost use Rattle.history_view.specs.Contents.{attribute_of, content_of};
 
 use crate::moments::is_visible;
 use codec::Inode;
@@ -21,6 +22,26 @@ use s4_types::limits::READ_BYTES;
 use s4_types::{Bytes, Moment, ObjectId, Question, Refusal, Reply, Request, Version};
 use segment_word::Naming;
 use std::alloc::{AllocError, Global};
+
+/// The bytes of a version; none where the object isn't there.
+pub fn content_of(version: &Version) -> &[u8]
+    ensures { result.now ≡ content_of version.now }
+{
+    match version {
+        Version::Absent => &[],
+        Version::Live { bytes, .. } => bytes.as_slice(),
+    }
+}
+
+/// The attribute of a version; none where the object isn't there.
+pub fn attribute_of(version: &Version) -> &[u8]
+    ensures { result.now ≡ attribute_of version.now }
+{
+    match version {
+        Version::Absent => &[],
+        Version::Live { attribute, .. } => attribute.as_slice(),
+    }
+}
 
 /// Why a moment of an object can't be read, if it can't: Future above the clock, Expired below the
 /// floor, else Flushed where it is hidden.

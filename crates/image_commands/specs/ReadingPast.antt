@@ -10,6 +10,7 @@ use Rattle.s4_model.specs.Refusals.{moment_refusal}
 use Rattle.s4_model.specs.State.{State, state_of}
 use Rattle.s4_model.specs.VersionAt.{version_of}
 use Rattle.s4_model.specs.Visible.{IsVisible}
+use Rattle.history_view.specs.Contents.{content_of}
 use Rattle.image_parts.specs.Image.{image_in}
 use Rattle.verifier.specs.Images.{ImageFields}
 use Rattle.verifier.specs.Opened.{IsToldBy}
@@ -17,11 +18,6 @@ use Rattle.image_commands.specs.declared.faults.Fault.{Fault}
 use Rattle.image_commands.specs.declared.faults.Fault.TheVariants.{Refused}
 use Rattle.image_commands.specs.Faults.{SaysUnread, SaysUnwritten}
 use Rattle.image_commands.specs.Verifying.{IsVerified}
-
--- the bytes of a version; none where it is absent
-abbrev pub content_of : Version → List ℕ
-content_of Absent = []
-content_of (Live content attribute created changed) = content
 
 -- a version that isn't absent
 abbrev pub IsLive : Version → Type 0

@@ -2,7 +2,8 @@ use Rattle.std.proofs.Common.{◌≡◌, rules, true, false, subst}
 use Rattle.std.specs.Io.KnownBytes.{Appends}
 use Rattle.std.proofs.KnownBytes.{Appends-trans}
 use Rattle.std.proofs.lemmas.Result.{on_ok_weaker}
-use Rattle.history_diff.specs.Differences.{content_of, told_of}
+use Rattle.history_view.specs.Contents.{content_of}
+use Rattle.history_diff.specs.Differences.{told_of}
 use Rattle.history_diff.specs.Diffing.{detail_lines, json_of, row_of}
 use Rattle.history_diff.specs.Lines.{difference_line}
 use Rattle.history_diff.specs.Texts.{IsAskedText, detail_of, text_shown}

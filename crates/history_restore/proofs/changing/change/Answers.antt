@@ -3,8 +3,8 @@ use Rattle.std.proofs.lemmas.Result.{IfErr-weaker, err_from_is_err_and}
 use Rattle.s4_types.specs.declared.limits.TheConstants.{OBJECT_BYTES, ATTRIBUTE_BYTES}
 use Rattle.s4_model.specs.Refusals.{present}
 use Rattle.drive.specs.Fields.{state_in}
+use Rattle.history_view.specs.Contents.{attribute_of, content_of as bytes_of}
 use Rattle.history_restore.specs.Asking.{AsksFor}
-use Rattle.history_restore.specs.Content.{attribute_of, bytes_of}
 use Rattle.history_restore.specs.Plans.{attribute_changes, cut_changes, written_changes}
 use Rattle.history_restore.proofs.Planned.{asked_front, asked_then}
 use Rattle.history_restore.proofs.There.{there_after_cut, there_after_write, bytes_fit, attribute_fits}
@@ -17,7 +17,7 @@ returns-in_err-write-clause-refused g c =
     let before = present (state_in c.args.drive.now) o in
     let after = present (state_in c.cut.new.drive) o in
     rw (p.1, p.2) (λ fits there. c.in_err-write.ensures.refused (there_after_cut c.args.changes.cut o 0 before after c.in_ok-cut.ensures.content there)
-    (subst (λ (b : List ℕ). length b ≤ OBJECT_BYTES) (sym c.bytes_of-bytes.ensures) (bytes_fit c.args.before.now fits)))
+    (subst (λ (b : List ℕ). length b ≤ OBJECT_BYTES) (sym c.content_of-bytes.ensures) (bytes_fit c.args.before.now fits)))
 
 pub returns-clause-refused : goal.returns-clause-refused
 returns-clause-refused g c =
@@ -27,7 +27,7 @@ returns-clause-refused g c =
     let middle = present (state_in c.cut.new.drive) o in
     let after = present (state_in c.write.new.drive) o in
     IfErr-weaker c.set_attribute.result _ _
-    (λ e left fits there. left (there_after_write c.bytes_of-bytes.result.now changes.written o 0 middle after c.in_ok-write.ensures.content (there_after_cut changes.cut o 0 before middle c.in_ok-cut.ensures.content there))
+    (λ e left fits there. left (there_after_write c.content_of-bytes.result.now changes.written o 0 middle after c.in_ok-write.ensures.content (there_after_cut changes.cut o 0 before middle c.in_ok-cut.ensures.content there))
     (subst (λ (a : List ℕ). length a ≤ ATTRIBUTE_BYTES) (sym c.attribute_of-attribute.ensures) (attribute_fits c.args.before.now fits)))
     c.set_attribute.ensures.refused
 
@@ -53,7 +53,7 @@ returns-in_err-write-clause-asked g c =
     let written = written_changes o (bytes_of before) changes.written in
     let rest = attribute_changes o (attribute_of before) changes.attribute in
     rw (p.1, p.2) (asked_then (Err e) cut (written ++ rest) c.args.drive.now middle later c.args.now _ c.in_ok-cut.ensures.asked
-    (asked_front written rest middle later c.args.now e (subst (λ (b : List ℕ). AsksFor middle c.args.now (written_changes o b changes.written) (Err e) later) c.bytes_of-bytes.ensures c.in_err-write.ensures.asked)))
+    (asked_front written rest middle later c.args.now e (subst (λ (b : List ℕ). AsksFor middle c.args.now (written_changes o b changes.written) (Err e) later) c.content_of-bytes.ensures c.in_err-write.ensures.asked)))
 
 pub returns-clause-asked : goal.returns-clause-asked
 returns-clause-asked g c =
@@ -69,5 +69,5 @@ returns-clause-asked g c =
     let written = written_changes o (bytes_of before) changes.written in
     let rest = attribute_changes o (attribute_of before) changes.attribute in
     asked_then answer cut (written ++ rest) c.args.drive.now first later now _ c.in_ok-cut.ensures.asked
-    (asked_then answer written rest first second later now _ (subst (λ (b : List ℕ). AsksFor first now (written_changes o b changes.written) (Ok _) second) c.bytes_of-bytes.ensures c.in_ok-write.ensures.asked)
+    (asked_then answer written rest first second later now _ (subst (λ (b : List ℕ). AsksFor first now (written_changes o b changes.written) (Ok _) second) c.content_of-bytes.ensures c.in_ok-write.ensures.asked)
     (subst (λ (a : List ℕ). AsksFor second now (attribute_changes o a changes.attribute) answer later) c.attribute_of-attribute.ensures c.set_attribute.ensures.asked))

@@ -5,9 +5,10 @@ use Rattle.s4_types.specs.declared.requests.Request.TheVariants as request
 use Rattle.s4_types.specs.declared.requests.ObjectRequest.TheVariants as object_request
 use Rattle.s4_model.specs.Refusals.{present}
 use Rattle.drive.specs.Fields.{state_in}
+use Rattle.history_view.specs.Contents.{attribute_of, content_of as bytes_of}
 use Rattle.history_restore.specs.Asking.{AsksFor}
 use Rattle.history_restore.specs.declared.plans.Plan.{Plan}
-use Rattle.history_restore.specs.Content.{content_of, bytes_of, attribute_of, holding}
+use Rattle.history_restore.specs.Content.{content_of, holding}
 use Rattle.history_restore.specs.Plans.{changes_by, number_by, next_by_plan, turned}
 use Rattle.history_restore.proofs.Patching.{written_over_none}
 use Rattle.history_restore.proofs.Planned.{asked_one}

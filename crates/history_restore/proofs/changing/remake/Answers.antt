@@ -7,9 +7,10 @@ use Rattle.s4_types.specs.declared.refusals.Refusal.{Refusal}
 use Rattle.s4_types.specs.declared.versions.Version.TheVariants.{Live}
 use Rattle.s4_model.specs.Refusals.{present}
 use Rattle.drive.specs.Fields.{DriveFields, state_in}
+use Rattle.history_view.specs.Contents.{attribute_of, content_of as bytes_of}
 use Rattle.history_restore.specs.declared.plans.Patch.{Patch}
 use Rattle.history_restore.specs.Asking.{AsksFor}
-use Rattle.history_restore.specs.Content.{attribute_of, content_of, holding, bytes_of}
+use Rattle.history_restore.specs.Content.{content_of, holding}
 use Rattle.history_restore.specs.Plans.{IsWritten, made_changes, written_changes}
 use Rattle.history_restore.proofs.There.{bytes_fit, there_after_write}
 use Rattle.history_restore.proofs.Planned.{asked_front, asked_then, remade_changes}
@@ -23,11 +24,11 @@ returns-clause-content g c =
     let second = state_in c.write.new.drive in
     let n = c.in_ok-number.number in
     let is : n ≡ s.next = c.in_ok-number.ensures.number in
-    let bytes = c.bytes_of-bytes.result.now in
+    let bytes = c.content_of-bytes.result.now in
     let attribute = c.attribute_of.result.now in
     ap (λ (k : ℕ). content_of (present second k)) (sym is)
     ∙ made_whole bytes attribute c.patch_between-patch.result n (present first n) (present second n) c.patch_between-patch.ensures (ap (λ (k : ℕ). content_of (present first k)) is ∙ c.in_ok-number.ensures.content) c.in_ok-write.ensures.content
-    ∙ ap (λ (b : List ℕ). holding b attribute) c.bytes_of-bytes.ensures
+    ∙ ap (λ (b : List ℕ). holding b attribute) c.content_of-bytes.ensures
     ∙ ap (holding (bytes_of c.args.before.now)) c.attribute_of.ensures
 
 pub returns-in_err-number-clause-asked : goal.returns-in_err-number-clause-asked
@@ -50,13 +51,13 @@ remade r d middle later now next n bytes whole attribute own patch n_is bytes_is
 pub returns-in_err-write-clause-asked : goal.returns-in_err-write-clause-asked
 returns-in_err-write-clause-asked g c =
     let p = err_from_is_err_and c.from_residual-in_err-write.result c.from_residual-in_err-write.ensures.1 in
-    rw (p.1, p.2) (remade (Err c.in_err-write.field-0.0) c.args.drive.now c.create.new.drive c.write.new.drive c.args.now (state_in c.args.drive.now).next c.in_ok-number.number c.bytes_of-bytes.result.now (bytes_of c.args.before.now) c.attribute_of.result.now
-    (attribute_of c.args.before.now) c.patch_between-patch.result c.in_ok-number.ensures.number c.bytes_of-bytes.ensures c.attribute_of.ensures c.patch_between-patch.ensures c.in_ok-number.ensures.asked c.in_err-write.ensures.asked)
+    rw (p.1, p.2) (remade (Err c.in_err-write.field-0.0) c.args.drive.now c.create.new.drive c.write.new.drive c.args.now (state_in c.args.drive.now).next c.in_ok-number.number c.content_of-bytes.result.now (bytes_of c.args.before.now) c.attribute_of.result.now
+    (attribute_of c.args.before.now) c.patch_between-patch.result c.in_ok-number.ensures.number c.content_of-bytes.ensures c.attribute_of.ensures c.patch_between-patch.ensures c.in_ok-number.ensures.asked c.in_err-write.ensures.asked)
 
 pub returns-clause-asked : goal.returns-clause-asked
 returns-clause-asked g c =
-    remade (Ok c.in_ok-number.number) c.args.drive.now c.create.new.drive c.write.new.drive c.args.now (state_in c.args.drive.now).next c.in_ok-number.number c.bytes_of-bytes.result.now (bytes_of c.args.before.now) c.attribute_of.result.now
-    (attribute_of c.args.before.now) c.patch_between-patch.result c.in_ok-number.ensures.number c.bytes_of-bytes.ensures c.attribute_of.ensures c.patch_between-patch.ensures c.in_ok-number.ensures.asked c.in_ok-write.ensures.asked
+    remade (Ok c.in_ok-number.number) c.args.drive.now c.create.new.drive c.write.new.drive c.args.now (state_in c.args.drive.now).next c.in_ok-number.number c.content_of-bytes.result.now (bytes_of c.args.before.now) c.attribute_of.result.now
+    (attribute_of c.args.before.now) c.patch_between-patch.result c.in_ok-number.ensures.number c.content_of-bytes.ensures c.attribute_of.ensures c.patch_between-patch.ensures c.in_ok-number.ensures.asked c.in_ok-write.ensures.asked
 
 pub returns-in_err-write-clause-refused : goal.returns-in_err-write-clause-refused
 returns-in_err-write-clause-refused g c =
@@ -66,4 +67,4 @@ returns-in_err-write-clause-refused g c =
     let attribute = c.attribute_of.result.now in
     let made : content_of (present middle n) ≡ holding [] attribute = ap (λ (k : ℕ). content_of (present middle k)) c.in_ok-number.ensures.number ∙ c.in_ok-number.ensures.content in
     let there = there_after_write [] None 0 0 (Live [] attribute 0 0) (present middle n) made refl in
-    rw (p.1, p.2) (λ fits. c.in_err-write.ensures.refused there (subst (λ (b : List ℕ). length b ≤ OBJECT_BYTES) (sym c.bytes_of-bytes.ensures) (bytes_fit c.args.before.now fits)))
+    rw (p.1, p.2) (λ fits. c.in_err-write.ensures.refused there (subst (λ (b : List ℕ). length b ≤ OBJECT_BYTES) (sym c.content_of-bytes.ensures) (bytes_fit c.args.before.now fits)))
