@@ -88,11 +88,11 @@ def laws_of_traits(path):
 
 
 def exported(root):
-    """The names that a crate hands out, and its public modules."""
+    """The names that a crate hands out, each with the first module of its path, and its public modules."""
     text = root.read_text(encoding="utf-8")
-    names = set()
-    for many, one in re.findall(r"^pub use (?:\w+::)*(?:\{([^}]*)\}|(\w+))", text, re.M):
-        names.update(word.split(" as ")[-1].strip() for word in (many or one).split(","))
+    names = {}
+    for path, many, one in re.findall(r"^pub use ((?:\w+::)*)(?:\{([^}]*)\}|(\w+))", text, re.M):
+        names.update((word.split(" as ")[-1].strip(), path.split("::")[0]) for word in (many or one).split(","))
     return names, set(re.findall(r"^pub mod (\w+);", text, re.M))
 
 
@@ -113,7 +113,9 @@ def calls_of(source):
     calls = {}
     for path in sorted(source.rglob("*.rt")):
         for owner, public, name, clauses, is_law in functions(path):
-            is_free = not owner and (name in names or path.stem in modules or path == root)
+            # Another module's function of the same name isn't handed out.
+            is_out = names.get(name) in (path.stem, *path.relative_to(source).parts[:-1])
+            is_free = not owner and (is_out or path.stem in modules or path == root)
             if public and clauses and (is_free or owner in names or is_program):
                 law = is_law and not owner
                 said = ", ".join(filter(None, clauses) if law else shown(clauses))
