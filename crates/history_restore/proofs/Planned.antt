@@ -55,6 +55,13 @@ asked_none x d now = record { stored = refl; full = tt; clock = omega arith }
 pub asked_nothing : {T : Type 0} (d : DriveFields) (now : ℕ) (cs : List Change) → AsksFor {T = T} d now cs (Err NoMemory) d
 asked_nothing d now cs = record { stored = tt; full = λ e. cc; clock = omega arith }
 
+-- whatever is answered where they were granted
+pub asked_ok : {T U : Type 0} (d d' : DriveFields) (now : ℕ) (cs : List Change) (x : T) (y : U) → AsksFor d now cs (Ok x) d' → AsksFor d now cs (Ok y) d'
+asked_ok d d' now cs x y asked = record { stored = asked.stored; full = tt; clock = asked.clock }
+
+pub asked_err : {T U : Type 0} (d d' : DriveFields) (now : ℕ) (cs : List Change) (e : Refusal) → AsksFor {T = T} d now cs (Err e) d' → AsksFor {T = U} d now cs (Err e) d'
+asked_err d d' now cs e asked = record { stored = tt; full = asked.full; clock = asked.clock }
+
 -- for those of which one of the first was refused, or all of the first were granted
 pub asked_front : {T U : Type 0} (cs ds : List Change) (d d' : DriveFields) (now : ℕ) (e : Refusal) → AsksFor {T = T} d now cs (Err e) d' → AsksFor {T = U} d now (cs ++ ds) (Err e) d'
 asked_front cs ds d d' now e first = record {

@@ -13,7 +13,7 @@ use Rattle.history_restore.specs.Asking.{AsksFor}
 use Rattle.history_restore.specs.Content.{content_of, holding}
 use Rattle.history_restore.specs.Plans.{IsWritten, made_changes, written_changes}
 use Rattle.history_restore.proofs.There.{bytes_fit, there_after_write}
-use Rattle.history_restore.proofs.Planned.{asked_front, asked_then, remade_changes}
+use Rattle.history_restore.proofs.Planned.{asked_err, asked_front, asked_ok, asked_then, remade_changes}
 use Rattle.history_restore.proofs.Contents.{made_whole}
 use Rattle.history_restore.proofs.changing.remake.Goals as goal
 
@@ -51,13 +51,13 @@ remade r d middle later now next n bytes whole attribute own patch n_is bytes_is
 pub returns-in_err-write-clause-asked : goal.returns-in_err-write-clause-asked
 returns-in_err-write-clause-asked g c =
     let p = err_from_is_err_and c.from_residual-in_err-write.result c.from_residual-in_err-write.ensures.1 in
-    rw (p.1, p.2) (remade (Err c.in_err-write.field-0.0) c.args.drive.now c.create.new.drive c.write.new.drive c.args.now (state_in c.args.drive.now).next c.in_ok-number.number c.content_of-bytes.result.now (bytes_of c.args.before.now) c.attribute_of.result.now
-    (attribute_of c.args.before.now) c.patch_between-patch.result c.in_ok-number.ensures.number c.content_of-bytes.ensures c.attribute_of.ensures c.patch_between-patch.ensures c.in_ok-number.ensures.asked c.in_err-write.ensures.asked)
+    rw (p.1, p.2) (asked_err _ _ _ _ _ (remade (Err c.in_err-write.field-0.0) c.args.drive.now c.create.new.drive c.write.new.drive c.args.now (state_in c.args.drive.now).next c.in_ok-number.number c.content_of-bytes.result.now (bytes_of c.args.before.now) c.attribute_of.result.now
+    (attribute_of c.args.before.now) c.patch_between-patch.result c.in_ok-number.ensures.number c.content_of-bytes.ensures c.attribute_of.ensures c.patch_between-patch.ensures c.in_ok-number.ensures.asked c.in_err-write.ensures.asked))
 
 pub returns-clause-asked : goal.returns-clause-asked
 returns-clause-asked g c =
-    remade (Ok c.in_ok-number.number) c.args.drive.now c.create.new.drive c.write.new.drive c.args.now (state_in c.args.drive.now).next c.in_ok-number.number c.content_of-bytes.result.now (bytes_of c.args.before.now) c.attribute_of.result.now
-    (attribute_of c.args.before.now) c.patch_between-patch.result c.in_ok-number.ensures.number c.content_of-bytes.ensures c.attribute_of.ensures c.patch_between-patch.ensures c.in_ok-number.ensures.asked c.in_ok-write.ensures.asked
+    asked_ok _ _ _ _ c.in_ok-write.field-0 c.in_ok-number.number (remade (Ok c.in_ok-write.field-0) c.args.drive.now c.create.new.drive c.write.new.drive c.args.now (state_in c.args.drive.now).next c.in_ok-number.number c.content_of-bytes.result.now (bytes_of c.args.before.now) c.attribute_of.result.now
+    (attribute_of c.args.before.now) c.patch_between-patch.result c.in_ok-number.ensures.number c.content_of-bytes.ensures c.attribute_of.ensures c.patch_between-patch.ensures c.in_ok-number.ensures.asked c.in_ok-write.ensures.asked)
 
 pub returns-in_err-write-clause-refused : goal.returns-in_err-write-clause-refused
 returns-in_err-write-clause-refused g c =

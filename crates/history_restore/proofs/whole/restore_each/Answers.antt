@@ -67,8 +67,8 @@ returns-in_err-restored-clause-rest g c =
     c.loop-aim.invariant.stands c.restore_object.ensures.others c.restore_object.ensures.past in
     stands.rest
 
-pub returns-in-Err-clause-rest : goal.returns-in-Err-clause-rest
-returns-in-Err-clause-rest g c =
+pub returns-in_default-clause-rest : goal.returns-in_default-clause-rest
+returns-in_default-clause-rest g c =
     let lt : c.loop-aim.aim-index < length c.args.aims.now = omega arith in
     let stands = stands_after (state_in c.args.drive.now) (state_in c.loop-aim.drive) (state_in c.restore_object.new.drive) c.args.at c.args.aims.now c.loop-aim.aim-index c.aim-item.result lt c.aim-item.is
     c.loop-aim.invariant.stands c.restore_object.ensures.others c.restore_object.ensures.past in
