@@ -1,11 +1,12 @@
 -- The history that a drive represents: what it began with, and what came since.
 use Rattle.std.specs.Prelude.{ℕ, List, [], ◌∷◌}
+use Rattle.s4_types.specs.declared.audit_rows.AuditRow.{AuditRow}
 use Rattle.s4_types.specs.declared.changes.Accepted.{Accepted}
 use Rattle.s4_types.specs.declared.spans.Span.{Span}
 use Rattle.s4_types.specs.declared.versions.Version.{Version}
 
 -- What a drive begins with: for objects their versions, each with the moment from which it is current, by
--- ascending moments; the four numbers; the spans.
+-- ascending moments; the four numbers; the spans; rows of what was accepted before.
 pub record Base : Type 0 where
   pub versions : List (ℕ × List (ℕ × Version))
   pub clock : ℕ
@@ -13,6 +14,7 @@ pub record Base : Type 0 where
   pub floor : ℕ
   pub next : ℕ
   pub spans : List Span
+  pub audit : List AuditRow
 
 -- what comes after the base: an accepted change, or a moment seen
 pub data Record : Type 0 where

@@ -1,4 +1,5 @@
 pub mod Pointer
+pub mod AuditKinds
 pub mod History
 pub mod RefusalNumber
 pub mod Sizes

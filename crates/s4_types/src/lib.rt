@@ -7,6 +7,7 @@
 //! What the requests mean is in `s4_model`.
 #![tactic(auto)]
 
+mod audit_rows;
 mod byte_list;
 mod changes;
 pub mod limits;
@@ -18,6 +19,7 @@ mod requests;
 mod spans;
 mod versions;
 
+pub use audit_rows::{AuditKind, AuditRow, AuditRows};
 pub use byte_list::Bytes;
 pub use changes::{Accepted, Change};
 pub use moments::{Moment, ObjectId};

@@ -33,6 +33,12 @@ pub const OBJECT_BYTES: u64 = (OBJECT_BLOCKS * BLOCK_BYTES) as u64;
 /// Bytes of the longest read. Chosen: those of `CHECKPOINT_POINTERS` blocks.
 pub const READ_BYTES: u64 = 24_576;
 
+/// Bytes of an audit row's encoding: moment, kind, object, and two numbers.
+pub const AUDIT_ROW_BYTES: usize = 33;
+
+/// Rows of the longest answer to an Audit. Chosen, so that they fit a frame of the wire.
+pub const AUDIT_ROWS: usize = 512;
+
 /// Bytes of the longest attribute. Chosen, so that two of them fit a journal entry.
 pub const ATTRIBUTE_BYTES: usize = 64;
 

@@ -24,6 +24,8 @@ pub enum Cause {
     Row,
     #[error("chain")]
     Chain,
+    #[error("audit")]
+    Audit,
 }
 
 /// Why a call or a request was refused. Each prints its name, `Damaged` its cause after it.

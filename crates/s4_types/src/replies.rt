@@ -1,3 +1,4 @@
+use crate::audit_rows::AuditRows;
 use crate::byte_list::Bytes;
 use crate::moments::{Moment, ObjectId};
 use crate::refusals::Refusal;
@@ -21,4 +22,6 @@ pub enum Reply {
         changed: Moment,
         attribute: Bytes,
     },
+    /// Accepted changes, in order of time.
+    AuditRows(AuditRows),
 }

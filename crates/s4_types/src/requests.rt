@@ -13,7 +13,7 @@ pub enum Role {
 /// What a session asks of the drive. Sizes, offsets and lengths are in bytes.
 #[derive(Drop, PartialEq, Eq)]
 pub enum Request {
-    /// Looks at an object, and changes nothing.
+    /// Looks at an object or at what was changed, and changes nothing.
     Query(Question),
     /// Makes a version of an object.
     Update(ObjectRequest),
@@ -21,7 +21,7 @@ pub enum Request {
     Control(AdminRequest),
 }
 
-/// A look at an object.
+/// A look at an object, or at what was changed.
 #[derive(Clone, Copy, PartialEq, Eq)]
 pub enum Question {
     /// At most `length` bytes from `offset` on, at a moment or, without one, at the present clock.
@@ -35,6 +35,12 @@ pub enum Question {
     GetAttr {
         object: ObjectId,
         at: Option<Moment>,
+    },
+    /// The first `max` accepted changes of those from a moment on, of all that are still at or
+    /// above the floor: for administrators alone.
+    Audit {
+        from: Moment,
+        max: u16,
     },
 }
 

@@ -29,7 +29,7 @@ pub data AcceptView : Type 0 where
 
 -- a base with nothing in it
 abbrev pub blank_base : Base
-blank_base = record { versions = []; clock = 0; window = 0; floor = 0; next = 0; spans = [] }
+blank_base = record { versions = []; clock = 0; window = 0; floor = 0; next = 0; spans = []; audit = [] }
 
 -- the ledger of a history that has just begun
 abbrev pub begun : Base → Ledger
