@@ -1,5 +1,5 @@
 -- What is known where no refusal applies.
-use Rattle.std.proofs.Common.{◌≡◌, ℕ, ◌+◌, length, ◌<◌, ◌≤◌, ◌==◌, ◌&&◌, Bool, true, false, not, cond, leb, inl, inr, List, [], ◌∷◌, None, Some, refl, ap, sym, ◌∙◌, subst, true≢false, arith, find}
+use Rattle.std.proofs.Common.{◌≡◌, ℕ, zero, suc, ◌+◌, length, ◌<◌, ◌≤◌, ◌==◌, ◌&&◌, Bool, true, false, not, cond, leb, inl, inr, List, [], ◌∷◌, None, Some, refl, ap, sym, ◌∙◌, subst, true≢false, arith, find}
 use Rattle.std.proofs.lemmas.Bool.{not-false, and_parts, or_parts, leb-true, leb-false, ltb-false, eqb-true, ne_eqb, cases_lt}
 use Rattle.std.specs.List.{AllByRecursion, cons_option}
 use Rattle.s4_types.specs.declared.limits.TheConstants.{OBJECT_BYTES, ATTRIBUTE_BYTES}
@@ -187,3 +187,35 @@ granted_fits s role (Update (SetAttr object attribute)) taken granted asks = ask
 granted_fits s role (Control (SetWindow window)) taken granted asks = asked_change Fits (change.SetWindow window) taken asks tt
 granted_fits s role (Control (Flush first last)) taken granted asks = asked_change Fits (change.Flush first last) taken asks tt
 granted_fits s role (Control (FlushO object first last)) taken granted asks = asked_change Fits (change.FlushO object first last) taken asks tt
+
+-- a span that is in order, at or before the clock, and of all objects or of one whose number was given
+abbrev pub IsOrdered : State → Change → Type 0
+IsOrdered s (change.Flush first last) = (first ≤ last) × (last ≤ s.clock)
+IsOrdered s (change.FlushO object first last) = (first ≤ last) × (last ≤ s.clock) × (1 ≤ object) × (object < s.next)
+IsOrdered s _ = Unit {0}
+
+span_begin : (first last clock : ℕ) → not (leb first last && leb last clock) ≡ false → first ≤ last
+span_begin first last clock e = leb-true first last (and_parts (leb first last) (leb last clock) (not-false (leb first last && leb last clock) e)).0
+
+above_zero : (object : ℕ) → (object == 0) ≡ false → 1 ≤ object
+above_zero zero e = absurd (true≢false e)
+above_zero (suc object) e = omega arith
+
+-- a span that is granted is
+pub granted_span_is_ordered : (s : State) (role : Role) (request : Request) (taken : Change) → first_refusal s role request ≡ None → change_of s request ≡ Some taken → IsOrdered s taken
+granted_span_is_ordered s role (Update (Create attribute)) taken granted asks = asked_change (IsOrdered s) (change.Create s.next attribute) taken asks tt
+granted_span_is_ordered s role (Update (Delete object)) taken granted asks = asked_change (IsOrdered s) (change.Delete object) taken asks tt
+granted_span_is_ordered s role (Query question) taken granted asks = cc
+granted_span_is_ordered s role (Update (Write object offset bytes)) taken granted asks = asked_change (IsOrdered s) (change.Write object offset bytes) taken asks tt
+granted_span_is_ordered s role (Update (Append object bytes)) taken granted asks = asked_change (IsOrdered s) (change.Write object (size_of (present s object)) bytes) taken asks tt
+granted_span_is_ordered s role (Update (Truncate object size)) taken granted asks = asked_change (IsOrdered s) (change.Truncate object size) taken asks tt
+granted_span_is_ordered s role (Update (SetAttr object attribute)) taken granted asks = asked_change (IsOrdered s) (change.SetAttr object attribute) taken asks tt
+granted_span_is_ordered s role (Control (SetWindow window)) taken granted asks = asked_change (IsOrdered s) (change.SetWindow window) taken asks tt
+granted_span_is_ordered s role (Control (Flush first last)) taken granted asks =
+    let bad = (none_applies s role (Control (Flush first last)) granted).1.1.1.0 in
+    asked_change (IsOrdered s) (change.Flush first last) taken asks (span_begin first last s.clock bad, span_end first last s.clock bad)
+granted_span_is_ordered s role (Control (FlushO object first last)) taken granted asks =
+    let bad = (none_applies s role (Control (FlushO object first last)) granted).1.1.1.0 in
+    let there = or_parts (object == 0) (leb s.next object) (object_is_there s role (Control (FlushO object first last)) granted) in
+    asked_change (IsOrdered s) (change.FlushO object first last) taken asks
+    (span_begin first last s.clock bad, span_end first last s.clock bad, above_zero object there.0, leb-false s.next object there.1)

@@ -1,4 +1,5 @@
 pub mod StateLemmas
+pub mod AuditLaws
 pub mod PlainLemmas
 pub mod StepLemmas
 pub mod CountLemmas
@@ -6,6 +7,7 @@ pub mod RunLemmas
 pub mod VersionLemmas
 pub mod OutcomeLemmas
 pub mod GrantedLemmas
+pub mod AuditedLemmas
 pub mod SoundLemmas
 pub mod EraseLaws
 pub mod ClockLaws

@@ -7,7 +7,7 @@ use Rattle.s4_types.specs.declared.changes.Accepted.{Accepted}
 use Rattle.s4_types.specs.declared.changes.Change.{Change}
 use Rattle.s4_types.specs.declared.changes.Change.TheVariants.{Create, Delete, Write, Truncate, SetAttr, SetWindow, Flush, FlushO}
 use Rattle.s4_types.specs.declared.replies.Reply.{Reply}
-use Rattle.s4_types.specs.declared.replies.Reply.TheVariants.{Refused, Changed, Created, Data, Attr}
+use Rattle.s4_types.specs.declared.replies.Reply.TheVariants.{Refused, Changed, Created, Data, Attr, AuditRows}
 use Rattle.s4_types.specs.declared.requests.Role.{Role}
 use Rattle.s4_types.specs.declared.requests.Request.{Request}
 use Rattle.s4_types.specs.declared.requests.Request.TheVariants as request
@@ -80,6 +80,7 @@ told_number h role asks now (Changed moment) after step = untold_outcome h role 
 told_number h role asks now (Refused refusal) after step = untold_outcome h role asks now (Refused refusal) after refl (outcome_of step)
 told_number h role asks now (Data bytes) after step = untold_outcome h role asks now (Data bytes) after refl (outcome_of step)
 told_number h role asks now (Attr size made moved value) after step = untold_outcome h role asks now (Attr size made moved value) after refl (outcome_of step)
+told_number h role asks now (AuditRows rows) after step = untold_outcome h role asks now (AuditRows rows) after refl (outcome_of step)
 
 -- the numbers are those from next on, and next is after them
 abbrev pub AreNext : ℕ → ℕ → List ℕ → Type 0

@@ -1,20 +1,22 @@
 -- What a step comes to: a moment seen, or a change taken.
 use Rattle.std.proofs.Common.{◌≡◌, ℕ, ◌+◌, length, Bool, true, false, List, [], ◌∷◌, ◌++◌, Option, None, Some, refl, ap, sym, ◌∙◌, subst, true≢false, MatchOption}
 use Rattle.s4_types.specs.History.{History, Record, Took, Seen}
+use Rattle.s4_types.specs.declared.audit_rows.AuditRow.{AuditRow}
 use Rattle.s4_types.specs.declared.changes.Accepted.{Accepted}
 use Rattle.s4_types.specs.declared.changes.Change.{Change}
 use Rattle.s4_types.specs.declared.changes.Change.TheVariants as change
 use Rattle.s4_types.specs.declared.requests.Role.{Role}
 use Rattle.s4_types.specs.declared.requests.Request.{Request}
 use Rattle.s4_types.specs.declared.requests.Request.TheVariants.{Update, Query, Control}
-use Rattle.s4_types.specs.declared.requests.Question.TheVariants.{Read, GetAttr}
+use Rattle.s4_types.specs.declared.requests.Question.TheVariants.{Read, GetAttr, Audit}
 use Rattle.s4_types.specs.declared.replies.Reply.{Reply}
-use Rattle.s4_types.specs.declared.replies.Reply.TheVariants.{Refused, Changed, Created, Data, Attr}
+use Rattle.s4_types.specs.declared.replies.Reply.TheVariants.{Refused, Changed, Created, Data, Attr, AuditRows}
 use Rattle.s4_types.specs.declared.versions.Version.{Version}
 use Rattle.s4_types.specs.declared.versions.Version.TheVariants.{Absent, Live}
 use Rattle.s4_model.specs.State.{State, state_of, grown}
 use Rattle.s4_model.specs.Refusals.{first_refusal, asked}
 use Rattle.s4_model.specs.VersionAt.{version_of}
+use Rattle.s4_model.specs.Audit.{rows_asked}
 use Rattle.s4_model.specs.Step.{Step, Refuses, Serves, Accepts, Alters, Reads, change_of, stamp, accepted_record, reply_to_change, reply_to_read, data_of, attributes_of, judged}
 use Rattle.s4_model.specs.Laws.{moment_told}
 
@@ -48,6 +50,7 @@ data_reply Absent offset len reply e = cc
 data_reply (Live content attribute created changed) offset len (Data bytes) e = refl
 data_reply (Live content attribute created changed) offset len (Refused refusal) e = refl
 data_reply (Live content attribute created changed) offset len (Attr size made moved value) e = refl
+data_reply (Live content attribute created changed) offset len (AuditRows rows) e = refl
 data_reply (Live content attribute created changed) offset len (Changed moment) e = cc
 data_reply (Live content attribute created changed) offset len (Created object moment) e = cc
 
@@ -56,14 +59,19 @@ attributes_reply Absent reply e = cc
 attributes_reply (Live content attribute created changed) (Data bytes) e = refl
 attributes_reply (Live content attribute created changed) (Refused refusal) e = refl
 attributes_reply (Live content attribute created changed) (Attr size made moved value) e = refl
+attributes_reply (Live content attribute created changed) (AuditRows rows) e = refl
 attributes_reply (Live content attribute created changed) (Changed moment) e = cc
 attributes_reply (Live content attribute created changed) (Created object moment) e = cc
+
+rows_reply : (rows : List AuditRow) (reply : Reply) → Some (AuditRows rows) ≡ Some reply → is_acceptance reply ≡ false
+rows_reply rows reply e = let same : AuditRows rows ≡ reply = cc in subst (λ r. is_acceptance r ≡ false) same refl
 
 -- no read is answered as a change
 read_reply : (s : State) (request : Request) (reply : Reply) → reply_to_read s request ≡ Some reply → is_acceptance reply ≡ false
 read_reply s (Update update) reply e = cc
 read_reply s (Query (Read object offset len at)) reply e = data_reply (version_of s object (asked s at)) offset len reply e
 read_reply s (Query (GetAttr object at)) reply e = attributes_reply (version_of s object (asked s at)) reply e
+read_reply s (Query (Audit from most)) reply e = rows_reply (rows_asked s from most) reply e
 read_reply s (Control control) reply e = cc
 
 outcome_of_accepts : (h : History) (role : Role) (request : Request) (now : ℕ) (reply : Reply) (r : Record) (after : History) → first_refusal (judged h request now) role request ≡ None → after ≡ grown h r → Accepts h request now reply r → Outcome h role request now reply after

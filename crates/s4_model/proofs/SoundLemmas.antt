@@ -24,6 +24,7 @@ use Rattle.s4_model.specs.Exchanges.{Exchange, Leads}
 use Rattle.s4_model.proofs.StateLemmas.{state_of-seen, state_of-took}
 use Rattle.s4_model.proofs.OutcomeLemmas.{IsTaken, Outcome, OnlySaw, TookIt, outcome_of}
 use Rattle.s4_model.proofs.GrantedLemmas.{granted_is_born, granted_is_of_somebody, granted_span_ends, granted_span_is_owned}
+use Rattle.s4_model.proofs.AuditedLemmas.{rows_took}
 use Rattle.s4_model.proofs.VersionLemmas.{Ascends-push, Ascends-higher, version_of-other}
 
 pub next_by-grows : (c : Change) (next : ℕ) → next ≤ next_by c next
@@ -73,6 +74,7 @@ IsSound-seen s now sound = let below : s.floor ≤ s.clock = sound.floor_reached
   nobody = sound.nobody;
   listed = sound.listed;
   dated = sound.dated;
+  audited = sound.audited;
 }
 
 IsSound-floor : (floor clock moment window : ℕ) → floor ≤ clock → clock < moment → max floor (moment - window) ≤ moment
@@ -110,6 +112,7 @@ IsSound-took s role request now reply a sound taken =
       nobody = λ t. version_of-other s a 0 t (granted_is_of_somebody s role request a.change numbered sound.nobody taken.granted taken.asked_for) ∙ sound.nobody t;
       listed = sound.listed;
       dated = sound.dated;
+      audited = rows_took s role request a sound.audited sound.unborn numbered sound.nobody later grows taken.granted taken.asked_for;
     }
 
 IsSound-outcome : (h : History) (role : Role) (request : Request) (now : ℕ) (reply : Reply) (after : History) → IsSound (state_of h) → Outcome h role request now reply after → IsSound (state_of after)
@@ -135,6 +138,7 @@ IsSound-new window = record {
   nobody = λ t. elim (nat_le t 0) as (λ b. cond b Absent Absent ≡ Absent) [ true ↦ refl | false ↦ refl ];
   listed = tt;
   dated = tt;
+  audited = tt;
 }
 
 -- and any list of exchanges keeps it

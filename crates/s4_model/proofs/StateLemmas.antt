@@ -3,6 +3,7 @@ use Rattle.std.proofs.Common.{◌≡◌, ℕ, ◌-◌, max, List, [], ◌∷◌,
 use Rattle.std.proofs.lemmas.List.Sums.{fold-append}
 use Rattle.std.proofs.lemmas.List.{map-append}
 use Rattle.s4_types.specs.History.{History, Base, Record, Took, Seen, taken, accepted}
+use Rattle.s4_types.specs.declared.audit_rows.AuditRow.{AuditRow}
 use Rattle.s4_types.specs.declared.changes.Accepted.{Accepted}
 use Rattle.s4_types.specs.declared.spans.Span.{Span}
 use Rattle.s4_types.specs.declared.versions.Version.{Version}
@@ -47,10 +48,11 @@ unfolding floor_of_records reach_from
 floor_of-grown h r = floor_of_records-push h.base h.records r
 
 -- a state by its parts
-make_state : List (ℕ × List (ℕ × Version)) → List Span → ℕ → List Accepted → ℕ → ℕ → ℕ → ℕ → State
-make_state versions spans opened changes clock window floor next = record {
+make_state : List (ℕ × List (ℕ × Version)) → List Span → List AuditRow → ℕ → List Accepted → ℕ → ℕ → ℕ → ℕ → State
+make_state versions spans audit opened changes clock window floor next = record {
   versions = versions;
   spans = spans;
+  audit = audit;
   opened = opened;
   changes = changes;
   clock = clock;
@@ -59,14 +61,14 @@ make_state versions spans opened changes clock window floor next = record {
   next = next;
 }
 
-same_state : (h : History) (changes : List Accepted) (clock window floor next : ℕ) (r : Record) → accepted (grown h r) ≡ changes → clock_of (grown h r) ≡ clock → window_of (grown h r) ≡ window → floor_of (grown h r) ≡ floor → next_of (grown h r) ≡ next → state_of (grown h r) ≡ make_state h.base.versions h.base.spans h.base.clock changes clock window floor next
+same_state : (h : History) (changes : List Accepted) (clock window floor next : ℕ) (r : Record) → accepted (grown h r) ≡ changes → clock_of (grown h r) ≡ clock → window_of (grown h r) ≡ window → floor_of (grown h r) ≡ floor → next_of (grown h r) ≡ next → state_of (grown h r) ≡ make_state h.base.versions h.base.spans h.base.audit h.base.clock changes clock window floor next
 unfolding make_state
 same_state h changes clock window floor next r c k w f n =
-    ap (λ x. make_state h.base.versions h.base.spans h.base.clock x (clock_of (grown h r)) (window_of (grown h r)) (floor_of (grown h r)) (next_of (grown h r))) c
-    ∙ ap (λ x. make_state h.base.versions h.base.spans h.base.clock changes x (window_of (grown h r)) (floor_of (grown h r)) (next_of (grown h r))) k
-    ∙ ap (λ x. make_state h.base.versions h.base.spans h.base.clock changes clock x (floor_of (grown h r)) (next_of (grown h r))) w
-    ∙ ap (λ x. make_state h.base.versions h.base.spans h.base.clock changes clock window x (next_of (grown h r))) f
-    ∙ ap (λ x. make_state h.base.versions h.base.spans h.base.clock changes clock window floor x) n
+    ap (λ x. make_state h.base.versions h.base.spans h.base.audit h.base.clock x (clock_of (grown h r)) (window_of (grown h r)) (floor_of (grown h r)) (next_of (grown h r))) c
+    ∙ ap (λ x. make_state h.base.versions h.base.spans h.base.audit h.base.clock changes x (window_of (grown h r)) (floor_of (grown h r)) (next_of (grown h r))) k
+    ∙ ap (λ x. make_state h.base.versions h.base.spans h.base.audit h.base.clock changes clock x (floor_of (grown h r)) (next_of (grown h r))) w
+    ∙ ap (λ x. make_state h.base.versions h.base.spans h.base.audit h.base.clock changes clock window x (next_of (grown h r))) f
+    ∙ ap (λ x. make_state h.base.versions h.base.spans h.base.audit h.base.clock changes clock window floor x) n
 
 -- a moment seen moves clock and floor
 pub state_of-seen : (h : History) (now : ℕ) → state_of (grown h (Seen now)) ≡ seen (state_of h) now

@@ -10,7 +10,7 @@ use Rattle.s4_types.specs.declared.refusals.Refusal.TheVariants.{NoSpace, ChainF
 use Rattle.s4_types.specs.declared.requests.Role.{Role}
 use Rattle.s4_types.specs.declared.requests.Request.{Request}
 use Rattle.s4_types.specs.declared.requests.Request.TheVariants.{Update, Query, Control}
-use Rattle.s4_types.specs.declared.requests.Question.TheVariants.{Read, GetAttr}
+use Rattle.s4_types.specs.declared.requests.Question.TheVariants.{Read, GetAttr, Audit}
 use Rattle.s4_types.specs.declared.requests.ObjectRequest.TheVariants.{Create, Delete, Write, Append, Truncate, SetAttr}
 use Rattle.s4_types.specs.declared.requests.AdminRequest.TheVariants.{SetWindow, Flush, FlushO}
 use Rattle.s4_types.specs.declared.versions.Version.{Version}
@@ -41,6 +41,7 @@ read_given h s role (Update (Truncate object size)) e free = cc
 read_given h s role (Update (SetAttr object attribute)) e free = cc
 read_given h s role (Query (Read object offset len at)) e free = data_given (version_of s object (asked s at)) offset len (object_is_there s role (Query (Read object offset len at)) free)
 read_given h s role (Query (GetAttr object at)) e free = attributes_given (version_of s object (asked s at)) (object_is_there s role (Query (GetAttr object at)) free)
+read_given h s role (Query (Audit from most)) e free = (_, refl, refl)
 read_given h s role (Control (SetWindow window)) e free = cc
 read_given h s role (Control (Flush first last)) e free = cc
 read_given h s role (Control (FlushO object first last)) e free = cc

@@ -1,8 +1,9 @@
 -- What the definitions come to: each of these holds of all histories, and is the contract of a function with an
 -- empty body.
-use Rattle.std.specs.Prelude.{◌≡◌, ℕ, Bool, true, false, ◌+◌, ◌-◌, max, ◌<◌, ◌≤◌, ◌==◌, ◌&&◌, ◌||◌, nat_le, if◌then◌else◌, List, [], ◌∷◌, ◌++◌, length, count_by, Option, None, Some, MatchOption}
+use Rattle.std.specs.Prelude.{◌≡◌, ℕ, Bool, true, false, ◌+◌, ◌-◌, max, ◌<◌, ◌≤◌, ◌==◌, ◌&&◌, ◌||◌, nat_le, if◌then◌else◌, List, [], ◌∷◌, ◌++◌, length, take, count_by, Option, None, Some, MatchOption}
 use Rattle.std.specs.List.{filter_map, range_with_len, AllByRecursion}
 use Rattle.s4_types.specs.History.{History, Took, Seen, accepted}
+use Rattle.s4_types.specs.declared.audit_rows.AuditRow.{AuditRow}
 use Rattle.s4_types.specs.declared.changes.Accepted.{Accepted}
 use Rattle.s4_types.specs.declared.requests.Role.{Role}
 use Rattle.s4_types.specs.declared.requests.Request.{Request}
@@ -19,7 +20,8 @@ use Rattle.s4_types.specs.declared.versions.Version.TheVariants.{Absent}
 use Rattle.s4_model.specs.Effect.{effect, is_change_of}
 use Rattle.s4_model.specs.Limits.{Fits}
 use Rattle.s4_model.specs.Numbers.{clock_of, floor_of, next_of, window_of}
-use Rattle.s4_model.specs.State.{State, state_of, grown, new_history}
+use Rattle.s4_model.specs.State.{State, state_of, grown, new_history, seen, took}
+use Rattle.s4_model.specs.Audit.{audit_row, rows_from, audit_of, rows_asked, KeepsAudit}
 use Rattle.s4_model.specs.VersionAt.{version_of}
 use Rattle.s4_model.specs.Visible.{is_hidden, spans_of, IsVisible}
 use Rattle.s4_model.specs.Runs.{is_covered, runs_of, run_count, run_count_of_all}
@@ -244,3 +246,23 @@ EveryStepKeepsTheRunLimits = (h after : History) (role : Role) (request : Reques
 abbrev pub ExchangesKeepTheRunLimits : Type 0
 ExchangesKeepTheRunLimits = (h after : History) (exchanges : List Exchange)
     → IsSound (state_of h) → KeepsRunLimits (state_of h) → Leads h exchanges after → KeepsRunLimits (state_of after)
+
+-- a moment that is seen takes from the audit what is below the floor then, and nothing else
+abbrev pub AMomentCutsTheAudit : Type 0
+AMomentCutsTheAudit = (s : State) (now : ℕ) → audit_of (seen s now) ≡ rows_from (seen s now).floor (audit_of s)
+
+-- so does an accepted change, whose own row comes last
+abbrev pub AChangeAddsItsRow : Type 0
+AChangeAddsItsRow = (s : State) (a : Accepted) → s.floor ≤ a.moment
+    → audit_of (took s a) ≡ rows_from (took s a).floor (audit_of s) ++ audit_row a ∷ []
+
+-- Rows that are kept of the audit are kept when a moment is seen, and with the row of each change that is accepted; those
+-- below the floor can go; and the first rows from each moment on are found among those that are kept.
+pub record AKeptAuditGoesOn (s : State) (kept : List AuditRow) : Type 0 where
+  pub sees : (now : ℕ) → KeepsAudit (seen s now) kept
+  pub takes : (a : Accepted) → s.floor ≤ s.clock → s.clock < a.moment → KeepsAudit (took s a) (kept ++ audit_row a ∷ [])
+  pub cut : KeepsAudit s (audit_of s)
+  pub asked : (from most : ℕ) → rows_asked s from most ≡ take most (rows_from (max from s.floor) kept)
+
+abbrev pub KeptAuditsGoOn : Type 0
+KeptAuditsGoOn = (s : State) (kept : List AuditRow) → KeepsAudit s kept → AKeptAuditGoesOn s kept

@@ -3,6 +3,7 @@ pub mod Numbers
 pub mod State
 pub mod VersionAt
 pub mod Visible
+pub mod Audit
 pub mod Runs
 pub mod Refusals
 pub mod Step

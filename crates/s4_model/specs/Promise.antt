@@ -11,6 +11,7 @@ use Rattle.s4_types.specs.declared.versions.Version.{Version}
 use Rattle.s4_model.specs.Numbers.{clock_of, window_of, floor_of, next_of}
 use Rattle.s4_model.specs.State.{state_of}
 use Rattle.s4_model.specs.VersionAt.{version_of}
+use Rattle.s4_model.specs.Audit.{audit_of}
 use Rattle.s4_model.specs.Visible.{IsVisible, spans_of}
 use Rattle.s4_model.specs.Runs.{is_covered}
 use Rattle.s4_model.specs.Step.{Step}
@@ -64,7 +65,7 @@ abbrev pub beginning : Base → History
 beginning base = record { base = base; records = [] }
 
 -- A history begins where another one ended: with its clock, window, floor and next number; from the floor on each list of spans hides the
--- same moments, that of all objects being number 0; and each version that can be read is the same.
+-- same moments, that of all objects being number 0; each version that can be read is the same; and so is the audit.
 pub record GoesOn (ended begun : History) : Type 0 where
   pub clock : clock_of begun ≡ clock_of ended
   pub window : window_of begun ≡ window_of ended
@@ -72,3 +73,4 @@ pub record GoesOn (ended begun : History) : Type 0 where
   pub next : next_of begun ≡ next_of ended
   pub hidden : (list t : ℕ) → is_covered (floor_of ended) (spans_of (state_of begun)) list t ≡ is_covered (floor_of ended) (spans_of (state_of ended)) list t
   pub versions : (o t : ℕ) → IsVisible (state_of ended) o t → version_of (state_of begun) o t ≡ version_of (state_of ended) o t
+  pub audit : audit_of (state_of begun) ≡ audit_of (state_of ended)

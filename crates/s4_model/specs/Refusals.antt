@@ -2,12 +2,12 @@
 use Rattle.std.specs.Prelude.{ℕ, Bool, true, false, not, ◌==◌, ◌&&◌, ◌||◌, ◌+◌, ◌-◌, ◌^◌, nat_le, nat_lt, if◌then◌else◌, Option, None, Some, unwrap_or, List, [], ◌∷◌, ◌++◌, length}
 use Rattle.std.specs.List.{find}
 use Rattle.s4_types.specs.declared.spans.Span.{Span}
-use Rattle.s4_types.specs.declared.limits.TheConstants.{OBJECT_BYTES, READ_BYTES, ATTRIBUTE_BYTES, RUNS_IN_A_LIST, RUNS_IN_ALL}
+use Rattle.s4_types.specs.declared.limits.TheConstants.{OBJECT_BYTES, READ_BYTES, ATTRIBUTE_BYTES, AUDIT_ROWS, RUNS_IN_A_LIST, RUNS_IN_ALL}
 use Rattle.s4_types.specs.declared.requests.Role.{Role}
 use Rattle.s4_types.specs.declared.requests.Role.TheVariants.{Client, Admin}
 use Rattle.s4_types.specs.declared.requests.Request.{Request}
 use Rattle.s4_types.specs.declared.requests.Request.TheVariants.{Update, Query, Control}
-use Rattle.s4_types.specs.declared.requests.Question.TheVariants.{Read, GetAttr}
+use Rattle.s4_types.specs.declared.requests.Question.TheVariants.{Read, GetAttr, Audit}
 use Rattle.s4_types.specs.declared.requests.ObjectRequest.TheVariants.{Create, Delete, Write, Append, Truncate, SetAttr}
 use Rattle.s4_types.specs.declared.requests.AdminRequest.TheVariants.{Flush, FlushO}
 use Rattle.s4_types.specs.declared.refusals.Refusal.{Refusal}
@@ -51,6 +51,7 @@ asked s at = unwrap_or at s.clock
 -- what administrators alone may ask
 abbrev pub wants_admin : Request → Bool
 wants_admin (Control control) = true
+wants_admin (Query (Audit from most)) = true
 wants_admin _ = false
 
 abbrev pub has_long_attribute : Request → Bool
@@ -58,13 +59,14 @@ has_long_attribute (Update (Create attribute)) = nat_lt ATTRIBUTE_BYTES (length 
 has_long_attribute (Update (SetAttr object attribute)) = nat_lt ATTRIBUTE_BYTES (length attribute)
 has_long_attribute _ = false
 
--- The end of a write, the size of a truncation, or the length of a read is above the limit, or a read ends
--- above the greatest number.
+-- The end of a write, the size of a truncation, the length of a read or the number of rows of an audit is above the
+-- limit, or a read ends above the greatest number.
 abbrev pub is_too_large : State → Request → Bool
 is_too_large s (Update (Write object offset bytes)) = nat_lt OBJECT_BYTES (offset + length bytes)
 is_too_large s (Update (Append object bytes)) = nat_lt OBJECT_BYTES (size_of (present s object) + length bytes)
 is_too_large s (Update (Truncate object size)) = nat_lt OBJECT_BYTES size
 is_too_large s (Query (Read object offset len at)) = nat_lt READ_BYTES len || nat_lt last_number (offset + len)
+is_too_large s (Query (Audit from most)) = nat_lt AUDIT_ROWS most
 is_too_large s _ = false
 
 -- a span that doesn't end at or after its first moment and at or before the clock

@@ -8,6 +8,7 @@ use Rattle.s4_types.specs.declared.versions.Version.TheVariants.{Absent}
 use Rattle.s4_model.specs.State.{State}
 use Rattle.s4_model.specs.VersionAt.{version_of}
 use Rattle.s4_model.specs.Visible.{spans_of}
+use Rattle.s4_model.specs.Audit.{all_rows, IsAuditRow}
 
 -- the moments of these changes ascend strictly, from above one number up to another
 abbrev pub Ascends : ℕ → List Accepted → ℕ → Type 0
@@ -42,7 +43,7 @@ DatesAscend (dated ∷ versions) = AllByRecursion (λ later. dated.0 < later.0) 
 -- object took a moment of its own to make. Changes are numbered from 1, moments ascend strictly from the base's
 -- clock to the clock, spans end before the clock and are of numbers that were given, a number that wasn't given is
 -- of no object, and number 0 never is. The base lists each object once, with the moments of its versions ascending
--- strictly.
+-- strictly. Each row of the audit is one that an accepted change can have.
 pub record IsSound (s : State) : Type 0 where
   pub floor_reached : s.floor ≤ s.clock
   pub reached : s.clock - s.window ≤ s.floor
@@ -56,3 +57,4 @@ pub record IsSound (s : State) : Type 0 where
   pub nobody : (t : ℕ) → version_of s 0 t ≡ Absent
   pub listed : AreListedOnce s.versions
   pub dated : AllByRecursion (λ entry. DatesAscend entry.1) s.versions
+  pub audited : AllByRecursion (IsAuditRow s.next) (all_rows s)

@@ -1,15 +1,17 @@
 -- What a history has come to: all that the checks and the reads look at.
 use Rattle.std.specs.Prelude.{ℕ, ◌-◌, max, List, [], ◌∷◌, ◌++◌}
 use Rattle.s4_types.specs.History.{History, Base, Record, accepted}
+use Rattle.s4_types.specs.declared.audit_rows.AuditRow.{AuditRow}
 use Rattle.s4_types.specs.declared.changes.Accepted.{Accepted}
 use Rattle.s4_types.specs.declared.spans.Span.{Span}
 use Rattle.s4_types.specs.declared.versions.Version.{Version}
 use Rattle.s4_model.specs.Numbers.{clock_of, window_of, next_of, floor_of, window_by, next_by}
 
--- The base's versions and spans and its clock, here called opened; the accepted changes since; the numbers.
+-- The base's versions, spans and audit rows and its clock, here called opened; the accepted changes since; the numbers.
 pub record State : Type 0 where
   pub versions : List (ℕ × List (ℕ × Version))
   pub spans : List Span
+  pub audit : List AuditRow
   pub opened : ℕ
   pub changes : List Accepted
   pub clock : ℕ
@@ -22,6 +24,7 @@ abbrev pub state_of : History → State
 state_of h = record {
   versions = h.base.versions;
   spans = h.base.spans;
+  audit = h.base.audit;
   opened = h.base.clock;
   changes = accepted h;
   clock = clock_of h;
@@ -36,7 +39,7 @@ grown h r = record { base = h.base; records = h.records ++ r ∷ [] }
 
 -- the base of a new drive
 abbrev pub new_base : ℕ → Base
-new_base window = record { versions = []; clock = 0; window = window; floor = 0; next = 1; spans = [] }
+new_base window = record { versions = []; clock = 0; window = window; floor = 0; next = 1; spans = []; audit = [] }
 
 -- the history of a new drive
 abbrev pub new_history : ℕ → History

@@ -7,17 +7,18 @@ use Rattle.s4_types.specs.declared.changes.Change.TheVariants as change
 use Rattle.s4_types.specs.declared.requests.Role.{Role}
 use Rattle.s4_types.specs.declared.requests.Request.{Request}
 use Rattle.s4_types.specs.declared.requests.Request.TheVariants.{Update, Query, Control}
-use Rattle.s4_types.specs.declared.requests.Question.TheVariants.{Read, GetAttr}
+use Rattle.s4_types.specs.declared.requests.Question.TheVariants.{Read, GetAttr, Audit}
 use Rattle.s4_types.specs.declared.requests.ObjectRequest.TheVariants.{Create, Delete, Write, Append, Truncate, SetAttr}
 use Rattle.s4_types.specs.declared.requests.AdminRequest.TheVariants.{SetWindow, Flush, FlushO}
 use Rattle.s4_types.specs.declared.replies.Reply.{Reply}
-use Rattle.s4_types.specs.declared.replies.Reply.TheVariants.{Refused, Changed, Created, Data, Attr}
+use Rattle.s4_types.specs.declared.replies.Reply.TheVariants.{Refused, Changed, Created, Data, Attr, AuditRows}
 use Rattle.s4_types.specs.declared.refusals.Refusal.{Refusal}
 use Rattle.s4_types.specs.declared.refusals.Refusal.TheVariants.{NoObject, TooLarge, TooManySpans, NoSpace, NoMemory, ClockEnd, ChainFull, Busy}
 use Rattle.s4_types.specs.declared.versions.Version.{Version}
 use Rattle.s4_types.specs.declared.versions.Version.TheVariants.{Absent, Live}
 use Rattle.s4_model.specs.State.{State, state_of, grown}
 use Rattle.s4_model.specs.VersionAt.{version_of}
+use Rattle.s4_model.specs.Audit.{rows_asked}
 use Rattle.s4_model.specs.Refusals.{first_refusal, present, asked, size_of}
 
 -- The change that a request asks for. A Create makes the next object, an Append is a write at the present
@@ -34,7 +35,7 @@ change_of s (Control (Flush first last)) = Some (change.Flush first last)
 change_of s (Control (FlushO object first last)) = Some (change.FlushO object first last)
 change_of s (Query question) = None
 
--- What a request is judged by: a change by the history as it was, a read by one that has seen the moment.
+-- What a request is judged by: a change by the history as it was, a question by one that has seen the moment.
 abbrev pub judged : History → Request → ℕ → State
 judged h (Query question) now = state_of (grown h (Seen now))
 judged h _ now = state_of h
@@ -72,6 +73,7 @@ attributes_of (Live content attribute created changed) = Some (Attr (length cont
 abbrev pub reply_to_read : State → Request → Option Reply
 reply_to_read s (Query (Read object offset len at)) = data_of (version_of s object (asked s at)) offset len
 reply_to_read s (Query (GetAttr object at)) = attributes_of (version_of s object (asked s at))
+reply_to_read s (Query (Audit from most)) = Some (AuditRows (rows_asked s from most))
 reply_to_read s _ = None
 
 -- where lack of memory may be answered in place of what applies first

@@ -18,6 +18,8 @@ ghost use Rattle.s4_model.specs.Laws.{NoListIsLeftOut, ClientsLeaveThePast};
 ghost use Rattle.s4_model.specs.Laws.{ClientsMoveTheFloorByTheWindow};
 ghost use Rattle.s4_model.specs.Laws.{AnAcceptedChangeKeepsTheLimits, ANewDriveKeepsTheRunLimits};
 ghost use Rattle.s4_model.specs.Laws.{EveryStepKeepsTheRunLimits, ExchangesKeepTheRunLimits};
+ghost use Rattle.s4_model.specs.Laws.{AMomentCutsTheAudit, AChangeAddsItsRow};
+ghost use Rattle.s4_model.specs.Laws.{KeptAuditsGoOn};
 
 /// Histories go on record by record, and stay sound.
 ///
@@ -106,4 +108,12 @@ pub fn runs_keep_their_limits()
     ensures new { ANewDriveKeepsTheRunLimits }
     ensures steps { EveryStepKeepsTheRunLimits }
     ensures exchanges { ExchangesKeepTheRunLimits }
+{}
+
+/// The audit goes on with each record: it loses the rows below the floor, and gains that of an
+/// accepted change. So do rows that are kept of it, and they answer as it does.
+pub fn the_audit_goes_on_row_by_row()
+    ensures moments { AMomentCutsTheAudit }
+    ensures changes { AChangeAddsItsRow }
+    ensures kept { KeptAuditsGoOn }
 {}

@@ -8,6 +8,7 @@
 //! frames or threads, nor of the time that a call takes.
 #![tactic(auto)]
 
+mod audit;
 mod effects;
 mod hidden;
 pub mod laws;
@@ -15,5 +16,6 @@ mod plain;
 mod replay;
 mod runs;
 
+pub use audit::row_of;
 pub use plain::PlainDrive;
 pub use replay::version_at;

@@ -7,6 +7,7 @@ ghost use Rattle.s4_types.specs.History.{History};
 ghost use Rattle.s4_types.specs.Sizes.{ReplyFits};
 ghost use Rattle.s4_model.specs.VersionAt.{version_of};
 ghost use Rattle.s4_model.specs.Visible.{is_hidden};
+ghost use Rattle.s4_model.specs.Audit.{rows_from, audit_of};
 ghost use Rattle.s4_model.specs.Refusals.{is_one_span_too_many};
 ghost use Rattle.s4_model.specs.Limits.{IsWithinLimits};
 ghost use Rattle.s4_types.specs.declared.refusals.Refusal.TheVariants.{NoMemory};
@@ -15,8 +16,10 @@ mod answer;
 mod judge;
 mod settle;
 
-use crate::{hidden, replay, runs};
-use s4_types::{Accepted, Moment, ObjectId, Refusal, Reply, Request, Role, Span, Version};
+use crate::{audit, hidden, replay, runs};
+use s4_types::{
+    Accepted, AuditRow, Moment, ObjectId, Refusal, Reply, Request, Role, Span, Version,
+};
 use std::alloc::Global;
 use std::marker::Model;
 
@@ -45,6 +48,7 @@ impl Model for PlainDrive {
     ghost view = { λ d. record {
       versions = [];
       spans = [];
+      audit = [];
       opened = 0;
       changes = d.changes.items;
       clock = d.clock;
@@ -74,8 +78,8 @@ impl PlainDrive {
     /// What a request of a role is answered at a moment `now` of the server's clock, and all that
     /// it changes.
     ///
-    /// A change is stamped with the greater of `now` and the clock plus one; a refused change, a
-    /// Read and a GetAttr move the clock to `now` if that is later. `NoMemory` comes only where a
+    /// A change is stamped with the greater of `now` and the clock plus one; a refused change and
+    /// a question move the clock to `now` if that is later. `NoMemory` comes only where a
     /// growth was really refused, and leaves all but clock and floor as it was. Each call goes
     /// through all changes so far, and a flush through the spans of every list.
     pub fn request(&mut self, role: Role, request: Request, now: Moment) -> Reply
@@ -95,7 +99,7 @@ impl PlainDrive {
         match request {
             Request::Query(question) => {
                 self.observe(now);
-                answer::reply_of(self.answer(question))
+                answer::reply_of(self.answer(role, question))
             }
             Request::Update(update) => {
                 let judged = self.judge_update(update);
@@ -132,6 +136,14 @@ impl PlainDrive {
         ensures { result ≡ is_hidden self.now object at }
     {
         hidden::is_hidden(self.changes.as_slice(), object, at)
+    }
+
+    /// The rows of the audit from a moment on.
+    fn rows_from(&self, from: Moment) -> Result<Vec<AuditRow>, Refusal>
+        ensures ok { IfOk result (λ rows. rows.items ≡ rows_from from (audit_of self.now)) }
+        ensures err { IfErr result (λ refusal. refusal ≡ NoMemory) }
+    {
+        audit::rows_from(self.alloc, self.changes.as_slice(), from.max(self.floor))
     }
 
     /// Whether one more span makes more runs than its list, or all lists together, may have.

@@ -1,4 +1,4 @@
-//! The answers to reads.
+//! The answers to questions.
 ghost use Rattle.std.specs.Prelude.{◌≡◌, ◌≤◌, ℕ, None, Some, MatchResult, IfOk, IfErr};
 ghost use Rattle.s4_model.specs.Refusals.{asked, moment_refusal};
 ghost use Rattle.s4_model.specs.Step.{part};
@@ -7,8 +7,11 @@ ghost use Rattle.s4_types.specs.declared.requests.Role.{Role as TheRole};
 ghost use Rattle.s4_types.specs.declared.refusals.Refusal.TheVariants.{NoMemory};
 
 use crate::plain::PlainDrive;
-use s4_types::limits::READ_BYTES;
-use s4_types::{Bytes, Moment, ObjectId, Question, Refusal, Reply, Request, Version};
+use crate::plain::judge::is_client;
+use s4_types::limits::{AUDIT_ROWS, READ_BYTES};
+use s4_types::{
+    AuditRows, Bytes, Moment, ObjectId, Question, Refusal, Reply, Request, Role, Version,
+};
 use std::alloc::Global;
 
 /// The bytes from an offset on, at most `length` of them.
@@ -102,9 +105,25 @@ impl PlainDrive {
         }
     }
 
+    /// The reply to an Audit, by the state that has seen its moment.
+    fn answer_audit(&self, role: Role, from: Moment, most: u16) -> Result<Reply, Refusal>
+        ensures answer { Answers self.now role (Request.Query (Question.Audit from most)) result }
+        ensures fits { IfOk result IsPlain }
+    {
+        if is_client(role) {
+            return Err(Refusal::NotAdmin);
+        }
+        if usize::from(most) > AUDIT_ROWS {
+            return Err(Refusal::TooLarge);
+        }
+        let mut rows = self.rows_from(from)?;
+        rows.truncate(usize::from(most));
+        Ok(Reply::AuditRows(AuditRows::from_vec(rows)))
+    }
+
     /// The reply to a question, by the state that has seen its moment.
-    pub(super) fn answer(&self, question: Question) -> Result<Reply, Refusal>
-        ensures answer { (role : TheRole) → Answers self.now role (Request.Query question) result }
+    pub(super) fn answer(&self, role: Role, question: Question) -> Result<Reply, Refusal>
+        ensures answer { Answers self.now role (Request.Query question) result }
         ensures fits { IfOk result IsPlain }
     {
         match question {
@@ -115,6 +134,7 @@ impl PlainDrive {
                 at,
             } => self.answer_read(object, offset, length, at),
             Question::GetAttr { object, at } => self.answer_get_attr(object, at),
+            Question::Audit { from, max } => self.answer_audit(role, from, max),
         }
     }
 }

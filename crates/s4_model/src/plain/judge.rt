@@ -16,7 +16,7 @@ use s4_types::{
 };
 
 /// Whether a role has a client's rights alone.
-fn is_client(role: Role) -> bool
+pub(super) fn is_client(role: Role) -> bool
     ensures { result ≡ is_client role }
 {
     match role {

@@ -6,7 +6,7 @@ use Rattle.s4_model.proofs.plain.PlainDrive.respond.Goals as goal
 pub returns-in-Query : goal.returns-in-Query
 returns-in-Query c =
     Responds-asked c.args.self.now c.args.role c.args.request (Query c.in-Query.question) c.args.now c.answer.result c.reply_of.result c.observe.new.self
-    c.in-Query.is refl c.observe.ensures (c.answer.ensures.answer c.args.role) c.reply_of.ensures c.answer.ensures.fits
+    c.in-Query.is refl c.observe.ensures c.answer.ensures.answer c.reply_of.ensures c.answer.ensures.fits
 
 pub returns-in-Update : goal.returns-in-Update
 returns-in-Update c =
