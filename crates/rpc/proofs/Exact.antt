@@ -1,12 +1,12 @@
 -- Readers that read what is encoded, all of it and nothing else: of single fields, and of fields one after the other.
 use Rattle.std.proofs.Common.{◌≡◌, ℕ, zero, suc, ◌^◌, ◌<◌, ◌≤◌, Bool, true, false, cond, ltb, List, [], ◌∷◌, ◌++◌, length, take, drop, Option, Some, None, refl, sym, ap, subst, ◌∙◌, arith}
 use Rattle.std.specs.Prelude.{IfSome}
-use Rattle.std.specs.Int.{Width, w32, w64, byte_len, from_be_bytes, to_be_bytes}
+use Rattle.std.specs.Int.{Width, w16, w32, w64, byte_len, from_be_bytes, to_be_bytes}
 use Rattle.std.proofs.lemmas.Bool.{ltb-false, le-ltb}
 use Rattle.std.proofs.lemmas.List.{take_at, drop_at, take-append-drop, length-append, length-take, append-nil}
-use Rattle.std.proofs.lemmas.Nat.{be_bytes_4, be_bytes_8, from_be_bytes-to_be_bytes_4, from_be_bytes-to_be_bytes_8}
+use Rattle.std.proofs.lemmas.Nat.{be_bytes_2, be_bytes_4, be_bytes_8, from_be_bytes-to_be_bytes_2, from_be_bytes-to_be_bytes_4, from_be_bytes-to_be_bytes_8}
 use Rattle.lemmas.proofs.Bytes.{bytes_before, bytes_after, IsBytes}
-use Rattle.rpc.specs.Spelling.{long, word, wire_text, at}
+use Rattle.rpc.specs.Spelling.{long, short, word, wire_text, at}
 use Rattle.rpc.specs.private.Reading.{◌>>=◌, wire_number_at, wire_text_at, wire_moment_at, tail_at, ended_at}
 
 pub bytes_behind : (b : ℕ) (bytes : List ℕ) → IsBytes (b ∷ bytes) → IsBytes bytes
@@ -43,6 +43,14 @@ record IsWide (w : Width) (limit : ℕ) : Type 0 where
   same : (n : ℕ) → n < limit → from_be_bytes w (to_be_bytes w n) ≡ n
   below : (bytes : List ℕ) → IsBytes bytes → from_be_bytes w bytes < limit
 
+wide_short : IsWide w16 (2 ^ 16)
+wide_short = record {
+  len = λ n. refl;
+  back = λ bytes len h. be_bytes_2 bytes _ len h refl;
+  same = λ n lt. from_be_bytes-to_be_bytes_2 n lt;
+  below = λ bytes h. omega (arith, h 0, h 1);
+}
+
 wide_word : IsWide w32 (2 ^ 32)
 wide_word = record {
   len = λ n. refl;
@@ -73,6 +81,9 @@ number_again w limit wide n rest lt =
     let len = wide.len n in
     let enough : ltb (length (to_be_bytes w n ++ rest)) (byte_len w) ≡ false = le-ltb _ _ (omega (arith, length-append (to_be_bytes w n) rest)) in
     rw (enough, take_at (to_be_bytes w n) rest (byte_len w) len, drop_at (to_be_bytes w n) rest (byte_len w) len, wide.same n lt) refl
+
+pub short_field : IsField (wire_number_at w16) short (λ n. n < 2 ^ 16)
+short_field = record { takes = number_takes w16 (2 ^ 16) wide_short; again = number_again w16 (2 ^ 16) wide_short }
 
 pub word_field : IsField (wire_number_at w32) word (λ n. n < 2 ^ 32)
 word_field = record { takes = number_takes w32 (2 ^ 32) wide_word; again = number_again w32 (2 ^ 32) wide_word }

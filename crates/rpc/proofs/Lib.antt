@@ -2,6 +2,7 @@ pub mod RoomLaws
 pub mod Refusals
 pub mod Exact
 pub mod RequestLaws
+pub mod RowLaws
 pub mod ReplyLaws
 pub mod Answered
 pub mod StreamLaws

@@ -1,16 +1,19 @@
 -- A reply is read exactly where the body encodes it.
-use Rattle.std.proofs.Common.{◌≡◌, ◌≢◌, ℕ, ◌≤◌, List, [], ◌∷◌, ◌++◌, length, Some, refl, sym, ◌∙◌}
+use Rattle.std.proofs.Common.{◌≡◌, ◌≢◌, ℕ, ◌≤◌, List, [], ◌∷◌, ◌++◌, length, Some, refl, sym, ap, ◌∙◌}
 use Rattle.std.proofs.lemmas.Bool.{eqb-true}
 use Rattle.s4_types.specs.RefusalNumber.{number_of}
-use Rattle.s4_types.specs.declared.limits.TheConstants.{READ_BYTES, ATTRIBUTE_BYTES}
+use Rattle.s4_types.specs.declared.limits.TheConstants.{READ_BYTES, ATTRIBUTE_BYTES, AUDIT_ROWS}
 use Rattle.s4_types.specs.declared.refusals.Refusal.{Refusal as Reason}
 use Rattle.s4_types.specs.declared.replies.Reply.{Reply}
-use Rattle.s4_types.specs.declared.replies.Reply.TheVariants.{Refused, Changed, Created, Data, Attr}
+use Rattle.s4_types.specs.declared.replies.Reply.TheVariants.{Refused, Changed, Created, Data, Attr, AuditRows}
+use Rattle.std.specs.List.{AllByRecursion, flat_map}
+use Rattle.s4_types.specs.declared.audit_rows.AuditRow.{AuditRow}
 use Rattle.lemmas.proofs.Bytes.{IsBytes}
-use Rattle.rpc.specs.Spelling.{long, word, wire_text, SpellsReply}
-use Rattle.rpc.specs.private.Reading.{◌>>=◌, ended_at, refusal_of_code, refused_at, changed_at, created_at, data_at, attr_at, wire_reply_at}
+use Rattle.rpc.specs.Spelling.{long, word, wire_text, row_spelling, RowNumbers, SpellsReply}
+use Rattle.rpc.specs.private.Reading.{◌>>=◌, ended_at, refusal_of_code, refused_at, changed_at, created_at, data_at, attr_at, rows_at, audit_rows_at, wire_reply_at}
 use Rattle.rpc.proofs.Refusals.{refusal_found, refusal_again}
 use Rattle.rpc.proofs.Exact.{bytes_behind, bind_some, ended_nil, ended_end, Exact, Then, Last, then_exact, last_exact, tail_exact, word_field, long_field, text_field}
+use Rattle.rpc.proofs.RowLaws.{rows_found, rows_again}
 use Rattle.rpc.proofs.RequestLaws.{kind_or_other, IsLong, IsWord}
 
 -- ---- each kind, field by field
@@ -61,6 +64,14 @@ module _ (rest : List ℕ) (r : Reply) (h : IsBytes rest) where
       let last = s.after.after.after in
       rw last.is ((last.fits, (s.fits, s.after.fits, s.after.after.fits)), cc)
 
+  audit_rows_found : audit_rows_at rest ≡ Some r → SpellsReply (5 ∷ rest) r
+  unfolding audit_rows_at
+  audit_rows_found e =
+      let b = bind_some (rows_at AUDIT_ROWS rest) (λ rows. Some (AuditRows rows)) r e in
+      let s = rows_found AUDIT_ROWS rest b.0 h b.1 in
+      let is : r ≡ AuditRows b.0 = cc in
+      rw is ((s.few, s.numbers), ap (λ (x : List ℕ). 5 ∷ x) s.whole)
+
 reply_found : (bytes : List ℕ) (r : Reply) → IsBytes bytes → wire_reply_at bytes ≡ Some r → SpellsReply bytes r
 unfolding wire_reply_at
 reply_found [] r h e = absurd cc
@@ -70,11 +81,16 @@ reply_found (kind ∷ rest) r h e =
     kind_or_other _ _ _ r e (λ t d. rw (eqb-true kind 1 t) (changed_found rest r behind d)) (λ e.
     kind_or_other _ _ _ r e (λ t d. rw (eqb-true kind 2 t) (created_found rest r behind d)) (λ e.
     kind_or_other _ _ _ r e (λ t d. rw (eqb-true kind 3 t) (data_found rest r behind d)) (λ e.
-    kind_or_other _ _ _ r e (λ t d. rw (eqb-true kind 4 t) (attr_found rest r behind d)) (λ e. absurd cc)))))
+    kind_or_other _ _ _ r e (λ t d. rw (eqb-true kind 4 t) (attr_found rest r behind d)) (λ e.
+    kind_or_other _ _ _ r e (λ t d. rw (eqb-true kind 5 t) (audit_rows_found rest r behind d)) (λ e. absurd cc))))))
 
 refused_again : (refusal : Reason) → number_of refusal ≢ 16 → refused_at (number_of refusal ∷ []) ≡ Some (Refused refusal)
 unfolding refused_at
 refused_again refusal named = rw (ended_end, refusal_again (number_of refusal) refusal (refl, named)) refl
+
+audit_rows_again : (rows : List AuditRow) → length rows ≤ AUDIT_ROWS → AllByRecursion RowNumbers rows → audit_rows_at (flat_map row_spelling rows) ≡ Some (AuditRows rows)
+unfolding audit_rows_at
+audit_rows_again rows few numbers = rw (rows_again AUDIT_ROWS rows few numbers) refl
 
 reply_again : (bytes : List ℕ) (r : Reply) → SpellsReply bytes r → wire_reply_at bytes ≡ Some r
 unfolding wire_reply_at
@@ -107,6 +123,7 @@ reply_again bytes (Attr size created changed attribute) s = rw s.1 (attr_exact.a
     };
   };
 }))
+reply_again bytes (AuditRows rows) s = rw s.1 (audit_rows_again rows s.0.0 s.0.1)
 
 pub reply_exact : Exact wire_reply_at SpellsReply
 reply_exact = record { found = reply_found; again = reply_again }

@@ -5,19 +5,22 @@ use Rattle.std.proofs.lemmas.Bool.{eqb-true}
 use Rattle.s4_types.specs.declared.limits.TheConstants.{FRAME_BODY_BYTES}
 use Rattle.s4_types.specs.declared.requests.Request.{Request}
 use Rattle.s4_types.specs.declared.requests.Request.TheVariants.{Update, Query, Control}
-use Rattle.s4_types.specs.declared.requests.Question.TheVariants.{Read, GetAttr}
+use Rattle.s4_types.specs.declared.requests.Question.TheVariants.{Read, GetAttr, Audit}
 use Rattle.s4_types.specs.declared.requests.ObjectRequest.TheVariants.{Create, Delete, Write, Append, Truncate, SetAttr}
 use Rattle.s4_types.specs.declared.requests.AdminRequest.TheVariants.{SetWindow, Flush, FlushO}
 use Rattle.lemmas.proofs.Bytes.{IsBytes}
-use Rattle.rpc.specs.Spelling.{long, word, wire_text, at, SpellsRequest}
-use Rattle.rpc.specs.private.Reading.{create_at, delete_at, read_at, write_at, append_at, truncate_at, get_attr_at, set_attr_at, set_window_at, flush_at, flush_object_at, request_at}
-use Rattle.rpc.proofs.Exact.{bytes_behind, Exact, Then, Last, then_exact, last_exact, tail_exact, word_field, long_field, text_field, moment_field}
+use Rattle.rpc.specs.Spelling.{long, short, word, wire_text, at, SpellsRequest}
+use Rattle.rpc.specs.private.Reading.{create_at, delete_at, read_at, write_at, append_at, truncate_at, get_attr_at, set_attr_at, set_window_at, flush_at, flush_object_at, audit_at, request_at}
+use Rattle.rpc.proofs.Exact.{bytes_behind, Exact, Then, Last, then_exact, last_exact, tail_exact, short_field, word_field, long_field, text_field, moment_field}
 
 abbrev pub IsLong : ℕ → Type 0
 IsLong n = n < 2 ^ 64
 
 abbrev pub IsWord : ℕ → Type 0
 IsWord n = n < 2 ^ 32
+
+abbrev IsShortNumber : ℕ → Type 0
+IsShortNumber n = n < 2 ^ 16
 
 abbrev IsAt : Option ℕ → Type 0
 IsAt moment = IfSome moment (λ t. t < 2 ^ 64)
@@ -71,6 +74,10 @@ flush_object_exact : Exact flush_object_at (Then long IsLong (λ object. Then lo
 unfolding flush_object_at
 flush_object_exact = then_exact long_field (λ object. then_exact long_field (λ first. last_exact long_field (λ last. Control (FlushO object first last))))
 
+audit_exact : Exact audit_at (Then long IsLong (λ from. Last short IsShortNumber (λ most. Query (Audit from most))))
+unfolding audit_at
+audit_exact = then_exact long_field (λ from. last_exact short_field (λ most. Query (Audit from most)))
+
 -- ---- a request that was read is encoded
 
 module _ (rest : List ℕ) (r : Request) (h : IsBytes rest) where
@@ -116,6 +123,9 @@ module _ (rest : List ℕ) (r : Request) (h : IsBytes rest) where
       let last = s.after.after in
       rw last.is ((tt, (s.fits, s.after.fits, last.fits)), cc)
 
+  audit_found : audit_at rest ≡ Some r → SpellsRequest (12 ∷ rest) r
+  audit_found e = let s = audit_exact.found rest r h e in rw s.after.is ((tt, (s.fits, s.after.fits)), cc)
+
 -- a test of the first byte: this kind, or one of the others
 pub kind_or_other : {A P : Type 0} (b : Bool) (x y : Option A) (z : A) → cond b x y ≡ Some z → (b ≡ true → x ≡ Some z → P) → (y ≡ Some z → P) → P
 kind_or_other true x y z e this other = this refl e
@@ -136,7 +146,8 @@ request_found (kind ∷ rest) r h e =
     kind_or_other _ _ _ r e (λ t d. rw (eqb-true kind 8 t) (set_attr_found rest r behind d)) (λ e.
     kind_or_other _ _ _ r e (λ t d. rw (eqb-true kind 9 t) (set_window_found rest r behind d)) (λ e.
     kind_or_other _ _ _ r e (λ t d. rw (eqb-true kind 10 t) (flush_found rest r behind d)) (λ e.
-    kind_or_other _ _ _ r e (λ t d. rw (eqb-true kind 11 t) (flush_object_found rest r behind d)) (λ e. absurd cc)))))))))))
+    kind_or_other _ _ _ r e (λ t d. rw (eqb-true kind 11 t) (flush_object_found rest r behind d)) (λ e.
+    kind_or_other _ _ _ r e (λ t d. rw (eqb-true kind 12 t) (audit_found rest r behind d)) (λ e. absurd cc))))))))))))
 
 request_again : (bytes : List ℕ) (r : Request) → SpellsRequest bytes r → request_at bytes ≡ Some r
 unfolding request_at
@@ -222,6 +233,13 @@ request_again bytes (Control (FlushO object first last)) s = rw s.1 (flush_objec
     whole = refl;
     after = record { value = last; fits = s.0.1.2; whole = refl; is = refl };
   };
+}))
+request_again bytes (Query (Audit from most)) s = rw s.1 (audit_exact.again _ _ (record {
+  value = from;
+  rest = short most;
+  fits = s.0.1.0;
+  whole = refl;
+  after = record { value = most; fits = s.0.1.1; whole = refl; is = refl };
 }))
 
 pub request_exact : Exact request_at SpellsRequest

@@ -1,5 +1,5 @@
 -- One piece written after another.
-use Rattle.std.proofs.Common.{ℕ, List, ◌++◌, ap, ◌∙◌, append_assoc, arith, length-append}
+use Rattle.std.proofs.Common.{ℕ, List, [], ◌++◌, sym, ap, ◌∙◌, append_assoc, append-nil, arith, length-append}
 use Rattle.std.specs.Global.{Vec}
 use Rattle.rpc.specs.private.Room.{Appended}
 
@@ -9,3 +9,7 @@ Appended-then a b c x y p q = record {
   len = omega (arith, p.len, q.len, length-append x y);
   capacity = omega (arith, p.capacity, q.capacity);
 }
+
+-- nothing was written
+pub Appended-nothing : (a : Vec ℕ) → Appended a a []
+Appended-nothing a = record { items = sym (append-nil a.items); len = omega arith; capacity = omega arith }

@@ -4,14 +4,15 @@ use Rattle.s4_types.specs.Sizes.{ReplyFits}
 use Rattle.s4_types.specs.declared.limits.TheConstants.{FRAME_BODY_BYTES}
 use Rattle.s4_types.specs.declared.requests.Request.{Request}
 use Rattle.s4_types.specs.declared.requests.Request.TheVariants.{Update, Query, Control}
-use Rattle.s4_types.specs.declared.requests.Question.TheVariants.{Read, GetAttr}
+use Rattle.s4_types.specs.declared.requests.Question.TheVariants.{Read, GetAttr, Audit}
 use Rattle.s4_types.specs.declared.requests.ObjectRequest.TheVariants.{Create, Delete, Write, Append, Truncate, SetAttr}
 use Rattle.s4_types.specs.declared.requests.AdminRequest.TheVariants.{SetWindow, Flush, FlushO}
 use Rattle.s4_types.specs.declared.replies.Reply.{Reply}
-use Rattle.s4_types.specs.declared.replies.Reply.TheVariants.{Refused, Changed, Created, Data, Attr}
+use Rattle.s4_types.specs.declared.replies.Reply.TheVariants.{Refused, Changed, Created, Data, Attr, AuditRows}
 use Rattle.rpc.specs.Spelling.{at, request_spelling, reply_spelling, RequestFits, IsSpelledRequest, IsSpelledReply, SpellsRequest, SpellsReply}
 use Rattle.rpc.specs.Stream.{frame}
 use Rattle.rpc.proofs.RequestLaws.{request_exact}
+use Rattle.rpc.proofs.RowLaws.{rows_length}
 use Rattle.rpc.proofs.ReplyLaws.{reply_exact}
 use Rattle.rpc.proofs.StreamLaws.{same_parts}
 
@@ -34,6 +35,7 @@ request_short (Update (Truncate object size)) fits = omega arith
 request_short (Update (SetAttr object attribute)) fits = omega arith
 request_short (Query (Read object offset len moment)) fits = let short = at_short moment in omega (arith, short)
 request_short (Query (GetAttr object moment)) fits = let short = at_short moment in omega (arith, short)
+request_short (Query (Audit from most)) fits = omega arith
 request_short (Control (SetWindow window)) fits = omega arith
 request_short (Control (Flush first last)) fits = omega arith
 request_short (Control (FlushO object first last)) fits = omega arith
@@ -44,6 +46,7 @@ reply_short (Changed moment) fits = omega arith
 reply_short (Created object moment) fits = omega arith
 reply_short (Data bytes) fits = omega arith
 reply_short (Attr size created changed attribute) fits = omega arith
+reply_short (AuditRows rows) fits = omega (arith, fits, rows_length rows)
 
 -- what comes after two frames is one
 same_frames : (a x b y : List ℕ) → length a ≤ FRAME_BODY_BYTES → length b ≤ FRAME_BODY_BYTES → frame a ++ x ≡ frame b ++ y → (a ≡ b) × (x ≡ y)

@@ -1,16 +1,19 @@
 -- How requests and replies are encoded: each value has one body. Numbers stand with their highest byte first.
 use Rattle.std.specs.Prelude.{◌≡◌, ℕ, ◌+◌, ◌^◌, ◌<◌, ◌≤◌, List, [], ◌∷◌, ◌++◌, length, Option, Some, None, IfSome}
-use Rattle.std.specs.Int.{w32, w64, to_be_bytes}
+use Rattle.std.specs.Int.{w16, w32, w64, to_be_bytes}
+use Rattle.std.specs.List.{AllByRecursion, flat_map}
 use Rattle.s4_types.specs.RefusalNumber.{number_of}
+use Rattle.s4_types.specs.AuditKinds.{number_of_kind}
 pub use Rattle.s4_types.specs.Sizes.{ReplyFits}
 use Rattle.s4_types.specs.declared.limits.TheConstants.{FRAME_BODY_BYTES}
+use Rattle.s4_types.specs.declared.audit_rows.AuditRow.{AuditRow}
 use Rattle.s4_types.specs.declared.requests.Request.{Request}
 use Rattle.s4_types.specs.declared.requests.Request.TheVariants.{Update, Query, Control}
-use Rattle.s4_types.specs.declared.requests.Question.TheVariants.{Read, GetAttr}
+use Rattle.s4_types.specs.declared.requests.Question.TheVariants.{Read, GetAttr, Audit}
 use Rattle.s4_types.specs.declared.requests.ObjectRequest.TheVariants.{Create, Delete, Write, Append, Truncate, SetAttr}
 use Rattle.s4_types.specs.declared.requests.AdminRequest.TheVariants.{SetWindow, Flush, FlushO}
 use Rattle.s4_types.specs.declared.replies.Reply.{Reply}
-use Rattle.s4_types.specs.declared.replies.Reply.TheVariants.{Refused, Changed, Created, Data, Attr}
+use Rattle.s4_types.specs.declared.replies.Reply.TheVariants.{Refused, Changed, Created, Data, Attr, AuditRows}
 
 -- eight bytes
 abbrev pub long : ℕ → List ℕ
@@ -19,6 +22,10 @@ long n = to_be_bytes w64 n
 -- four bytes
 abbrev pub word : ℕ → List ℕ
 word n = to_be_bytes w32 n
+
+-- two bytes
+abbrev pub short : ℕ → List ℕ
+short n = to_be_bytes w16 n
 
 -- one byte of length, and that many bytes
 abbrev pub wire_text : List ℕ → List ℕ
@@ -42,6 +49,11 @@ request_spelling (Update (SetAttr object attribute)) = 8 ∷ (long object ++ wir
 request_spelling (Control (SetWindow window)) = 9 ∷ long window
 request_spelling (Control (Flush first last)) = 10 ∷ (long first ++ long last)
 request_spelling (Control (FlushO object first last)) = 11 ∷ (long object ++ (long first ++ long last))
+request_spelling (Query (Audit from most)) = 12 ∷ (long from ++ short most)
+
+-- a row of an audit, 33 bytes
+abbrev pub row_spelling : AuditRow → List ℕ
+row_spelling row = long row.moment ++ (number_of_kind row.kind ∷ (long row.object ++ (long row.first ++ long row.second)))
 
 -- the body of a reply
 abbrev pub reply_spelling : Reply → List ℕ
@@ -50,6 +62,7 @@ reply_spelling (Changed moment) = 1 ∷ long moment
 reply_spelling (Created object moment) = 2 ∷ (long object ++ long moment)
 reply_spelling (Data bytes) = 3 ∷ bytes
 reply_spelling (Attr size created changed attribute) = 4 ∷ (word size ++ (long created ++ (long changed ++ wire_text attribute)))
+reply_spelling (AuditRows rows) = 5 ∷ flat_map row_spelling rows
 
 -- The request's texts fit their places: an attribute tells its length in one byte, and the bytes of a write
 -- end with the longest body.
@@ -73,6 +86,14 @@ RequestNumbers (Update (SetAttr object attribute)) = object < 2 ^ 64
 RequestNumbers (Control (SetWindow window)) = window < 2 ^ 64
 RequestNumbers (Control (Flush first last)) = (first < 2 ^ 64) × (last < 2 ^ 64)
 RequestNumbers (Control (FlushO object first last)) = (object < 2 ^ 64) × (first < 2 ^ 64) × (last < 2 ^ 64)
+RequestNumbers (Query (Audit from most)) = (from < 2 ^ 64) × (most < 2 ^ 16)
+
+-- the numbers are numbers of a row's type
+pub record RowNumbers (row : AuditRow) : Type 0 where
+  pub moment : row.moment < 2 ^ 64
+  pub object : row.object < 2 ^ 64
+  pub first : row.first < 2 ^ 64
+  pub second : row.second < 2 ^ 64
 
 -- the numbers are numbers of the reply's type
 abbrev pub ReplyNumbers : Reply → Type 0
@@ -81,6 +102,7 @@ ReplyNumbers (Changed moment) = moment < 2 ^ 64
 ReplyNumbers (Created object moment) = (object < 2 ^ 64) × (moment < 2 ^ 64)
 ReplyNumbers (Data bytes) = Unit {0}
 ReplyNumbers (Attr size created changed attribute) = (size < 2 ^ 32) × (created < 2 ^ 64) × (changed < 2 ^ 64)
+ReplyNumbers (AuditRows rows) = AllByRecursion RowNumbers rows
 
 -- the request has an encoding
 abbrev pub IsSpelledRequest : Request → Type 0

@@ -1,5 +1,5 @@
 ghost use Rattle.std.specs.Prelude.{◌≡◌, ℕ, ◌<◌, List, length};
-ghost use Rattle.std.specs.Int.{w32, w64};
+ghost use Rattle.std.specs.Int.{w16, w32, w64};
 ghost use Rattle.rpc.specs.private.Reading.{Gives, wire_number_at, wire_text_at, wire_moment_at};
 ghost use Rattle.rpc.specs.private.Reading.{tail_at, ended_at};
 
@@ -7,6 +7,16 @@ use crate::unread::Unread;
 use byteorder::{BigEndian, ByteOrder};
 use s4_types::Bytes;
 use std::alloc::Global;
+
+pub(crate) fn read_short(bytes: &[u8]) -> Result<(u16, &[u8]), Unread>
+    ensures { Gives (λ x. (x.0, x.1.now)) result (wire_number_at w16 bytes.now) }
+{
+    if bytes.len() < 2 {
+        return Err(Unread::Misspelled);
+    }
+    let (front, rest) = bytes.split_at(2);
+    Ok((BigEndian::read_u16(front), rest))
+}
 
 pub(crate) fn read_word(bytes: &[u8]) -> Result<(u32, &[u8]), Unread>
     ensures { Gives (λ x. (x.0, x.1.now)) result (wire_number_at w32 bytes.now) }

@@ -9,6 +9,7 @@
 //! there, the drive says.
 #![tactic(auto)]
 
+mod audit_rows;
 mod encoding;
 mod fields;
 mod filling;

@@ -5,12 +5,13 @@ ghost use Rattle.s4_types.specs.declared.replies.Reply.{Reply as Answered};
 ghost use Rattle.s4_types.specs.declared.refusals.Refusal.TheVariants.{NoMemory, BadFrame};
 ghost use Rattle.rpc.specs.private.Reading.{Gives, refusal_of_code, refused_at, changed_at};
 ghost use Rattle.rpc.specs.private.Reading.{created_at, data_at, behind_changed, attr_at};
-ghost use Rattle.rpc.specs.private.Reading.{wire_reply_at};
+ghost use Rattle.rpc.specs.private.Reading.{audit_rows_at, wire_reply_at};
 
+use crate::audit_rows::read_rows;
 use crate::fields::{read_end, read_long, read_tail, read_text, read_word};
 use crate::unread::Unread;
-use s4_types::limits::{ATTRIBUTE_BYTES, READ_BYTES};
-use s4_types::{Moment, ObjectId, Refusal, Reply};
+use s4_types::limits::{ATTRIBUTE_BYTES, AUDIT_ROWS, READ_BYTES};
+use s4_types::{AuditRows, Moment, ObjectId, Refusal, Reply};
 use std::alloc::Global;
 
 fn refusal_named(number: u8) -> Option<Refusal>
@@ -95,6 +96,14 @@ fn attr_of(alloc: Global, bytes: &[u8]) -> Result<Reply, Unread>
     )
 }
 
+#[tactic(auto, unfolding(crate::specs::private::Reading::audit_rows_at))]
+fn audit_rows_of(alloc: Global, bytes: &[u8]) -> Result<Reply, Unread>
+    ensures { Gives (λ x. x) result (audit_rows_at bytes.now) }
+{
+    let rows = read_rows(alloc, AUDIT_ROWS, bytes)?;
+    Ok(Reply::AuditRows(AuditRows::from_vec(rows)))
+}
+
 /// A reply, by its first byte.
 #[tactic(auto, unfolding(crate::specs::private::Reading::wire_reply_at))]
 fn reply_of(alloc: Global, body: &[u8]) -> Result<Reply, Unread>
@@ -109,6 +118,7 @@ fn reply_of(alloc: Global, body: &[u8]) -> Result<Reply, Unread>
         2 => created_of(rest),
         3 => data_of(alloc, rest),
         4 => attr_of(alloc, rest),
+        5 => audit_rows_of(alloc, rest),
         _ => Err(Unread::Misspelled),
     }
 }

@@ -4,8 +4,10 @@ ghost use Rattle.rpc.specs.Spelling.{ReplyNumbers, reply_spelling};
 ghost use Rattle.s4_types.specs.Sizes.{ReplyFits};
 ghost use Rattle.s4_types.specs.declared.limits.TheConstants.{FRAME_BODY_BYTES};
 
+use crate::audit_rows::put_rows;
 use crate::room::{put, put_bytes, put_moment, put_object, put_text, put_word};
-use s4_types::{Bytes, Moment, ObjectId, Reply};
+use s4_types::limits::AUDIT_ROW_BYTES;
+use s4_types::{AuditRows, Bytes, Moment, ObjectId, Reply};
 
 fn put_changed(out: &mut Vec<u8>, moment: Moment)
     requires { HasRoom out.old (length (reply_spelling (Reply.Changed moment))) }
@@ -49,6 +51,15 @@ fn put_attr(out: &mut Vec<u8>, size: u32, created: Moment, changed: Moment, attr
     put_text(out, attribute);
 }
 
+fn put_audit_rows(out: &mut Vec<u8>, rows: &AuditRows)
+    requires { HasRoom out.old (length (reply_spelling (Reply.AuditRows rows.now))) }
+    ensures bytes { Appended out.old out.new (reply_spelling (Reply.AuditRows rows.now)) }
+    ensures range { ReplyNumbers (Reply.AuditRows rows.now) }
+{
+    put(out, &[5]);
+    put_rows(out, rows.as_slice());
+}
+
 /// Writes the body of a reply.
 pub(crate) fn put_reply(out: &mut Vec<u8>, reply: &Reply)
     requires room { HasRoom out.old (length (reply_spelling reply.now)) }
@@ -67,6 +78,7 @@ pub(crate) fn put_reply(out: &mut Vec<u8>, reply: &Reply)
             changed,
             attribute,
         } => put_attr(out, *size, *created, *changed, attribute),
+        Reply::AuditRows(rows) => put_audit_rows(out, rows),
     }
 }
 
@@ -82,5 +94,6 @@ pub(crate) fn reply_length(reply: &Reply) -> usize
         Reply::Created(_, _) => 17,
         Reply::Data(bytes) => 1 + bytes.len(),
         Reply::Attr { attribute, .. } => 22 + attribute.len(),
+        Reply::AuditRows(rows) => 1 + AUDIT_ROW_BYTES * rows.len(),
     }
 }

@@ -3,7 +3,9 @@ ghost use Rattle.rpc.specs.private.Room.{HasRoom, Appended};
 ghost use Rattle.rpc.specs.Spelling.{RequestFits, RequestNumbers, request_spelling, wire_text, at};
 ghost use Rattle.s4_types.specs.declared.limits.TheConstants.{FRAME_BODY_BYTES};
 
-use crate::room::{put, put_at, put_bytes, put_long, put_moment, put_object, put_text, put_word};
+use crate::room::{
+    put, put_at, put_bytes, put_long, put_moment, put_object, put_short, put_text, put_word,
+};
 use s4_types::{AdminRequest, Bytes, Moment, ObjectId, ObjectRequest, Question, Request};
 
 fn put_create(out: &mut Vec<u8>, attribute: &Bytes)
@@ -141,6 +143,17 @@ fn put_flush_object(out: &mut Vec<u8>, object: ObjectId, first: Moment, last: Mo
     put_moment(out, last);
 }
 
+fn put_audit(out: &mut Vec<u8>, from: Moment, most: u16)
+    requires { HasRoom out.old (length (request_spelling (Request.Query (Question.Audit from most)))) }
+    ensures bytes { Appended out.old out.new
+        (request_spelling (Request.Query (Question.Audit from most))) }
+    ensures range { RequestNumbers (Request.Query (Question.Audit from most)) }
+{
+    put(out, &[12]);
+    put_moment(out, from);
+    put_short(out, most);
+}
+
 /// Writes the body of a request.
 pub(crate) fn put_request(out: &mut Vec<u8>, request: &Request)
     requires room { HasRoom out.old (length (request_spelling request.now)) }
@@ -171,6 +184,7 @@ pub(crate) fn put_request(out: &mut Vec<u8>, request: &Request)
             out, *object, *size,
         ),
         Request::Query(Question::GetAttr { object, at }) => put_get_attr(out, *object, *at),
+        Request::Query(Question::Audit { from, max }) => put_audit(out, *from, *max),
         Request::Update(ObjectRequest::SetAttr { object, attribute }) => put_set_attr(
             out, *object, attribute,
         ),
@@ -211,6 +225,7 @@ pub(crate) fn request_length(request: &Request) -> usize
         Request::Update(ObjectRequest::Truncate { .. })
         | Request::Control(AdminRequest::Flush { .. }) => 17,
         Request::Query(Question::GetAttr { at, .. }) => 9 + at_length(*at),
+        Request::Query(Question::Audit { .. }) => 11,
         Request::Update(ObjectRequest::SetAttr { attribute, .. }) => 10 + attribute.len(),
         Request::Control(AdminRequest::FlushO { .. }) => 25,
     }

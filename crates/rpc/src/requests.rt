@@ -6,9 +6,9 @@ ghost use Rattle.s4_types.specs.declared.refusals.Refusal.TheVariants.{NoMemory,
 ghost use Rattle.rpc.specs.private.Reading.{Gives, create_at, delete_at, behind_offset, read_at};
 ghost use Rattle.rpc.specs.private.Reading.{write_at, append_at, truncate_at, get_attr_at};
 ghost use Rattle.rpc.specs.private.Reading.{set_attr_at, set_window_at, flush_at, flush_object_at};
-ghost use Rattle.rpc.specs.private.Reading.{request_at};
+ghost use Rattle.rpc.specs.private.Reading.{audit_at, request_at};
 
-use crate::fields::{read_at, read_end, read_long, read_tail, read_text, read_word};
+use crate::fields::{read_at, read_end, read_long, read_short, read_tail, read_text, read_word};
 use crate::unread::Unread;
 use s4_types::limits::FRAME_BODY_BYTES;
 use s4_types::{AdminRequest, Moment, ObjectId, ObjectRequest, Question, Refusal, Request};
@@ -169,6 +169,19 @@ fn flush_object_of(bytes: &[u8]) -> Result<Request, Unread>
     }))
 }
 
+#[tactic(auto, unfolding(crate::specs::private::Reading::audit_at))]
+fn audit_of(bytes: &[u8]) -> Result<Request, Unread>
+    ensures { Gives (λ x. x) result (audit_at bytes.now) }
+{
+    let (from, rest) = read_long(bytes)?;
+    let (max, rest) = read_short(rest)?;
+    read_end(rest)?;
+    Ok(Request::Query(Question::Audit {
+        from: Moment::new(from),
+        max,
+    }))
+}
+
 /// A request, by its first byte.
 #[tactic(auto, unfolding(crate::specs::private::Reading::request_at))]
 fn request_of(alloc: Global, body: &[u8]) -> Result<Request, Unread>
@@ -189,6 +202,7 @@ fn request_of(alloc: Global, body: &[u8]) -> Result<Request, Unread>
         9 => set_window_of(rest),
         10 => flush_of(rest),
         11 => flush_object_of(rest),
+        12 => audit_of(rest),
         _ => Err(Unread::Misspelled),
     }
 }

@@ -1,6 +1,6 @@
 ghost use Rattle.std.specs.Prelude.{◌≡◌, ℕ, ◌<◌, ◌^◌, List, length, IfSome};
 ghost use Rattle.rpc.specs.private.Room.{HasRoom, Appended};
-ghost use Rattle.rpc.specs.Spelling.{long, word, wire_text, at};
+ghost use Rattle.rpc.specs.Spelling.{long, short, word, wire_text, at};
 
 use s4_types::{Bytes, Moment, ObjectId};
 
@@ -11,6 +11,14 @@ pub(crate) fn put(out: &mut Vec<u8>, bytes: &[u8])
 {
     // There is room, so that nothing can fail.
     let _ = out.extend_from_slice(bytes);
+}
+
+pub(crate) fn put_short(out: &mut Vec<u8>, number: u16)
+    requires { HasRoom out.old 2 }
+    ensures bytes { Appended out.old out.new (short number) }
+    ensures range { number < 2 ^ 16 }
+{
+    put(out, &number.to_be_bytes());
 }
 
 pub(crate) fn put_word(out: &mut Vec<u8>, number: u32)

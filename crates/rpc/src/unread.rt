@@ -19,3 +19,11 @@ impl From<AllocError> for Unread {
         Unread::Memory
     }
 }
+
+impl<T: Drop> From<AllocFailed<T>> for Unread {
+    ghost from_gives = { λ _ e. e ≡ Memory };
+
+    fn from(_error: AllocFailed<T>) -> Unread {
+        Unread::Memory
+    }
+}

@@ -1,17 +1,20 @@
 -- Reading a body from left to right: what a reader answers, and None where the bytes encode nothing.
-use Rattle.std.specs.Prelude.{◌≡◌, ℕ, zero, suc, ◌-◌, List, [], ◌∷◌, length, take, drop, Option, Some, None, Result, Ok, Err, nat_lt, ◌==◌, if◌then◌else◌}
-use Rattle.std.specs.Int.{Width, w32, w64, byte_len, from_be_bytes}
+use Rattle.std.specs.Prelude.{◌≡◌, ℕ, zero, suc, ◌-◌, List, [], ◌∷◌, ◌++◌, length, take, drop, Option, Some, None, Result, Ok, Err, nat_lt, ◌==◌, if◌then◌else◌}
+use Rattle.std.specs.Int.{Width, w16, w32, w64, byte_len, from_be_bytes}
 use Rattle.s4_types.specs.RefusalNumber.{number_of}
-use Rattle.s4_types.specs.declared.limits.TheConstants.{FRAME_BODY_BYTES, READ_BYTES, ATTRIBUTE_BYTES}
+use Rattle.s4_types.specs.declared.limits.TheConstants.{FRAME_BODY_BYTES, READ_BYTES, ATTRIBUTE_BYTES, AUDIT_ROWS}
 use Rattle.s4_types.specs.declared.refusals.Refusal.{Refusal}
 use Rattle.s4_types.specs.declared.refusals.Refusal.TheVariants.{NoObject, NotAdmin, Expired, Future, Flushed, TooLarge, BadSpan, TooManySpans, NoSpace, NoMemory, ClockEnd, ChainFull, BadAttr, Busy, BadFrame, Stale, NoRoom, InUse}
+use Rattle.s4_types.specs.declared.audit_rows.AuditKind.{AuditKind}
+use Rattle.s4_types.specs.declared.audit_rows.AuditKind.TheVariants as kind
+use Rattle.s4_types.specs.declared.audit_rows.AuditRow.{AuditRow}
 use Rattle.s4_types.specs.declared.requests.Request.{Request}
 use Rattle.s4_types.specs.declared.requests.Request.TheVariants.{Update, Query, Control}
-use Rattle.s4_types.specs.declared.requests.Question.TheVariants.{Read, GetAttr}
+use Rattle.s4_types.specs.declared.requests.Question.TheVariants.{Read, GetAttr, Audit}
 use Rattle.s4_types.specs.declared.requests.ObjectRequest.TheVariants.{Create, Delete, Write, Append, Truncate, SetAttr}
 use Rattle.s4_types.specs.declared.requests.AdminRequest.TheVariants.{SetWindow, Flush, FlushO}
 use Rattle.s4_types.specs.declared.replies.Reply.{Reply}
-use Rattle.s4_types.specs.declared.replies.Reply.TheVariants.{Refused, Changed, Created, Data, Attr}
+use Rattle.s4_types.specs.declared.replies.Reply.TheVariants.{Refused, Changed, Created, Data, Attr, AuditRows}
 use Rattle.rpc.specs.declared.unread.Unread.{Unread}
 use Rattle.rpc.specs.declared.unread.Unread.TheVariants.{Memory, Misspelled}
 
@@ -138,6 +141,13 @@ flush_object_at bytes = do
   end ← ended_at last.1
   Some (Control (FlushO object.0 first.0 last.0))
 
+unfoldable pub audit_at : List ℕ → Option Request
+audit_at bytes = do
+  from ← wire_number_at w64 bytes
+  most ← wire_number_at w16 from.1
+  end ← ended_at most.1
+  Some (Query (Audit from.0 most.0))
+
 -- a request, by its first byte
 unfoldable pub request_at : List ℕ → Option Request
 request_at [] = None
@@ -152,7 +162,8 @@ request_at (kind ∷ rest) =
     (if kind == 8 then set_attr_at rest else
     (if kind == 9 then set_window_at rest else
     (if kind == 10 then flush_at rest else
-    (if kind == 11 then flush_object_at rest else None))))))))))
+    (if kind == 11 then flush_object_at rest else
+    (if kind == 12 then audit_at rest else None)))))))))))
 
 -- the refusals that a number names
 abbrev pub refusals : List Refusal
@@ -207,6 +218,61 @@ attr_at bytes = do
   changed ← wire_number_at w64 created.1
   behind_changed size.0 created.0 changed.0 changed.1
 
+-- the kind of change that has the number
+unfoldable pub kind_of_code : ℕ → Option AuditKind
+kind_of_code code =
+    if code == 1 then Some kind.Create else
+    (if code == 2 then Some kind.Delete else
+    (if code == 4 then Some kind.Write else
+    (if code == 6 then Some kind.Truncate else
+    (if code == 8 then Some kind.SetAttr else
+    (if code == 9 then Some kind.SetWindow else
+    (if code == 10 then Some kind.Flush else
+    (if code == 11 then Some kind.FlushO else None)))))))
+
+-- a kind of change, and the bytes after it
+unfoldable pub kind_at : List ℕ → Option (AuditKind × List ℕ)
+kind_at [] = None
+kind_at (code ∷ rest) = do
+  found ← kind_of_code code
+  Some (found, rest)
+
+abbrev pub row_made : ℕ → AuditKind → ℕ → ℕ → ℕ → AuditRow
+row_made moment kind object first second = record { moment = moment; kind = kind; object = object; first = first; second = second }
+
+-- what comes after the kind of a row, and the bytes after the row
+abbrev pub behind_kind : ℕ → AuditKind → List ℕ → Option (AuditRow × List ℕ)
+behind_kind moment kind bytes = do
+  object ← wire_number_at w64 bytes
+  first ← wire_number_at w64 object.1
+  second ← wire_number_at w64 first.1
+  Some (row_made moment kind object.0 first.0 second.0, second.1)
+
+-- a row of an audit, and the bytes after it
+unfoldable pub row_at : List ℕ → Option (AuditRow × List ℕ)
+row_at bytes = do
+  moment ← wire_number_at w64 bytes
+  found ← kind_at moment.1
+  behind_kind moment.0 found.0 found.1
+
+-- rows to the end, at most this many
+unfoldable pub rows_at : ℕ → List ℕ → Option (List AuditRow)
+rows_at most [] = Some []
+rows_at zero (_ ∷ _) = None
+rows_at (suc most) (b ∷ bytes) = do
+  row ← row_at (b ∷ bytes)
+  rows ← rows_at most row.1
+  Some (row.0 ∷ rows)
+
+unfoldable pub audit_rows_at : List ℕ → Option Reply
+audit_rows_at bytes = do
+  rows ← rows_at AUDIT_ROWS bytes
+  Some (AuditRows rows)
+
+-- rows behind those that were read already
+abbrev pub with_front : List AuditRow → Option (List AuditRow) → Option (List AuditRow)
+with_front front read = read >>= λ rows. Some (front ++ rows)
+
 -- a reply, by its first byte
 unfoldable pub wire_reply_at : List ℕ → Option Reply
 wire_reply_at [] = None
@@ -215,4 +281,5 @@ wire_reply_at (kind ∷ rest) =
     (if kind == 1 then changed_at rest else
     (if kind == 2 then created_at rest else
     (if kind == 3 then data_at rest else
-    (if kind == 4 then attr_at rest else None))))
+    (if kind == 4 then attr_at rest else
+    (if kind == 5 then audit_rows_at rest else None)))))
