@@ -5,6 +5,7 @@ pub mod Stepping
 pub mod Beginning
 pub mod Judging
 pub mod Unversioned
+pub mod Auditing
 pub mod Told
 pub mod Storing
 pub mod Served

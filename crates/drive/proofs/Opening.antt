@@ -204,5 +204,6 @@ kept_opened stays tells lists s w next store past below reach numbered made none
         nobody = λ t. opened_version stays tells s w next 0 t store none past ∙ no_version s 0 t (no_row_of_0 s (row_of s.rows 0) refl store);
         listed = listed.once;
         dated = listed.dated;
+        audited = tt;
       };
     }

@@ -1,6 +1,8 @@
 -- From the parts of a drive and a session to what contracts see of them.
-use Rattle.std.proofs.Common.{◌≡◌, ℕ, ◌+◌, ◌<◌, ◌≤◌, ◌^◌, length, subst, arith}
+use Rattle.std.proofs.Common.{◌≡◌, ℕ, ◌+◌, ◌<◌, ◌≤◌, ◌^◌, List, length, subst, arith}
 use Rattle.s4_types.specs.History.{Base, accepted}
+use Rattle.s4_types.specs.declared.audit_rows.AuditRow.{AuditRow}
+use Rattle.s4_model.specs.Audit.{KeepsAudit}
 use Rattle.s4_model.specs.State.{State, state_of}
 use Rattle.s4_model.specs.Refusals.{last_number}
 use Rattle.s4_model.specs.Sound.{IsSound}
@@ -14,12 +16,12 @@ use Rattle.drive.specs.Keeping.{IsKeptDrive}
 use Rattle.drive.proofs.Versions.{counted_by_moments}
 
 -- a drive of this history and these objects
-abbrev pub drive_as : Ledger → StoreOf Table → DriveFields
-drive_as l store = record { ledger = l; store = store }
+abbrev pub drive_as : Ledger → StoreOf Table → List AuditRow → DriveFields
+drive_as l store audit = record { ledger = l; store = store; audit = audit }
 
-pub kept_of : (d : DriveFields) (base : Base) (l : Ledger) (store : StoreOf Table) (w : Timeline) (next : ℕ) → drive_as l store ≡ d
-    → (l.history.base ≡ base) × IsKeptDrive (state_of l.history) (fields_of log_of store) w next → IsKeptDrive (state_in d) (store_of d) w next
-kept_of d base l store w next is kept = subst (λ (x : DriveFields). IsKeptDrive (state_in x) (store_of x) w next) is kept.1
+pub kept_of : (d : DriveFields) (base : Base) (l : Ledger) (store : StoreOf Table) (audit : List AuditRow) (w : Timeline) (next : ℕ) → drive_as l store audit ≡ d
+    → (l.history.base ≡ base) × IsKeptDrive (state_of l.history) (fields_of log_of store) w next × KeepsAudit (state_of l.history) audit → IsKeptDrive (state_in d) (store_of d) w next
+kept_of d base l store audit w next is kept = subst (λ (x : DriveFields). IsKeptDrive (state_in x) (store_of x) w next) is kept.1
 
 -- a number is left for one more change
 pub can_count : (l : Ledger) → IsSound (state_of l.history) → (state_of l.history).clock < last_number → count_of l + 1 < 2 ^ 64

@@ -11,11 +11,11 @@ use Rattle.s4_types.specs.declared.changes.Change.TheVariants as change
 use Rattle.s4_types.specs.declared.requests.Role.{Role}
 use Rattle.s4_types.specs.declared.requests.Request.{Request}
 use Rattle.s4_types.specs.declared.requests.Request.TheVariants.{Update, Query, Control}
-use Rattle.s4_types.specs.declared.requests.Question.TheVariants.{Read, GetAttr}
+use Rattle.s4_types.specs.declared.requests.Question.TheVariants.{Read, GetAttr, Audit}
 use Rattle.s4_types.specs.declared.requests.ObjectRequest.TheVariants.{Create, Delete, Write, Append, Truncate, SetAttr}
 use Rattle.s4_types.specs.declared.requests.AdminRequest.TheVariants.{SetWindow, Flush, FlushO}
 use Rattle.s4_types.specs.declared.replies.Reply.{Reply}
-use Rattle.s4_types.specs.declared.replies.Reply.TheVariants.{Refused, Changed, Created, Data, Attr}
+use Rattle.s4_types.specs.declared.replies.Reply.TheVariants.{Refused, Changed, Created, Data, Attr, AuditRows}
 use Rattle.s4_types.specs.declared.refusals.Refusal.{Refusal}
 use Rattle.s4_types.specs.declared.refusals.Refusal.TheVariants as refusal
 use Rattle.s4_types.specs.declared.versions.Version.{Version}
@@ -33,7 +33,7 @@ use Rattle.drive.specs.Fields.{DriveFields, SessionFields, store_of, state_in, h
 use Rattle.drive.specs.Refusing.{or_then, want_of, refusal_of, MayLackMemory, WantsPin, RefusesBy, IsRefusal, IsJudgedOut, IsUnplanned}
 use Rattle.time_read.specs.Plans.{PlanFields, bytes_planned}
 use Rattle.drive.specs.Answering.{is_acceptance, told_after, owners_after, StoresChange, Leaves, TakesChange, RefusesChange, ComesTo, Sees, IsSettled, IsServed, reply_planned}
-use Rattle.drive.proofs.Stepping.{open_of_want, or_then_some, may_refuse, step_accepts, step_refuses, step_tells}
+use Rattle.drive.proofs.Stepping.{open_of_want, or_then_some, checked, may_refuse, step_accepts, step_refuses, step_tells}
 
 -- ---- which replies are of accepted changes
 
@@ -68,10 +68,11 @@ accepted_fits (change.SetWindow window) m = tt
 accepted_fits (change.Flush first last) m = tt
 accepted_fits (change.FlushO object first last) m = tt
 
--- a reply that tells data or attributes
+-- a reply that tells data, attributes, or rows of the audit
 abbrev pub IsTold : Reply → Type 0
 IsTold (Data bytes) = Unit {0}
 IsTold (Attr size created changed attribute) = Unit {0}
+IsTold (AuditRows rows) = Unit {0}
 IsTold _ = ⊥
 
 data_is_told : (v : Version) (offset len : ℕ) (reply : Reply) → data_of v offset len ≡ Some reply → IsTold reply
@@ -85,12 +86,14 @@ attributes_are_told (Live content attribute created changed) reply is = subst Is
 read_is_told : (s : State) (request : Request) (reply : Reply) → reply_to_read s request ≡ Some reply → IsTold reply
 read_is_told s (Query (Read object offset len at)) reply is = data_is_told (version_of s object (asked s at)) offset len reply is
 read_is_told s (Query (GetAttr object at)) reply is = attributes_are_told (version_of s object (asked s at)) reply is
+read_is_told s (Query (Audit from most)) reply is = subst IsTold (same_Some _ reply is) tt
 read_is_told s (Update update) reply is = absurd (none-some reply is)
 read_is_told s (Control control) reply is = absurd (none-some reply is)
 
 told_accepts_nothing : (reply : Reply) → IsTold reply → is_acceptance reply ≡ false
 told_accepts_nothing (Data bytes) told = refl
 told_accepts_nothing (Attr size created changed attribute) told = refl
+told_accepts_nothing (AuditRows rows) told = refl
 told_accepts_nothing (Refused r) told = absurd told
 told_accepts_nothing (Changed m) told = absurd told
 told_accepts_nothing (Created o m) told = absurd told
@@ -98,6 +101,7 @@ told_accepts_nothing (Created o m) told = absurd told
 told_unrefused : (why : Option Refusal) (d : DriveFields) (request : Request) (reply : Reply) → IsTold reply → why ≡ None → RefusesBy why d request reply
 told_unrefused why d request (Data bytes) told is = is
 told_unrefused why d request (Attr size created changed attribute) told is = is
+told_unrefused why d request (AuditRows rows) told is = is
 told_unrefused why d request (Refused r) told is = absurd told
 told_unrefused why d request (Changed m) told is = absurd told
 told_unrefused why d request (Created o m) told is = absurd told
@@ -148,7 +152,7 @@ may_is_whole s role request e (AsOpen none left) = open_is_whole e left
 
 refusal_fits : (s : State) (role : Role) (store : StoreFields) (request : Request) (now : ℕ) (e : Refusal) → IsRefusal (first_refusal s role request) store s request now e → ReplyFits (Refused e)
 unfolding IsWhole
-refusal_fits s role store request now e is = may_is_whole s role request e (may_refuse (first_refusal s role request) store s request now e is)
+refusal_fits s role store request now e is = may_is_whole s role request e (may_refuse (first_refusal s role request) store s request now e (checked s role request) is)
 
 refused_by : (first : Option Refusal) (store : StoreFields) (d : DriveFields) (s : State) (request : Request) (now : ℕ) (e : Refusal) → IsRefusal first store s request now e → RefusesBy (or_then first (want_of store s request now)) d request (Refused e)
 refused_by first store d s request now e (inl h) = inl h
@@ -180,16 +184,11 @@ busy_lacks e = let same : number_of refusal.NoMemory ≡ number_of refusal.Busy 
 
 first_lacks : (first want : Option Refusal) (request : Request) → MayLackMemory (or_then first want) request → MayLackMemory first request
 first_lacks (Some r) want request lacks = lacks
-first_lacks None want (Update (Create attribute)) lacks = refl
+first_lacks None want (Update update) lacks = tt
 first_lacks None want (Query question) lacks = refl
+first_lacks None want (Control (SetWindow window)) lacks = refl
 first_lacks None want (Control (Flush first last)) lacks = tt
 first_lacks None want (Control (FlushO object first last)) lacks = tt
-first_lacks None want (Update (Delete object)) lacks = absurd lacks
-first_lacks None want (Update (Write object offset bytes)) lacks = absurd lacks
-first_lacks None want (Update (Append object bytes)) lacks = absurd lacks
-first_lacks None want (Update (Truncate object size)) lacks = absurd lacks
-first_lacks None want (Update (SetAttr object attribute)) lacks = absurd lacks
-first_lacks None want (Control (SetWindow window)) lacks = absurd lacks
 
 lacked_by : (first want : Option Refusal) (d : DriveFields) (request : Request) → (or_then first want ≡ Some refusal.NoMemory → ⊥) → RefusesBy (or_then first want) d request (Refused refusal.NoMemory) → MayLackMemory first request
 lacked_by first want d request never (inl h) = first_lacks first want request h.1

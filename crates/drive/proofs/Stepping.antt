@@ -2,6 +2,7 @@
 use Rattle.std.proofs.Common.{◌≡◌, [], ◌⊎◌, inl, inr, ℕ, Bool, true, false, cond, Option, Some, None, refl, sym, ap, subst, ◌∙◌}
 use Rattle.std.proofs.lemmas.Option.{none-some, same_Some}
 use Rattle.std.specs.Option.{option_and_then}
+use Rattle.std.specs.List.{AllByRecursion}
 use Rattle.s4_types.specs.History.{History, Took, Seen}
 use Rattle.s4_types.specs.declared.changes.Change.{Change}
 use Rattle.s4_types.specs.declared.requests.Role.{Role}
@@ -17,7 +18,8 @@ use Rattle.s4_types.specs.declared.refusals.Refusal.{Refusal}
 use Rattle.s4_types.specs.declared.refusals.Refusal.TheVariants.{NoMemory, ChainFull, NoSpace, ClockEnd}
 use Rattle.s4_types.specs.declared.refusals.Refusal.TheVariants as refusal
 use Rattle.s4_model.specs.State.{State, state_of, grown}
-use Rattle.s4_model.specs.Refusals.{first_refusal}
+use Rattle.s4_model.specs.Refusals.{first_refusal, applies, checks}
+use Rattle.s4_model.proofs.StepLemmas.{found_passes}
 use Rattle.s4_model.specs.Step.{Step, Refuses, Serves, Alters, Reads, MayRefuse, AsFirst, ForMemory, AsOpen, MayWantMemory, IsLeftOpen, judged, change_of, reply_to_read, accepted_record, stamp, reply_to_change}
 use Rattle.s4_model.specs.Sound.{IsSound}
 use Rattle.s4_model.specs.Laws.{EveryStepKeepsSoundness}
@@ -26,7 +28,7 @@ use Rattle.s4_model.specs.Effect.{is_of_versions}
 use Rattle.s4_model.proofs.OutcomeLemmas.{judged-change}
 use Rattle.version_store.specs.Store.{StoreFields}
 use Rattle.version_store.specs.Costs.{change_refusal}
-use Rattle.drive.specs.Refusing.{or_then, storing_refusal, want_of, IsFoundLater, MayLackMemory, IsRefusal}
+use Rattle.drive.specs.Refusing.{or_then, storing_refusal, want_of, IsFoundLater, IsOfBlocks, MayLackMemory, IsRefusal}
 use Rattle.drive.specs.Fields.{DriveFields, SessionFields, store_of, state_in}
 use Rattle.drive.specs.Answering.{TakesChange}
 
@@ -91,27 +93,54 @@ none_wants : (first second : Option Refusal) (request : Request) → or_then fir
 none_wants None second request is = tt
 none_wants (Some r) second request is = absurd (none-some r (sym is))
 
-may_want : (first second : Option Refusal) (request : Request) → MayLackMemory (or_then first second) request → MayWantMemory first request
-may_want first second (Update (Create attribute)) lacks = none_wants first second (Update (Create attribute)) lacks
-may_want first second (Query (Read object offset len at)) lacks = none_wants first second (Query (Read object offset len at)) lacks
-may_want first second (Query (GetAttr object at)) lacks = none_wants first second (Query (GetAttr object at)) lacks
-may_want first second (Control (Flush from to)) lacks = found_later_wants first second (Control (Flush from to)) lacks
-may_want first second (Control (FlushO object from to)) lacks = found_later_wants first second (Control (FlushO object from to)) lacks
-may_want first second (Update (Delete object)) lacks = absurd lacks
-may_want first second (Update (Write object offset bytes)) lacks = absurd lacks
-may_want first second (Update (Append object bytes)) lacks = absurd lacks
-may_want first second (Update (Truncate object size)) lacks = absurd lacks
-may_want first second (Update (SetAttr object attribute)) lacks = absurd lacks
-may_want first second (Control (SetWindow window)) lacks = absurd lacks
+-- where a change may lack memory for its row, no check refuses it, and the model lets it want some
+of_blocks_wants : (first second : Option Refusal) (request : Request) → ((x : Refusal) → first ≡ Some x → IsLeftOpen x → ⊥) → IsOfBlocks (or_then first second) → MayWantMemory first request
+of_blocks_wants None second request checked lacks = tt
+of_blocks_wants (Some refusal.ChainFull) second request checked lacks = absurd (checked refusal.ChainFull refl tt)
+of_blocks_wants (Some refusal.NoSpace) second request checked lacks = absurd (checked refusal.NoSpace refl tt)
+of_blocks_wants (Some refusal.Busy) second request checked lacks = absurd lacks
+of_blocks_wants (Some refusal.NoObject) second request checked lacks = absurd lacks
+of_blocks_wants (Some refusal.NotAdmin) second request checked lacks = absurd lacks
+of_blocks_wants (Some refusal.Expired) second request checked lacks = absurd lacks
+of_blocks_wants (Some refusal.Future) second request checked lacks = absurd lacks
+of_blocks_wants (Some refusal.Flushed) second request checked lacks = absurd lacks
+of_blocks_wants (Some refusal.TooLarge) second request checked lacks = absurd lacks
+of_blocks_wants (Some refusal.BadSpan) second request checked lacks = absurd lacks
+of_blocks_wants (Some refusal.TooManySpans) second request checked lacks = absurd lacks
+of_blocks_wants (Some refusal.NoMemory) second request checked lacks = absurd lacks
+of_blocks_wants (Some refusal.ClockEnd) second request checked lacks = absurd lacks
+of_blocks_wants (Some refusal.BadAttr) second request checked lacks = absurd lacks
+of_blocks_wants (Some refusal.BadFrame) second request checked lacks = absurd lacks
+of_blocks_wants (Some (refusal.Damaged cause)) second request checked lacks = absurd lacks
+of_blocks_wants (Some refusal.Stale) second request checked lacks = absurd lacks
+of_blocks_wants (Some refusal.NoRoom) second request checked lacks = absurd lacks
+of_blocks_wants (Some refusal.InUse) second request checked lacks = absurd lacks
 
-pub may_refuse : (first : Option Refusal) (store : StoreFields) (s : State) (request : Request) (now : ℕ) (e : Refusal) → IsRefusal first store s request now e → MayRefuse first request e
-may_refuse first store s request now e (inl h) = ForMemory h.0 (may_want first (want_of store s request now) request h.1)
-may_refuse first store s request now e (inr is) =
+-- no check leaves a drive a choice
+abbrev pub IsChecked : Option Refusal → Type 0
+IsChecked first = (x : Refusal) → first ≡ Some x → IsLeftOpen x → ⊥
+
+checks_are_closed : AllByRecursion (λ r. IsLeftOpen r → ⊥) checks
+checks_are_closed = (λ left. left, (λ left. left, (λ left. left, (λ left. left, (λ left. left, (λ left. left, (λ left. left, (λ left. left, (λ left. left, (λ left. left, tt))))))))))
+
+pub checked : (s : State) (role : Role) (request : Request) → IsChecked (first_refusal s role request)
+checked s role request x is = found_passes (applies s role request) (λ r. IsLeftOpen r → ⊥) checks x checks_are_closed is
+
+may_want : (first second : Option Refusal) (request : Request) → IsChecked first → MayLackMemory (or_then first second) request → MayWantMemory first request
+may_want first second (Update update) closed lacks = of_blocks_wants first second (Update update) closed lacks
+may_want first second (Query question) closed lacks = none_wants first second (Query question) lacks
+may_want first second (Control (SetWindow window)) closed lacks = none_wants first second (Control (SetWindow window)) lacks
+may_want first second (Control (Flush from to)) closed lacks = found_later_wants first second (Control (Flush from to)) lacks
+may_want first second (Control (FlushO object from to)) closed lacks = found_later_wants first second (Control (FlushO object from to)) lacks
+
+pub may_refuse : (first : Option Refusal) (store : StoreFields) (s : State) (request : Request) (now : ℕ) (e : Refusal) → IsChecked first → IsRefusal first store s request now e → MayRefuse first request e
+may_refuse first store s request now e closed (inl h) = ForMemory h.0 (may_want first (want_of store s request now) request closed h.1)
+may_refuse first store s request now e closed (inr is) =
     may_refuse_it first (want_of store s request now) request e (open_of_want store s request now) (or_then_some first (want_of store s request now) e is)
 
 -- a refusal is a step that sees the moment
 pub step_refuses : (h : History) (store : StoreFields) (role : Role) (request : Request) (now : ℕ) (e : Refusal) → IsRefusal (first_refusal (judged h request now) role request) store (judged h request now) request now e → Step h role request now (Refused e) (grown h (Seen now))
-step_refuses h store role request now e is = Refuses e refl (may_refuse (first_refusal (judged h request now) role request) store (judged h request now) request now e is) refl
+step_refuses h store role request now e is = Refuses e refl (may_refuse (first_refusal (judged h request now) role request) store (judged h request now) request now e (checked (judged h request now) role request) is) refl
 
 -- ---- what is accepted
 

@@ -10,10 +10,10 @@ use Rattle.s4_types.specs.declared.changes.Change.{Change}
 use Rattle.s4_types.specs.declared.changes.Change.TheVariants as change
 use Rattle.s4_types.specs.declared.requests.Request.{Request}
 use Rattle.s4_types.specs.declared.requests.Request.TheVariants.{Update, Query, Control}
-use Rattle.s4_types.specs.declared.requests.ObjectRequest.TheVariants.{Create, Delete, Write, Append, Truncate, SetAttr}
+use Rattle.s4_types.specs.declared.requests.ObjectRequest.{ObjectRequest}
 use Rattle.s4_types.specs.declared.requests.AdminRequest.TheVariants.{SetWindow, Flush, FlushO}
 use Rattle.s4_types.specs.declared.refusals.Refusal.{Refusal}
-use Rattle.s4_types.specs.declared.refusals.Refusal.TheVariants.{NoMemory}
+use Rattle.s4_types.specs.declared.refusals.Refusal.TheVariants.{NoMemory, ChainFull, NoSpace}
 use Rattle.s4_model.specs.Numbers.{next_by}
 use Rattle.s4_model.specs.State.{State, state_of, took}
 use Rattle.s4_model.specs.Refusals.{is_absent}
@@ -34,7 +34,7 @@ use Rattle.version_store.specs.Laws.{ThePresentStays}
 use Rattle.drive.specs.Keeping.{IsKeptDrive}
 use Rattle.drive.specs.Fields.{DriveFields, SessionFields, store_of, state_in}
 use Rattle.drive.specs.Answering.{StoresVersion, StoresChange, RefusesChange}
-use Rattle.drive.specs.Refusing.{or_then, storing_refusal, want_of, MayLackMemory, IsRefusal}
+use Rattle.drive.specs.Refusing.{or_then, storing_refusal, want_of, IsOfBlocks, MayLackMemory, IsRefusal}
 use Rattle.drive.proofs.Kept.{kept_taken, given_by}
 use Rattle.drive.proofs.Unversioned.{StateByChanges}
 
@@ -103,12 +103,7 @@ creation_of c other is creation = subst IsCreation (sym (same_Some other c is)) 
 
 lacks_creating : (why : Option Refusal) (s : State) (request : Request) (c : Change) → change_of s request ≡ Some c → IsCreation c → why ≡ None → MayLackMemory why request
 lacks_creating why s (Query question) c asked creation free = absurd (none-some c asked)
-lacks_creating why s (Update (Create attribute)) c asked creation free = free
-lacks_creating why s (Update (Delete object)) c asked creation free = absurd (creation_of c _ asked creation)
-lacks_creating why s (Update (Write object offset bytes)) c asked creation free = absurd (creation_of c _ asked creation)
-lacks_creating why s (Update (Append object bytes)) c asked creation free = absurd (creation_of c _ asked creation)
-lacks_creating why s (Update (Truncate object size)) c asked creation free = absurd (creation_of c _ asked creation)
-lacks_creating why s (Update (SetAttr object attribute)) c asked creation free = absurd (creation_of c _ asked creation)
+lacks_creating why s (Update update) c asked creation free = subst IsOfBlocks (sym free) tt
 lacks_creating why s (Control (SetWindow window)) c asked creation free = absurd (creation_of c _ asked creation)
 lacks_creating why s (Control (Flush first last)) c asked creation free = absurd (creation_of c _ asked creation)
 lacks_creating why s (Control (FlushO object first last)) c asked creation free = absurd (creation_of c _ asked creation)
@@ -165,3 +160,51 @@ refuses_untaken first d later before request now m c e store ledger same held as
 -- a change that the checks refuse is refused before anything has changed
 pub refuses_checked : (first : Option Refusal) (d : DriveFields) (before : SessionFields) (request : Request) (now : ℕ) (e : Refusal) → first ≡ Some e → RefusesChange first d d before before request now e
 refuses_checked first d before request now e is = record { why = inr (ap (λ (r : Option Refusal). or_then r (want_of (store_of d) (state_in d) request now)) is); ledger = refl; store = refl; session = refl }
+
+-- ---- no room for a row
+
+of_tests : (a b : Bool) → IsOfBlocks (cond a (Some ChainFull) (cond b (Some NoSpace) None))
+of_tests true b = tt
+of_tests false true = tt
+of_tests false false = tt
+
+of_change : (store : StoreFields) (m : ℕ) (c : Change) → IsOfBlocks (change_refusal store c m)
+of_change store m c = of_tests _ _
+
+of_where : (b : Bool) (r : Option Refusal) → IsOfBlocks r → IsOfBlocks (cond b r None)
+of_where true r is = is
+of_where false r is = tt
+
+of_wanted : (store : StoreFields) (m : ℕ) (asked : Option Change) → IsOfBlocks (option_and_then (storing_refusal store m) asked)
+of_wanted store m None = tt
+of_wanted store m (Some c) = of_where (is_of_versions c) (change_refusal store c m) (of_change store m c)
+
+-- what a change lacks in place of memory for its row is blocks
+of_want : (first : Option Refusal) (store : StoreFields) (s : State) (request : Request) (now : ℕ) → first ≡ None → IsOfBlocks (or_then first (want_of store s request now))
+of_want first store s request now free =
+    subst (λ (r : Option Refusal). IsOfBlocks (or_then r (want_of store s request now))) (sym free) (of_wanted store (stamp s now) (change_of s request))
+
+-- a change that has no room for its row is refused before anything has changed
+pub refuses_roomless : (first : Option Refusal) (d later : DriveFields) (before : SessionFields) (update : ObjectRequest) (now : ℕ) (e : Refusal)
+    → later.ledger ≡ d.ledger → store_of later ≡ store_of d → first ≡ None → e ≡ NoMemory → RefusesChange first d later before before (Update update) now e
+refuses_roomless first d later before update now e ledger same free is = record {
+  why = inl (is, of_want first (store_of d) (state_in d) (Update update) now free);
+  ledger = ledger;
+  store = same;
+  session = refl;
+}
+
+-- a change that makes no version lacks no blocks
+none_wanted : (store : StoreFields) (m : ℕ) (c : Change) → is_of_versions c ≡ false → storing_refusal store m c ≡ None
+none_wanted store m c none = ap (λ (b : Bool). cond b (change_refusal store c m) None) none
+
+-- so is one that makes no version, where nothing refuses it
+pub refuses_roomless_control : (first : Option Refusal) (d later : DriveFields) (before : SessionFields) (request : Request) (now : ℕ) (e : Refusal)
+    → MayLackMemory None request → or_then first (want_of (store_of d) (state_in d) request now) ≡ None → later.ledger ≡ d.ledger → store_of later ≡ store_of d → e ≡ NoMemory
+    → RefusesChange first d later before before request now e
+refuses_roomless_control first d later before request now e may free ledger same is = record {
+  why = inl (is, subst (λ (r : Option Refusal). MayLackMemory r request) (sym free) may);
+  ledger = ledger;
+  store = same;
+  session = refl;
+}

@@ -1,7 +1,8 @@
 -- What contracts see of a drive, of a session, and of a drive that has no name yet.
-use Rattle.std.specs.Prelude.{ℕ}
+use Rattle.std.specs.Prelude.{ℕ, List}
 use Rattle.atomic_table.specs.Seated.{TableId}
 use Rattle.s4_types.specs.History.{History}
+use Rattle.s4_types.specs.declared.audit_rows.AuditRow.{AuditRow}
 use Rattle.s4_types.specs.declared.requests.Role.{Role}
 use Rattle.s4_model.specs.State.{State, state_of}
 use Rattle.segment_word.specs.AcceptViews.{Ledger, Told}
@@ -9,10 +10,11 @@ use Rattle.segment_table.specs.Table.{Table}
 use Rattle.segment_table.specs.Room.{log_of}
 use Rattle.version_store.specs.Store.{StoreOf, StoreFields, fields_of}
 
--- a drive: its history, with the seat that each change was accepted for, and its objects
+-- a drive: its history, with the seat that each change was accepted for, its objects, and the rows that it keeps of the audit
 pub record DriveFields : Type 0 where
   pub ledger : Ledger
   pub store : StoreOf Table
+  pub audit : List AuditRow
 
 -- a session: what it was told, and what it may do
 pub record SessionFields : Type 0 where

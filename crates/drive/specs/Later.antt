@@ -1,11 +1,11 @@
 -- What is left to refuse of a request once its role and its own numbers allow it.
 use Rattle.std.specs.Prelude.{◌≡◌, ℕ, ◌+◌, ◌<◌, ◌≤◌, if◌then◌else◌, Option, Some, IsSome, List, [], ◌∷◌, length}
 use Rattle.std.specs.List.{find}
-use Rattle.s4_types.specs.declared.limits.TheConstants.{OBJECT_BYTES, READ_BYTES, ATTRIBUTE_BYTES}
+use Rattle.s4_types.specs.declared.limits.TheConstants.{OBJECT_BYTES, READ_BYTES, ATTRIBUTE_BYTES, AUDIT_ROWS}
 use Rattle.s4_types.specs.declared.requests.Role.TheVariants.{Admin}
 use Rattle.s4_types.specs.declared.requests.Request.{Request}
 use Rattle.s4_types.specs.declared.requests.Request.TheVariants.{Update, Query, Control}
-use Rattle.s4_types.specs.declared.requests.Question.TheVariants.{Read, GetAttr}
+use Rattle.s4_types.specs.declared.requests.Question.TheVariants.{Read, GetAttr, Audit}
 use Rattle.s4_types.specs.declared.requests.ObjectRequest.{ObjectRequest}
 use Rattle.s4_types.specs.declared.requests.ObjectRequest.TheVariants.{Create, Delete, Write, Append, Truncate, SetAttr}
 use Rattle.s4_types.specs.declared.requests.AdminRequest.TheVariants.{SetWindow, Flush, FlushO}
@@ -33,9 +33,10 @@ IsWithin (Update (SetAttr object attribute)) = length attribute ≤ ATTRIBUTE_BY
 IsWithin (Update (Write object offset bytes)) = offset + length bytes ≤ OBJECT_BYTES
 IsWithin (Update (Truncate object size)) = size ≤ OBJECT_BYTES
 IsWithin (Query (Read object offset len at)) = (len ≤ READ_BYTES) × (offset + len ≤ last_number)
+IsWithin (Query (Audit from most)) = most ≤ AUDIT_ROWS
 IsWithin _ = Unit {0}
 
--- the object that a request is of: a Create's is the next one, and 0 is that of SetWindow and Flush
+-- the object that a request is of: a Create's is the next one, and 0 is that of SetWindow, Flush and Audit
 abbrev pub object_asked : ℕ → Request → ℕ
 object_asked next (Update (Create attribute)) = next
 object_asked next (Update (Delete object)) = object
@@ -44,6 +45,7 @@ object_asked next (Update (Write object offset bytes)) = object
 object_asked next (Update (Append object bytes)) = object
 object_asked next (Update (Truncate object size)) = object
 object_asked next (Query (GetAttr object at)) = object
+object_asked next (Query (Audit from most)) = 0
 object_asked next (Update (SetAttr object attribute)) = object
 object_asked next (Control (SetWindow window)) = 0
 object_asked next (Control (Flush first last)) = 0

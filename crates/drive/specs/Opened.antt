@@ -56,7 +56,7 @@ versions_below s next = filter_map (λ o. object_by s.log.held o (row_of s.rows 
 
 -- what a drive of these objects begins with, under this window and with this number for the next object
 abbrev pub base_of : StoreFields → Timeline → ℕ → Base
-base_of s w next = record { versions = versions_below s next; clock = w.clock; window = w.window; floor = w.floor; next = next; spans = w.runs }
+base_of s w next = record { versions = versions_below s next; clock = w.clock; window = w.window; floor = w.floor; next = next; spans = w.runs; audit = [] }
 
 -- its history, to which nothing has come yet
 abbrev pub opened_history : StoreFields → Timeline → ℕ → History

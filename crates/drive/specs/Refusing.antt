@@ -8,10 +8,9 @@ use Rattle.s4_types.specs.declared.requests.Role.{Role}
 use Rattle.s4_types.specs.declared.requests.Request.{Request}
 use Rattle.s4_types.specs.declared.requests.Request.TheVariants.{Update, Query, Control}
 use Rattle.s4_types.specs.declared.requests.Question.TheVariants.{Read}
-use Rattle.s4_types.specs.declared.requests.ObjectRequest.TheVariants.{Create}
-use Rattle.s4_types.specs.declared.requests.AdminRequest.TheVariants.{Flush, FlushO}
+use Rattle.s4_types.specs.declared.requests.AdminRequest.TheVariants.{SetWindow, Flush, FlushO}
 use Rattle.s4_types.specs.declared.refusals.Refusal.{Refusal}
-use Rattle.s4_types.specs.declared.refusals.Refusal.TheVariants.{NoMemory, Busy, TooManySpans, ClockEnd}
+use Rattle.s4_types.specs.declared.refusals.Refusal.TheVariants.{NoMemory, NoSpace, ChainFull, Busy, TooManySpans, ClockEnd}
 use Rattle.s4_types.specs.declared.replies.Reply.{Reply}
 use Rattle.s4_types.specs.declared.replies.Reply.TheVariants.{Refused}
 use Rattle.s4_model.specs.State.{State}
@@ -49,15 +48,22 @@ IsFoundLater (Some TooManySpans) = Unit {0}
 IsFoundLater (Some ClockEnd) = Unit {0}
 IsFoundLater (Some _) = ⊥
 
--- Where lack of memory may be answered, by what refuses a request otherwise, if anything does. A request that makes an object
--- or reads takes memory only where nothing else refuses it; one that hides moments takes it before its runs are counted and the
--- clock is looked at. No change of the window or of an object that is there takes any.
+-- what a change of an object is refused for once its memory was had: what its blocks lack
+abbrev pub IsOfBlocks : Option Refusal → Type 0
+IsOfBlocks None = Unit {0}
+IsOfBlocks (Some ChainFull) = Unit {0}
+IsOfBlocks (Some NoSpace) = Unit {0}
+IsOfBlocks (Some _) = ⊥
+
+-- Where lack of memory may be answered, by what refuses a request otherwise, if anything does. A question takes memory only
+-- where nothing else refuses it, and so does one that sets the window. A change of an object takes some, for its row of the
+-- audit, before its blocks are counted; one that hides moments before its runs are counted and the clock is looked at.
 abbrev pub MayLackMemory : Option Refusal → Request → Type 0
-MayLackMemory why (Update (Create attribute)) = why ≡ None
+MayLackMemory why (Update update) = IsOfBlocks why
 MayLackMemory why (Query question) = why ≡ None
+MayLackMemory why (Control (SetWindow window)) = why ≡ None
 MayLackMemory why (Control (Flush first last)) = IsFoundLater why
 MayLackMemory why (Control (FlushO object first last)) = IsFoundLater why
-MayLackMemory why _ = ⊥
 
 -- The bytes that a read asks for, of an object that is there at the moment asked for, need a block of a frame that isn't open.
 pub record NeedsPin (d : DriveFields) (object offset len : ℕ) (at : Option ℕ) : Type 0 where

@@ -19,6 +19,8 @@ use crate::judgements::{judge, object_of};
 use crate::laws::what_changes_of_objects_rest_on;
 use crate::session::Session;
 use codec::Inode;
+use s4_model::laws::the_audit_goes_on_row_by_row;
+use s4_model::row_of;
 use s4_types::{Change, Moment, ObjectId, ObjectRequest, Refusal, Reply};
 use segment_word::Naming;
 
@@ -110,10 +112,13 @@ impl<J: Naming> Drive<J> {
             session.old session.new (Update update) now result }
     {
         what_changes_of_objects_rest_on();
+        the_audit_goes_on_row_by_row();
         let Judged { change, moment } = self.judge_object(update, now)?;
+        self.audit.reserve()?;
         self.store.take(&change, moment)?;
         self.window.stamp(now);
         self.next = next_after(&change, self.next);
+        self.audit.push(row_of(&change, moment));
         accept(&mut self.history, &mut session.seat, moment, &change);
         Ok(reply_at(&change, moment))
     }

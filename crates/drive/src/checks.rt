@@ -1,18 +1,18 @@
 //! What a request's role and own numbers decide. These checks come before all others.
-ghost use Rattle.std.specs.Prelude.{◌≡◌, ℕ, ◌↔◌, ◌⊎◌, ◌+◌, ◌<◌, ◌≤◌, Option, Some};
+ghost use Rattle.std.specs.Prelude.{◌≡◌, ℕ, ◌↔◌, ◌⊎◌, ◌+◌, ◌<◌, ◌≤◌, Option, None, Some, true, false};
 ghost use Rattle.std.specs.Prelude.{MatchResult, IfErr, OnOk, IsTrue, length};
 ghost use Rattle.s4_types.specs.declared.limits.TheConstants.{OBJECT_BYTES, ATTRIBUTE_BYTES};
-ghost use Rattle.s4_types.specs.declared.limits.TheConstants.{READ_BYTES};
+ghost use Rattle.s4_types.specs.declared.limits.TheConstants.{READ_BYTES, AUDIT_ROWS};
 ghost use Rattle.s4_types.specs.declared.requests.Role.{Role};
 ghost use Rattle.s4_types.specs.declared.requests.AdminRequest.{AdminRequest};
 ghost use Rattle.s4_types.specs.declared.requests.Request.TheVariants.{Query, Update, Control};
-ghost use Rattle.s4_types.specs.declared.requests.Question.TheVariants.{Read};
-ghost use Rattle.s4_types.specs.declared.refusals.Refusal.TheVariants.{BadAttr, TooLarge};
+ghost use Rattle.s4_types.specs.declared.requests.Question.TheVariants.{Read, Audit};
+ghost use Rattle.s4_types.specs.declared.refusals.Refusal.TheVariants.{BadAttr, NotAdmin, TooLarge};
 ghost use Rattle.s4_model.specs.State.{State};
-ghost use Rattle.s4_model.specs.Refusals.{first_refusal, last_number};
+ghost use Rattle.s4_model.specs.Refusals.{first_refusal, is_client, last_number};
 ghost use Rattle.drive.specs.Later.{later_refusal, IsWithin};
 
-use s4_types::limits::{ATTRIBUTE_BYTES, OBJECT_BYTES, READ_BYTES};
+use s4_types::limits::{ATTRIBUTE_BYTES, AUDIT_ROWS, OBJECT_BYTES, READ_BYTES};
 use s4_types::{Bytes, ObjectRequest, Question, Refusal, Role};
 
 /// Whether a write of this many bytes at an offset ends past the largest object.
@@ -64,19 +64,40 @@ pub(crate) fn check_read(offset: u64, length: u32) -> Result<(), Refusal>
     Ok(())
 }
 
-/// The first refusal that a question's own numbers decide: TooLarge of a Read of more than
-/// `READ_BYTES`, and of one that ends above 2^64 - 1.
-pub(crate) fn check_question(question: &Question) -> Result<(), Refusal>
+/// The first refusal that an audit's role and own number decide: NotAdmin of a client, TooLarge of
+/// more than `AUDIT_ROWS`.
+#[tactic(auto, using(crate::proofs::Auditing::audit_of_client, crate::proofs::Auditing::audit_too_large, crate::proofs::Auditing::audit_let_pass))]
+fn check_audit(role: Role, most: u16) -> Result<(), Refusal>
+    ensures exact { MatchResult result (λ _. most ≤ AUDIT_ROWS)
+        (λ e. ((e ≡ NotAdmin) × (is_client role ≡ true))
+        ⊎ ((e ≡ TooLarge) × (is_client role ≡ false) × (AUDIT_ROWS < most))) }
     ensures ok { OnOk result
-        ((s : State) (role : Role)
+        ((s : State) (from : ℕ) → first_refusal s role (Query (Audit from most)) ≡ None) }
+    ensures refused { IfErr result
+        (λ e. (s : State) (from : ℕ) → first_refusal s role (Query (Audit from most)) ≡ Some e) }
+{
+    check_role(role)?;
+    if usize::from(most) > AUDIT_ROWS {
+        return Err(Refusal::TooLarge);
+    }
+    Ok(())
+}
+
+/// The first refusal that the role and a question's own numbers decide: TooLarge of a Read of more
+/// than `READ_BYTES`, and of one that ends above 2^64 - 1; of an Audit NotAdmin, and TooLarge of
+/// more than `AUDIT_ROWS`.
+pub(crate) fn check_question(role: Role, question: &Question) -> Result<(), Refusal>
+    ensures ok { OnOk result
+        ((s : State)
         → first_refusal s role (Query question.now) ≡ later_refusal s (Query question.now)) }
     ensures within { OnOk result (IsWithin (Query question.now)) }
     ensures refused { IfErr result
-        (λ e. (s : State) (role : Role) → first_refusal s role (Query question.now) ≡ Some e) }
+        (λ e. (s : State) → first_refusal s role (Query question.now) ≡ Some e) }
 {
     match question {
         Question::Read { offset, length, .. } => check_read(*offset, *length),
         Question::GetAttr { .. } => Ok(()),
+        Question::Audit { max, .. } => check_audit(role, *max),
     }
 }
 
@@ -102,6 +123,8 @@ pub(crate) fn check_update(update: &ObjectRequest) -> Result<(), Refusal>
 
 /// The first refusal of what administrators alone may ask: NotAdmin of a client.
 pub(crate) fn check_role(role: Role) -> Result<(), Refusal>
+    ensures exact { MatchResult result (λ _. is_client role ≡ false)
+        (λ e. (e ≡ NotAdmin) × (is_client role ≡ true)) }
     ensures ok { OnOk result
         ((s : State) (control : AdminRequest)
         → first_refusal s role (Control control) ≡ later_refusal s (Control control)) }

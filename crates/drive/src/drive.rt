@@ -7,6 +7,7 @@ ghost use Rattle.segment_word.specs.AcceptViews.{caught_up};
 ghost use Rattle.segment_word.specs.AcceptRule.{FitsLedger, ShareNone};
 
 use crate::session::Session;
+use audit_log::AuditLog;
 use s4_types::{ObjectId, Refusal, Role};
 use segment_word::Naming;
 use segment_word::accepts::{HistorySeat, Sessions};
@@ -15,10 +16,11 @@ use std::marker::Model;
 use version_store::{NamedTable, Store};
 use window::Window;
 
-/// A drive: its one history, and the objects that represent it.
+/// A drive: its one history, the objects that represent it, and the rows of its audit.
 ///
-/// Contracts see the history with the seat that each change was accepted for, and the objects over
-/// their blocks. `J` names the drive and what its history begins with; a session of another drive
+/// Contracts see the history with the seat that each change was accepted for, the objects over
+/// their blocks, and which rows of the audit are kept: from the floor on these are the audit, and
+/// no answer shows whether others are kept below it. `J` names the drive and what its history begins with; a session of another drive
 /// has another type.
 #[derive(Drop)]
 pub struct Drive<J: Naming> {
@@ -28,6 +30,7 @@ pub struct Drive<J: Naming> {
     pub(crate) store: Store<NamedTable<J>>,
     pub(crate) window: Window,
     pub(crate) next: ObjectId,
+    pub(crate) audit: AuditLog,
 }
 
 impl<J: Naming> Model for Drive<J> {
@@ -36,13 +39,14 @@ impl<J: Naming> Model for Drive<J> {
     ghost use Rattle.segment_table.specs.Room.{log_of};
     ghost use Rattle.version_store.specs.Store.{fields_of};
     ghost use Rattle.drive.specs.Fields.{DriveFields};
+    ghost use Rattle.s4_model.specs.Audit.{KeepsAudit};
     ghost use Rattle.drive.specs.Keeping.{IsKeptDrive};
 
     ghost Value = { DriveFields };
 
-    ghost view = { λ d. record { ledger = d.history; store = d.store } };
+    ghost view = { λ d. record { ledger = d.history; store = d.store; audit = d.audit.rows } };
 
-    ghost invariant = { λ d. (d.history.history.base ≡ J.base) × IsKeptDrive (state_of d.history.history) (fields_of log_of d.store) d.window d.next };
+    ghost invariant = { λ d. (d.history.history.base ≡ J.base) × IsKeptDrive (state_of d.history.history) (fields_of log_of d.store) d.window d.next × KeepsAudit (state_of d.history.history) d.audit.rows };
 }
 
 impl<J: Naming> Drive<J> {

@@ -17,7 +17,8 @@ use crate::acceptance::accept;
 use crate::drive::Drive;
 use crate::judgements::check_clock;
 use crate::session::Session;
-use s4_model::laws::histories_go_on_record_by_record;
+use s4_model::laws::{histories_go_on_record_by_record, the_audit_goes_on_row_by_row};
+use s4_model::row_of;
 use s4_types::{Change, Moment, ObjectId, Refusal, Reply, Span};
 use segment_word::Naming;
 use window::{FlushPlan, Window};
@@ -62,14 +63,13 @@ impl<J: Naming> Drive<J> {
             session.old session.new (Control (SetWindow window)) now result }
     {
         histories_go_on_record_by_record();
+        the_audit_goes_on_row_by_row();
         check_clock(self.window.clock())?;
+        self.audit.reserve()?;
         let moment = self.window.set(window, now);
-        accept(
-            &mut self.history,
-            &mut session.seat,
-            moment,
-            &Change::SetWindow { window },
-        );
+        let change = Change::SetWindow { window };
+        self.audit.push(row_of(&change, moment));
+        accept(&mut self.history, &mut session.seat, moment, &change);
         Ok(Reply::Changed(moment))
     }
 
@@ -85,6 +85,7 @@ impl<J: Naming> Drive<J> {
             session.old session.new (Control (Flush first last)) now result }
     {
         histories_go_on_record_by_record();
+        the_audit_goes_on_row_by_row();
         self.window.check_span(first, last)?;
         let span = Span {
             object: ObjectId::new(0),
@@ -92,13 +93,11 @@ impl<J: Naming> Drive<J> {
             last,
         };
         let plan = plan_span(&self.window, span)?;
+        self.audit.reserve()?;
         let moment = self.window.flush(plan, now);
-        accept(
-            &mut self.history,
-            &mut session.seat,
-            moment,
-            &Change::Flush { first, last },
-        );
+        let change = Change::Flush { first, last };
+        self.audit.push(row_of(&change, moment));
+        accept(&mut self.history, &mut session.seat, moment, &change);
         Ok(Reply::Changed(moment))
     }
 
@@ -115,6 +114,7 @@ impl<J: Naming> Drive<J> {
             self.new session.old session.new (Control (FlushO object first last)) now result }
     {
         histories_go_on_record_by_record();
+        the_audit_goes_on_row_by_row();
         self.window.check_span(first, last)?;
         check_given(object, self.next)?;
         let span = Span {
@@ -123,17 +123,15 @@ impl<J: Naming> Drive<J> {
             last,
         };
         let plan = plan_span(&self.window, span)?;
+        self.audit.reserve()?;
         let moment = self.window.flush(plan, now);
-        accept(
-            &mut self.history,
-            &mut session.seat,
-            moment,
-            &Change::FlushO {
-                object,
-                first,
-                last,
-            },
-        );
+        let change = Change::FlushO {
+            object,
+            first,
+            last,
+        };
+        self.audit.push(row_of(&change, moment));
+        accept(&mut self.history, &mut session.seat, moment, &change);
         Ok(Reply::Changed(moment))
     }
 }

@@ -10,6 +10,7 @@ ghost use Rattle.segment_table.specs.Room.{log_of, new_places};
 ghost use Rattle.version_store.specs.Store.{fields_of, IsStore};
 
 use crate::drive::Drive;
+use audit_log::AuditLog;
 use checkpoint::CACHED_INODES;
 use s4_model::laws::histories_go_on_record_by_record;
 use s4_types::{ObjectId, Refusal};
@@ -99,6 +100,7 @@ impl NewDrive {
     }
 
     /// The drive, under a name that says which one it is and what its history begins with.
+    #[tactic(auto, using(crate::proofs::Auditing::none_kept))]
     pub fn named<J: Naming>(self) -> Drive<J>
         requires accepts { self.accepts ≡ J.accepts }
         requires frames { self.store.table.seat.table ≡ J.frames }
@@ -121,6 +123,7 @@ impl NewDrive {
             store: store.named::<J>(),
             window,
             next: ObjectId::new(1),
+            audit: AuditLog::new(alloc),
         }
     }
 }

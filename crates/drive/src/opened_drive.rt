@@ -10,6 +10,7 @@ ghost use Rattle.drive.specs.Opened.{base_of, NoneFrom};
 
 use crate::drive::Drive;
 use crate::laws::a_base_is_what_its_objects_stand_for;
+use audit_log::AuditLog;
 use s4_types::{ObjectId, Refusal};
 use segment_table::SegmentTable;
 use segment_word::Naming;
@@ -83,6 +84,7 @@ impl OpenedDrive {
     }
 
     /// The drive, under a name that says which one it is and what its history begins with.
+    #[tactic(auto, using(crate::proofs::Auditing::none_kept))]
     pub fn named<J: Naming>(self) -> Drive<J>
         requires accepts { self.accepts ≡ J.accepts }
         requires frames { self.store.table.seat.table ≡ J.frames }
@@ -106,6 +108,7 @@ impl OpenedDrive {
             store: store.named::<J>(),
             window,
             next,
+            audit: AuditLog::new(alloc),
         }
     }
 }

@@ -1,9 +1,9 @@
 //! Reads: what an object was at a moment that can be read.
 ghost use Rattle.std.specs.Prelude.{◌≡◌, ◌≤◌, None, Some, IfOk, IfErr, OnOk};
 ghost use Rattle.s4_types.specs.Sizes.{ReplyFits};
-ghost use Rattle.s4_types.specs.declared.limits.TheConstants.{READ_BYTES};
+ghost use Rattle.s4_types.specs.declared.limits.TheConstants.{READ_BYTES, AUDIT_ROWS};
 ghost use Rattle.s4_types.specs.declared.requests.Request.TheVariants.{Query};
-ghost use Rattle.s4_types.specs.declared.requests.Question.TheVariants.{Read, GetAttr};
+ghost use Rattle.s4_types.specs.declared.requests.Question.TheVariants.{Read, GetAttr, Audit};
 ghost use Rattle.s4_types.specs.declared.refusals.Refusal.TheVariants.{NoMemory};
 ghost use Rattle.s4_types.specs.declared.replies.Reply.TheVariants.{Attr};
 ghost use Rattle.s4_model.specs.Refusals.{first_refusal, asked};
@@ -20,6 +20,7 @@ use crate::drive::Drive;
 use block_log::Blocks;
 use codec::Inode;
 use inode::laws::bytes_are_the_blocks_joined;
+use s4_model::laws::the_audit_goes_on_row_by_row;
 use s4_types::{Bytes, Moment, ObjectId, Question, Refusal, Reply, Role};
 use segment_word::Naming;
 use std::alloc::Global;
@@ -149,6 +150,23 @@ impl<J: Naming> Drive<J> {
         self.read_at(object, at, Attributes)
     }
 
+    /// The first rows of the audit from a moment on, at most this many.
+    fn audited(&self, from: Moment, most: u16) -> Result<Reply, Refusal>
+        requires { most ≤ AUDIT_ROWS }
+        ensures fits { IfOk result ReplyFits }
+        ensures ok { IfOk result
+            (IsAnswered (later_refusal (state_in self.now) (Query (Audit from most)))
+            (state_in self.now) (Query (Audit from most))) }
+        ensures refused { IfErr result
+            (IsJudgedOut (later_refusal (state_in self.now) (Query (Audit from most)))
+            (Query (Audit from most))) }
+    {
+        the_audit_goes_on_row_by_row();
+        let lowest = from.max(self.window.floor());
+        let rows = self.audit.rows_from(lowest, most)?;
+        Ok(Reply::AuditRows(rows))
+    }
+
     /// The reply to a question, by the history that has seen its moment.
     pub(crate) fn tell(&mut self, role: Role, question: &Question) -> Result<Reply, Refusal>
         ensures ledger { self.new.ledger ≡ self.old.ledger }
@@ -161,7 +179,7 @@ impl<J: Naming> Drive<J> {
             (IsUnplanned (first_refusal (state_in self.old) role (Query question.now)) self.new
             (Query question.now)) }
     {
-        check_question(question)?;
+        check_question(role, question)?;
         match question {
             Question::Read {
                 object,
@@ -170,6 +188,7 @@ impl<J: Naming> Drive<J> {
                 at,
             } => self.read(*object, *offset, *length, *at),
             Question::GetAttr { object, at } => self.get_attr(*object, *at),
+            Question::Audit { from, max } => self.audited(*from, *max),
         }
     }
 }

@@ -14,7 +14,7 @@ ghost use Rattle.drive.specs.Answering.{told_after, owners_after};
 use crate::checks::{check_role, check_update};
 use crate::drive::Drive;
 use crate::session::Session;
-use s4_model::laws::histories_go_on_record_by_record;
+use s4_model::laws::{histories_go_on_record_by_record, the_audit_goes_on_row_by_row};
 use s4_types::{AdminRequest, Moment, ObjectRequest, Question, Refusal, Reply, Request};
 use segment_word::Naming;
 
@@ -33,16 +33,16 @@ impl<J: Naming> Drive<J> {
     /// What a request of a session is answered at a moment `now` of the server's clock, and all
     /// that it changes.
     ///
-    /// A change is stamped with the greater of `now` and the clock plus one. What is refused, a
-    /// Read and a GetAttr move the clock to `now` if that is later, and the floor with it, and
-    /// leave objects, window and spans. Afterwards the session has seen all accepted changes.
+    /// A change is stamped with the greater of `now` and the clock plus one. What is refused and
+    /// each question move the clock to `now` if that is later, and the floor with it, and leave
+    /// objects, window and spans. Afterwards the session has seen all accepted changes.
     ///
     /// A refusal is the first of the model's checks that applies. Where none does, a change of an
     /// object is refused with ChainFull where the entries of the object's chain would have more
     /// than `CHAIN_ENTRY_BYTES`, else with NoSpace where there is less room than blocks are
-    /// appended. NoMemory comes only where a growth was refused. A Create, a Read and a GetAttr are
-    /// answered so only where nothing else refuses them, a Flush and a FlushO also in place of
-    /// TooManySpans and ClockEnd, and no other request is. The contract lets a Read that no check
+    /// appended. NoMemory comes only where a growth was refused. A question and a SetWindow are
+    /// answered so only where nothing else refuses them, a change of an object also in place of
+    /// ChainFull and NoSpace, a Flush and a FlushO in place of TooManySpans and ClockEnd. The contract lets a Read that no check
     /// refuses be Busy, as one that is resolved, where it needs a block of a sealed frame; this
     /// drive reads at once and takes no pin for it, so that it never is.
     pub fn request(&mut self, session: &mut Session<J>, request: Request, now: Moment) -> Reply
@@ -123,6 +123,7 @@ impl<J: Naming> Drive<J> {
         ensures after { FitsLedger self.new.ledger session.new.told }
     {
         histories_go_on_record_by_record();
+        the_audit_goes_on_row_by_row();
         self.window.observe(now);
         self.history.see(now);
         self.history.meet(&mut session.seat);

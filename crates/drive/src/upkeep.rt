@@ -1,7 +1,11 @@
 //! Upkeep: what leaves the history and each version as they are, whatever it answers.
+ghost use Rattle.std.specs.Prelude.{◌≡◌};
+ghost use Rattle.s4_model.specs.Audit.{audit_of};
+ghost use Rattle.drive.specs.Fields.{state_in};
 ghost use Rattle.drive.specs.Upkeep.{Seals, WritesCheckpoint, Marks, Releases};
 
 use crate::drive::Drive;
+use s4_model::laws::the_audit_goes_on_row_by_row;
 use s4_types::{ObjectId, Refusal};
 use segment_word::Naming;
 
@@ -48,5 +52,14 @@ impl<J: Naming> Drive<J> {
         ensures { Releases frame self.old result self.new }
     {
         self.store.release(frame)
+    }
+
+    /// Drops the rows of the audit that are below the floor. It takes no memory, and no answer
+    /// depends on it.
+    pub fn cut_audit(&mut self)
+        ensures { self.new ≡ record self.old { audit = audit_of (state_in self.old) } }
+    {
+        the_audit_goes_on_row_by_row();
+        self.audit.cut(self.window.floor());
     }
 }

@@ -1,5 +1,6 @@
 use Rattle.std.proofs.Common.{◌≡◌, ◌+◌, ◌<◌, max, ℕ, sym, ap, subst, ◌∙◌}
 use Rattle.std.proofs.lemmas.Result.{err_from_is_err_and}
+use Rattle.s4_types.specs.declared.audit_rows.AuditRow.{AuditRow}
 use Rattle.s4_types.specs.declared.changes.Change.{Change}
 use Rattle.s4_types.specs.declared.requests.Request.TheVariants.{Update}
 use Rattle.s4_model.specs.State.{State, state_of, took}
@@ -15,7 +16,8 @@ use Rattle.drive.specs.Later.{later_refusal}
 use Rattle.drive.specs.Fields.{DriveFields, state_in, store_of}
 use Rattle.drive.specs.Keeping.{IsKeptDrive}
 use Rattle.drive.proofs.Parts.{can_count}
-use Rattle.drive.proofs.Storing.{after_stored, ready_of_versions, refuses_untaken, refuses_checked}
+use Rattle.drive.proofs.Auditing.{audit_after_change, row_is_later}
+use Rattle.drive.proofs.Storing.{after_stored, ready_of_versions, refuses_untaken, refuses_roomless, refuses_checked}
 use Rattle.drive.proofs.drive.Drive.change_object.Goals as goal
 
 pub accept-requires : goal.accept-requires
@@ -23,8 +25,8 @@ accept-requires g c =
     let ledger : c.self.inside.history ≡ c.args.self.now.ledger = ap (λ (d : DriveFields). d.ledger) c.self.view_is in
     can_count c.self.inside.history c.self.invariant.1.sound (subst (λ (l : Ledger). (state_of l.history).clock < last_number) (sym ledger) c.in_ok-change.ensures.clock)
 
-pub invariant_of-self-2 : goal.invariant_of-self-2
-invariant_of-self-2 g c =
+pub invariant_of-self-3 : goal.invariant_of-self-3
+invariant_of-self-3 g c =
     let s : State = state_of c.self.inside.history.history in
     let store : StoreFields = fields_of log_of c.self.inside.store in
     let change : Change = c.in_ok-change.field-0.change in
@@ -42,12 +44,30 @@ invariant_of-self-2 g c =
           c.take.ensures.store c.in_ok-take.ensures.taken c.in_ok-take.ensures.latest c.in_ok-take.ensures.rows
           (c.stamp.ensures.taken s (accepted_record s change c.args.now) c.self.invariant.1.window (sym stamped) (ready_of_versions store change takes.ready))
           (subst (λ (l : Ledger). IsSound (took (state_of l.history) (accepted_record (state_of l.history) change c.args.now))) (sym ledger) c.in_ok-change.ensures.sound)),
+      audit_after_change c.the_audit_goes_on_row_by_row.ensures.kept c.what_changes_of_objects_rest_on.ensures.by_changes c.self.inside.history c.accept.new.history c.session.inside.seat.seat c.self.inside.audit.rows c.push.new.self.rows c.args.now c.in_ok-change.field-0.moment change c.row_of.result
+          c.self.invariant.2 c.self.invariant.1.sound at c.accept.ensures.history c.row_of.ensures
+          (c.push.ensures ∙ ap (λ (rows : List AuditRow). rows ++ c.row_of.result ∷ []) c.reserve.ensures.rows),
     )
 
 pub returns-in_err-change : goal.returns-in_err-change
 returns-in_err-change g c =
     let p = err_from_is_err_and c.from_residual.result c.from_residual.ensures.1 in
     rw (p.1, p.2) (refuses_checked (later_refusal (state_in c.args.self.now) (Update c.args.update)) c.args.self.now c.args.session.now (Update c.args.update) c.args.now _ c.in_err-change.ensures.refused)
+
+pub returns-in_err-reserve : goal.returns-in_err-reserve
+returns-in_err-reserve g c =
+    let p = err_from_is_err_and c.from_residual-in_err-reserve.result c.from_residual-in_err-reserve.ensures.1 in
+    rw (p.1, p.2) (refuses_roomless (later_refusal (state_in c.args.self.now) (Update c.args.update)) c.args.self.now _ c.args.session.now c.args.update c.args.now _
+    (ap (λ (d : DriveFields). d.ledger) c.self.view_is) (ap (λ (d : DriveFields). store_of d) c.self.view_is) c.in_ok-change.ensures.free c.in_err-reserve.ensures.err)
+
+pub push-requires-later : goal.push-requires-later
+push-requires-later g c =
+    let s : State = state_of c.self.inside.history.history in
+    let change : Change = c.in_ok-change.field-0.change in
+    let ledger : c.self.inside.history ≡ c.args.self.now.ledger = ap (λ (d : DriveFields). d.ledger) c.self.view_is in
+    let at : c.in_ok-change.field-0.moment ≡ stamp s c.args.now = subst (λ (l : Ledger). c.in_ok-change.field-0.moment ≡ stamp (state_of l.history) c.args.now) (sym ledger) c.in_ok-change.ensures.moment in
+    subst (λ (rows : List AuditRow). AllByRecursion (λ other. other.moment < c.row_of.result.moment) rows) (sym c.reserve.ensures.rows)
+    (row_is_later s c.self.inside.audit.rows c.args.now c.in_ok-change.field-0.moment change c.row_of.result c.self.invariant.2 at c.row_of.ensures)
 
 pub returns-in_err-take : goal.returns-in_err-take
 returns-in_err-take g c =

@@ -1,4 +1,5 @@
-use Rattle.std.proofs.Common.{◌≡◌, ◌+◌, ◌<◌, max, ℕ, refl, sym, ap, ◌∙◌, arith}
+use Rattle.std.specs.List.{AllByRecursion}
+use Rattle.std.proofs.Common.{List, [], ◌∷◌, ◌++◌, Option, None, subst, ◌≡◌, ◌+◌, ◌<◌, max, ℕ, refl, sym, ap, ◌∙◌, arith}
 use Rattle.s4_types.specs.declared.changes.Change.TheVariants as change
 use Rattle.s4_types.specs.declared.requests.Request.TheVariants.{Control}
 use Rattle.s4_types.specs.declared.requests.AdminRequest.TheVariants.{Flush}
@@ -10,7 +11,12 @@ use Rattle.segment_table.specs.Room.{log_of}
 use Rattle.version_store.specs.Store.{fields_of}
 use Rattle.std.proofs.lemmas.Result.{err_from_is_err_and}
 use Rattle.drive.specs.Later.{later_refusal}
-use Rattle.drive.specs.Fields.{state_in, store_of}
+use Rattle.s4_types.specs.declared.audit_rows.AuditRow.{AuditRow}
+use Rattle.s4_types.specs.declared.refusals.Refusal.{Refusal}
+use Rattle.drive.specs.Fields.{DriveFields, state_in, store_of}
+use Rattle.drive.specs.Refusing.{or_then}
+use Rattle.drive.proofs.Storing.{refuses_roomless_control}
+use Rattle.drive.proofs.Auditing.{audit_after_change, row_is_later}
 use Rattle.drive.specs.Keeping.{IsKeptDrive}
 use Rattle.drive.proofs.Parts.{can_count, kept_of}
 use Rattle.drive.proofs.Unversioned.{span_bad, refuses_bad, flush_free, flush_span, flush_given, after_hidden}
@@ -19,7 +25,7 @@ use Rattle.drive.proofs.drive.Drive.flush.Goals as goal
 pub returns-in_err-check_span : goal.returns-in_err-check_span
 returns-in_err-check_span g c =
     let p = err_from_is_err_and c.from_residual.result c.from_residual.ensures.1 in
-    let kept : IsKeptDrive (state_in c.args.self.now) (store_of c.args.self.now) c.self.inside.window c.self.inside.next = kept_of c.args.self.now g.J.Naming.base c.self.inside.history c.self.inside.store c.self.inside.window c.self.inside.next c.self.view_is c.self.invariant in
+    let kept : IsKeptDrive (state_in c.args.self.now) (store_of c.args.self.now) c.self.inside.window c.self.inside.next = kept_of c.args.self.now g.J.Naming.base c.self.inside.history c.self.inside.store c.self.inside.audit.rows c.self.inside.window c.self.inside.next c.self.view_is c.self.invariant in
     let bad = c.in_err-check_span.ensures.of_all (state_in c.args.self.now) kept.window in
     rw (p.1, p.2) (refuses_bad (later_refusal (state_in c.args.self.now) (Control (Flush c.args.first c.args.last))) c.args.self.now c.args.session.now (Control (Flush c.args.first c.args.last)) c.args.now _ (span_bad (state_in c.args.self.now) c.args.first c.args.last bad.1) bad.0)
 
@@ -29,8 +35,26 @@ accept-requires g c =
     let lt : c.self.inside.window.clock < last_number = c.in_ok-plan.ensures.clock in
     can_count c.self.inside.history c.self.invariant.1.sound (omega arith)
 
-pub invariant_of-self : goal.invariant_of-self
-invariant_of-self g c =
+pub returns-in_err-reserve : goal.returns-in_err-reserve
+returns-in_err-reserve g c =
+    let p = err_from_is_err_and c.from_residual-in_err-reserve.result c.from_residual-in_err-reserve.ensures.1 in
+    let s : State = state_in c.args.self.now in
+    let kept : IsKeptDrive s (store_of c.args.self.now) c.self.inside.window c.self.inside.next = kept_of c.args.self.now g.J.Naming.base c.self.inside.history c.self.inside.store c.self.inside.audit.rows c.self.inside.window c.self.inside.next c.self.view_is c.self.invariant in
+    let zero : c.new.result ≡ 0 = c.new.ensures in
+    let free : later_refusal s (Control (Flush c.args.first c.args.last)) ≡ None =
+    flush_free s c.new.result c.args.first c.args.last zero (c.in_ok-check_span.ensures.of_all s kept.window) (c.in_ok-plan.ensures.judged s kept.window (let low = kept.sound.numbered in omega (arith, zero))) in
+    rw (p.1, p.2) (refuses_roomless_control (later_refusal s (Control (Flush c.args.first c.args.last))) c.args.self.now _ c.args.session.now (Control (Flush c.args.first c.args.last)) c.args.now _
+    tt (ap (λ (r : Option Refusal). or_then r None) free) (ap (λ (d : DriveFields). d.ledger) c.self.view_is) (ap (λ (d : DriveFields). store_of d) c.self.view_is) c.in_err-reserve.ensures.err)
+
+pub push-requires-later : goal.push-requires-later
+push-requires-later g c =
+    let s : State = state_of c.self.inside.history.history in
+    let at : c.flush-moment.result ≡ stamp s c.args.now = c.flush-moment.ensures.moment ∙ ap (λ (t : ℕ). max c.args.now (t + 1)) c.self.invariant.1.window.clock in
+    subst (λ (rows : List AuditRow). AllByRecursion (λ other. other.moment < c.row_of.result.moment) rows) (sym c.reserve.ensures.rows)
+    (row_is_later s c.self.inside.audit.rows c.args.now c.flush-moment.result (change.Flush c.args.first c.args.last) c.row_of.result c.self.invariant.2 at c.row_of.ensures)
+
+pub invariant_of-self-2 : goal.invariant_of-self-2
+invariant_of-self-2 g c =
     let s : State = state_of c.self.inside.history.history in
     let clock : c.self.inside.window.clock ≡ s.clock = c.self.invariant.1.window.clock in
     let at : c.flush-moment.result ≡ stamp s c.args.now = c.flush-moment.ensures.moment ∙ ap (λ (t : ℕ). max c.args.now (t + 1)) clock in
@@ -43,4 +67,6 @@ invariant_of-self g c =
           refl refl at c.accept.ensures.history
           (c.flush-moment.ensures.taken s (accepted_record s (change.Flush c.args.first c.args.last) c.args.now) c.self.invariant.1.window given (sym at)
           (flush_span c.args.first c.args.last c.new.result c.in_ok-plan.plan.span zero c.in_ok-plan.ensures.planned.0)),
+      audit_after_change c.the_audit_goes_on_row_by_row.ensures.kept c.histories_go_on_record_by_record.ensures.by_changes c.self.inside.history c.accept.new.history c.session.inside.seat.seat c.self.inside.audit.rows c.push.new.self.rows c.args.now c.flush-moment.result (change.Flush c.args.first c.args.last) c.row_of.result
+          c.self.invariant.2 c.self.invariant.1.sound at c.accept.ensures.history c.row_of.ensures (c.push.ensures ∙ ap (λ (rows : List AuditRow). rows ++ c.row_of.result ∷ []) c.reserve.ensures.rows),
     )

@@ -11,11 +11,12 @@ pub invariant_of-self : goal.invariant_of-self
 invariant_of-self g c = (
   c.self.invariant.0,
   subst (λ (s : StoreFields). IsKeptDrive (state_of c.self.inside.history.history) s c.self.inside.window c.self.inside.next) (sym c.mark.ensures.same) c.self.invariant.1,
+  c.self.invariant.2,
 )
 
 pub returns : goal.returns
 returns g c =
-    let before : DriveFields = record { ledger = c.self.inside.history; store = c.self.inside.store } in
-    let later : DriveFields = record { ledger = c.self.inside.history; store = c.mark.new.self } in
+    let before : DriveFields = record { ledger = c.self.inside.history; store = c.self.inside.store; audit = c.self.inside.audit.rows } in
+    let later : DriveFields = record { ledger = c.self.inside.history; store = c.mark.new.self; audit = c.self.inside.audit.rows } in
     let M : DriveFields → Type 0 = λ d. Marks c.args.frame d c.mark.result later in
-    subst M c.self.view_is (marks c.mark.result c.args.frame before later c.mark.ensures.frame c.mark.ensures.refused c.mark.ensures.same refl)
+    subst M c.self.view_is (marks c.mark.result c.args.frame before later c.mark.ensures.frame c.mark.ensures.refused c.mark.ensures.same refl refl)

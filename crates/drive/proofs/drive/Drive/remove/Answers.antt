@@ -17,7 +17,7 @@ invariant_of-self g c =
     subst (λ (d : DriveFields). (t : ℕ) → IsNeeded (state_in d) c.args.object t → version_in (store_of d) c.args.object t ≡ Absent) (sym c.self.view_is) c.requires.gone in
     let later : StoreFields = fields_of log_of c.remove.new.self in
     let leads : LeadsOn s store later = removed_leads c.remove.result s store later c.args.object c.remove.ensures.removed c.remove.ensures.versions c.remove.ensures.unchanged gone in
-    (c.self.invariant.0, kept_on s store later c.self.inside.window c.self.inside.next c.self.invariant.1 c.remove.ensures.store leads)
+    (c.self.invariant.0, kept_on s store later c.self.inside.window c.self.inside.next c.self.invariant.1 c.remove.ensures.store leads, c.self.invariant.2)
 
 pub returns-clause-needed : goal.returns-clause-needed
 returns-clause-needed g c =

@@ -20,7 +20,7 @@ invariant_of-self g c =
     subst (λ (d : DriveFields). (t : ℕ) → IsNeeded (state_in d) c.args.object t → meaning (contents_of (store_of d).log.held) (inode_led c.args.present.now c.args.entries.now t) ≡ version_in (store_of d) c.args.object t) (sym c.self.view_is) c.requires.stays in
     let later : StoreFields = fields_of log_of c.replace.new.self in
     let leads : LeadsOn s store later = replaced_leads c.replace.result s store later c.args.object c.args.present.now c.args.entries.now some c.replace.ensures.replaced c.replace.ensures.versions c.replace.ensures.unchanged stays in
-    (c.self.invariant.0, kept_on s store later c.self.inside.window c.self.inside.next c.self.invariant.1 c.replace.ensures.store leads)
+    (c.self.invariant.0, kept_on s store later c.self.inside.window c.self.inside.next c.self.invariant.1 c.replace.ensures.store leads, c.self.invariant.2)
 
 pub returns-clause-needed : goal.returns-clause-needed
 returns-clause-needed g c =

@@ -15,10 +15,11 @@ invariant_of-self g c = (
   c.self.invariant.0,
   kept_alike (state_of c.self.inside.history.history) (fields_of log_of c.self.inside.store) (fields_of log_of c.seal.new.self) c.self.inside.window c.self.inside.next c.self.invariant.1
       c.seal.ensures.store c.seal.ensures.objects.versions c.seal.ensures.objects.latest (λ o. ap (λ (rows : List (ℕ × Row)). is_some (row_of rows o)) c.seal.ensures.objects.rows),
+  c.self.invariant.2,
 )
 
 pub returns : goal.returns
 returns g c =
-    let later : DriveFields = record { ledger = c.self.inside.history; store = c.seal.new.self } in
+    let later : DriveFields = record { ledger = c.self.inside.history; store = c.seal.new.self; audit = c.self.inside.audit.rows } in
     let S : DriveFields → Type 0 = λ d. Seals d later in
     subst S c.self.view_is (record { frame = c.seal.ensures.frame; objects = c.seal.ensures.objects; ledger = refl })

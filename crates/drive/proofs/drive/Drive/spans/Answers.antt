@@ -12,11 +12,11 @@ use Rattle.drive.proofs.drive.Drive.spans.Goals as goal
 
 pub returns-clause-from_floor : goal.returns-clause-from_floor
 returns-clause-from_floor g c =
-    let kept : IsKeptDrive (state_in c.args.self.now) (store_of c.args.self.now) c.self.inside.window c.self.inside.next = kept_of c.args.self.now g.J.Naming.base c.self.inside.history c.self.inside.store c.self.inside.window c.self.inside.next c.self.view_is c.self.invariant in
+    let kept : IsKeptDrive (state_in c.args.self.now) (store_of c.args.self.now) c.self.inside.window c.self.inside.next = kept_of c.args.self.now g.J.Naming.base c.self.inside.history c.self.inside.store c.self.inside.audit.rows c.self.inside.window c.self.inside.next c.self.view_is c.self.invariant in
     subst (λ (floor : ℕ). IfOk c.spans.result (λ spans. AllBeginFrom floor spans.items)) kept.window.floor c.spans.ensures.from_floor
 
 pub returns-clause-given : goal.returns-clause-given
 returns-clause-given g c =
-    let kept : IsKeptDrive (state_in c.args.self.now) (store_of c.args.self.now) c.self.inside.window c.self.inside.next = kept_of c.args.self.now g.J.Naming.base c.self.inside.history c.self.inside.store c.self.inside.window c.self.inside.next c.self.view_is c.self.invariant in
+    let kept : IsKeptDrive (state_in c.args.self.now) (store_of c.args.self.now) c.self.inside.window c.self.inside.next = kept_of c.args.self.now g.J.Naming.base c.self.inside.history c.self.inside.store c.self.inside.audit.rows c.self.inside.window c.self.inside.next c.self.view_is c.self.invariant in
     IfOk-weaker c.spans.result (λ spans. (s : State) → StandsFor c.self.inside.window s → AllByRecursion (IsOfGiven s.next) spans.items) (λ spans. AllByRecursion (IsOfGiven (state_in c.args.self.now).next) spans.items)
     (λ spans given. given (state_in c.args.self.now) kept.window) c.spans.ensures.given
