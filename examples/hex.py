@@ -15,8 +15,9 @@ import subprocess
 import sys
 
 sys.path.insert(0, os.path.join(os.path.dirname(os.path.abspath(__file__)), "..", "python"))
-from s4d import BODY_BYTES, READ_BYTES, REFUSALS  # noqa: E402: from this repository, also where it isn't installed
+from s4d import BODY_BYTES, READ_BYTES, REFUSALS, AuditKind  # noqa: E402: from this repository, also where it isn't installed
 
+CHANGES = {kind.value for kind in AuditKind}
 MOST_SHOWN = 24  # bytes of a frame that are shown, after the first of its body
 
 
@@ -94,6 +95,7 @@ REQUESTS = {
     9: ("SetWindow", lambda f: f"{count_of(f.number('window'), 'moment')}"),
     10: ("Flush", lambda f: f"moments {f.number('first')} to {f.number('last')}"),
     11: ("FlushO", lambda f: f"object {f.number('object')}, moments {f.number('first')} to {f.number('last')}"),
+    12: ("Audit", lambda f: f"from {f.number('moment')}, {count_of(f.number('rows', 2), 'row')}"),
 }
 
 
@@ -126,12 +128,28 @@ def tell_attr(fields):
     return f"{told} {fields.attribute(64)}"
 
 
+def tell_row(fields):
+    moment, kind = fields.number("moment"), fields.number("kind", 1)
+    if kind not in CHANGES:
+        raise NoSuch(f"has a row of kind {kind:02x}")
+    object, first, second = fields.number("object"), fields.number("first"), fields.number("second")
+    return f"{moment} {REQUESTS[kind][0]} object {object}, {first}, {second}"
+
+
+def tell_rows(fields):
+    rows = []
+    while fields.rest:
+        rows.append(tell_row(fields))
+    return "; ".join(rows) or "none"
+
+
 REPLIES = {
     0: ("Refused:", refused),
     1: ("Changed", lambda f: f"at moment {f.number('moment')}"),
     2: ("Created", lambda f: f"object {f.number('object')} at moment {f.number('moment')}"),
     3: ("Data:", lambda f: f.all()),
     4: ("Attr:", tell_attr),
+    5: ("AuditRows:", tell_rows),
 }
 
 

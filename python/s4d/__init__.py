@@ -29,12 +29,13 @@ from .pipeline import Pipeline, Reply
 from .retry import NEVER, Retry
 from .rows import (Change, ChangeKind, Checked, Compacted, Difference, Hidden, HiddenCounts, HiddenVersions, Info,
                    Listed, Range, Restored, Stat, Times, Widened)
-from .wire import ATTRIBUTE_BYTES, BODY_BYTES, LAST, OBJECT_BYTES, READ_BYTES, WRITE_BYTES, Attributes, Created
+from .wire import ATTRIBUTE_BYTES, AUDIT_ROWS, BODY_BYTES, LAST, OBJECT_BYTES, READ_BYTES, WRITE_BYTES
+from .wire import Attributes, AuditKind, AuditRow, Created
 
 __version__ = "0.1.0"
 
 __all__ = [
-    "ATTRIBUTE_BYTES", "Attributes", "BODY_BYTES", "BadAttr", "BadFrame", "BadReply", "BadSpan", "Busy",
+    "ATTRIBUTE_BYTES", "AUDIT_ROWS", "Attributes", "AuditKind", "AuditRow", "BODY_BYTES", "BadAttr", "BadFrame", "BadReply", "BadSpan", "Busy",
     "ChainFull", "Change", "ChangeKind", "Checked", "ClockEnd", "Compacted", "Created", "Difference",
     "Disconnected", "Drive", "Ended", "Error", "Expired", "Facts", "Flushed", "Future", "Hidden", "HiddenCounts",
     "HiddenVersions", "Image", "InUse", "Info", "Kind", "LAST", "Listed", "Moment", "NEVER", "NoMemory", "NoObject",

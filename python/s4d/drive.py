@@ -4,7 +4,7 @@ from __future__ import annotations
 import os
 import time
 from types import TracebackType
-from typing import List, Optional, Type, TypeVar, Union
+from typing import Iterator, List, Optional, Type, TypeVar, Union
 
 from . import wire
 from .connection import Connection, Peer, Reader, SocketPeer, Writer, dialled
@@ -13,7 +13,7 @@ from .history import Span, history_of
 from .pipeline import Pipeline, Reply
 from .program import Program
 from .retry import NEVER, Retry
-from .wire import READ_BYTES, Attributes, Created, Request
+from .wire import AUDIT_ROWS, LAST, READ_BYTES, Attributes, AuditRow, Created, Request
 
 T = TypeVar("T")
 
@@ -179,6 +179,18 @@ class Drive:
     def attributes(self, object: int, at: Optional[int] = None) -> Attributes:
         """Size, creation, last change and attribute, now or at a moment."""
         return self._ask(wire.attributes(object, at))
+
+    def audit(self, first: int = 0) -> Iterator[AuditRow]:
+        """What was accepted from a moment on, oldest first, whether a flush hides it or not; for administrators alone.
+
+        It is asked for in pages. Changes that are accepted meanwhile come at the end, and what falls below the floor before its
+        page is asked for is left out.
+        """
+        page = self._ask(wire.audit(first, AUDIT_ROWS))
+        while page:
+            yield from page
+            last = page[-1].moment
+            page = self._ask(wire.audit(last + 1, AUDIT_ROWS)) if len(page) == AUDIT_ROWS and last < LAST else []
 
     def set_attribute(self, object: int, attribute: bytes) -> int:
         """Sets the object's attribute, of at most 64 bytes. The moment of the change."""

@@ -2,13 +2,16 @@
 from __future__ import annotations
 
 from dataclasses import dataclass
-from typing import Callable, Generic, NamedTuple, Optional, TypeVar, Union
+from enum import Enum
+from typing import Callable, Generic, List, NamedTuple, Optional, TypeVar, Union
 
 from .errors import REFUSALS, BadReply, Refused
 
 OBJECT_BYTES = 98_304  # the greatest size of an object
 READ_BYTES = 24_576  # the most bytes of one read
 ATTRIBUTE_BYTES = 64  # the longest attribute
+AUDIT_ROWS = 512  # the most rows of one audit
+AUDIT_ROW_BYTES = 33
 BODY_BYTES = 32_768  # the longest body of a frame
 WRITE_BYTES = BODY_BYTES - 17  # the most bytes of one write, after its kind, object and offset
 LAST = 2**64 - 1  # the last moment, and the greatest number of an object
@@ -30,6 +33,33 @@ class Attributes(NamedTuple):
     created: int
     changed: int
     attribute: bytes
+
+
+class AuditKind(Enum):
+    """What an accepted change was; an Append is the write that it came to."""
+
+    CREATE = 1
+    DELETE = 2
+    WRITE = 4
+    TRUNCATE = 6
+    SET_ATTRIBUTE = 8
+    SET_WINDOW = 9
+    FLUSH = 10
+    FLUSH_OBJECT = 11
+
+
+class AuditRow(NamedTuple):
+    """An accepted change. The object is 0 of SET_WINDOW and FLUSH.
+
+    The numbers are of CREATE and SET_ATTRIBUTE the length of the attribute and 0, of WRITE offset and length, of TRUNCATE the size
+    and 0, of SET_WINDOW the window and 0, of the flushes the first and the last moment.
+    """
+
+    moment: int
+    kind: AuditKind
+    object: int
+    first: int
+    second: int
 
 
 @dataclass(frozen=True)
@@ -101,6 +131,21 @@ def read_attributes(kind: int, rest: bytes) -> Attributes:
     return Attributes(size, created, changed, rest[21:])
 
 
+def read_audit_row(row: bytes) -> AuditRow:
+    moment, object, first, second = (int.from_bytes(part, "big") for part in (row[:8], row[9:17], row[17:25], row[25:]))
+    try:
+        return AuditRow(moment, AuditKind(row[8]), object, first, second)
+    except ValueError:
+        raise BadReply("a row of no kind that is known") from None
+
+
+def read_audit_rows(kind: int, rest: bytes) -> List[AuditRow]:
+    count, left = divmod(len(rest), AUDIT_ROW_BYTES)
+    if kind != 5 or left or count > AUDIT_ROWS:
+        raise BadReply("no AuditRows came")
+    return [read_audit_row(rest[AUDIT_ROW_BYTES * i:AUDIT_ROW_BYTES * (i + 1)]) for i in range(count)]
+
+
 def change(name: str, body: bytes, object: Optional[int] = None) -> Request[int]:
     """A request that is answered by the moment of its change."""
     if len(body) > BODY_BYTES:
@@ -135,6 +180,10 @@ def truncate(object: int, size: int) -> Request[int]:
 
 def attributes(object: int, at: Optional[int]) -> Request[Attributes]:
     return Request("attributes", b"\x07" + numbers(object) + moment_or_now(at), read_attributes, object, at)
+
+
+def audit(first: int, most: int) -> Request[List[AuditRow]]:
+    return Request("audit", b"\x0c" + numbers(first) + number(most, 2), read_audit_rows)
 
 
 def set_attribute(object: int, attribute: bytes) -> Request[int]:

@@ -44,6 +44,10 @@ class Requests(unittest.TestCase):
             self.assertEqual(it.flush_object(1, 3, 3), 7)
             self.assertEqual(it.set_window(50), 8)
             self.assertEqual(it.delete(1), 9)
+            kind = s4d.AuditKind
+            self.assertEqual([(row.kind, row.first, row.second) for row in it.audit(3)], [
+                (kind.WRITE, 5, 2), (kind.TRUNCATE, 4, 0), (kind.SET_ATTRIBUTE, 64, 0), (kind.FLUSH, 2, 2), (kind.FLUSH_OBJECT, 3, 3),
+                (kind.SET_WINDOW, 50, 0), (kind.DELETE, 0, 0)])
             with self.assertRaises(s4d.NoObject):
                 it.read(1)
         self.assertEqual(it.ended, (0, ""))
@@ -53,6 +57,7 @@ class Requests(unittest.TestCase):
             it.create()
             for kind, ask in (
                     (s4d.NotAdmin, lambda: it.set_window(1)),
+                    (s4d.NotAdmin, lambda: list(it.audit())),
                     (s4d.BadAttr, lambda: it.set_attribute(1, b"x" * 65)),
                     (s4d.TooLarge, lambda: it.write(1, 98_304, b"x")),
                     (s4d.TooLarge, lambda: it.read(1, 0, 24_577)),

@@ -30,7 +30,8 @@ class Spelling(unittest.TestCase):
                 (wire.set_attribute(1, b"x"), b"\x08" + one + b"\x01x"),
                 (wire.set_window(1), b"\x09" + one),
                 (wire.flush(1, 1), b"\x0a" + one + one),
-                (wire.flush_object(1, 1, 1), b"\x0b" + one + one + one)):
+                (wire.flush_object(1, 1, 1), b"\x0b" + one + one + one),
+                (wire.audit(1, 512), b"\x0c" + one + b"\2\0")):
             with self.subTest(request.name):
                 self.assertEqual(request.frame(), frames(body))
 
@@ -49,6 +50,19 @@ class Spelling(unittest.TestCase):
         self.assertEqual(drive(frames(reply)).attributes(1), s4d.Attributes(5, 1, 2, b"x"))
         self.assertEqual(drive(frames(b"\x03abc")).read(1), b"abc")
         self.assertEqual(drive(frames(b"\x02" + bytes(7) + b"\1" + bytes(7) + b"\2")).create(), s4d.Created(1, 2))
+
+    def test_pages_of_an_audit(self):
+        def row(moment):
+            return b"".join((moment.to_bytes(8, "big"), b"\x04", bytes(7) + b"\1", bytes(8), bytes(7) + b"\3"))
+
+        pages = [b"\x05" + b"".join(map(row, range(1, 513))), b"\x05" + row(513)]
+        rows = list(drive(frames(*pages)).audit())
+        self.assertEqual([told.moment for told in rows], list(range(1, 514)))
+        self.assertEqual(rows[-1], s4d.AuditRow(513, s4d.AuditKind.WRITE, 1, 0, 3))
+        self.assertEqual(list(drive(frames(b"\x05")).audit(7)), [])
+        for wrong in (b"\x05\0", b"\x05" + row(1)[:8] + b"\x05" + row(1)[9:], b"\x05" + row(1) * 513):
+            with self.subTest(wrong[:12]), self.assertRaises(s4d.BadReply):
+                list(drive(frames(wrong)).audit())
 
     def test_bytes_that_are_no_reply(self):
         for reply in (b"\0\0\0\0", b"\0\0\x60\2\3", b"\0\0\0\2\0\x10", b"\0\0\0\1\5", b"\0\0\0\1\3", b"\xff\0\0\0", b"\0\0\0\2\1\0"):

@@ -25,5 +25,5 @@ mod sight;
 pub use cleaner::Cleaner;
 pub use cleaning::clean_object;
 pub use frames::empty_frames;
-pub use passes::{PassReport, full_pass};
+pub use passes::{PassReport, clean_audit, full_pass};
 pub use rounds::{Rounds, Turn, sweep, visit};

@@ -2,6 +2,7 @@
 ghost use Rattle.std.specs.Prelude.{◌≡◌, ◌⊎◌, ℕ, ◌+◌, ◌^◌, ◌<◌, if◌then◌else◌, IfSome, IsSome};
 ghost use Rattle.std.specs.Prelude.{IfOk, IfErr, OnOk, OnErr};
 ghost use Rattle.s4_types.specs.declared.refusals.Refusal.TheVariants.{NoMemory, NoRoom};
+ghost use Rattle.s4_model.specs.Audit.{audit_of};
 ghost use Rattle.s4_model.specs.Promise.{IsCleanedUp};
 ghost use Rattle.block_log.specs.declared.kinds.BlockKind.TheVariants.{Data};
 ghost use Rattle.block_log.specs.Log.{of_kind};
@@ -153,6 +154,48 @@ fn clean_and_empty<J: Naming>(alloc: Global, drive: &mut Drive<J>) -> Result<Cle
     Ok(cleanings)
 }
 
+/// [`full_pass`], but for the rows of the audit.
+fn pass<J: Naming>(alloc: Global, drive: &mut Drive<J>) -> Result<PassReport, Refusal>
+    ensures cleaned { OnOk result
+        ((o : ℕ) → IsCleaned (store_of drive.old) (store_of drive.new) (state_in drive.old) o) }
+    // In the words of the model: the history and what can be read stay, and exactly the data blocks
+    // are held that this reaches.
+    ensures promise { OnOk result (IsCleanedUp (history_of drive.old) (history_of drive.new) (version_in (store_of drive.new))
+        (λ o p. IsSome (of_kind Data o (store_of drive.new).log.held p)) (PointsTo (store_of drive.new))) }
+    ensures vacated { OnOk result (AllVacated drive.new.store.table) }
+    ensures rewritten { IfOk result
+        (λ report. IsCount (has_other_row drive.old.store.rows drive.new.store.rows)
+        report.rewritten) }
+    ensures removed { IfOk result
+        (λ report. IsCount (has_lost_row drive.old.store.rows drive.new.store.rows)
+        report.removed) }
+    ensures released { IfOk result
+        (λ report. report.released
+        ≡ frames_risen drive.old.store.table.seat drive.new.store.table.seat) }
+    ensures refusal { IfErr result
+        (λ e. StoppedAt (store_of drive.old) (store_of drive.new) (state_in drive.old) e
+        ⊎ StoppedAtReader drive.old drive.new e) }
+    ensures ledger { drive.new.ledger ≡ drive.old.ledger }
+    ensures needed { KeepsVersions (state_in drive.old) (store_of drive.old) (store_of drive.new) }
+{
+    drive.rules();
+    let before = note_generations(drive);
+    let cleanings = clean_and_empty(alloc, drive)?;
+    Ok(PassReport {
+        rewritten: cleanings.rewritten,
+        removed: cleanings.removed,
+        released: count_risen(drive, before.as_slice()),
+    })
+}
+
+/// Drops the rows of the audit that are below the floor. It takes no memory and refuses nothing, and
+/// no answer depends on it: the history, the objects and what is answered stay as they are.
+pub fn clean_audit<J: Naming>(drive: &mut Drive<J>)
+    ensures { drive.new ≡ record drive.old { audit = audit_of (state_in drive.old) } }
+{
+    drive.cut_audit();
+}
+
 /// Cleans all objects by ascending number; then each frame that is sealed and holds nothing is
 /// marked, and each that is being emptied is released, also one that was being emptied before. Ok
 /// tells how many objects have a row with another stamp than before the pass, how many have none
@@ -195,13 +238,10 @@ pub fn full_pass<J: Naming>(alloc: Global, drive: &mut Drive<J>) -> Result<PassR
         ⊎ StoppedAtReader drive.old drive.new e) }
     ensures ledger { drive.new.ledger ≡ drive.old.ledger }
     ensures needed { KeepsVersions (state_in drive.old) (store_of drive.old) (store_of drive.new) }
+    // No row of the audit is kept that is below the floor.
+    ensures audit { OnOk result (drive.new.audit ≡ audit_of (state_in drive.new)) }
 {
-    drive.rules();
-    let before = note_generations(drive);
-    let cleanings = clean_and_empty(alloc, drive)?;
-    Ok(PassReport {
-        rewritten: cleanings.rewritten,
-        removed: cleanings.removed,
-        released: count_risen(drive, before.as_slice()),
-    })
+    let report = pass(alloc, drive)?;
+    clean_audit(drive);
+    Ok(report)
 }

@@ -8,7 +8,7 @@ ghost use Rattle.history_cleaner.specs.Rounds.{Turns, Visits, IsTidied, TriedBel
 
 use crate::cleaning::clean_object;
 use crate::frames::mark_all;
-use crate::passes::{is_gone, is_other};
+use crate::passes::{clean_audit, is_gone, is_other};
 use drive::Drive;
 use object_map::Row;
 use s4_types::limits::MOVE_BLOCKS;
@@ -117,8 +117,9 @@ impl Rounds {
     }
 
     /// The next object with a row has its turn ([`visit`]). Where none is left the round has ended:
-    /// the sealed frames that hold nothing are marked, and the release of each that is being
-    /// emptied is tried. The history and every version that can be read stay.
+    /// the sealed frames that hold nothing are marked, the release of each that is being emptied is
+    /// tried, and the audit's rows below the floor are dropped. The history and every version that
+    /// can be read stay.
     pub fn turn<J: Naming>(&mut self, alloc: Global, drive: &mut Drive<J>) -> Turn
         ensures turn { Turns drive.old self.old.passed result self.new.passed drive.new }
         ensures ledger { drive.new.ledger ≡ drive.old.ledger }
@@ -128,6 +129,7 @@ impl Rounds {
         let Some(object) = drive.next_row(self.passed) else {
             self.passed = ObjectId::new(0);
             sweep(drive);
+            clean_audit(drive);
             return Turn::Ended;
         };
         self.passed = object;

@@ -66,6 +66,10 @@ fn request_without(asking: Asking, asked: &Asked<'_>) -> Request {
             object,
             at: asked.at,
         }),
+        Asking::Audit => Request::Query(Question::Audit {
+            from: Moment::new(number),
+            max: u16::try_from(second).unwrap_or(u16::MAX),
+        }),
         _ => read_of(&reading_of(asked)),
     }
 }

@@ -17,6 +17,7 @@ pub(crate) enum Asking {
     FlushObject,
     Read,
     GetAttr,
+    Audit,
 }
 
 /// What a session does beside that.
@@ -225,6 +226,7 @@ static COMMANDS: [(&str, Verb); 80] = [
     ("$ FlushO # # # [now]", Verb::Ask(Asking::FlushObject)),
     ("$ Read # # # [at] [now]", Verb::Ask(Asking::Read)),
     ("$ GetAttr # [at] [now]", Verb::Ask(Asking::GetAttr)),
+    ("$ Audit # # [now]", Verb::Ask(Asking::Audit)),
     ("$ Resolve # # # [at] [now]", Verb::Act(Acting::Resolve)),
     ("$ Keep # # # [at] [now]", Verb::Tidy(Tidying::Keep)),
     ("$ Fetch", Verb::Act(Acting::Fetch)),

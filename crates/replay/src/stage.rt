@@ -3,7 +3,7 @@
 use crate::text::Text;
 use interleaving::{Act, Answer, Step};
 use s4_model::PlainDrive;
-use s4_types::{Moment, ObjectId, Question, Refusal, Reply, Request, Role};
+use s4_types::{AuditRow, Moment, ObjectId, Question, Refusal, Reply, Request, Role};
 use std::alloc::Global;
 use std::mem;
 
@@ -371,7 +371,22 @@ pub(crate) fn tell_reply(text: &mut Text, reply: &Reply) {
             text.number(changed.number());
             text.bytes(attribute.as_slice());
         }
+        Reply::AuditRows(rows) => {
+            text.word("AuditRows");
+            for row in rows.as_slice() {
+                tell_row(text, row);
+            }
+        }
     }
+}
+
+/// Tells a row of an audit: moment, number of the kind, object, and two numbers.
+fn tell_row(text: &mut Text, row: &AuditRow) {
+    text.number(row.moment.number());
+    text.number(u64::from(row.kind.number()));
+    text.number(row.object.number());
+    text.number(row.first);
+    text.number(row.second);
 }
 
 /// Tells an answer.

@@ -70,6 +70,7 @@ attributes_accept_nothing (Live content attribute created changed) = refl
 pub reads_accept_nothing : (s : State) (r : Request) → accepts (reply_to_read s r) ≡ false
 reads_accept_nothing s (request.Query (question.Read o offset len at)) = data_accepts_nothing _ offset len
 reads_accept_nothing s (request.Query (question.GetAttr o at)) = attributes_accept_nothing _
+reads_accept_nothing s (request.Query (question.Audit from most)) = refl
 reads_accept_nothing s (request.Update update) = refl
 reads_accept_nothing s (request.Control control) = refl
 

@@ -6,16 +6,16 @@ use Rattle.s4_types.specs.declared.requests.AdminRequest.TheVariants.{SetWindow}
 use Rattle.s4_types.specs.declared.requests.Role.TheVariants.{Client}
 use Rattle.s4_types.specs.declared.replies.Reply.TheVariants.{Refused}
 use Rattle.s4_types.specs.declared.refusals.Refusal.{Refusal}
-use Rattle.s4_types.specs.declared.refusals.Refusal.TheVariants.{NotAdmin, ClockEnd}
+use Rattle.s4_types.specs.declared.refusals.Refusal.TheVariants.{NotAdmin, NoMemory, ClockEnd}
 use Rattle.drive.specs.Fields.{DriveFields, SessionFields, history_of, state_in}
 use Rattle.server.specs.Drawing.{ClockFields}
 use Rattle.server.specs.Sequence.{Event, Makes, is_answer, is_accepted}
 use Rattle.server.specs.Sharing.{SharedStep}
 
--- A window is refused to a client, and else at the clock's end alone.
-abbrev pub AWindowIsRefusedByRoleAndClockAlone : Type 0
-AWindowIsRefusedByRoleAndClockAlone = (base : Base) (old new : SessionFields) (window now : ℕ) (refusal : Refusal) → SharedStep base old (Control (SetWindow window)) now (Refused refusal) new
-    → ((old.role ≡ Client) × (refusal ≡ NotAdmin)) ⊎ (refusal ≡ ClockEnd)
+-- A window is refused to a client, and else at the clock's end or for lack of memory alone.
+abbrev pub AWindowIsRefusedByRoleClockOrMemory : Type 0
+AWindowIsRefusedByRoleClockOrMemory = (base : Base) (old new : SessionFields) (window now : ℕ) (refusal : Refusal) → SharedStep base old (Control (SetWindow window)) now (Refused refusal) new
+    → ((old.role ≡ Client) × (refusal ≡ NotAdmin)) ⊎ ((refusal ≡ ClockEnd) ⊎ (refusal ≡ NoMemory))
 
 -- The last drive that events make of a first one has the accepted changes of that, as many more as were accepted in the events, and no
 -- others.

@@ -1,14 +1,14 @@
 //! Laws of sessions that share a drive: each function does nothing, and its contract is the law.
-ghost use Rattle.server.specs.Laws.{AWindowIsRefusedByRoleAndClockAlone, ARunAddsItsChangesAlone};
+ghost use Rattle.server.specs.Laws.{AWindowIsRefusedByRoleClockOrMemory, ARunAddsItsChangesAlone};
 ghost use Rattle.server.specs.Laws.{ARunsClockGoesByItsRequests};
 
 use s4_model::laws::histories_go_on_record_by_record;
 
-/// A session that shares its drive is refused a window only as a client, or where the clock is at
-/// its end.
+/// A session that shares its drive is refused a window only as a client, where the clock is at its
+/// end, or where there is no memory for its row of the audit.
 #[tactic(auto, using(crate::proofs::Windows::window_refused))]
-pub fn a_window_is_refused_by_role_and_clock_alone()
-    ensures { AWindowIsRefusedByRoleAndClockAlone }
+pub fn a_window_is_refused_by_role_clock_or_memory()
+    ensures { AWindowIsRefusedByRoleClockOrMemory }
 {}
 
 /// The drive that a run leaves has the accepted changes that it began with, those that are on the

@@ -391,7 +391,9 @@ impl<'a, J: Running, R: Wait, G: Gate> Locked<'a, J, R, G> {
                 length,
                 at,
             } => self.read(*object, *offset, *length, *at),
-            Question::GetAttr { .. } => self.change(Request::Query(question)),
+            Question::GetAttr { .. } | Question::Audit { .. } => {
+                self.change(Request::Query(question))
+            }
         }
     }
 

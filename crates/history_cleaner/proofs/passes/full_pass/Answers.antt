@@ -1,19 +1,30 @@
-use Rattle.std.proofs.Common.{ap, ◌∙◌}
-use Rattle.drive.specs.Fields.{DriveFields}
-use Rattle.history_cleaner.proofs.Rising.{counted_since}
-use Rattle.history_cleaner.proofs.Passing.{all_same}
-use Rattle.history_cleaner.proofs.Promised.{cleaned_up}
+use Rattle.std.proofs.Common.{refl}
 use Rattle.history_cleaner.proofs.passes.full_pass.Goals as goal
 
+-- the rows of the audit aside, the drive is as the pass left it
 pub returns-clause-cleaned : goal.returns-clause-cleaned
-returns-clause-cleaned g c = all_same c.args.drive.now c.note_generations-before.new.drive c.clean_and_empty.new.drive c.count_risen.new.drive c.note_generations-before.ensures.same c.count_risen.ensures.same c.in_ok-cleanings.ensures.cleaned
-
-pub returns-clause-released : goal.returns-clause-released
-returns-clause-released g c =
-    counted_since c.args.drive.now.store.table.seat c.clean_and_empty.new.drive.store.table.seat c.count_risen.new.drive.store.table.seat c.as_slice.result.now c.count_risen.result
-    (c.as_slice.ensures.value ∙ c.note_generations-before.ensures.noted) c.count_risen.ensures.risen (ap (λ (d : DriveFields). d.store.table.seat) c.count_risen.ensures.same)
+returns-clause-cleaned g c = rw c.clean_audit.ensures c.in_ok-report.ensures.cleaned
 
 pub returns-clause-promise : goal.returns-clause-promise
-returns-clause-promise g c =
-    cleaned_up c.args.drive.now c.note_generations-before.new.drive c.clean_and_empty.new.drive c.count_risen.new.drive c.note_generations-before.ensures.same c.clean_and_empty.ensures.ledger c.clean_and_empty.ensures.needed
-    c.count_risen.ensures.same c.rules.ensures.decodes (returns-clause-cleaned g c)
+returns-clause-promise g c = rw c.clean_audit.ensures c.in_ok-report.ensures.promise
+
+pub returns-clause-vacated : goal.returns-clause-vacated
+returns-clause-vacated g c = rw c.clean_audit.ensures c.in_ok-report.ensures.vacated
+
+pub returns-clause-rewritten : goal.returns-clause-rewritten
+returns-clause-rewritten g c = rw c.clean_audit.ensures c.in_ok-report.ensures.rewritten
+
+pub returns-clause-removed : goal.returns-clause-removed
+returns-clause-removed g c = rw c.clean_audit.ensures c.in_ok-report.ensures.removed
+
+pub returns-clause-released : goal.returns-clause-released
+returns-clause-released g c = rw c.clean_audit.ensures c.in_ok-report.ensures.released
+
+pub returns-clause-ledger : goal.returns-clause-ledger
+returns-clause-ledger g c = rw c.clean_audit.ensures c.pass-report.ensures.ledger
+
+pub returns-clause-needed : goal.returns-clause-needed
+returns-clause-needed g c = rw c.clean_audit.ensures c.pass-report.ensures.needed
+
+pub returns-clause-audit : goal.returns-clause-audit
+returns-clause-audit g c = rw c.clean_audit.ensures refl
