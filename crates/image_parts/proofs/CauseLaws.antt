@@ -8,10 +8,11 @@ use Rattle.image_parts.specs.Rows.{KeepRowRules}
 use Rattle.image_parts.specs.Spans.{KeepSpanRules}
 use Rattle.image_parts.specs.Image.{image_in}
 use Rattle.image_parts.specs.Causes.{IsLong, IsFilled, HasDigest, Tested, FirstCauseBy}
-use Rattle.codec.specs.declared.versions.ImageVersion.{ImageVersion}
+use Rattle.image_parts.specs.declared.marks.ImageMark.{ImageMark}
+use Rattle.image_parts.specs.Marks.{records_of}
 
 -- all tests hold
-pub all_hold : (v : ImageVersion) (bytes : List ℕ) → IsLong bytes → HasHeaderBy v bytes → IsFilled bytes → HasDigest bytes → KeepFrameRulesBy v (image_in bytes).frames → KeepSpanRules (header_in bytes) (image_in bytes).spans → KeepRowRules (header_in bytes) (image_in bytes).rows → FirstCauseBy v bytes None
+pub all_hold : (v : ImageMark) (bytes : List ℕ) → IsLong bytes → HasHeaderBy v bytes → IsFilled bytes → HasDigest bytes → KeepFrameRulesBy (records_of v) (image_in bytes).frames → KeepSpanRules (header_in bytes) (image_in bytes).spans → KeepRowRules (header_in bytes) (image_in bytes).rows → FirstCauseBy v bytes None
 all_hold v bytes long header filled digest frames spans rows = inr (long, inr (header, inr (filled, inr (digest, inr (frames, inr (spans, inr (rows, refl)))))))
 
 -- ---- one cause
@@ -29,24 +30,24 @@ from_row bytes = Tested (KeepRowRules (header_in bytes) (image_in bytes).rows) R
 abbrev from_span : List ℕ → Option Cause → Type 0
 from_span bytes = Tested (KeepSpanRules (header_in bytes) (image_in bytes).spans) SpanCause (from_row bytes)
 
-abbrev from_frame : ImageVersion → List ℕ → Option Cause → Type 0
-from_frame v bytes = Tested (KeepFrameRulesBy v (image_in bytes).frames) Frame (from_span bytes)
+abbrev from_frame : ImageMark → List ℕ → Option Cause → Type 0
+from_frame v bytes = Tested (KeepFrameRulesBy (records_of v) (image_in bytes).frames) Frame (from_span bytes)
 
-abbrev from_digest : ImageVersion → List ℕ → Option Cause → Type 0
+abbrev from_digest : ImageMark → List ℕ → Option Cause → Type 0
 from_digest v bytes = Tested (HasDigest bytes) Digest (from_frame v bytes)
 
-abbrev from_filled : ImageVersion → List ℕ → Option Cause → Type 0
+abbrev from_filled : ImageMark → List ℕ → Option Cause → Type 0
 from_filled v bytes = Tested (IsFilled bytes) Length (from_digest v bytes)
 
-abbrev from_header : ImageVersion → List ℕ → Option Cause → Type 0
+abbrev from_header : ImageMark → List ℕ → Option Cause → Type 0
 from_header v bytes = Tested (HasHeaderBy v bytes) HeaderCause (from_filled v bytes)
 
-pub one_cause : (v : ImageVersion) (bytes : List ℕ) (a b : Option Cause) → FirstCauseBy v bytes a → FirstCauseBy v bytes b → a ≡ b
+pub one_cause : (v : ImageMark) (bytes : List ℕ) (a b : Option Cause) → FirstCauseBy v bytes a → FirstCauseBy v bytes b → a ≡ b
 one_cause v bytes =
     let none : (a b : Option Cause) → (a ≡ None) → (b ≡ None) → a ≡ b = λ a b x y. x ∙ sym y in
     let row = same_tested (KeepRowRules (header_in bytes) (image_in bytes).rows) Row (λ f. f ≡ None) none in
     let span = same_tested (KeepSpanRules (header_in bytes) (image_in bytes).spans) SpanCause (from_row bytes) row in
-    let frame = same_tested (KeepFrameRulesBy v (image_in bytes).frames) Frame (from_span bytes) span in
+    let frame = same_tested (KeepFrameRulesBy (records_of v) (image_in bytes).frames) Frame (from_span bytes) span in
     let digest = same_tested (HasDigest bytes) Digest (from_frame v bytes) frame in
     let filled = same_tested (IsFilled bytes) Length (from_digest v bytes) digest in
     let header = same_tested (HasHeaderBy v bytes) HeaderCause (from_filled v bytes) filled in

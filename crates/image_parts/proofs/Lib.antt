@@ -6,6 +6,7 @@ pub mod CauseLaws
 pub mod NumberLaws
 pub mod HeaderLaws
 pub mod RowLaws
+pub mod AuditLaws
 pub mod FrameLaws
 pub mod ImageLaws
 pub mod OldFrames

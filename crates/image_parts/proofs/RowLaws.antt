@@ -73,10 +73,10 @@ unfolding row_bytes number
 row_length r = refl
 
 -- eight bytes more in front of others
-longer : (n at : ℕ) (bytes rest : List ℕ) → rest ≡ take n (drop (at + 8) bytes) → take 8 (drop at bytes) ++ rest ≡ take (8 + n) (drop at bytes)
+pub longer : (n at : ℕ) (bytes rest : List ℕ) → rest ≡ take n (drop (at + 8) bytes) → take 8 (drop at bytes) ++ rest ≡ take (8 + n) (drop at bytes)
 longer n at bytes rest is = rw (is, ← drop-drop 8 at bytes) (sym (take-add 8 n (drop at bytes)))
 
-eight_back : (at : ℕ) (bytes : List ℕ) → IsBytes bytes → at + 8 ≤ length bytes → number w64 (number_in w64 (drop at bytes)) ≡ take 8 (drop at bytes)
+pub eight_back : (at : ℕ) (bytes : List ℕ) → IsBytes bytes → at + 8 ≤ length bytes → number w64 (number_in w64 (drop at bytes)) ≡ take 8 (drop at bytes)
 eight_back at bytes h le = long_back (drop at bytes) (bytes_after at bytes h) (omega (arith, le, length-drop at bytes))
 
 row_back : (bytes : List ℕ) → IsBytes bytes → 40 ≤ length bytes → row_bytes (row_in bytes) ≡ take 40 bytes

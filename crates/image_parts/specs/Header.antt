@@ -2,11 +2,12 @@
 use Rattle.std.specs.Prelude.{◌≡◌, ℕ, ◌-◌, ◌<◌, ◌≤◌, List, ◌∷◌, ◌++◌, take, drop, slice_index}
 use Rattle.std.specs.Int.{Width, w16, w32, w64, byte_len, from_be_bytes}
 use Rattle.s4_types.specs.declared.limits.TheConstants.{MOST_FRAMES}
-use Rattle.codec.specs.declared.versions.ImageVersion.{ImageVersion}
-use Rattle.codec.specs.declared.versions.ImageVersion.TheVariants.{First, Second}
 use Rattle.codec.specs.Versions.{fewest_frames_by}
 use Rattle.codec.specs.Fields.{number, zeros}
 use Rattle.image_parts.specs.declared.headers.Header.{Header}
+use Rattle.image_parts.specs.declared.marks.ImageMark.{ImageMark}
+use Rattle.image_parts.specs.declared.marks.ImageMark.TheVariants.{Third}
+use Rattle.image_parts.specs.Marks.{records_of, digit_of, IsAuditCount}
 
 -- the numbers of a list are bytes
 abbrev pub AreBytes : List ℕ → Type 0
@@ -16,21 +17,16 @@ AreBytes bytes = (i : ℕ) → slice_index bytes i < 256
 unfoldable pub number_in : Width → List ℕ → ℕ
 number_in w bytes = from_be_bytes w (take (byte_len w) bytes)
 
--- the last byte of the mark that a header begins with: the digit of the version
-abbrev pub digit_of : ImageVersion → ℕ
-digit_of First = 0x31
-digit_of Second = 0x32
-
--- the 512 bytes of a header in an image of a version: "S4IMAGE" and the digit, the numbers, and zeros
-unfoldable pub header_bytes_by : ImageVersion → Header → List ℕ
-header_bytes_by version h =
-    0x53 ∷ 0x34 ∷ 0x49 ∷ 0x4d ∷ 0x41 ∷ 0x47 ∷ 0x45 ∷ digit_of version ∷
+-- the 512 bytes of a header with a mark: "S4IMAGE" and the digit, the numbers, and zeros
+unfoldable pub header_bytes_by : ImageMark → Header → List ℕ
+header_bytes_by mark h =
+    0x53 ∷ 0x34 ∷ 0x49 ∷ 0x4d ∷ 0x41 ∷ 0x47 ∷ 0x45 ∷ digit_of mark ∷
     (number w16 h.frames ++ (zeros 6 ++ (number w64 h.clock ++ (number w64 h.window ++ (number w64 h.floor ++
-    (number w64 h.next ++ (number w32 h.rows ++ (number w32 h.spans ++ zeros 456))))))))
+    (number w64 h.next ++ (number w32 h.rows ++ (number w32 h.spans ++ (number w64 h.audit ++ zeros 448)))))))))
 
--- the 512 bytes of a header: those of the second version, which begin with "S4IMAGE2"
+-- the 512 bytes of a header that is written now, which begin with "S4IMAGE3"
 unfoldable pub header_bytes : Header → List ℕ
-header_bytes h = header_bytes_by Second h
+header_bytes h = header_bytes_by Third h
 
 -- the numbers that are in the places of a header's, whatever the bytes are
 unfoldable pub header_in : List ℕ → Header
@@ -42,29 +38,31 @@ header_in bytes = record {
   next = number_in w64 (drop 40 bytes);
   rows = number_in w32 (drop 48 bytes);
   spans = number_in w32 (drop 52 bytes);
+  audit = number_in w64 (drop 56 bytes);
 }
 
--- a drive of a version can have this many frames
-abbrev pub IsFrameCountBy : ImageVersion → ℕ → Type 0
-IsFrameCountBy version frames = (fewest_frames_by version ≤ frames) × (frames ≤ MOST_FRAMES)
+-- a drive can have this many frames whose image has such a mark
+abbrev pub IsFrameCountBy : ImageMark → ℕ → Type 0
+IsFrameCountBy mark frames = (fewest_frames_by (records_of mark) ≤ frames) × (frames ≤ MOST_FRAMES)
 
--- the rules of a header in an image of a version
-pub record KeepsHeaderRulesBy (version : ImageVersion) (h : Header) : Type 0 where
-  pub frames : IsFrameCountBy version h.frames
+-- the rules of a header with a mark
+pub record KeepsHeaderRulesBy (mark : ImageMark) (h : Header) : Type 0 where
+  pub frames : IsFrameCountBy mark h.frames
   pub window : h.clock - h.window ≤ h.floor
   pub floor : h.floor ≤ h.clock
   pub next : 1 ≤ h.next
   pub given : h.next - 1 ≤ h.clock
+  pub audit : IsAuditCount mark h.audit
 
 -- the rules of a header
 abbrev pub KeepsHeaderRules : Header → Type 0
-KeepsHeaderRules = KeepsHeaderRulesBy Second
+KeepsHeaderRules = KeepsHeaderRulesBy Third
 
--- the bytes begin with the header that is read from them, encoded as in an image of a version, and it keeps the rules
-pub record HasHeaderBy (version : ImageVersion) (bytes : List ℕ) : Type 0 where
-  pub spelled : take 512 bytes ≡ header_bytes_by version (header_in bytes)
-  pub rules : KeepsHeaderRulesBy version (header_in bytes)
+-- the bytes begin with the header that is read from them, encoded with a mark, and it keeps the rules
+pub record HasHeaderBy (mark : ImageMark) (bytes : List ℕ) : Type 0 where
+  pub spelled : take 512 bytes ≡ header_bytes_by mark (header_in bytes)
+  pub rules : KeepsHeaderRulesBy mark (header_in bytes)
 
 -- the bytes begin with the header that is read from them, encoded, and it keeps the rules
 abbrev pub HasHeader : List ℕ → Type 0
-HasHeader = HasHeaderBy Second
+HasHeader = HasHeaderBy Third

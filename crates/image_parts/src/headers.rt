@@ -1,7 +1,9 @@
 ghost use Rattle.std.specs.Prelude.{◌≡◌, ◌≢◌, ◌≤◌, [], ◌∷◌, MatchBool, MatchOption, length, take};
 ghost use Rattle.image_parts.specs.Header.{header_bytes_by, header_in, KeepsHeaderRulesBy};
-ghost use Rattle.image_parts.specs.Header.{HasHeaderBy, digit_of};
+ghost use Rattle.image_parts.specs.Header.{HasHeaderBy};
+ghost use Rattle.image_parts.specs.Marks.{digit_of};
 
+use crate::marks::ImageMark;
 use crate::numbers::{long_at, short_at, word_at};
 use crate::writing::{Writing, put, put_long, put_short, put_word, put_zeros};
 use codec::ImageVersion;
@@ -22,6 +24,8 @@ pub struct Header {
     pub next: ObjectId,
     pub rows: u32,
     pub spans: u32,
+    /// Rows of the audit.
+    pub audit: u64,
 }
 
 /// The numbers that are in a header's places.
@@ -38,26 +42,28 @@ fn numbers_in(bytes: &[u8]) -> Header
         next: ObjectId::new(long_at(bytes, 40)),
         rows: word_at(bytes, 48),
         spans: word_at(bytes, 52),
+        audit: long_at(bytes, 56),
     }
 }
 
-/// The mark that a header begins with.
-fn mark_of(version: ImageVersion) -> &'static [u8; 8]
-    ensures { result.now ≡ 0x53 ∷ 0x34 ∷ 0x49 ∷ 0x4d ∷ 0x41 ∷ 0x47 ∷ 0x45 ∷ digit_of version ∷ [] }
+/// The bytes of a mark.
+fn bytes_of(mark: ImageMark) -> &'static [u8; 8]
+    ensures { result.now ≡ 0x53 ∷ 0x34 ∷ 0x49 ∷ 0x4d ∷ 0x41 ∷ 0x47 ∷ 0x45 ∷ digit_of mark ∷ [] }
 {
-    match version {
-        ImageVersion::First => b"S4IMAGE1",
-        ImageVersion::Second => b"S4IMAGE2",
+    match mark {
+        ImageMark::Earlier(ImageVersion::First) => b"S4IMAGE1",
+        ImageMark::Earlier(ImageVersion::Second) => b"S4IMAGE2",
+        ImageMark::Third => b"S4IMAGE3",
     }
 }
 
-/// The one encoding of a header in an image of a version.
+/// The one encoding of a header with a mark.
 #[tactic(auto, unfolding(crate::specs::Header::header_bytes_by))]
-pub(crate) fn spelling_of(version: ImageVersion, header: &Header) -> Writing
-    ensures { result.items ≡ header_bytes_by version header.now }
+pub(crate) fn spelling_of(mark: ImageMark, header: &Header) -> Writing
+    ensures { result.items ≡ header_bytes_by mark header.now }
 {
     let mut out = Writing::new();
-    put(&mut out, mark_of(version));
+    put(&mut out, bytes_of(mark));
     put_short(&mut out, header.frames);
     put_zeros(&mut out, 6);
     put_long(&mut out, header.clock.number());
@@ -66,45 +72,47 @@ pub(crate) fn spelling_of(version: ImageVersion, header: &Header) -> Writing
     put_long(&mut out, header.next.number());
     put_word(&mut out, header.rows);
     put_word(&mut out, header.spans);
-    put_zeros(&mut out, 456);
+    put_long(&mut out, header.audit);
+    put_zeros(&mut out, 448);
     out
 }
 
-fn keeps_rules(version: ImageVersion, header: &Header) -> bool
-    ensures { MatchBool result (KeepsHeaderRulesBy version header.now)
-        (KeepsHeaderRulesBy version header.now → ⊥) }
+fn keeps_rules(mark: ImageMark, header: &Header) -> bool
+    ensures { MatchBool result (KeepsHeaderRulesBy mark header.now)
+        (KeepsHeaderRulesBy mark header.now → ⊥) }
 {
     let frames = header.frames as usize;
     let clock = header.clock.number();
     let floor = header.floor.number();
     let next = header.next.number();
-    version.fewest_frames() <= frames
+    mark.records().fewest_frames() <= frames
         && frames <= MOST_FRAMES
         && clock.saturating_sub(header.window) <= floor
         && floor <= clock
         && next >= 1
         && next - 1 <= clock
+        && mark.is_audit_count(header.audit)
 }
 
-/// Whether the bytes begin with this header's encoding in an image of a version.
-fn begins_with(version: ImageVersion, bytes: &[u8], header: &Header) -> bool
+/// Whether the bytes begin with this header's encoding with a mark.
+fn begins_with(mark: ImageMark, bytes: &[u8], header: &Header) -> bool
     requires { 512 ≤ length bytes.now }
-    ensures { MatchBool result (take 512 bytes.now ≡ header_bytes_by version header.now)
-        (take 512 bytes.now ≢ header_bytes_by version header.now) }
+    ensures { MatchBool result (take 512 bytes.now ≡ header_bytes_by mark header.now)
+        (take 512 bytes.now ≢ header_bytes_by mark header.now) }
 {
     let (front, _) = bytes.split_at(HEADER_BYTES);
-    front == spelling_of(version, header).as_slice()
+    front == spelling_of(mark, header).as_slice()
 }
 
-/// The header of an image of a version that the bytes begin with. None where they begin with no
-/// header's encoding, or a rule of headers is broken.
-pub(crate) fn read_header(version: ImageVersion, bytes: &[u8]) -> Option<Header>
+/// The header with a mark that the bytes begin with. None where they begin with no such header's
+/// encoding, or a rule of headers is broken.
+pub(crate) fn read_header(mark: ImageMark, bytes: &[u8]) -> Option<Header>
     requires { 512 ≤ length bytes.now }
-    ensures { MatchOption result (HasHeaderBy version bytes.now → ⊥)
-        (λ header. (header ≡ header_in bytes.now) × HasHeaderBy version bytes.now) }
+    ensures { MatchOption result (HasHeaderBy mark bytes.now → ⊥)
+        (λ header. (header ≡ header_in bytes.now) × HasHeaderBy mark bytes.now) }
 {
     let header = numbers_in(bytes);
-    if !begins_with(version, bytes, &header) || !keeps_rules(version, &header) {
+    if !begins_with(mark, bytes, &header) || !keeps_rules(mark, &header) {
         return None;
     }
     Some(header)

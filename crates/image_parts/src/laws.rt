@@ -8,7 +8,7 @@ ghost use Rattle.image_parts.specs.Header.{AreBytes, HasHeaderBy};
 ghost use Rattle.image_parts.specs.Image.{Image, SpellsImage, SpellsImageBy, image_in};
 ghost use Rattle.image_parts.specs.Spans.{KeepSpanRules, span_count};
 ghost use Rattle.image_parts.specs.Causes.{FirstCause, FirstCauseBy};
-ghost use Rattle.codec.specs.declared.versions.ImageVersion.{ImageVersion};
+ghost use Rattle.image_parts.specs.declared.marks.ImageMark.{ImageMark as Mark};
 ghost use Rattle.image_parts.specs.declared.headers.Header.{Header as Head};
 
 /// Bytes that no test refuses encode the image that is read from them.
@@ -43,22 +43,22 @@ pub fn a_list_has_few_spans()
         → span_count object spans ≤ RUNS_IN_A_LIST }
 {}
 
-/// The same of images of a version: bytes that no test refuses encode the image that is read from
+/// The same of images with a mark: bytes that no test refuses encode the image that is read from
 /// them, what encodes an image is read as that image and as no other, and the tests come to one
 /// cause.
-pub fn images_of_a_version()
-    ensures found { (version : ImageVersion) (bytes : List ℕ) → AreBytes bytes
-        → FirstCauseBy version bytes None → SpellsImageBy version bytes (image_in bytes) }
-    ensures tests { (version : ImageVersion) (bytes : List ℕ) (image : Image)
-        → SpellsImageBy version bytes image → FirstCauseBy version bytes None }
-    ensures read { (version : ImageVersion) (bytes : List ℕ) (image : Image)
-        → SpellsImageBy version bytes image → image_in bytes ≡ image }
-    ensures cause { (version : ImageVersion) (bytes : List ℕ) (found other : Option Found)
-        → FirstCauseBy version bytes found → FirstCauseBy version bytes other → found ≡ other }
+pub fn images_with_a_mark()
+    ensures found { (mark : Mark) (bytes : List ℕ) → AreBytes bytes
+        → FirstCauseBy mark bytes None → SpellsImageBy mark bytes (image_in bytes) }
+    ensures tests { (mark : Mark) (bytes : List ℕ) (image : Image)
+        → SpellsImageBy mark bytes image → FirstCauseBy mark bytes None }
+    ensures read { (mark : Mark) (bytes : List ℕ) (image : Image)
+        → SpellsImageBy mark bytes image → image_in bytes ≡ image }
+    ensures cause { (mark : Mark) (bytes : List ℕ) (found other : Option Found)
+        → FirstCauseBy mark bytes found → FirstCauseBy mark bytes other → found ≡ other }
 {}
 
-/// No bytes begin with headers of both versions.
-pub fn one_version_a_header()
-    ensures { (bytes : List ℕ) (one other : ImageVersion) → HasHeaderBy one bytes
+/// No bytes begin with headers with two marks.
+pub fn one_mark_a_header()
+    ensures { (bytes : List ℕ) (one other : Mark) → HasHeaderBy one bytes
         → HasHeaderBy other bytes → one ≡ other }
 {}

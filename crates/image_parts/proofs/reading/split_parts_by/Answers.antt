@@ -8,4 +8,4 @@ pub returns-clause-header : goal.returns-clause-header
 returns-clause-header c = ap header_of c.in-Some-of.ensures.0 ∙ counted c.args.bytes.now
 
 pub returns-clause-rules : goal.returns-clause-rules
-returns-clause-rules c = subst (KeepsHeaderRulesBy c.args.version) (sym (ap header_of c.in-Some-of.ensures.0 ∙ counted c.args.bytes.now)) c.in-Some.ensures.1.rules
+returns-clause-rules c = subst (KeepsHeaderRulesBy c.args.mark) (sym (ap header_of c.in-Some-of.ensures.0 ∙ counted c.args.bytes.now)) c.in-Some.ensures.1.rules

@@ -1,6 +1,6 @@
 use Rattle.image_parts.proofs.CauseLaws.{one_cause}
 use Rattle.image_parts.proofs.ImageLaws.{found, again}
-use Rattle.image_parts.proofs.laws.images_of_a_version.Goals as goal
+use Rattle.image_parts.proofs.laws.images_with_a_mark.Goals as goal
 
 pub returns-clause-found : goal.returns-clause-found
 returns-clause-found c = found
