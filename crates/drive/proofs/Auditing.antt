@@ -1,8 +1,8 @@
 -- The rows that a drive keeps of its audit go on with each record of its history.
-use Rattle.std.proofs.Common.{◌≡◌, ℕ, ◌<◌, ◌≤◌, ◌-◌, max, Bool, true, false, cond, List, [], ◌∷◌, ◌++◌, length, take, Option, Some, None, Result, Ok, Err, IfOk, IfErr, inl, inr, refl, sym, ap, subst, ◌∙◌, arith}
+use Rattle.std.proofs.Common.{◌≡◌, ℕ, ◌<◌, ◌≤◌, ◌-◌, max, Bool, true, false, cond, List, [], ◌∷◌, ◌++◌, append-nil, length, take, Option, Some, None, Result, Ok, Err, IfOk, IfErr, inl, inr, refl, sym, ap, subst, ◌∙◌, arith}
 use Rattle.std.specs.Prelude.{nat_lt}
 use Rattle.std.specs.List.{AllByRecursion}
-use Rattle.std.proofs.lemmas.Bool.{cond-true, cond-false, lt-ltb, le-ltb}
+use Rattle.std.proofs.lemmas.Bool.{cases_lt, cond-true, cond-false, lt-ltb, le-ltb}
 use Rattle.std.proofs.lemmas.List.{length-take}
 use Rattle.s4_types.specs.History.{Base}
 use Rattle.s4_types.specs.Sizes.{ReplyFits}
@@ -15,7 +15,8 @@ use Rattle.s4_types.specs.declared.requests.Question.TheVariants.{Audit}
 use Rattle.s4_types.specs.declared.audit_rows.AuditRow.{AuditRow}
 use Rattle.s4_types.specs.declared.changes.Accepted.{Accepted}
 use Rattle.s4_types.specs.declared.changes.Change.{Change}
-use Rattle.s4_model.specs.Audit.{row_by, audit_row, audit_of, rows_from, rows_asked, KeepsAudit}
+use Rattle.s4_model.specs.Audit.{row_by, audit_row, all_rows, audit_of, rows_from, rows_asked, KeepsAudit, IsAuditRow, IsRowBetween, AreAuditRows, MomentsAscend}
+use Rattle.s4_model.proofs.AuditLaws.{from_cut, from_kept, all_kept}
 use Rattle.s4_model.specs.Laws.{KeptAuditsGoOn}
 use Rattle.s4_model.specs.Refusals.{first_refusal, is_client}
 use Rattle.s4_model.specs.Sound.{IsSound}
@@ -69,6 +70,13 @@ none_kept l base named rows is same none empty =
     subst (λ (x : Ledger). KeepsAudit (state_of x.history) rows) (ap begun same ∙ sym is)
     (subst (KeepsAudit s) (sym empty) (record { whole = whole; past = tt }))
 
+-- a drive that begins with the rows of its base keeps these
+pub base_kept : (l : Ledger) (base named : Base) (rows : List AuditRow) → l ≡ begun named → base ≡ named → base.audit ≡ rows → AllByRecursion (λ row. row.moment ≤ base.clock) rows → KeepsAudit (state_of l.history) rows
+base_kept l base named rows is same kept past =
+    let s : State = state_of (begun base).history in
+    let whole : rows_from s.floor rows ≡ audit_of s = ap (rows_from s.floor) (sym (append-nil base.audit ∙ kept)) in
+    subst (λ (x : Ledger). KeepsAudit (state_of x.history) rows) (ap begun same ∙ sym is) (record { whole = whole; past = past })
+
 -- ---- the answer to an Audit
 
 pub audit_answered : KeptAuditsGoOn → (s : State) (kept answered : List AuditRow) (from lowest most : ℕ) → KeepsAudit s kept → lowest ≡ max from s.floor → answered ≡ take most (rows_from lowest kept)
@@ -106,3 +114,25 @@ audit_of_parts d base l store audit w next is kept = subst (λ (x : DriveFields)
 
 pub cut_rows : (s : State) (kept after : List AuditRow) (floor : ℕ) → KeepsAudit s kept → floor ≡ s.floor → after ≡ rows_from floor kept → after ≡ audit_of s
 cut_rows s kept after floor is same cut = cut ∙ ap (λ (t : ℕ). rows_from t kept) same ∙ is.whole
+
+-- ---- the rows that are saved
+
+all_late : (t : ℕ) (rows : List AuditRow) → AllByRecursion (λ row. t ≤ row.moment) (rows_from t rows)
+all_late t [] = tt
+all_late t (row ∷ rows) =
+    elim (cases_lt row.moment t) as (λ _. AllByRecursion (λ r. t ≤ r.moment) (rows_from t (row ∷ rows))) [
+      | inl early ↦ subst (AllByRecursion (λ r. t ≤ r.moment)) (sym (from_cut t row rows early)) (all_late t rows)
+      | inr late ↦ subst (AllByRecursion (λ r. t ≤ r.moment)) (sym (from_kept t row rows late)) (late, all_late t rows)
+    ]
+
+all_between : (floor clock next : ℕ) (rows : List AuditRow) → AllByRecursion (λ row. floor ≤ row.moment) rows → AllByRecursion (λ row. row.moment ≤ clock) rows → AllByRecursion (IsAuditRow next) rows
+    → AllByRecursion (IsRowBetween floor clock next) rows
+all_between floor clock next [] late past are = tt
+all_between floor clock next (row ∷ rows) late past are = ((late.0, past.0, are.0), all_between floor clock next rows late.1 past.1 are.1)
+
+pub are_audit_rows : KeptAuditsGoOn → (s : State) (kept rows : List AuditRow) → KeepsAudit s kept → IsSound s → rows ≡ audit_of s → MomentsAscend rows → AreAuditRows s.floor s.clock s.next rows
+are_audit_rows goes s kept rows keeps sound is ascend = record {
+  each = subst (AllByRecursion (IsRowBetween s.floor s.clock s.next)) (sym is)
+      (all_between s.floor s.clock s.next (audit_of s) (all_late s.floor (all_rows s)) (goes s kept keeps).cut.past (all_kept (IsAuditRow s.next) s.floor (all_rows s) sound.audited));
+  ascend = ascend;
+}

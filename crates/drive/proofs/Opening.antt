@@ -4,6 +4,8 @@ use Rattle.std.proofs.lemmas.Bool.{cases_lt, cases_eq, cond-true, cond-false, eq
 use Rattle.std.specs.Prelude.{nat_le, zero, suc}
 use Rattle.std.specs.List.{AllByRecursion, filter_map, range_with_len, cons_option, list_any}
 use Rattle.s4_types.specs.Pointer.{Place}
+use Rattle.s4_types.specs.declared.audit_rows.AuditRow.{AuditRow}
+use Rattle.s4_model.specs.Audit.{IsAuditRow}
 use Rattle.s4_types.specs.declared.versions.Version.{Version}
 use Rattle.s4_types.specs.declared.versions.Version.TheVariants.{Absent}
 use Rattle.s4_model.specs.State.{State, state_of}
@@ -119,13 +121,13 @@ by_row law s o t None is store = refl
 by_row law s o t (Some row) is store = row_told law s.log.held o t row (store.objects o row is).stands
 
 pub base_tells : GroupsAscend → ABaseTellsTheStoresVersions
-base_tells law s w next o t store none =
+base_tells law s w next audit o t store none =
     ap (λ (pairs : List (ℕ × Version)). current_of pairs t) (based s next o none)
     ∙ by_row law s o t (row_of s.rows o) refl store
 
 pub base_listed : GroupsAscend → ABaseListsEachObjectOnce
 unfolding versions_below
-base_listed law s w next store = record {
+base_listed law s w next audit store = record {
   once = all_once s.log.held (row_of s.rows) 0 next;
   dated = all_dated s.log.held (row_of s.rows) 0 next (λ o row is. row_dated law s.log.held o s.latest row (store.objects o row is).stands (store.orderly o row is));
 }
@@ -141,43 +143,43 @@ no_row_of_0 s None is store = refl
 no_row_of_0 s (Some row) is store = let numbered : 1 ≤ 0 = (store.objects 0 row is).stands.object in absurd (omega arith)
 
 -- at each moment the state of an opened drive tells the store's version
-opened_version : ThePresentStays → ABaseTellsTheStoresVersions → (s : StoreFields) (w : Timeline) (next o t : ℕ) → IsStore s → NoneFrom next s → s.latest ≤ w.clock
-    → version_of (state_of (opened_history s w next)) o t ≡ version_in s o t
-opened_version stays tells s w next o t store none past = elim (cases_lt w.clock t) [
+opened_version : ThePresentStays → ABaseTellsTheStoresVersions → (s : StoreFields) (w : Timeline) (next : ℕ) (audit : List AuditRow) (o t : ℕ) → IsStore s → NoneFrom next s → s.latest ≤ w.clock
+    → version_of (state_of (opened_history s w next audit)) o t ≡ version_in s o t
+opened_version stays tells s w next audit o t store none past = elim (cases_lt w.clock t) [
   | inl late ↦
       cond-false (nat_le t w.clock) (current_of (versions_of (versions_below s next) o) t) (current_of (versions_of (versions_below s next) o) w.clock) (lt-leb t w.clock late)
-      ∙ tells s w next o w.clock store none
+      ∙ tells s w next audit o w.clock store none
       ∙ (stays s o w.clock store past).1
       ∙ sym (stays s o t store (omega arith)).1
   | inr by ↦
       cond-true (nat_le t w.clock) (current_of (versions_of (versions_below s next) o) t) (current_of (versions_of (versions_below s next) o) w.clock) (le-leb t w.clock by)
-      ∙ tells s w next o t store none
+      ∙ tells s w next audit o t store none
 ]
 
 -- the spans of its state are its window's runs
-pub opened_spans : (s : StoreFields) (w : Timeline) (next : ℕ) → spans_of (state_of (opened_history s w next)) ≡ w.runs
-opened_spans s w next = append-nil w.runs
+pub opened_spans : (s : StoreFields) (w : Timeline) (next : ℕ) (audit : List AuditRow) → spans_of (state_of (opened_history s w next audit)) ≡ w.runs
+opened_spans s w next audit = append-nil w.runs
 
 -- a drive that has just begun has what its parts have
 pub begins : ThePresentStays → ABaseTellsTheStoresVersions → AnOpenedDriveBeginsAsItsParts
-begins stays tells s w next store none past reach = record {
+begins stays tells s w next audit store none past reach = record {
   clock = refl;
   window = refl;
   floor = omega arith;
   next = refl;
-  spans = opened_spans s w next;
-  versions = λ o t. opened_version stays tells s w next o t store none past;
+  spans = opened_spans s w next audit;
+  versions = λ o t. opened_version stays tells s w next audit o t store none past;
 }
 
-pub kept_opened : ThePresentStays → ABaseTellsTheStoresVersions → ABaseListsEachObjectOnce → (s : StoreFields) (w : Timeline) (next : ℕ)
+pub kept_opened : ThePresentStays → ABaseTellsTheStoresVersions → ABaseListsEachObjectOnce → (s : StoreFields) (w : Timeline) (next : ℕ) (audit : List AuditRow)
     → IsStore s → s.latest ≤ w.clock → w.floor ≤ w.clock → w.clock - w.window ≤ w.floor → 1 ≤ next → next ≤ w.clock + 1 → NoneFrom next s
-    → AllByRecursion (EndsBefore w.clock) w.runs → AllByRecursion (IsOfGiven next) w.runs
-    → IsKeptDrive (state_of (opened_history s w next)) s w next
-kept_opened stays tells lists s w next store past below reach numbered made none ends given =
-    let begun : State = state_of (opened_history s w next) in
-    let spans : spans_of begun ≡ w.runs = opened_spans s w next in
+    → AllByRecursion (EndsBefore w.clock) w.runs → AllByRecursion (IsOfGiven next) w.runs → AllByRecursion (IsAuditRow next) audit
+    → IsKeptDrive (state_of (opened_history s w next audit)) s w next
+kept_opened stays tells lists s w next audit store past below reach numbered made none ends given rows =
+    let begun : State = state_of (opened_history s w next audit) in
+    let spans : spans_of begun ≡ w.runs = opened_spans s w next audit in
     let floor : begun.floor ≡ w.floor = omega arith in
-    let listed : IsListed (versions_below s next) = lists s w next store in
+    let listed : IsListed (versions_below s next) = lists s w next audit store in
     record {
       window = record {
         clock = refl;
@@ -188,7 +190,7 @@ kept_opened stays tells lists s w next store past below reach numbered made none
       };
       next = refl;
       store = store;
-      versions = λ o t needed. sym (opened_version stays tells s w next o t store none past);
+      versions = λ o t needed. sym (opened_version stays tells s w next audit o t store none past);
       past = past;
       unborn = none;
       sound = record {
@@ -200,10 +202,10 @@ kept_opened stays tells lists s w next store past below reach numbered made none
         stamped = omega arith;
         past = subst (AllByRecursion (EndsBefore w.clock)) (sym spans) ends;
         owned = subst (AllByRecursion (IsOfGiven next)) (sym spans) given;
-        unborn = λ o t late. opened_version stays tells s w next o t store none past ∙ no_version s o t (none o late);
-        nobody = λ t. opened_version stays tells s w next 0 t store none past ∙ no_version s 0 t (no_row_of_0 s (row_of s.rows 0) refl store);
+        unborn = λ o t late. opened_version stays tells s w next audit o t store none past ∙ no_version s o t (none o late);
+        nobody = λ t. opened_version stays tells s w next audit 0 t store none past ∙ no_version s 0 t (no_row_of_0 s (row_of s.rows 0) refl store);
         listed = listed.once;
         dated = listed.dated;
-        audited = tt;
+        audited = subst (AllByRecursion (IsAuditRow next)) (sym (append-nil audit)) rows;
       };
     }

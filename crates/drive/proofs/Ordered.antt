@@ -81,4 +81,4 @@ lower low least (e ∷ rows) le ascend = let from : low ≤ e.0 = ascend.0 in (o
 -- Where the rows of a store are by ascending objects, a base lists their versions in the same order.
 pub base_in_order : ABaseListsRowsInOrder
 unfolding versions_below
-base_in_order s w low next none ascend = in_order s.log.held s.rows 0 next (lower low 0 s.rows (omega arith) ascend) (λ o past. none o (omega arith))
+base_in_order s w low next audit none ascend = in_order s.log.held s.rows 0 next (lower low 0 s.rows (omega arith) ascend) (λ o past. none o (omega arith))

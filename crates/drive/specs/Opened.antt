@@ -4,6 +4,7 @@ use Rattle.std.specs.List.{AllByRecursion, filter_map, range_with_len}
 use Rattle.atomic_table.specs.Seated.{TableId}
 use Rattle.s4_types.specs.Pointer.{Place}
 use Rattle.s4_types.specs.History.{Base, History}
+use Rattle.s4_types.specs.declared.audit_rows.AuditRow.{AuditRow}
 use Rattle.s4_types.specs.declared.versions.Version.{Version}
 use Rattle.s4_model.specs.State.{State, state_of}
 use Rattle.s4_model.specs.Visible.{spans_of}
@@ -23,12 +24,14 @@ use Rattle.version_store.specs.Store.{StoreOf, StoreFields, IsStore}
 use Rattle.version_store.specs.Versions.{version_in}
 use Rattle.window.specs.Timeline.{Timeline}
 
--- a drive that was opened and has no name: the table of its accept word, its objects, its window and the next object's number
+-- a drive that was opened and has no name: the table of its accept word, its objects, its window, the next object's number, and
+-- the rows of its audit
 pub record OpenedFields : Type 0 where
   pub accepts : TableId
   pub store : StoreOf Table
   pub timeline : Timeline
   pub next : ℕ
+  pub audit : List AuditRow
 
 -- whether there are entries, the first of them of this moment
 abbrev pub begins_at : ℕ → List EntryFields → Bool
@@ -54,13 +57,13 @@ object_by held o row = option_map (λ r. (o, versions_of_row held o r)) row
 unfoldable pub versions_below : StoreFields → ℕ → List (ℕ × List (ℕ × Version))
 versions_below s next = filter_map (λ o. object_by s.log.held o (row_of s.rows o)) (range_with_len 0 next)
 
--- what a drive of these objects begins with, under this window and with this number for the next object
-abbrev pub base_of : StoreFields → Timeline → ℕ → Base
-base_of s w next = record { versions = versions_below s next; clock = w.clock; window = w.window; floor = w.floor; next = next; spans = w.runs; audit = [] }
+-- what a drive of these objects begins with, under this window, with this number for the next object and these rows of the audit
+abbrev pub base_of : StoreFields → Timeline → ℕ → List AuditRow → Base
+base_of s w next audit = record { versions = versions_below s next; clock = w.clock; window = w.window; floor = w.floor; next = next; spans = w.runs; audit = audit }
 
 -- its history, to which nothing has come yet
-abbrev pub opened_history : StoreFields → Timeline → ℕ → History
-opened_history s w next = record { base = base_of s w next; records = [] }
+abbrev pub opened_history : StoreFields → Timeline → ℕ → List AuditRow → History
+opened_history s w next audit = record { base = base_of s w next audit; records = [] }
 
 -- no object has a row whose number is the next one or a later one
 abbrev pub NoneFrom : ℕ → StoreFields → Type 0
@@ -102,16 +105,16 @@ ARowsVersionsAscend = (held : Place → Option Stored) (o latest : ℕ) (row : R
 
 -- At each moment a base tells of each object the version that the object has in the store.
 abbrev pub ABaseTellsTheStoresVersions : Type 0
-ABaseTellsTheStoresVersions = (s : StoreFields) (w : Timeline) (next o t : ℕ) → IsStore s → NoneFrom next s → current_of (versions_of (base_of s w next).versions o) t ≡ version_in s o t
+ABaseTellsTheStoresVersions = (s : StoreFields) (w : Timeline) (next : ℕ) (audit : List AuditRow) (o t : ℕ) → IsStore s → NoneFrom next s → current_of (versions_of (base_of s w next audit).versions o) t ≡ version_in s o t
 
 -- Where a store's rows are by ascending objects, a base lists their versions in their order.
 abbrev pub ABaseListsRowsInOrder : Type 0
-ABaseListsRowsInOrder = (s : StoreFields) (w : Timeline) (low next : ℕ) → NoneFrom next s → RowsAscend low s.rows → (base_of s w next).versions ≡ versions_listed s
+ABaseListsRowsInOrder = (s : StoreFields) (w : Timeline) (low next : ℕ) (audit : List AuditRow) → NoneFrom next s → RowsAscend low s.rows → (base_of s w next audit).versions ≡ versions_listed s
 
 -- A base lists each object once, with the moments of its versions ascending strictly.
 abbrev pub ABaseListsEachObjectOnce : Type 0
-ABaseListsEachObjectOnce = (s : StoreFields) (w : Timeline) (next : ℕ) → IsStore s → IsListed (base_of s w next).versions
+ABaseListsEachObjectOnce = (s : StoreFields) (w : Timeline) (next : ℕ) (audit : List AuditRow) → IsStore s → IsListed (base_of s w next audit).versions
 
 -- The state of a drive that was just opened is that of its parts, where its floor is as high as its window reaches.
 abbrev pub AnOpenedDriveBeginsAsItsParts : Type 0
-AnOpenedDriveBeginsAsItsParts = (s : StoreFields) (w : Timeline) (next : ℕ) → IsStore s → NoneFrom next s → s.latest ≤ w.clock → w.clock - w.window ≤ w.floor → IsBegun s w next (state_of (opened_history s w next))
+AnOpenedDriveBeginsAsItsParts = (s : StoreFields) (w : Timeline) (next : ℕ) (audit : List AuditRow) → IsStore s → NoneFrom next s → s.latest ≤ w.clock → w.clock - w.window ≤ w.floor → IsBegun s w next (state_of (opened_history s w next audit))

@@ -20,8 +20,8 @@ use window::Window;
 ///
 /// Contracts see the history with the seat that each change was accepted for, the objects over
 /// their blocks, and which rows of the audit are kept: from the floor on these are the audit, and
-/// no answer shows whether others are kept below it. `J` names the drive and what its history begins with; a session of another drive
-/// has another type.
+/// no answer shows whether others are kept below it. `J` names the drive and what its history
+/// begins with; a session of another drive has another type.
 #[derive(Drop)]
 pub struct Drive<J: Naming> {
     pub(crate) alloc: Global,

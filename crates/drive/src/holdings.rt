@@ -4,6 +4,7 @@ ghost use Rattle.std.specs.Prelude.{IfOk, IfErr, option_map};
 ghost use Rattle.s4_types.specs.declared.refusals.Refusal.TheVariants.{NoMemory};
 ghost use Rattle.std.specs.List.{AllByRecursion};
 ghost use Rattle.s4_types.specs.declared.limits.TheConstants.{RUNS_IN_ALL};
+ghost use Rattle.s4_model.specs.Audit.{AreAuditRows, audit_of};
 ghost use Rattle.s4_model.specs.Visible.{IsSeenBetween, spans_of};
 ghost use Rattle.s4_model.specs.Sound.{IsSound, IsOfGiven};
 ghost use Rattle.window.specs.Chunks.{AllNumbered};
@@ -24,7 +25,8 @@ ghost use Rattle.drive.specs.Opened.{NoneFrom};
 use crate::drive::Drive;
 use codec::{Entry, Inode};
 use object_map::Row;
-use s4_types::{Moment, ObjectId, Refusal, Span};
+use s4_model::laws::the_audit_goes_on_row_by_row;
+use s4_types::{AuditRows, Moment, ObjectId, Refusal, Span};
 use segment_table::OverFrames;
 use segment_word::Naming;
 use version_store::laws::counts_are_of_rows;
@@ -119,6 +121,21 @@ impl<J: Naming> Drive<J> {
         ensures refusal { IfErr result (λ e. e ≡ NoMemory) }
     {
         self.window.spans(self.alloc)
+    }
+
+    /// The rows of the audit, in memory of their own.
+    ///
+    /// NoMemory alone, where the memory for them is refused.
+    pub fn audit_rows(&self) -> Result<AuditRows, Refusal>
+        ensures rows { IfOk result (λ rows. rows ≡ audit_of (state_in self.now)) }
+        ensures kept { IfOk result
+            (AreAuditRows (state_in self.now).floor (state_in self.now).clock
+            (state_in self.now).next) }
+        ensures refusal { IfErr result (λ e. e ≡ NoMemory) }
+    {
+        the_audit_goes_on_row_by_row();
+        let rows = self.audit.all_from(self.window.floor())?;
+        Ok(rows)
     }
 
     /// Whether some moment of an object, of those from `first` to `last`, can be read.

@@ -2,6 +2,7 @@
 ghost use Rattle.std.specs.Prelude.{◌≡◌, ◌⊎◌, ◌≤◌, ◌+◌, ◌-◌, ℕ, IfOk, IfErr};
 ghost use Rattle.std.specs.List.{AllByRecursion};
 ghost use Rattle.s4_types.specs.declared.refusals.Refusal.TheVariants.{NoMemory, Busy};
+ghost use Rattle.s4_model.specs.Audit.{IsAuditRow};
 ghost use Rattle.s4_model.specs.Sound.{EndsBefore, IsOfGiven};
 ghost use Rattle.segment_word.specs.AcceptViews.{begun};
 ghost use Rattle.segment_table.specs.Room.{log_of};
@@ -22,7 +23,7 @@ use version_store::laws::the_present_stays;
 use window::Window;
 
 /// A drive that was opened and has no name yet. Contracts see the table of its accept word, its
-/// objects, its window and the next object's number.
+/// objects, its window, the next object's number and the rows of its audit.
 #[derive(Drop)]
 pub struct OpenedDrive {
     alloc: Global,
@@ -30,9 +31,12 @@ pub struct OpenedDrive {
     store: Store<SegmentTable>,
     window: Window,
     next: ObjectId,
+    audit: AuditLog,
 }
 
 impl Model for OpenedDrive {
+    ghost use Rattle.std.specs.Prelude.{◌≤◌};
+    ghost use Rattle.std.specs.List.{AllByRecursion};
     ghost use Rattle.s4_model.specs.State.{state_of};
     ghost use Rattle.segment_table.specs.Room.{log_of};
     ghost use Rattle.version_store.specs.Store.{fields_of};
@@ -41,14 +45,14 @@ impl Model for OpenedDrive {
 
     ghost Value = { OpenedFields };
 
-    ghost view = { λ d. record { accepts = d.accepts; store = d.store; timeline = d.window; next = d.next } };
+    ghost view = { λ d. record { accepts = d.accepts; store = d.store; timeline = d.window; next = d.next; audit = d.audit.rows } };
 
-    ghost invariant = { λ d. IsKeptDrive (state_of (opened_history (fields_of log_of d.store) d.window d.next)) (fields_of log_of d.store) d.window d.next };
+    ghost invariant = { λ d. IsKeptDrive (state_of (opened_history (fields_of log_of d.store) d.window d.next d.audit.rows)) (fields_of log_of d.store) d.window d.next × AllByRecursion (λ row. row.moment ≤ d.window.clock) d.audit.rows };
 }
 
 impl OpenedDrive {
     /// A drive of these objects, under this window; `next` is the number that the next object gets.
-    /// Its history begins with what they represent.
+    /// Its history begins with what they represent, and with these rows of its audit.
     ///
     /// NoMemory where memory was refused, Busy where a count of those that share it was full.
     pub fn from_parts(
@@ -56,6 +60,7 @@ impl OpenedDrive {
         store: Store<SegmentTable>,
         window: Window,
         next: ObjectId,
+        audit: AuditLog,
     ) -> Result<Self, Refusal>
         requires store { IsStore (fields_of log_of store) }
         requires past { store.latest ≤ window.clock }
@@ -66,9 +71,12 @@ impl OpenedDrive {
         requires unborn { NoneFrom next (fields_of log_of store) }
         requires ended { AllByRecursion (EndsBefore window.clock) window.runs }
         requires owned { AllByRecursion (IsOfGiven next) window.runs }
+        requires rows { AllByRecursion (IsAuditRow next) audit.rows }
+        requires accepted { AllByRecursion (λ row. row.moment ≤ window.clock) audit.rows }
         ensures store { IfOk result (λ d. d.store ≡ store) }
         ensures timeline { IfOk result (λ d. d.timeline ≡ window) }
         ensures next { IfOk result (λ d. d.next ≡ next) }
+        ensures audit { IfOk result (λ d. d.audit ≡ audit.rows) }
         ensures refusal { IfErr result (λ e. (e ≡ NoMemory) ⊎ (e ≡ Busy)) }
     {
         a_base_is_what_its_objects_stand_for();
@@ -80,17 +88,20 @@ impl OpenedDrive {
             store,
             window,
             next,
+            audit,
         })
     }
 
     /// The drive, under a name that says which one it is and what its history begins with.
-    #[tactic(auto, using(crate::proofs::Auditing::none_kept))]
+    #[tactic(auto, using(crate::proofs::Auditing::base_kept))]
     pub fn named<J: Naming>(self) -> Drive<J>
         requires accepts { self.accepts ≡ J.accepts }
         requires frames { self.store.table.seat.table ≡ J.frames }
-        requires base { base_of (fields_of log_of self.store) self.timeline self.next ≡ J.base }
+        requires base { base_of (fields_of log_of self.store) self.timeline self.next
+            self.audit ≡ J.base }
         ensures ledger { result.ledger ≡ begun J.base }
         ensures store { result.store ≡ self.store }
+        ensures audit { result.audit ≡ self.audit }
         ensures frames { result.store.table.seat.table ≡ J.frames }
     {
         let OpenedDrive {
@@ -99,6 +110,7 @@ impl OpenedDrive {
             store,
             window,
             next,
+            audit,
         } = self;
         let (sessions, history) = accepts.named::<J>();
         Drive {
@@ -108,7 +120,7 @@ impl OpenedDrive {
             store: store.named::<J>(),
             window,
             next,
-            audit: AuditLog::new(alloc),
+            audit,
         }
     }
 }

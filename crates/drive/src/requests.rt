@@ -42,9 +42,10 @@ impl<J: Naming> Drive<J> {
     /// than `CHAIN_ENTRY_BYTES`, else with NoSpace where there is less room than blocks are
     /// appended. NoMemory comes only where a growth was refused. A question and a SetWindow are
     /// answered so only where nothing else refuses them, a change of an object also in place of
-    /// ChainFull and NoSpace, a Flush and a FlushO in place of TooManySpans and ClockEnd. The contract lets a Read that no check
-    /// refuses be Busy, as one that is resolved, where it needs a block of a sealed frame; this
-    /// drive reads at once and takes no pin for it, so that it never is.
+    /// ChainFull and NoSpace, a Flush and a FlushO in place of TooManySpans and ClockEnd. The
+    /// contract lets a Read that no check refuses be Busy, as one that is resolved, where it needs
+    /// a block of a sealed frame; this drive reads at once and takes no pin for it, so that it
+    /// never is.
     pub fn request(&mut self, session: &mut Session<J>, request: Request, now: Moment) -> Reply
         // The history goes on by a step of the model.
         ensures step { Step (history_of self.old) session.old.role request now result

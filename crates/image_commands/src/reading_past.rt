@@ -58,7 +58,7 @@ fn write_named<'a, J: Naming, W: Sink>(
 ) -> Result<(), Fault<'a>>
     requires accepts { opened.accepts ≡ J.accepts }
     requires frames { opened.store.table.seat.table ≡ J.frames }
-    requires base { base_of (fields_of log_of opened.store) opened.timeline opened.next ≡ J.base }
+    requires base { base_of (fields_of log_of opened.store) opened.timeline opened.next opened.audit ≡ J.base }
     requires writer { W.failures writer.old + 1 < 2 ^ 64 }
     ensures version { OnOk result
         (GivesVersion (version_from J.base asked.entry.object asked.entry.moment)

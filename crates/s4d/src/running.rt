@@ -164,7 +164,7 @@ fn run_begun<'a, J: Running + Send + Sync, T: Threads + Wait + Clock + Sync, F: 
     requires accepts { begun.opened.accepts ≡ J.accepts }
     requires frames { begun.opened.store.table.seat.table ≡ J.frames }
     requires base { base_of (fields_of log_of begun.opened.store) begun.opened.timeline
-        begun.opened.next ≡ J.base }
+        begun.opened.next begun.opened.audit ≡ J.base }
     requires sessions { length sessions.now ≤ 16 }
     requires unasked { (d : _) → IsUnasked J.base d → J.begins d }
     requires begins { (d : _) → J.begins d → IsUnasked J.base d }
@@ -321,7 +321,7 @@ fn serve_named<
 ) -> (Vec<Client<J, S, W>>, Result<Vec<u8>, Refusal>)
     requires accepts { opened.accepts ≡ J.accepts }
     requires frames { opened.store.table.seat.table ≡ J.frames }
-    requires base { base_of (fields_of log_of opened.store) opened.timeline opened.next ≡ J.base }
+    requires base { base_of (fields_of log_of opened.store) opened.timeline opened.next opened.audit ≡ J.base }
     requires unasked { (d : _) → IsUnasked J.base d → J.begins d }
     requires clock { J.clock ≡ record { start = manner.start; tick = manner.tick } }
     requires upkeep { J.has_upkeep ≡ manner.upkeep }

@@ -1,7 +1,7 @@
 -- Tests in a fixed order, of which the first that fails tells the cause.
 use Rattle.std.proofs.Common.{◌≡◌, ◌⊎◌, ℕ, List, Option, Some, None, refl, sym, ◌∙◌, subst, inl, inr}
 use Rattle.s4_types.specs.declared.refusals.Cause.{Cause}
-use Rattle.s4_types.specs.declared.refusals.Cause.TheVariants.{Digest, Frame, Span, Row, Chain}
+use Rattle.s4_types.specs.declared.refusals.Cause.TheVariants.{Digest, Frame, Span, Row, Chain, Audit}
 use Rattle.image_parts.specs.declared.headers.Header.{Header}
 use Rattle.image_parts.specs.Header.{header_in}
 use Rattle.image_parts.specs.Frames.{KeepFrameRules}
@@ -10,6 +10,7 @@ use Rattle.image_parts.specs.Rows.{KeepRowRules}
 use Rattle.image_parts.specs.Image.{Image, SpellsImage, header_of, image_in}
 use Rattle.image_parts.specs.Causes.{Tested, TestedParts, HasDigest, FirstSplitCause, FirstCause}
 use Rattle.verifier.specs.Rows.{ChainsStand}
+use Rattle.verifier.specs.Audit.{AuditStands}
 use Rattle.verifier.specs.Grammar.{SpellsDrive, FirstFault}
 use Rattle.verifier.specs.private.Rest.{FirstRestCause}
 
@@ -75,6 +76,10 @@ parts_none bytes late tests =
 
 -- ---- the image
 
+-- the tests behind those of the parts
+abbrev behind_parts : Image → Option Cause → Type 0
+behind_parts image found = Tested (ChainsStand image) Chain (Tested (AuditStands image) Audit (λ f. f ≡ None)) found
+
 -- what an_image_is_read and what_no_test_refuses_is_an_image tell
 abbrev pub AreTested : Type 0
 AreTested = (bytes : List ℕ) (image : Image) → SpellsImage bytes image → FirstCause bytes None
@@ -85,26 +90,33 @@ AreReadAgain = (bytes : List ℕ) (image : Image) → SpellsImage bytes image �
 read_chains : AreReadAgain → (bytes : List ℕ) (image : Image) → SpellsDrive bytes image → ChainsStand (image_in bytes)
 read_chains read bytes image spells = subst ChainsStand (sym (read bytes image spells.parts)) spells.chains
 
+read_audit : AreReadAgain → (bytes : List ℕ) (image : Image) → SpellsDrive bytes image → AuditStands (image_in bytes)
+read_audit read bytes image spells = subst AuditStands (sym (read bytes image spells.parts)) spells.audit
+
 pub nothing_spelled : AreTested → AreReadAgain → (bytes : List ℕ) (cause : Cause) (image : Image) → FirstFault bytes (Some cause) → SpellsDrive bytes image → ⊥
 nothing_spelled tests read bytes cause image fault spells =
-    elim (parts_behind bytes (Tested (ChainsStand (image_in bytes)) Chain (λ f. f ≡ None)) (Some cause) (tests bytes image spells.parts) fault) [
+    elim (parts_behind bytes (behind_parts (image_in bytes)) (Some cause) (tests bytes image spells.parts) fault) [
       | inl failed ↦ failed.0 (read_chains read bytes image spells)
-      | inr held ↦ none_is_no_cause cause (sym held.1)
+      | inr held ↦ elim (held.1) [
+        | inl failed ↦ failed.0 (read_audit read bytes image spells)
+        | inr kept ↦ none_is_no_cause cause (sym kept.1)
+      ]
     ]
 
 pub none_where_spelled : AreTested → AreReadAgain → (bytes : List ℕ) (image : Image) → SpellsDrive bytes image → FirstFault bytes None
 none_where_spelled tests read bytes image spells =
-    parts_passed bytes (Tested (ChainsStand (image_in bytes)) Chain (λ f. f ≡ None)) None (tests bytes image spells.parts) (inr (read_chains read bytes image spells, refl))
+    parts_passed bytes (behind_parts (image_in bytes)) None (tests bytes image spells.parts) (inr (read_chains read bytes image spells, inr (read_audit read bytes image spells, refl)))
 
 pub spelled_where_none : (bytes : List ℕ) → (FirstCause bytes None → SpellsImage bytes (image_in bytes)) → FirstFault bytes None → SpellsDrive bytes (image_in bytes)
 spelled_where_none bytes is none =
-    let parts : FirstCause bytes None = parts_none bytes (Tested (ChainsStand (image_in bytes)) Chain (λ f. f ≡ None)) none in
-    record { parts = is parts; chains = (test_none (parts_behind bytes (Tested (ChainsStand (image_in bytes)) Chain (λ f. f ≡ None)) None parts none)).0 }
+    let parts : FirstCause bytes None = parts_none bytes (behind_parts (image_in bytes)) none in
+    let chains = test_none (parts_behind bytes (behind_parts (image_in bytes)) None parts none) in
+    record { parts = is parts; chains = chains.0; audit = (test_none chains.1).0 }
 
 pub one_fault : (bytes : List ℕ) (found other : Option Cause) → FirstFault bytes found → FirstFault bytes other → found ≡ other
 one_fault bytes found other x y =
     test_one x y (λ a b. test_one a b (λ a b. test_one a b (λ a b. test_one a b (λ a b. test_one a b
-    (λ a b. test_one a b (λ a b. test_one a b (λ a b. test_one a b (λ p q. p ∙ sym q))))))))
+    (λ a b. test_one a b (λ a b. test_one a b (λ a b. test_one a b (λ a b. test_one a b (λ p q. p ∙ sym q)))))))))
 
 -- ---- what was read
 
@@ -118,7 +130,7 @@ digest_fault bytes tests other = test_passed tests (λ a. test_passed a (λ b. t
 
 -- what comes after the digest, of these parts and this header
 abbrev rest : Header → Image → Option Cause → Type 0
-rest h image found = Tested (KeepFrameRules image.frames) Frame (Tested (KeepSpanRules h image.spans) Span (Tested (KeepRowRules h image.rows) Row (Tested (ChainsStand image) Chain (λ f. f ≡ None)))) found
+rest h image found = Tested (KeepFrameRules image.frames) Frame (Tested (KeepSpanRules h image.spans) Span (Tested (KeepRowRules h image.rows) Row (behind_parts image))) found
 
 -- and where they have theirs, what was found after it decides
 pub rest_fault : (bytes : List ℕ) (parts : Image) (found : Option Cause) → FirstSplitCause bytes None → parts ≡ image_in bytes → header_of parts ≡ header_in bytes → HasDigest bytes → FirstRestCause parts found → FirstFault bytes found

@@ -5,6 +5,7 @@ mod Counting
 mod Telling
 pub mod Frames
 mod Ends
+pub mod AuditRows
 pub mod Faults
 pub mod Retold
 mod SpanOrder

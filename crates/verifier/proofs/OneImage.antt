@@ -2,6 +2,7 @@
 use Rattle.std.proofs.Common.{◌≡◌, ℕ, List, sym, ap, ◌∙◌, subst}
 use Rattle.s4_types.specs.declared.spans.Span.{Span}
 use Rattle.object_map.specs.declared.map.Row.{Row}
+use Rattle.image_parts.specs.declared.audit.AuditPart.{AuditPart}
 use Rattle.image_parts.specs.declared.rows.RowPart.{RowPart}
 use Rattle.image_parts.specs.Frames.{FrameFields}
 use Rattle.image_parts.specs.Image.{Image, IsImage, KeepsRules, SpellsImage, header_of, image_bytes}
@@ -36,19 +37,20 @@ one_list_of_saved_rows d image other is is_other saved saved_other =
 
 -- ---- the whole
 
-made : ℕ → ℕ → ℕ → ℕ → List FrameFields → List RowPart → List Span → Image
-made clock window floor next frames rows spans = record { clock = clock; window = window; floor = floor; next = next; frames = frames; rows = rows; spans = spans }
+made : ℕ → ℕ → ℕ → ℕ → List FrameFields → List RowPart → List Span → List AuditPart → Image
+made clock window floor next frames rows spans audit = record { clock = clock; window = window; floor = floor; next = next; frames = frames; rows = rows; spans = spans; audit = audit }
 
-same_image : (i j : Image) → i.clock ≡ j.clock → i.window ≡ j.window → i.floor ≡ j.floor → i.next ≡ j.next → i.frames ≡ j.frames → i.rows ≡ j.rows → i.spans ≡ j.spans → i ≡ j
+same_image : (i j : Image) → i.clock ≡ j.clock → i.window ≡ j.window → i.floor ≡ j.floor → i.next ≡ j.next → i.frames ≡ j.frames → i.rows ≡ j.rows → i.spans ≡ j.spans → i.audit ≡ j.audit → i ≡ j
 unfolding made
-same_image i j clock window floor next frames rows spans =
-    ap (λ n. made n i.window i.floor i.next i.frames i.rows i.spans) clock
-    ∙ ap (λ n. made j.clock n i.floor i.next i.frames i.rows i.spans) window
-    ∙ ap (λ n. made j.clock j.window n i.next i.frames i.rows i.spans) floor
-    ∙ ap (λ n. made j.clock j.window j.floor n i.frames i.rows i.spans) next
-    ∙ ap (λ l. made j.clock j.window j.floor j.next l i.rows i.spans) frames
-    ∙ ap (λ l. made j.clock j.window j.floor j.next j.frames l i.spans) rows
-    ∙ ap (made j.clock j.window j.floor j.next j.frames j.rows) spans
+same_image i j clock window floor next frames rows spans audit =
+    ap (λ n. made n i.window i.floor i.next i.frames i.rows i.spans i.audit) clock
+    ∙ ap (λ n. made j.clock n i.floor i.next i.frames i.rows i.spans i.audit) window
+    ∙ ap (λ n. made j.clock j.window n i.next i.frames i.rows i.spans i.audit) floor
+    ∙ ap (λ n. made j.clock j.window j.floor n i.frames i.rows i.spans i.audit) next
+    ∙ ap (λ l. made j.clock j.window j.floor j.next l i.rows i.spans i.audit) frames
+    ∙ ap (λ l. made j.clock j.window j.floor j.next j.frames l i.spans i.audit) rows
+    ∙ ap (λ l. made j.clock j.window j.floor j.next j.frames j.rows l i.audit) spans
+    ∙ ap (made j.clock j.window j.floor j.next j.frames j.rows j.spans) audit
 
 one_image : (d : DriveFields) (bytes more : List ℕ) (image other : Image) → SpellsImage bytes image → SpellsImage more other → IsSavedOf d image → IsSavedOf d other → image ≡ other
 one_image d bytes more image other spelled spelled_other saved saved_other =
@@ -56,6 +58,7 @@ one_image d bytes more image other spelled spelled_other saved saved_other =
     (one_list_of_frames d.store.table image.frames other.frames spelled.is.frames spelled_other.is.frames spelled.rules.frames spelled_other.rules.frames saved.frames saved_other.frames)
     (one_list_of_saved_rows d image other spelled.is spelled_other.is saved saved_other)
     (one_list_of_spans d image other spelled.rules spelled_other.rules saved saved_other)
+    (saved.audit ∙ sym saved_other.audit)
 
 pub one_spelling : (d : DriveFields) (bytes other : List ℕ) → SpellsSaved d bytes → SpellsSaved d other → bytes ≡ other
 unfolding image_bytes

@@ -1,5 +1,5 @@
 -- What a drive that is opened from an image begins with.
-use Rattle.std.proofs.Common.{◌≡◌, ℕ, List, Option, sym, ap, subst, ◌∙◌}
+use Rattle.std.proofs.Common.{◌≡◌, ℕ, List, map, Option, sym, ap, subst, ◌∙◌}
 use Rattle.s4_types.specs.Pointer.{Place}
 use Rattle.block_log.specs.Log.{Log, Stored}
 use Rattle.object_map.specs.declared.map.Row.{Row}
@@ -18,6 +18,7 @@ use Rattle.image_objects.specs.declared.rows.ImageRow.{ImageRow}
 use Rattle.image_objects.specs.Rows.{RowsAscend, RowsStand}
 use Rattle.verifier.specs.Tables.{IsTableOf}
 use Rattle.verifier.specs.Rows.{SpellRows, ChainsStand}
+use Rattle.verifier.specs.Audit.{audit_part}
 use Rattle.verifier.specs.Grammar.{SpellsDrive}
 use Rattle.verifier.specs.Images.{ImageFields, store_in, CanBeOpened, IsImageOf}
 use Rattle.verifier.specs.Opened.{version_of_rows, IsOpenedOf, IsToldBy}
@@ -59,7 +60,7 @@ version_stored as_used summary pointer bytes parts image o t spells is =
 
 pub begins_as_told : ABaseTellsTheStoresVersions → ABaseListsEachObjectOnce → AreHeldAsUsed → OneSummaryASpelling → OnePointerASpelling
     → (bytes : List ℕ) (parts : Image) (image : ImageFields) (x : OpenedFields) → SpellsDrive bytes parts → IsImageOf parts image → CanBeOpened image → IsOpenedOf image x
-    → IsToldBy parts (base_of (fields_of log_of x.store) x.timeline x.next)
+    → IsToldBy parts (base_of (fields_of log_of x.store) x.timeline x.next x.audit)
 begins_as_told tells lists as_used summary pointer bytes parts image x spells is can opened =
     let s : StoreFields = fields_of log_of x.store in
     let same : s ≡ store_in image = store_same image x opened in
@@ -71,11 +72,12 @@ begins_as_told tells lists as_used summary pointer bytes parts image x spells is
       floor = opened.floor ∙ is.floor;
       next = opened.next ∙ is.next;
       spans = opened.spans ∙ is.spans;
+      audit = is.audit ∙ ap (map audit_part) (sym opened.audit);
       table = image.table;
       frames = is.frames;
       rows = is.rows;
       spelled = is.spelled;
-      versions = λ o t. (tells s x.timeline x.next o t store none ∙ ap (λ (k : StoreFields). version_in k o t) same
+      versions = λ o t. (tells s x.timeline x.next x.audit o t store none ∙ ap (λ (k : StoreFields). version_in k o t) same
           ∙ version_stored as_used summary pointer bytes parts image o t spells is);
-      listed = lists s x.timeline x.next store;
+      listed = lists s x.timeline x.next x.audit store;
     }

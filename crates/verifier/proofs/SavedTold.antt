@@ -10,6 +10,8 @@ use Rattle.s4_model.specs.State.{State, state_of}
 use Rattle.s4_model.specs.VersionAt.{current_of, opening_version, versions_of, version_after, version_of}
 use Rattle.s4_model.specs.Visible.{spans_of}
 use Rattle.s4_model.specs.Promise.{beginning, GoesOn}
+use Rattle.s4_model.specs.Audit.{audit_of}
+use Rattle.verifier.proofs.AuditRows.{one_audit, begun_audit}
 use Rattle.block_log.specs.Log.{Stored}
 use Rattle.codec.specs.declared.inodes.Inode.{Inode}
 use Rattle.inode.specs.Contents.{contents_of}
@@ -125,5 +127,6 @@ goes_on read summary pointer same matter d bytes base store holds decodes spells
       floor = floor_begun base (omega (arith, told.clock, told.window, told.floor)) ∙ told.floor ∙ saved.floor;
       next = told.next ∙ saved.next;
       hidden = λ list t. ap (λ (l : List Span). is_covered (state_in d).floor l list t) spans ∙ covered (state_in d).floor image.spans (spans_of (state_in d)) saved.spans list t;
+      audit = begun_audit image base spells.spelled.audit told.audit told.floor (omega (arith, reach, told.clock, told.window, told.floor)) ∙ one_audit base.audit (audit_of (state_in d)) (sym told.audit ∙ saved.audit);
       versions = λ o t visible. begun_at base o t (omega (arith, visible.reached)) ∙ version_told summary pointer same matter d image base store holds saved told o t ∙ decodes o t visible;
     }

@@ -1,5 +1,5 @@
 -- The image that a drive is saved as, put together of its parts.
-use Rattle.std.proofs.Common.{◌≡◌, inl, inr, ℕ, suc, ◌<◌, ◌≤◌, ◌^◌, List, [], ◌∷◌, ◌++◌, length, get_or, append_assoc, Option, Some, None, refl, sym, ap, ◌∙◌, subst, arith}
+use Rattle.std.proofs.Common.{◌≡◌, inl, inr, ℕ, suc, ◌<◌, ◌≤◌, ◌^◌, List, [], ◌∷◌, ◌++◌, map, length, length-map, get_or, append_assoc, Option, Some, None, refl, sym, ap, ◌∙◌, subst, arith}
 use Rattle.std.specs.Prelude.{IfSome, MatchOption}
 use Rattle.std.specs.Int.{w64}
 use Rattle.std.specs.List.{AllByRecursion, flat_map}
@@ -9,8 +9,10 @@ use Rattle.sha2.specs.Sha256.{sha256}
 use Rattle.s4_types.specs.Pointer.{Place, IsPlace}
 use Rattle.s4_types.specs.Sizes.{IsFrameCount}
 use Rattle.s4_types.specs.declared.limits.TheConstants.{RUNS_IN_ALL}
+use Rattle.s4_types.specs.declared.audit_rows.AuditRow.{AuditRow}
 use Rattle.s4_types.specs.declared.spans.Span.{Span}
 use Rattle.lemmas.proofs.List.{all_weaker}
+use Rattle.s4_model.specs.Audit.{audit_of, AreAuditRows}
 use Rattle.s4_model.specs.State.{State}
 use Rattle.s4_model.specs.Sound.{IsSound, IsOfGiven}
 use Rattle.s4_model.specs.Visible.{spans_of}
@@ -33,13 +35,16 @@ use Rattle.image_parts.specs.Header.{header_bytes, KeepsHeaderRules}
 use Rattle.image_parts.specs.Frames.{frame_bytes}
 use Rattle.image_parts.specs.Rows.{row_bytes, RowsFollow}
 use Rattle.image_parts.specs.Spans.{span_bytes}
+use Rattle.image_parts.specs.Audit.{IsAuditPart, audit_bytes}
 use Rattle.image_parts.specs.Image.{Image, header_of, front_bytes, front_bytes_by, image_bytes, image_bytes_by}
 use Rattle.image_objects.specs.Rows.{RowsAscend, RowsStand}
 use Rattle.image_objects.specs.Saved.{HoldsUsed, ObjectsAscend, saved_rows}
 use Rattle.drive.proofs.Opening.{no_row_of_0}
 use Rattle.verifier.specs.Rows.{SpellRows}
+use Rattle.verifier.specs.Audit.{audit_part}
 use Rattle.verifier.specs.Saved.{AddsFrames, SpellsSaved}
 use Rattle.verifier.specs.SavedRows.{AreSaved}
+use Rattle.verifier.proofs.AuditRows.{all_mapped}
 use Rattle.verifier.proofs.Lists.{all_both}
 use Rattle.verifier.proofs.ListedRows.{each_found}
 use Rattle.verifier.proofs.FewRows.{CheckpointLaws, Owns, row_owns, few_rows}
@@ -155,8 +160,14 @@ pub record SpansShown (d : DriveFields) (spans : List Span) : Type 0 where
   pub few : length spans ≤ RUNS_IN_ALL
   pub few_in_each_list : AreFewInEachList spans
 
--- the header that is written, by the numbers of rows and of spans
-pub record HeaderShown (d : DriveFields) (rows spans : ℕ) (h : Header) : Type 0 where
+-- what its audit is
+pub record AuditShown (d : DriveFields) (audit : List AuditRow) : Type 0 where
+  pub is : audit ≡ audit_of (state_in d)
+  pub kept : AreAuditRows (state_in d).floor (state_in d).clock (state_in d).next audit
+  pub fit : AllByRecursion (λ row. IsAuditPart (audit_part row)) audit
+
+-- the header that is written, by the numbers of rows, of spans and of audit rows
+pub record HeaderShown (d : DriveFields) (rows spans audit : ℕ) (h : Header) : Type 0 where
   pub frames : h.frames ≡ length d.store.table.seat.frames
   pub clock : h.clock ≡ (state_in d).clock
   pub window : h.window ≡ (state_in d).window
@@ -164,19 +175,22 @@ pub record HeaderShown (d : DriveFields) (rows spans : ℕ) (h : Header) : Type 
   pub next : h.next ≡ (state_in d).next
   pub row_count : h.rows ≡ rows
   pub span_count : h.spans ≡ spans
+  pub audit_count : h.audit ≡ audit
   pub clock_fits : (state_in d).clock < 2 ^ 64
   pub window_fits : (state_in d).window < 2 ^ 64
   pub next_fits : (state_in d).next < 2 ^ 64
+  pub audit_fits : audit < 2 ^ 64
 
-same_header : (h k : Header) → h.frames ≡ k.frames → h.clock ≡ k.clock → h.window ≡ k.window → h.floor ≡ k.floor → h.next ≡ k.next → h.rows ≡ k.rows → h.spans ≡ k.spans → h ≡ k
-same_header h k frames clock window floor next rows spans =
-    ap (λ n. record { frames = n; clock = h.clock; window = h.window; floor = h.floor; next = h.next; rows = h.rows; spans = h.spans }) frames
-    ∙ ap (λ n. record { frames = k.frames; clock = n; window = h.window; floor = h.floor; next = h.next; rows = h.rows; spans = h.spans }) clock
-    ∙ ap (λ n. record { frames = k.frames; clock = k.clock; window = n; floor = h.floor; next = h.next; rows = h.rows; spans = h.spans }) window
-    ∙ ap (λ n. record { frames = k.frames; clock = k.clock; window = k.window; floor = n; next = h.next; rows = h.rows; spans = h.spans }) floor
-    ∙ ap (λ n. record { frames = k.frames; clock = k.clock; window = k.window; floor = k.floor; next = n; rows = h.rows; spans = h.spans }) next
-    ∙ ap (λ n. record { frames = k.frames; clock = k.clock; window = k.window; floor = k.floor; next = k.next; rows = n; spans = h.spans }) rows
-    ∙ ap (λ n. record { frames = k.frames; clock = k.clock; window = k.window; floor = k.floor; next = k.next; rows = k.rows; spans = n }) spans
+same_header : (h k : Header) → h.frames ≡ k.frames → h.clock ≡ k.clock → h.window ≡ k.window → h.floor ≡ k.floor → h.next ≡ k.next → h.rows ≡ k.rows → h.spans ≡ k.spans → h.audit ≡ k.audit → h ≡ k
+same_header h k frames clock window floor next rows spans audit =
+    ap (λ n. record { frames = n; clock = h.clock; window = h.window; floor = h.floor; next = h.next; rows = h.rows; spans = h.spans; audit = h.audit }) frames
+    ∙ ap (λ n. record { frames = k.frames; clock = n; window = h.window; floor = h.floor; next = h.next; rows = h.rows; spans = h.spans; audit = h.audit }) clock
+    ∙ ap (λ n. record { frames = k.frames; clock = k.clock; window = n; floor = h.floor; next = h.next; rows = h.rows; spans = h.spans; audit = h.audit }) window
+    ∙ ap (λ n. record { frames = k.frames; clock = k.clock; window = k.window; floor = n; next = h.next; rows = h.rows; spans = h.spans; audit = h.audit }) floor
+    ∙ ap (λ n. record { frames = k.frames; clock = k.clock; window = k.window; floor = k.floor; next = n; rows = h.rows; spans = h.spans; audit = h.audit }) next
+    ∙ ap (λ n. record { frames = k.frames; clock = k.clock; window = k.window; floor = k.floor; next = k.next; rows = n; spans = h.spans; audit = h.audit }) rows
+    ∙ ap (λ n. record { frames = k.frames; clock = k.clock; window = k.window; floor = k.floor; next = k.next; rows = k.rows; spans = n; audit = h.audit }) spans
+    ∙ ap (λ n. record { frames = k.frames; clock = k.clock; window = k.window; floor = k.floor; next = k.next; rows = k.rows; spans = k.spans; audit = n }) audit
 
 -- a store's rows ascend and are as an image's
 abbrev pub Stand : Type 0
@@ -187,35 +201,38 @@ Ascending = (used : Place → Option Stored) (s : StoreFields) (low clock : ℕ)
 
 -- the parts, one after the other, are the front of an image
 pub front_written : (image : Image) (h : Header) (out : List ℕ) → h ≡ header_of image
-    → out ≡ ((([] ++ header_bytes h) ++ flat_map frame_bytes image.frames) ++ flat_map row_bytes image.rows) ++ flat_map span_bytes image.spans → out ≡ front_bytes image
+    → out ≡ (((([] ++ header_bytes h) ++ flat_map frame_bytes image.frames) ++ flat_map row_bytes image.rows) ++ flat_map span_bytes image.spans) ++ flat_map audit_bytes image.audit → out ≡ front_bytes image
 unfolding front_bytes front_bytes_by header_bytes
 front_written image h out same is =
     let header = header_bytes h in
     let frames = flat_map frame_bytes image.frames in
     let rows = flat_map row_bytes image.rows in
     let spans = flat_map span_bytes image.spans in
-    is ∙ append_assoc (header ++ frames) rows spans ∙ append_assoc header frames (rows ++ spans)
-    ∙ ap (λ (x : Header). header_bytes x ++ (frames ++ (rows ++ spans))) same
+    let audit = flat_map audit_bytes image.audit in
+    is ∙ append_assoc ((header ++ frames) ++ rows) spans audit ∙ append_assoc (header ++ frames) rows (spans ++ audit) ∙ append_assoc header frames (rows ++ (spans ++ audit))
+    ∙ ap (λ (x : Header). header_bytes x ++ (frames ++ (rows ++ (spans ++ audit)))) same
 
-pub saves : (d : DriveFields) (rows : List RowPart) (spans : List Span) (h : Header) (after out : List ℕ) → CheckpointLaws → Stand → Ascending → Shown d → AreSaved d.store.rows rows → SpansShown d spans → HeaderShown d (length rows) (length spans) h
-    → AddsFrames d.store.table ([] ++ header_bytes h) after → out ≡ (after ++ flat_map row_bytes rows) ++ flat_map span_bytes spans → SpellsSaved d (out ++ sha256 out)
+pub saves : (d : DriveFields) (rows : List RowPart) (spans : List Span) (audit : List AuditRow) (h : Header) (after out : List ℕ) → CheckpointLaws → Stand → Ascending → Shown d → AreSaved d.store.rows rows → SpansShown d spans → AuditShown d audit → HeaderShown d (length rows) (length spans) (length audit) h
+    → AddsFrames d.store.table ([] ++ header_bytes h) after → out ≡ ((after ++ flat_map row_bytes rows) ++ flat_map span_bytes spans) ++ flat_map audit_bytes (map audit_part audit) → SpellsSaved d (out ++ sha256 out)
 unfolding image_bytes image_bytes_by front_bytes
-saves d rows spans h after out checkpoints stand ascending shown saved seen head adds parts =
+saves d rows spans audit h after out checkpoints stand ascending shown saved seen audited head adds parts =
     let s : State = state_in d in
     let t : Table = d.store.table in
-    let image : Image = record { clock = s.clock; window = s.window; floor = s.floor; next = s.next; frames = adds.frames; rows = rows; spans = spans } in
+    let image : Image = record { clock = s.clock; window = s.window; floor = s.floor; next = s.next; frames = adds.frames; rows = rows; spans = spans; audit = map audit_part audit } in
     let frames : length t.seat.frames ≡ length adds.frames = adds.table.frame_count in
-    let same : h ≡ header_of image = same_header h (header_of image) (head.frames ∙ frames) head.clock head.window head.floor head.next head.row_count head.span_count in
+    let counted : length (map audit_part audit) ≡ length audit = length-map audit audit_part in
+    let same : h ≡ header_of image = same_header h (header_of image) (head.frames ∙ frames) head.clock head.window head.floor head.next head.row_count head.span_count (head.audit_count ∙ sym counted) in
     let listed : StoreFields = record { rows = saved.rows; log = log_of t; latest = d.store.latest } in
     let store : IsStore listed = listed_store (store_of d) saved.rows shown.store saved.listed in
     let few : length rows ≤ 2 ^ 20 = few_parts checkpoints d rows shown.store saved in
-    let fronted : out ≡ front_bytes image = front_written image h out same (parts ∙ ap (λ l. (l ++ flat_map row_bytes rows) ++ flat_map span_bytes spans) adds.bytes) in
+    let fronted : out ≡ front_bytes image = front_written image h out same (parts ∙ ap (λ l. ((l ++ flat_map row_bytes rows) ++ flat_map span_bytes spans) ++ flat_map audit_bytes (map audit_part audit)) adds.bytes) in
     let header : KeepsHeaderRules (header_of image) = record {
       frames = subst IsFrameCount frames shown.count;
       window = shown.sound.reached;
       floor = shown.sound.floor_reached;
       next = shown.sound.numbered;
       given = omega (arith, shown.sound.given);
+      audit = tt;
     } in
     record {
       image = image;
@@ -229,6 +246,8 @@ saves d rows spans h after out checkpoints stand ascending shown saved seen head
             rows = saved.is;
             spans = are_spans s.clock s.next spans head.clock_fits head.next_fits seen.ordered seen.past seen.given;
             row_count = omega arith;
+            audit = all_mapped audit audited.fit;
+            audit_count = omega (arith, counted, head.audit_fits);
           };
           rules = record {
             header = header;
@@ -247,6 +266,7 @@ saves d rows spans h after out checkpoints stand ascending shown saved seen head
           spelled = saved.spelled;
           stand = stand (used_at t) listed 1 s.clock store shown.past shown.used saved.ascending;
         };
+        audit = record { rows = audit; spelled = refl; kept = audited.kept };
       };
       saved = record {
         clock = refl;
@@ -259,6 +279,7 @@ saves d rows spans h after out checkpoints stand ascending shown saved seen head
         listed = saved.listed;
         spelled = saved.spelled;
         spans = seen.alike;
+        audit = ap (map audit_part) audited.is;
       };
     }
 

@@ -2,6 +2,8 @@
 use Rattle.std.proofs.Common.{◌≡◌, ℕ, ◌+◌, ◌^◌, ◌<◌, ◌≤◌, List, length, Option, None, refl, sym, ap, subst, ◌∙◌, arith}
 use Rattle.std.specs.List.{Contains, AllByRecursion}
 use Rattle.s4_types.specs.Pointer.{Place}
+use Rattle.s4_types.specs.declared.audit_rows.AuditRow.{AuditRow}
+use Rattle.s4_model.specs.Audit.{AreAuditRows}
 use Rattle.s4_types.specs.declared.spans.Span.{Span}
 use Rattle.s4_types.specs.declared.limits.TheConstants.{ROW_POINTERS, RUNS_IN_A_LIST}
 use Rattle.block_log.specs.Log.{Log, Stored, NamesAreOfData}
@@ -46,10 +48,10 @@ AreFew = (h : Header) (spans : List Span) (object : ℕ) → KeepSpanRules h spa
 
 -- ----
 
-pub can_be_opened : RowsMakeAStore → RowsTellFew → AreHeldAsUsed → NoneAbove → AreFew → (parts : Image) (t : Table) (objects : List OpenedFields) → KeepsRules parts → AreRead t parts.rows parts.clock t objects
-    → NamesAreOfData (log_of t) → (log_of t).spent + length (log_of t).ahead < 2 ^ 46
-    → CanBeOpened (record { clock = parts.clock; window = parts.window; floor = parts.floor; next = parts.next; table = t; objects = objects; spans = parts.spans })
-can_be_opened store tell_few as_used above few parts t objects rules are names bounded =
+pub can_be_opened : RowsMakeAStore → RowsTellFew → AreHeldAsUsed → NoneAbove → AreFew → (parts : Image) (t : Table) (objects : List OpenedFields) (audit : List AuditRow) → KeepsRules parts → AreRead t parts.rows parts.clock t objects
+    → NamesAreOfData (log_of t) → (log_of t).spent + length (log_of t).ahead < 2 ^ 46 → AreAuditRows parts.floor parts.clock parts.next audit
+    → CanBeOpened (record { clock = parts.clock; window = parts.window; floor = parts.floor; next = parts.next; table = t; objects = objects; spans = parts.spans; audit = audit })
+can_be_opened store tell_few as_used above few parts t objects audit rules are names bounded kept =
     let used : Place → Option Stored = used_at t in
     let h : Header = header_of parts in
     let ascend : RowsAscend parts.clock 0 0 are.rows = rows_ascend h 0 0 parts.rows are.rows rules.rows are.spelled in
@@ -72,4 +74,5 @@ can_be_opened store tell_few as_used above few parts t objects rules are names b
       given = spans_given h parts.spans rules.spans.each;
       few = rules.spans.few;
       few_in_each_list = λ list. few h parts.spans list rules.spans;
+      audit = kept;
     }

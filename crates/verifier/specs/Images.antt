@@ -1,8 +1,10 @@
 -- What contracts see of an image that was verified, and what holds of it.
-use Rattle.std.specs.Prelude.{◌≡◌, ℕ, ◌+◌, ◌-◌, ◌≤◌, List, length}
+use Rattle.std.specs.Prelude.{◌≡◌, ℕ, ◌+◌, ◌-◌, ◌≤◌, List, length, map}
 use Rattle.std.specs.List.{All, AllByRecursion}
+use Rattle.s4_types.specs.declared.audit_rows.AuditRow.{AuditRow}
 use Rattle.s4_types.specs.declared.spans.Span.{Span}
 use Rattle.s4_types.specs.declared.limits.TheConstants.{RUNS_IN_ALL}
+use Rattle.s4_model.specs.Audit.{AreAuditRows}
 use Rattle.s4_model.specs.Sound.{IsOfGiven}
 use Rattle.image_parts.specs.Image.{Image}
 use Rattle.image_objects.specs.declared.rows.ImageRow.{ImageRow}
@@ -17,8 +19,10 @@ use Rattle.drive.specs.Opened.{NoneFrom}
 use Rattle.verifier.specs.Tables.{IsTableOf}
 use Rattle.verifier.specs.Rows.{SpellRows}
 use Rattle.verifier.specs.Reading.{AreKept}
+use Rattle.verifier.specs.Audit.{audit_part}
 
--- an image: the numbers of its drive, its frames with what their blocks are for and which are held, its objects and its spans
+-- an image: the numbers of its drive, its frames with what their blocks are for and which are held, its objects, its spans and
+-- the rows of its audit
 pub record ImageFields : Type 0 where
   pub clock : ℕ
   pub window : ℕ
@@ -27,13 +31,14 @@ pub record ImageFields : Type 0 where
   pub table : Table
   pub objects : List OpenedFields
   pub spans : List Span
+  pub audit : List AuditRow
 
 -- the store that a drive has of an image
 abbrev pub store_in : ImageFields → StoreFields
 store_in image = record { rows = rows_opened image.objects; log = log_of image.table; latest = image.clock }
 
 -- An image that was verified can be opened: its objects make a store over what is held, with what is beside their rows; its
--- spans are a window's, and its numbers a drive's.
+-- spans are a window's, its numbers and the rows of its audit a drive's.
 pub record CanBeOpened (image : ImageFields) : Type 0 where
   pub store : IsStore (store_in image)
   pub ascending : NumbersAscend (numbers_opened image.objects)
@@ -49,8 +54,9 @@ pub record CanBeOpened (image : ImageFields) : Type 0 where
   pub given : AllByRecursion (IsOfGiven image.next) image.spans
   pub few : length image.spans ≤ RUNS_IN_ALL
   pub few_in_each_list : AreFewInEachList image.spans
+  pub audit : AreAuditRows image.floor image.clock image.next image.audit
 
--- An image is what these parts tell: it has their numbers and spans, its table is that of their frames, its objects are those
+-- An image is what these parts tell: it has their numbers and spans and the audit rows that they encode, its table is that of their frames, its objects are those
 -- that their rows encode, and of their used blocks just those are held that these rows name.
 pub record IsImageOf (parts : Image) (image : ImageFields) : Type 0 where
   pub clock : image.clock ≡ parts.clock
@@ -58,6 +64,7 @@ pub record IsImageOf (parts : Image) (image : ImageFields) : Type 0 where
   pub floor : image.floor ≡ parts.floor
   pub next : image.next ≡ parts.next
   pub spans : image.spans ≡ parts.spans
+  pub audit : parts.audit ≡ map audit_part image.audit
   pub frames : IsTableOf parts.frames image.table
   pub rows : List ImageRow
   pub spelled : SpellRows parts.rows rows

@@ -1,5 +1,6 @@
 pub mod Tables
 pub mod Rows
+pub mod Audit
 pub mod Grammar
 pub mod Reading
 pub mod Images

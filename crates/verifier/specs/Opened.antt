@@ -1,5 +1,5 @@
 -- A drive that is opened from an image: what it has, and what its history begins with, told by the parts of the image.
-use Rattle.std.specs.Prelude.{◌≡◌, ℕ, ◌==◌, if◌then◌else◌, List, [], ◌∷◌, Option, Some, None}
+use Rattle.std.specs.Prelude.{◌≡◌, ℕ, ◌==◌, if◌then◌else◌, List, [], ◌∷◌, Option, Some, None, map}
 use Rattle.s4_types.specs.Pointer.{Place}
 use Rattle.s4_types.specs.History.{Base}
 use Rattle.s4_types.specs.declared.versions.Version.{Version}
@@ -20,11 +20,12 @@ use Rattle.image_objects.specs.declared.rows.ImageRow.{ImageRow}
 use Rattle.image_objects.specs.Objects.{inode_used}
 use Rattle.verifier.specs.Tables.{IsTableOf}
 use Rattle.verifier.specs.Rows.{SpellRows}
+use Rattle.verifier.specs.Audit.{audit_part}
 use Rattle.verifier.specs.Grammar.{SpellsDrive}
 use Rattle.verifier.specs.Images.{ImageFields, IsImageOf}
 
--- An opened drive has what an image has: its frames with what they are used for and hold, its rows, its spans and its numbers; and its last
--- change was at the image's clock.
+-- An opened drive has what an image has: its frames with what they are used for and hold, its rows, its spans, its numbers and the rows
+-- of its audit; and its last change was at the image's clock.
 pub record IsOpenedOf (image : ImageFields) (d : OpenedFields) : Type 0 where
   pub frames : d.store.table.seat.frames ≡ image.table.seat.frames
   pub slots : d.store.table.slots ≡ image.table.slots
@@ -35,6 +36,7 @@ pub record IsOpenedOf (image : ImageFields) (d : OpenedFields) : Type 0 where
   pub floor : d.timeline.floor ≡ image.floor
   pub spans : d.timeline.runs ≡ image.spans
   pub next : d.next ≡ image.next
+  pub audit : d.audit ≡ image.audit
 
 -- the inode of an object that is current at a moment, by the rows of an image over its used blocks; none where no row is the object's
 abbrev pub inode_of_rows : (Place → Option Stored) → List ImageRow → ℕ → ℕ → Option Inode
@@ -45,7 +47,7 @@ inode_of_rows used (row ∷ rows) o t = if row.object == o then Some (inode_used
 abbrev pub version_of_rows : (Place → Option Stored) → List ImageRow → ℕ → ℕ → Version
 version_of_rows used rows o t = version_by used (inode_of_rows used rows o t)
 
--- A base is what the parts of an image tell. It has their clock, window, floor, next number and spans; and at each moment it tells of each
+-- A base is what the parts of an image tell. It has their clock, window, floor, next number and spans, and the audit rows that they encode; and at each moment it tells of each
 -- object the version that their rows tell, as their bytes encode these, over the used blocks of their frames. It lists each object once, by
 -- ascending moments.
 pub record IsToldBy (parts : Image) (base : Base) : Type 0 where
@@ -54,6 +56,7 @@ pub record IsToldBy (parts : Image) (base : Base) : Type 0 where
   pub floor : base.floor ≡ parts.floor
   pub next : base.next ≡ parts.next
   pub spans : base.spans ≡ parts.spans
+  pub audit : parts.audit ≡ map audit_part base.audit
   pub table : Table
   pub frames : IsTableOf parts.frames table
   pub rows : List ImageRow
@@ -63,7 +66,7 @@ pub record IsToldBy (parts : Image) (base : Base) : Type 0 where
 
 -- what a drive begins with that was opened
 abbrev pub begins_with : OpenedFields → Base
-begins_with d = base_of (fields_of log_of d.store) d.timeline d.next
+begins_with d = base_of (fields_of log_of d.store) d.timeline d.next d.audit
 
 -- Bytes are the image of a drive, and this is what was read of them.
 pub record IsReadOf (bytes : List ℕ) (image : ImageFields) : Type 0 where
@@ -79,5 +82,6 @@ pub record TellsBase (bytes : List ℕ) (base : Base) : Type 0 where
 
 -- A drive is the opened one under a name: its history is just what that one begins with, and its objects are the same.
 pub record IsNamedOf (opened : OpenedFields) (d : DriveFields) : Type 0 where
-  pub ledger : d.ledger ≡ begun (base_of (fields_of log_of opened.store) opened.timeline opened.next)
+  pub ledger : d.ledger ≡ begun (base_of (fields_of log_of opened.store) opened.timeline opened.next opened.audit)
   pub store : d.store ≡ opened.store
+  pub audit : d.audit ≡ opened.audit

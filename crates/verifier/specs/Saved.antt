@@ -1,5 +1,5 @@
 -- The parts of an image that a drive is saved as.
-use Rattle.std.specs.Prelude.{◌≡◌, ℕ, List, ◌++◌}
+use Rattle.std.specs.Prelude.{◌≡◌, ℕ, List, ◌++◌, map}
 use Rattle.std.specs.List.{flat_map, AllByRecursion}
 use Rattle.object_map.specs.declared.map.Row.{Row}
 use Rattle.object_map.specs.Rows.{row_of}
@@ -8,10 +8,12 @@ use Rattle.image_parts.specs.Image.{Image}
 use Rattle.image_objects.specs.Saved.{ObjectsAscend, saved_rows}
 use Rattle.segment_table.specs.Table.{Table}
 use Rattle.window.specs.Timeline.{CoverAlike}
+use Rattle.s4_model.specs.Audit.{audit_of}
 use Rattle.s4_model.specs.Visible.{spans_of}
 use Rattle.drive.specs.Fields.{DriveFields, state_in}
 use Rattle.verifier.specs.Tables.{IsTableOf}
 use Rattle.verifier.specs.Rows.{SpellRows}
+use Rattle.verifier.specs.Audit.{audit_part}
 use Rattle.verifier.specs.Grammar.{SpellsDrive}
 
 -- Bytes are these with the frames of a table after them, as an image has them.
@@ -23,7 +25,8 @@ pub record AddsFrames (t : Table) (before after : List ℕ) : Type 0 where
   pub bytes : after ≡ before ++ flat_map frame_bytes frames
 
 -- An image is what a drive is saved as: it has the drive's clock, window, floor and next number; its table is the drive's; its rows
--- are the drive's, by ascending objects; and from the floor on its spans hide what the drive's do.
+-- are the drive's, by ascending objects; from the floor on its spans hide what the drive's do; and it has
+-- the audit.
 pub record IsSavedOf (d : DriveFields) (image : Image) : Type 0 where
   pub clock : image.clock ≡ (state_in d).clock
   pub window : image.window ≡ (state_in d).window
@@ -35,6 +38,7 @@ pub record IsSavedOf (d : DriveFields) (image : Image) : Type 0 where
   pub listed : (o : ℕ) → row_of rows o ≡ row_of d.store.rows o
   pub spelled : SpellRows image.rows (saved_rows rows)
   pub spans : CoverAlike (state_in d).floor image.spans (spans_of (state_in d))
+  pub audit : image.audit ≡ map audit_part (audit_of (state_in d))
 
 -- the bytes are an image of the drive: they encode one, and it is what the drive is saved as
 pub record SpellsSaved (d : DriveFields) (bytes : List ℕ) : Type 0 where

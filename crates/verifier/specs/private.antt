@@ -1,3 +1,4 @@
 pub mod Holding
 pub mod OneRow
+pub mod AuditRows
 pub mod Rest

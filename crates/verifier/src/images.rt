@@ -1,6 +1,7 @@
 //! Images that were verified.
 ghost use Rattle.std.specs.Prelude.{◌≡◌, length};
 
+use audit_log::AuditLog;
 use s4_types::{Moment, ObjectId, Span};
 use segment_table::TableBuilder;
 use std::marker::Model;
@@ -16,6 +17,7 @@ pub struct Image {
     pub(crate) table: TableBuilder,
     pub(crate) objects: Vec<OpenedObject>,
     pub(crate) spans: Vec<Span>,
+    pub(crate) audit: AuditLog,
 }
 
 impl Model for Image {
@@ -23,9 +25,9 @@ impl Model for Image {
 
     ghost Value = { ImageFields };
 
-    ghost view = { λ i. record { clock = i.clock; window = i.window; floor = i.floor; next = i.next; table = i.table; objects = i.objects.items; spans = i.spans.items } };
+    ghost view = { λ i. record { clock = i.clock; window = i.window; floor = i.floor; next = i.next; table = i.table; objects = i.objects.items; spans = i.spans.items; audit = i.audit.rows } };
 
-    ghost invariant = { λ i. CanBeOpened (record { clock = i.clock; window = i.window; floor = i.floor; next = i.next; table = i.table; objects = i.objects.items; spans = i.spans.items }) };
+    ghost invariant = { λ i. CanBeOpened (record { clock = i.clock; window = i.window; floor = i.floor; next = i.next; table = i.table; objects = i.objects.items; spans = i.spans.items; audit = i.audit.rows }) };
 }
 
 impl Image {

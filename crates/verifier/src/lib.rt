@@ -2,12 +2,13 @@
 //!
 //! The layers above may rely on this: `verify` answers an image exactly where the bytes encode one,
 //! lack of memory aside, and else the cause of the first test that fails, each of which looks at
-//! the whole image before the next one does. `open` gives a drive whose frames, rows, spans and
-//! numbers are the image's, and whose history begins with what they represent. `save` gives bytes
-//! that encode an image with the numbers, frames and rows of the drive, which stays as it is, and
-//! with spans that hide from its floor on what its own do.
+//! the whole image before the next one does. `open` gives a drive whose frames, rows, spans,
+//! numbers and audit rows are the image's, and whose history begins with what they represent.
+//! `save` gives bytes that encode an image with the numbers, frames, rows and audit of the drive,
+//! which stays as it is, and with spans that hide from its floor on what its own do.
 #![tactic(auto)]
 
+mod audit;
 mod blocks;
 mod images;
 pub mod laws;

@@ -18,16 +18,16 @@ use std::alloc::Global;
 use version_store::Store;
 use window::Window;
 
-/// A drive whose frames, rows, spans and numbers are the image's, and whose last change was at the
-/// image's clock. What its history begins with is what the parts of the image tell, where bytes
-/// encode these. It has no name yet. What the image has is let go.
+/// A drive whose frames, rows, spans, numbers and audit rows are the image's, and whose last change
+/// was at the image's clock. What its history begins with is what the parts of the image tell,
+/// where bytes encode these. It has no name yet. What the image has is let go.
 ///
 /// NoMemory where memory was refused, Busy where a count of those that share a part of the drive
 /// was full.
 pub fn open(alloc: Global, image: Image) -> Result<OpenedDrive, Refusal>
     ensures opened { IfOk result (λ d. IsOpenedOf image d) }
     ensures base { IfOk result (λ d. (bytes : List ℕ) (parts : ImageParts) → SpellsDrive bytes parts → IsImageOf parts image
-        → IsToldBy parts (base_of (fields_of log_of d.store) d.timeline d.next)) }
+        → IsToldBy parts (base_of (fields_of log_of d.store) d.timeline d.next d.audit)) }
     // It begins with what the bytes tell that the image was read of.
     ensures promise { IfOk result
         (λ d. (bytes : List ℕ) → IsReadOf bytes image → TellsBase bytes (begins_with d)) }
@@ -42,9 +42,10 @@ pub fn open(alloc: Global, image: Image) -> Result<OpenedDrive, Refusal>
         table,
         objects,
         spans,
+        audit,
     } = image;
     let table = SegmentTable::from_parts(alloc, table)?;
     let store = Store::from_parts(alloc, table, objects, clock)?;
     let window = Window::from_parts(alloc, clock, window, floor, spans.as_slice())?;
-    OpenedDrive::from_parts(alloc, store, window, next)
+    OpenedDrive::from_parts(alloc, store, window, next, audit)
 }

@@ -27,7 +27,7 @@ use inode::laws::only_its_blocks_matter;
 /// do.
 pub fn an_opened_drive_begins_as_its_image_tells()
     ensures { (bytes : List ℕ) (parts : ImageParts) (image : ImageFields) (opened : OpenedFields) → SpellsDrive bytes parts → IsImageOf parts image → CanBeOpened image → IsOpenedOf image opened
-        → IsToldBy parts (base_of (fields_of log_of opened.store) opened.timeline opened.next) }
+        → IsToldBy parts (base_of (fields_of log_of opened.store) opened.timeline opened.next opened.audit) }
 {
     a_base_is_what_its_objects_stand_for();
     rows_that_stand_make_a_store();

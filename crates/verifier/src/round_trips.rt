@@ -42,7 +42,7 @@ pub fn round_trip<R: Threads>(rt: &R, alloc: Global, bytes: &[u8]) -> Result<Vec
 fn save_named<J: Naming>(alloc: Global, opened: OpenedDrive) -> Result<Vec<u8>, Refusal>
     requires accepts { opened.accepts ≡ J.accepts }
     requires frames { opened.store.table.seat.table ≡ J.frames }
-    requires base { base_of (fields_of log_of opened.store) opened.timeline opened.next ≡ J.base }
+    requires base { base_of (fields_of log_of opened.store) opened.timeline opened.next opened.audit ≡ J.base }
     ensures same { IfOk result (λ saved. (bytes : List ℕ) (parts : ImageParts) (image : ImageFields) → SpellsDrive bytes parts → IsImageOf parts image → IsOpenedOf image opened
         → saved.items ≡ bytes) }
     ensures refusal { IfErr result (λ e. e ≡ NoMemory) }

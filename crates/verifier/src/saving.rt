@@ -7,6 +7,7 @@ ghost use Rattle.drive.specs.Fields.{history_of, state_in};
 ghost use Rattle.verifier.specs.Opened.{TellsBase};
 ghost use Rattle.verifier.specs.Saved.{SpellsSaved};
 
+use crate::audit::push_audit_rows;
 use crate::opening_laws::what_is_saved_goes_on;
 use crate::saved_frames::{frames_with_blocks, push_frames};
 use crate::saved_rows::{push_rows, push_spans, rows_saved};
@@ -19,8 +20,9 @@ use segment_table::OverFrames;
 use segment_word::Naming;
 use std::alloc::Global;
 
-/// The header of the image of a drive, by the numbers of its rows and of its spans.
-fn header_of<J: Naming>(drive: &Drive<J>, rows: u32, spans: u32) -> Header
+/// The header of the image of a drive, by the numbers of its rows, of its spans and of its audit
+/// rows.
+fn header_of<J: Naming>(drive: &Drive<J>, rows: u32, spans: u32, audit: u64) -> Header
     ensures frames { result.frames ≡ length drive.now.store.table.seat.frames }
     ensures clock { result.clock ≡ (state_in drive.now).clock }
     ensures window { result.window ≡ (state_in drive.now).window }
@@ -28,9 +30,11 @@ fn header_of<J: Naming>(drive: &Drive<J>, rows: u32, spans: u32) -> Header
     ensures next { result.next ≡ (state_in drive.now).next }
     ensures rows { result.rows ≡ rows }
     ensures spans { result.spans ≡ spans }
+    ensures audit { result.audit ≡ audit }
     ensures clock_fits { (state_in drive.now).clock < 2 ^ 64 }
     ensures window_fits { (state_in drive.now).window < 2 ^ 64 }
     ensures next_fits { (state_in drive.now).next < 2 ^ 64 }
+    ensures audit_fits { audit < 2 ^ 64 }
 {
     Header {
         frames: drive.frame_count(),
@@ -40,29 +44,35 @@ fn header_of<J: Naming>(drive: &Drive<J>, rows: u32, spans: u32) -> Header
         next: drive.next(),
         rows,
         spans,
+        audit,
     }
 }
 
-/// An empty list with room for the whole image of a drive with this many rows and spans, so that it
-/// isn't moved while it grows: no second copy of it is beside the drive. NoMemory alone.
+/// An empty list with room for the whole image of a drive with this header, so that it isn't moved
+/// while it grows: no second copy of it is beside the drive. NoMemory alone.
 fn room_for_image<J: Naming>(
     alloc: Global,
     drive: &mut Drive<J>,
-    rows: u32,
-    spans: u32,
+    header: &Header,
 ) -> Result<Vec<u8>, Refusal>
     ensures empty { IfOk result (λ out. out.items ≡ []) }
     ensures refusal { IfErr result (λ e. e ≡ NoMemory) }
     ensures same { drive.new ≡ drive.old }
 {
-    let length = image_length(drive.frame_count(), frames_with_blocks(drive), rows, spans);
+    let length = image_length(
+        header.frames,
+        frames_with_blocks(drive),
+        header.rows,
+        header.spans,
+        header.audit,
+    );
     let out = Vec::with_capacity(alloc, length)?;
     Ok(out)
 }
 
 /// The image of a drive, which stays as it is: its clock, window, floor and next number, its frames
-/// with what is used of them, its rows by ascending object, and the spans that hide its moments
-/// from the floor on.
+/// with what is used of them, its rows by ascending object, the spans that hide its moments from
+/// the floor on, and the rows of its audit.
 ///
 /// NoMemory alone, where the memory for it is refused.
 pub fn save<J: Naming>(alloc: Global, drive: &mut Drive<J>) -> Result<Vec<u8>, Refusal>
@@ -81,12 +91,19 @@ pub fn save<J: Naming>(alloc: Global, drive: &mut Drive<J>) -> Result<Vec<u8>, R
     drive.rules();
     let rows = rows_saved(alloc, drive)?;
     let spans = drive.spans()?;
-    let header = header_of(drive, rows.len() as u32, spans.len() as u32);
-    let mut out = room_for_image(alloc, drive, header.rows, header.spans)?;
+    let audit = drive.audit_rows()?;
+    let header = header_of(
+        drive,
+        rows.len() as u32,
+        spans.len() as u32,
+        audit.len() as u64,
+    );
+    let mut out = room_for_image(alloc, drive, &header)?;
     push_header(&mut out, &header)?;
     push_frames(drive, &mut out)?;
     push_rows(&mut out, rows.as_slice())?;
     push_spans(&mut out, spans.as_slice())?;
+    push_audit_rows(&mut out, audit.as_slice())?;
     push_digest(&mut out)?;
     Ok(out)
 }

@@ -1,6 +1,6 @@
 //! Bytes that are the image of a drive, or not.
 ghost use Rattle.std.specs.Prelude.{◌≡◌, ◌⊎◌, ◌≤◌, Some, None, MatchBool, IfSome, IfNone, IfOk};
-ghost use Rattle.std.specs.Prelude.{IfErr, length};
+ghost use Rattle.std.specs.Prelude.{IfErr, length, map};
 ghost use Rattle.s4_types.specs.Pointer.{Place};
 ghost use Rattle.s4_types.specs.declared.refusals.Cause.{Cause as Found};
 ghost use Rattle.s4_types.specs.declared.refusals.Refusal.TheVariants.{NoMemory, Damaged};
@@ -11,14 +11,18 @@ ghost use Rattle.segment_table.specs.Table.{held_at};
 ghost use Rattle.verifier.specs.Tables.{IsTableOf};
 ghost use Rattle.verifier.specs.Rows.{ChainsStand};
 ghost use Rattle.verifier.specs.Grammar.{SpellsDrive, FirstFault};
+ghost use Rattle.s4_model.specs.Audit.{AreAuditRows};
+ghost use Rattle.verifier.specs.Audit.{audit_part};
 ghost use Rattle.verifier.specs.Reading.{AreRead};
 ghost use Rattle.verifier.specs.Images.{IsImageOf};
 ghost use Rattle.verifier.specs.Opened.{IsReadOf};
 ghost use Rattle.verifier.specs.private.Rest.{FirstRestCause};
 
+use crate::audit::read_audit;
 use crate::images::Image;
 use crate::objects::{Read, read_objects};
 use crate::tables::read_frames;
+use audit_log::AuditLog;
 use codec::laws::a_summary_has_one_encoding;
 use image_objects::laws::rows_that_stand_make_a_store;
 use image_parts::laws::{a_list_has_few_spans, what_no_test_refuses_is_an_image};
@@ -67,12 +71,14 @@ fn read_chains(
 }
 
 /// The image of parts that keep their rules, by what was read of them.
-fn image_of(parts: &ImageParts<'_>, read: Read, spans: Vec<Span>) -> Image
+fn image_of(parts: &ImageParts<'_>, read: Read, spans: Vec<Span>, audit: AuditLog) -> Image
     requires rules { KeepsRules parts.now }
     requires frames { IsTableOf parts.now.frames read.table }
     requires rows { AreRead read.table parts.now.rows parts.now.clock read.table
         read.objects.items }
     requires spans { spans.items ≡ parts.now.spans }
+    requires encoded { parts.now.audit ≡ map audit_part audit.rows }
+    requires kept { AreAuditRows parts.now.floor parts.now.clock parts.now.next audit.rows }
     ensures { IsImageOf parts.now result }
 {
     rows_that_stand_make_a_store();
@@ -88,11 +94,12 @@ fn image_of(parts: &ImageParts<'_>, read: Read, spans: Vec<Span>) -> Image
         table,
         objects,
         spans,
+        audit,
     }
 }
 
-/// The image that parts tell whose header keeps its rules: their frames, spans, rows and chains are
-/// tested, in this order.
+/// The image that parts tell whose header keeps its rules: their frames, spans, rows, chains and
+/// audit are tested, in this order.
 ///
 /// Damaged with the cause of the first of these tests that fails; NoMemory where memory was
 /// refused.
@@ -116,8 +123,11 @@ fn read_rest(alloc: Global, parts: &ImageParts<'_>) -> Result<Image, Refusal>
     let Some(read) = read_chains(alloc, table, parts)? else {
         return Err(Refusal::Damaged(Cause::Chain));
     };
+    let Some(audit) = read_audit(alloc, parts)? else {
+        return Err(Refusal::Damaged(Cause::Audit));
+    };
     let spans = spans_of(alloc, parts)?;
-    Ok(image_of(parts, read, spans))
+    Ok(image_of(parts, read, spans, audit))
 }
 
 /// Whether the bytes have their digest, and the image that their parts tell, as `read_rest` answers

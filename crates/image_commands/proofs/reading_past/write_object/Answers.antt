@@ -12,7 +12,7 @@ pub returns-in-Ok-open : goal.returns-in-Ok-open
 returns-in-Ok-open g c =
     let opened = c.in-Ok-open.opened in
     let verified = c.in-Ok.ensures.verified in
-    let base : Base = base_of (fields_of log_of opened.store) opened.timeline opened.next in
+    let base : Base = base_of (fields_of log_of opened.store) opened.timeline opened.next opened.audit in
     let told = c.in-Ok-open.ensures.base verified.bytes (image_in verified.bytes) verified.spelled verified.told in
     record {
       object = on_ok_weaker c.write_named.result

@@ -5,4 +5,4 @@ use Rattle.replay.proofs.party.play_image.Given as goal
 
 -- the drive that was opened
 abbrev pub ghosts-play_opened : goal.ghosts-play_opened
-ghosts-play_opened g a = record { frames = a.opened.store.table.seat.table; accepts = a.opened.accepts; base = base_of (fields_of log_of a.opened.store) a.opened.timeline a.opened.next }
+ghosts-play_opened g a = record { frames = a.opened.store.table.seat.table; accepts = a.opened.accepts; base = base_of (fields_of log_of a.opened.store) a.opened.timeline a.opened.next a.opened.audit }

@@ -5,4 +5,4 @@ use Rattle.restore_trials.proofs.surveys.survey_image.Given as goal
 
 -- the drive that was opened
 abbrev pub ghosts-survey_opened : goal.ghosts-survey_opened
-ghosts-survey_opened g a = record { frames = a.opened.store.table.seat.table; accepts = a.opened.accepts; base = base_of (fields_of log_of a.opened.store) a.opened.timeline a.opened.next }
+ghosts-survey_opened g a = record { frames = a.opened.store.table.seat.table; accepts = a.opened.accepts; base = base_of (fields_of log_of a.opened.store) a.opened.timeline a.opened.next a.opened.audit }

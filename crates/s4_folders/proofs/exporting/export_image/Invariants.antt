@@ -5,4 +5,4 @@ use Rattle.s4_folders.proofs.exporting.export_image.Given as goal
 
 -- the drive that was opened
 abbrev pub ghosts-export_opened : goal.ghosts-export_opened
-ghosts-export_opened g a = record { frames = a.opened.store.table.seat.table; accepts = a.opened.accepts; base = base_of (fields_of log_of a.opened.store) a.opened.timeline a.opened.next }
+ghosts-export_opened g a = record { frames = a.opened.store.table.seat.table; accepts = a.opened.accepts; base = base_of (fields_of log_of a.opened.store) a.opened.timeline a.opened.next a.opened.audit }

@@ -16,7 +16,7 @@ pub returns-in-Ok-open : goal.returns-in-Ok-open
 returns-in-Ok-open g c =
     let opened = c.in-Ok-open.opened in
     let verified = c.in-Ok.ensures.verified in
-    let base : Base = base_of (fields_of log_of opened.store) opened.timeline opened.next in
+    let base : Base = base_of (fields_of log_of opened.store) opened.timeline opened.next opened.audit in
     let a = g.F.Files.contents c.args.files.now in
     let f = g.F.Files.contents c.run_begun.new.files in
     let opens = HoldsAt g.F.Files.writes g.F.Writer.Write.contents in

@@ -5,4 +5,4 @@ use Rattle.verifier.proofs.round_trips.round_trip.Given as goal
 
 -- the drive that was opened
 abbrev pub ghosts-save_named : goal.ghosts-save_named
-ghosts-save_named g a = record { frames = a.opened.store.table.seat.table; accepts = a.opened.accepts; base = base_of (fields_of log_of a.opened.store) a.opened.timeline a.opened.next }
+ghosts-save_named g a = record { frames = a.opened.store.table.seat.table; accepts = a.opened.accepts; base = base_of (fields_of log_of a.opened.store) a.opened.timeline a.opened.next a.opened.audit }
