@@ -3,8 +3,10 @@ use Rattle.std.proofs.Common.{◌≡◌, ℕ, List, Option, Some, None, refl, sy
 use Rattle.s4_types.specs.declared.refusals.Cause.{Cause}
 use Rattle.s4_types.specs.declared.refusals.Cause.TheVariants.{Frame, Span, Row, Chain}
 use Rattle.image_parts.specs.declared.headers.Header.{Header}
+use Rattle.image_parts.specs.declared.marks.ImageMark.TheVariants.{Earlier}
+use Rattle.image_parts.specs.Marks.{earlier_in}
 use Rattle.image_parts.specs.Header.{header_in}
-use Rattle.codec.specs.declared.versions.ImageVersion.TheVariants.{First}
+use Rattle.codec.specs.declared.versions.ImageVersion.{ImageVersion}
 use Rattle.image_parts.specs.Frames.{KeepFrameRulesBy}
 use Rattle.image_parts.specs.Spans.{KeepSpanRules}
 use Rattle.image_parts.specs.Rows.{KeepRowRules}
@@ -18,13 +20,13 @@ use Rattle.earlier_images.specs.private.Rest.{FirstEarlierRest}
 -- ---- all tests
 
 -- where all tests of parts hold, what comes after them decides
-pub parts_passed : (bytes : List ℕ) (late : Option Cause → Type 0) (found : Option Cause) → FirstCauseBy First bytes None → late found → TestedPartsBy First bytes late found
-parts_passed bytes late found tests on =
+pub parts_passed : (v : ImageVersion) (bytes : List ℕ) (late : Option Cause → Type 0) (found : Option Cause) → FirstCauseBy (Earlier v) bytes None → late found → TestedPartsBy (Earlier v) bytes late found
+parts_passed v bytes late found tests on =
     test_passed tests (λ a. test_passed a (λ b. test_passed b (λ c. test_passed c (λ d. test_passed d (λ e. test_passed e (λ f. test_passed f (λ g. on)))))))
 
 -- what comes after the tests of parts, where those hold
-pub parts_behind : (bytes : List ℕ) (late : Option Cause → Type 0) (found : Option Cause) → FirstCauseBy First bytes None → TestedPartsBy First bytes late found → late found
-parts_behind bytes late found tests all =
+pub parts_behind : (v : ImageVersion) (bytes : List ℕ) (late : Option Cause → Type 0) (found : Option Cause) → FirstCauseBy (Earlier v) bytes None → TestedPartsBy (Earlier v) bytes late found → late found
+parts_behind v bytes late found tests all =
     let a = test_both tests all in
     let b = test_both a.0 a.1 in
     let c = test_both b.0 b.1 in
@@ -34,48 +36,48 @@ parts_behind bytes late found tests all =
     (test_both f.0 f.1).1
 
 -- where nothing was found, nothing was by the tests of parts
-pub parts_none : (bytes : List ℕ) (late : Option Cause → Type 0) → TestedPartsBy First bytes late None → FirstCauseBy First bytes None
-parts_none bytes late tests =
+pub parts_none : (v : ImageVersion) (bytes : List ℕ) (late : Option Cause → Type 0) → TestedPartsBy (Earlier v) bytes late None → FirstCauseBy (Earlier v) bytes None
+parts_none v bytes late tests =
     test_kept tests (λ a. test_kept a (λ b. test_kept b (λ c. test_kept c (λ d. test_kept d (λ e. test_kept e (λ f. test_kept f (λ g. refl)))))))
 
 -- ---- the image
 
 -- what images_of_a_version says of the first one
 abbrev pub AreTested : Type 0
-AreTested = (bytes : List ℕ) (image : Image) → SpellsImageBy First bytes image → FirstCauseBy First bytes None
+AreTested = (v : ImageVersion) (bytes : List ℕ) (image : Image) → SpellsImageBy (Earlier v) bytes image → FirstCauseBy (Earlier v) bytes None
 
 abbrev pub AreReadAgain : Type 0
-AreReadAgain = (bytes : List ℕ) (image : Image) → SpellsImageBy First bytes image → image_in bytes ≡ image
+AreReadAgain = (v : ImageVersion) (bytes : List ℕ) (image : Image) → SpellsImageBy (Earlier v) bytes image → image_in bytes ≡ image
 
-read_chains : AreReadAgain → (bytes : List ℕ) (image : Image) → SpellsEarlier bytes image → EarlierChainsStand (image_in bytes)
-read_chains read bytes image spells = subst EarlierChainsStand (sym (read bytes image spells.parts)) spells.chains
+read_chains : AreReadAgain → (bytes : List ℕ) (image : Image) → SpellsEarlier bytes image → EarlierChainsStand (earlier_in bytes) (image_in bytes)
+read_chains read bytes image spells = subst (EarlierChainsStand (earlier_in bytes)) (sym (read (earlier_in bytes) bytes image spells.parts)) spells.chains
 
 pub nothing_spelled : AreTested → AreReadAgain → (bytes : List ℕ) (cause : Cause) (image : Image) → FirstEarlierFault bytes (Some cause) → SpellsEarlier bytes image → ⊥
 nothing_spelled tests read bytes cause image fault spells =
-    elim (parts_behind bytes (Tested (EarlierChainsStand (image_in bytes)) Chain (λ f. f ≡ None)) (Some cause) (tests bytes image spells.parts) fault) [
+    elim (parts_behind (earlier_in bytes) bytes (Tested (EarlierChainsStand (earlier_in bytes) (image_in bytes)) Chain (λ f. f ≡ None)) (Some cause) (tests (earlier_in bytes) bytes image spells.parts) fault) [
       | inl failed ↦ failed.0 (read_chains read bytes image spells)
       | inr held ↦ none_is_no_cause cause (sym held.1)
     ]
 
 pub none_where_spelled : AreTested → AreReadAgain → (bytes : List ℕ) (image : Image) → SpellsEarlier bytes image → FirstEarlierFault bytes None
 none_where_spelled tests read bytes image spells =
-    parts_passed bytes (Tested (EarlierChainsStand (image_in bytes)) Chain (λ f. f ≡ None)) None (tests bytes image spells.parts) (inr (read_chains read bytes image spells, refl))
+    parts_passed (earlier_in bytes) bytes (Tested (EarlierChainsStand (earlier_in bytes) (image_in bytes)) Chain (λ f. f ≡ None)) None (tests (earlier_in bytes) bytes image spells.parts) (inr (read_chains read bytes image spells, refl))
 
-pub spelled_where_none : (bytes : List ℕ) → (FirstCauseBy First bytes None → SpellsImageBy First bytes (image_in bytes)) → FirstEarlierFault bytes None → SpellsEarlier bytes (image_in bytes)
+pub spelled_where_none : (bytes : List ℕ) → (FirstCauseBy (Earlier (earlier_in bytes)) bytes None → SpellsImageBy (Earlier (earlier_in bytes)) bytes (image_in bytes)) → FirstEarlierFault bytes None → SpellsEarlier bytes (image_in bytes)
 spelled_where_none bytes is none =
-    let parts : FirstCauseBy First bytes None = parts_none bytes (Tested (EarlierChainsStand (image_in bytes)) Chain (λ f. f ≡ None)) none in
-    record { parts = is parts; chains = (test_none (parts_behind bytes (Tested (EarlierChainsStand (image_in bytes)) Chain (λ f. f ≡ None)) None parts none)).0 }
+    let parts : FirstCauseBy (Earlier (earlier_in bytes)) bytes None = parts_none (earlier_in bytes) bytes (Tested (EarlierChainsStand (earlier_in bytes) (image_in bytes)) Chain (λ f. f ≡ None)) none in
+    record { parts = is parts; chains = (test_none (parts_behind (earlier_in bytes) bytes (Tested (EarlierChainsStand (earlier_in bytes) (image_in bytes)) Chain (λ f. f ≡ None)) None parts none)).0 }
 
 -- ---- what was read
 
 -- what comes after the digest, of these parts and this header
-abbrev rest : Header → Image → Option Cause → Type 0
-rest h image found = Tested (KeepFrameRulesBy First image.frames) Frame (Tested (KeepSpanRules h image.spans) Span (Tested (KeepRowRules h image.rows) Row (Tested (EarlierChainsStand image) Chain (λ f. f ≡ None)))) found
+abbrev rest : ImageVersion → Header → Image → Option Cause → Type 0
+rest v h image found = Tested (KeepFrameRulesBy v image.frames) Frame (Tested (KeepSpanRules h image.spans) Span (Tested (KeepRowRules h image.rows) Row (Tested (EarlierChainsStand v image) Chain (λ f. f ≡ None)))) found
 
 -- and where they have theirs, what was found after it decides
-pub rest_fault : (bytes : List ℕ) (parts : Image) (found : Option Cause) → FirstSplitCauseBy First bytes None → parts ≡ image_in bytes → header_of parts ≡ header_in bytes → HasDigest bytes → FirstEarlierRest parts found → FirstEarlierFault bytes found
+pub rest_fault : (bytes : List ℕ) (parts : Image) (found : Option Cause) → FirstSplitCauseBy (Earlier (earlier_in bytes)) bytes None → parts ≡ image_in bytes → header_of parts ≡ header_in bytes → HasDigest bytes → FirstEarlierRest (earlier_in bytes) parts found → FirstEarlierFault bytes found
 rest_fault bytes parts found tests is header digest later =
-    let H : Header → Type 0 = λ h. rest h parts found in
-    let P : Image → Type 0 = λ image. rest (header_in bytes) image found in
+    let H : Header → Type 0 = λ h. rest (earlier_in bytes) h parts found in
+    let P : Image → Type 0 = λ image. rest (earlier_in bytes) (header_in bytes) image found in
     let here : P (image_in bytes) = subst P is (subst H header later) in
     test_passed tests (λ a. test_passed a (λ b. test_passed b (λ c. inr (digest, here))))

@@ -1,7 +1,7 @@
--- What contracts see of an image of the first version that was read.
+-- What contracts see of an image of an earlier version that was read.
 use Rattle.std.specs.Prelude.{◌≡◌, ℕ, List}
 use Rattle.s4_types.specs.declared.spans.Span.{Span}
-use Rattle.codec.specs.declared.versions.ImageVersion.TheVariants.{First}
+use Rattle.codec.specs.declared.versions.ImageVersion.{ImageVersion}
 use Rattle.image_parts.specs.Image.{Image}
 use Rattle.image_objects.specs.declared.rows.ImageRow.{ImageRow}
 use Rattle.image_objects.specs.Versions.{RowsStandBy}
@@ -9,8 +9,9 @@ use Rattle.verifier.specs.Rows.{SpellRows}
 use Rattle.earlier_images.specs.declared.frames.EarlierFrame.{EarlierFrame}
 use Rattle.earlier_images.specs.Used.{AreFramesOf, used_in}
 
--- an image: the numbers of its drive, its frames with what was read of each, its rows and its spans
+-- an image: its version, the numbers of its drive, its frames with what was read of each, its rows and its spans
 pub record EarlierFields : Type 0 where
+  pub version : ImageVersion
   pub clock : ℕ
   pub window : ℕ
   pub floor : ℕ
@@ -19,9 +20,10 @@ pub record EarlierFields : Type 0 where
   pub rows : List ImageRow
   pub spans : List Span
 
--- What was read is an image's: it has the numbers and the spans of these parts, their frames, and the rows that their bytes encode, all of
+-- What was read is an image's of this version: it has the numbers and the spans of these parts, their frames, and the rows that their bytes encode, all of
 -- which keep the rules up to its clock.
-pub record IsEarlierOf (parts : Image) (image : EarlierFields) : Type 0 where
+pub record IsEarlierOf (version : ImageVersion) (parts : Image) (image : EarlierFields) : Type 0 where
+  pub version_is : image.version ≡ version
   pub clock : image.clock ≡ parts.clock
   pub window : image.window ≡ parts.window
   pub floor : image.floor ≡ parts.floor
@@ -29,4 +31,4 @@ pub record IsEarlierOf (parts : Image) (image : EarlierFields) : Type 0 where
   pub spans : image.spans ≡ parts.spans
   pub frames : AreFramesOf parts.frames image.frames
   pub spelled : SpellRows parts.rows image.rows
-  pub stand : RowsStandBy First (used_in image.frames) image.rows image.clock
+  pub stand : RowsStandBy image.version (used_in image.frames) image.rows image.clock

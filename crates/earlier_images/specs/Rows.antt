@@ -1,6 +1,6 @@
--- When the chains of an image of the first version keep the rules.
+-- When the chains of an image of an earlier version keep the rules.
 use Rattle.std.specs.Prelude.{List}
-use Rattle.codec.specs.declared.versions.ImageVersion.TheVariants.{First}
+use Rattle.codec.specs.declared.versions.ImageVersion.{ImageVersion}
 use Rattle.image_parts.specs.Image.{Image}
 use Rattle.image_objects.specs.declared.rows.ImageRow.{ImageRow}
 use Rattle.image_objects.specs.Versions.{RowsStandBy}
@@ -8,11 +8,11 @@ use Rattle.verifier.specs.Rows.{SpellRows}
 use Rattle.earlier_images.specs.declared.frames.EarlierFrame.{EarlierFrame}
 use Rattle.earlier_images.specs.Used.{AreFramesOf, used_in}
 
--- The chains of an image of the first version keep the rules: the rows that its bytes encode all do, up to its clock, over the used
+-- The chains of an image of an earlier version keep the rules: the rows that its bytes encode all do, up to its clock, over the used
 -- blocks of its frames.
-pub record EarlierChainsStand (image : Image) : Type 0 where
+pub record EarlierChainsStand (version : ImageVersion) (image : Image) : Type 0 where
   pub frames : List EarlierFrame
   pub read : AreFramesOf image.frames frames
   pub rows : List ImageRow
   pub spelled : SpellRows image.rows rows
-  pub stand : RowsStandBy First (used_in frames) rows image.clock
+  pub stand : RowsStandBy version (used_in frames) rows image.clock

@@ -1,4 +1,4 @@
--- The used blocks of an image of the first version, straight from its frames.
+-- The used blocks of an image of an earlier version, straight from its frames.
 use Rattle.std.specs.Prelude.{◌≡◌, ℕ, zero, suc, ◌==◌, ◌||◌, ◌&&◌, Bool, if◌then◌else◌, List, [], ◌∷◌, slice_get, Option, Some, None, option_map}
 use Rattle.s4_types.specs.Pointer.{Place}
 use Rattle.block_log.specs.Log.{Stored}

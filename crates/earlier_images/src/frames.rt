@@ -1,7 +1,7 @@
-//! The frames of an image of the first version, and the blocks in them that pointers name.
+//! The frames of an image of an earlier version, and the blocks in them that pointers name.
 ghost use Rattle.std.specs.Prelude.{◌≡◌, ◌≤◌, length, IsSome, IfSome, IfNone, IfOk, IfErr};
 ghost use Rattle.s4_types.specs.declared.refusals.Refusal.TheVariants.{NoMemory};
-ghost use Rattle.codec.specs.declared.versions.ImageVersion.TheVariants.{First};
+ghost use Rattle.image_parts.specs.declared.marks.ImageMark.TheVariants.{Earlier};
 ghost use Rattle.image_parts.specs.Header.{IsFrameCountBy};
 ghost use Rattle.image_parts.specs.Frames.{KeepFrameRulesBy};
 ghost use Rattle.earlier_images.specs.Used.{AreFramesOf, is_named, role_at, roles_of, used_block};
@@ -38,8 +38,8 @@ impl<'a> EarlierFrame<'a> {
         (state == 1 || state == 2) && word / GENERATION == u64::from(generation)
     }
 
-    /// What a block is used for. None where the summary doesn't list it; its own block, number 0, it
-    /// never lists.
+    /// What a block is used for. None where the summary doesn't list it; its own block, number 0,
+    /// it never lists.
     fn role(&self, block: u8) -> Option<BlockRole>
         ensures role { result ≡ role_at (roles_of self.now.read) block }
         ensures most { IsSome result → block ≤ 15 }
@@ -70,8 +70,8 @@ impl<'a> EarlierFrame<'a> {
     }
 }
 
-/// The frames of an image of the first version, in their order. They are in the bytes that they were
-/// read from; of each that isn't free the summary was decoded once.
+/// The frames of an image of an earlier version, in their order. They are in the bytes that they
+/// were read from; of each that isn't free the summary was decoded once.
 #[derive(Drop)]
 pub struct EarlierFrames<'a> {
     frames: Vec<EarlierFrame<'a>>,
@@ -106,28 +106,29 @@ impl UsedBlocks for EarlierFrames<'_> {
     }
 }
 
-/// The frames of an image of the first version, each read once. None exactly where they break a
+/// The frames of an image of an earlier version, each read once. None exactly where they break a
 /// rule: one by itself, or two are open.
 ///
 /// NoMemory alone. Each frame's bytes are hashed once.
 pub(crate) fn read_frames<'a>(
     alloc: Global,
+    version: ImageVersion,
     parts: &ImageParts<'a>,
 ) -> Result<Option<EarlierFrames<'a>>, Refusal>
-    requires counted { IsFrameCountBy First (length parts.now.frames) }
+    requires counted { IsFrameCountBy (Earlier version) (length parts.now.frames) }
     ensures frames { IfOk result
         (λ found. IfSome found (λ frames. AreFramesOf parts.now.frames frames)) }
     ensures rules { IfOk result
-        (λ found. IfSome found (λ frames. KeepFrameRulesBy First parts.now.frames)) }
+        (λ found. IfSome found (λ frames. KeepFrameRulesBy version parts.now.frames)) }
     ensures none { IfOk result
-        (λ found. IfNone found (KeepFrameRulesBy First parts.now.frames → ⊥)) }
+        (λ found. IfNone found (KeepFrameRulesBy version parts.now.frames → ⊥)) }
     ensures refusal { IfErr result (λ e. e ≡ NoMemory) }
 {
     let mut frames = Vec::new(alloc);
     let mut number = 0;
     let mut has_open = false;
     for part in parts.frames() {
-        let Some(read) = read_frame_by(ImageVersion::First, number, &part) else {
+        let Some(read) = read_frame_by(version, number, &part) else {
             return Ok(None);
         };
         let is_open = part.is_open();

@@ -1,15 +1,17 @@
-//! Images of the first version that were read.
+//! Images of earlier versions that were read.
 ghost use Rattle.std.specs.Prelude.{◌≡◌};
 
 use crate::frames::EarlierFrames;
+use codec::ImageVersion;
 use image_objects::ImageRow;
 use s4_types::{Moment, ObjectId, Span};
 use std::marker::Model;
 
-/// What was read of an image of the first version. Its blocks are in the bytes that it was read
+/// What was read of an image of an earlier version. Its blocks are in the bytes that it was read
 /// from.
 #[derive(Drop)]
 pub struct EarlierImage<'a> {
+    pub(crate) version: ImageVersion,
     pub(crate) clock: Moment,
     pub(crate) window: u64,
     pub(crate) floor: Moment,
@@ -24,10 +26,17 @@ impl<'a> Model for EarlierImage<'a> {
 
     ghost Value = { EarlierFields };
 
-    ghost view = { λ i. record { clock = i.clock; window = i.window; floor = i.floor; next = i.next; frames = i.frames; rows = i.rows.items; spans = i.spans.items } };
+    ghost view = { λ i. record { version = i.version; clock = i.clock; window = i.window; floor = i.floor; next = i.next; frames = i.frames; rows = i.rows.items; spans = i.spans.items } };
 }
 
 impl<'a> EarlierImage<'a> {
+    /// The version, by which its chains are read.
+    pub fn version(&self) -> ImageVersion
+        ensures { result ≡ self.now.version }
+    {
+        self.version
+    }
+
     /// The clock: the last moment given or seen.
     pub fn clock(&self) -> Moment
         ensures { result ≡ self.now.clock }

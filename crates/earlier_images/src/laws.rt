@@ -1,4 +1,4 @@
-//! Laws of images of the first version, for the layers above: each function does nothing, and its
+//! Laws of images of an earlier version, for the layers above: each function does nothing, and its
 //! contract is the law.
 ghost use Rattle.std.specs.Prelude.{◌≡◌, ◌↔◌, ℕ, List, Option, Some, None};
 ghost use Rattle.s4_types.specs.Pointer.{Place};
@@ -6,6 +6,7 @@ ghost use Rattle.s4_types.specs.declared.refusals.Cause.{Cause as Found};
 ghost use Rattle.image_parts.specs.Header.{AreBytes};
 ghost use Rattle.image_parts.specs.Frames.{FrameFields};
 ghost use Rattle.image_parts.specs.Image.{Image as Parts, image_in};
+ghost use Rattle.codec.specs.declared.versions.ImageVersion.{ImageVersion as Version};
 ghost use Rattle.segment_table.specs.Table.{Table};
 ghost use Rattle.segment_table.specs.Used.{used_at};
 ghost use Rattle.verifier.specs.Tables.{IsTableOf};
@@ -15,7 +16,7 @@ ghost use Rattle.earlier_images.specs.Images.{EarlierFields, IsEarlierOf};
 ghost use Rattle.earlier_images.specs.Grammar.{SpellsEarlier, FirstEarlierFault};
 
 use codec::laws::{a_summary_has_one_encoding, one_pointer_a_spelling};
-use image_parts::laws::images_of_a_version;
+use image_parts::laws::images_with_a_mark;
 
 /// Frames are read in one way, and so is what pointers name in them.
 pub fn an_image_has_its_frames_once()
@@ -35,22 +36,22 @@ pub fn a_table_names_the_same()
 
 /// What is read of the parts of an image is one image.
 pub fn one_image_is_read()
-    ensures { (parts : Parts) (image other : EarlierFields) → IsEarlierOf parts image
-        → IsEarlierOf parts other → image ≡ other }
+    ensures { (version : Version) (parts : Parts) (image other : EarlierFields)
+        → IsEarlierOf version parts image → IsEarlierOf version parts other → image ≡ other }
 {
     one_pointer_a_spelling();
     an_image_has_its_frames_once();
 }
 
-/// Bytes in which a fault is found encode no image of the first version.
+/// Bytes in which a fault is found encode no image of an earlier version.
 pub fn what_has_a_fault_spells_nothing()
     ensures { (bytes : List ℕ) (cause : Found) (image : Parts)
         → FirstEarlierFault bytes (Some cause) → SpellsEarlier bytes image → ⊥ }
 {
-    images_of_a_version();
+    images_with_a_mark();
 }
 
-/// Bytes in which no fault is found are those that encode an image of the first version: the one
+/// Bytes in which no fault is found are those that encode an image of an earlier version: the one
 /// that is read from them.
 pub fn what_has_no_fault_is_an_image()
     ensures image { (bytes : List ℕ) → AreBytes bytes
@@ -58,7 +59,7 @@ pub fn what_has_no_fault_is_an_image()
     ensures read { (bytes : List ℕ) (image : Parts) → SpellsEarlier bytes image
         → image_in bytes ≡ image }
 {
-    images_of_a_version();
+    images_with_a_mark();
 }
 
 /// The tests come to one cause, or to none.

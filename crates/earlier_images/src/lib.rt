@@ -1,10 +1,11 @@
-//! Images of the first version: bytes are read and judged as `verifier` does those of the present
+//! Images of earlier versions: bytes are read and judged as `verifier` does those of the present
 //! one.
 //!
 //! The layers above may rely on this: `read_earlier` answers what an image has exactly where the
 //! bytes encode one, lack of memory aside, and else the cause of the first test that fails, in the
 //! order of `verifier::verify`. No drive is opened from such an image, so nothing of it is kept in
-//! a table, named or held: its used blocks are seen straight in its bytes, by its frames' summaries.
+//! a table, named or held: its used blocks are seen straight in its bytes, by its frames'
+//! summaries.
 #![tactic(auto)]
 
 mod frames;

@@ -1,7 +1,6 @@
-//! The rows of an image of the first version, and whether all of them keep the rules of chains.
+//! The rows of an image of an earlier version, and whether all of them keep the rules of chains.
 ghost use Rattle.std.specs.Prelude.{◌≡◌, [], List, MatchBool, IfSome, IfNone, IfOk, IfErr};
 ghost use Rattle.s4_types.specs.declared.refusals.Refusal.TheVariants.{NoMemory};
-ghost use Rattle.codec.specs.declared.versions.ImageVersion.TheVariants.{First};
 ghost use Rattle.image_objects.specs.declared.rows.ImageRow.{ImageRow as RowFields};
 ghost use Rattle.image_objects.specs.Moments.{StandOnce};
 ghost use Rattle.image_objects.specs.Versions.{RowsStandBy};
@@ -44,20 +43,21 @@ impl ReadRows {
     fn read_row(
         &mut self,
         alloc: Global,
+        version: ImageVersion,
         frames: &EarlierFrames<'_>,
         part: &RowPart,
         clock: Moment,
     ) -> Result<bool, Refusal>
         ensures read { IfOk result
             (λ stands. MatchBool stands
-            (IsRowRead (used_in frames.now) part.now clock self.old self.new)
-            (PartStands (used_in frames.now) part.now clock → ⊥)) }
+            (IsRowRead version (used_in frames.now) part.now clock self.old self.new)
+            (PartStands version (used_in frames.now) part.now clock → ⊥)) }
         ensures refusal { IfErr result (λ e. e ≡ NoMemory) }
     {
         let Some(row) = row_of(part) else {
             return Ok(false);
         };
-        let Some(versions) = read_object_by(alloc, ImageVersion::First, frames, &row, clock)? else {
+        let Some(versions) = read_object_by(alloc, version, frames, &row, clock)? else {
             return Ok(false);
         };
         push_moments(versions.chain.entries.as_slice(), &mut self.moments)?;
@@ -79,12 +79,13 @@ impl ReadRows {
     }
 }
 
-/// The rows of an image of the first version, over its frames. None exactly where they don't all
+/// The rows of an image of an earlier version, over its frames. None exactly where they don't all
 /// keep the rules.
 ///
 /// NoMemory alone. Linear in the image but for the order of moments.
 pub(crate) fn read_rows(
     alloc: Global,
+    version: ImageVersion,
     frames: &EarlierFrames<'_>,
     parts: &ImageParts<'_>,
     clock: Moment,
@@ -93,17 +94,17 @@ pub(crate) fn read_rows(
         (λ found. IfSome found (λ rows. SpellRows parts.now.rows rows.items)) }
     ensures stand { IfOk result
         (λ found. IfSome found
-        (λ rows. RowsStandBy First (used_in frames.now) rows.items clock)) }
+        (λ rows. RowsStandBy version (used_in frames.now) rows.items clock)) }
     ensures none { IfOk result (λ found. IfNone found ((rows : List RowFields)
         → SpellRows parts.now.rows rows
-        → RowsStandBy First (used_in frames.now) rows clock → ⊥)) }
+        → RowsStandBy version (used_in frames.now) rows clock → ⊥)) }
     ensures refusal { IfErr result (λ e. e ≡ NoMemory) }
 {
     moments_told_once_are_not_shared();
     rows_are_read_in_order();
     let mut reading = ReadRows::new(alloc);
     for part in parts.rows() {
-        if !reading.read_row(alloc, frames, &part, clock)? {
+        if !reading.read_row(alloc, version, frames, &part, clock)? {
             return Ok(None);
         }
     }

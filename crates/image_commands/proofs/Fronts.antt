@@ -1,23 +1,28 @@
 -- What was read of a file, against what is known of it.
-use Rattle.std.proofs.Common.{◌≡◌, ◌⊎◌, ◌<◌, ◌++◌, ◌∙◌, ℕ, List, Option, Some, None, refl, sym, ap, subst, length, drop, arith, inl, inr, append_assoc, length-append}
-use Rattle.std.proofs.lemmas.List.{append-nil, take-append-le}
+use Rattle.std.proofs.Common.{◌≡◌, ◌⊎◌, ◌<◌, ◌≤◌, ◌==◌, cond, ◌++◌, ◌∙◌, ℕ, List, Option, Some, None, refl, sym, ap, subst, length, drop, arith, inl, inr, append_assoc, length-append}
+use Rattle.std.proofs.lemmas.List.{append-nil, take-append-le, get_or_append_left}
 use Rattle.std.proofs.KnownBytes.{Consumes-trans, Consumes-kept, starts_with_rest}
 use Rattle.std.proofs.Transfers.{starts_with_length}
 use Rattle.std.specs.Io.{StartsWith}
 use Rattle.std.specs.Io.KnownBytes.{Consumes, IsAtEnd, Keeps}
 use Rattle.s4_types.specs.declared.refusals.Cause.{Cause}
-use Rattle.s4_types.specs.declared.refusals.Cause.TheVariants.{Chain, Header, Length}
+use Rattle.s4_types.specs.declared.refusals.Cause.TheVariants.{Chain, Audit, Header, Length}
 use Rattle.s4_types.specs.declared.refusals.Refusal.{Refusal}
 use Rattle.s4_types.specs.declared.refusals.Refusal.TheVariants.{Damaged, NoMemory}
-use Rattle.codec.specs.declared.versions.ImageVersion.{ImageVersion}
-use Rattle.codec.specs.declared.versions.ImageVersion.TheVariants.{Second}
+use Rattle.image_parts.specs.declared.marks.ImageMark.{ImageMark}
+use Rattle.image_parts.specs.declared.marks.ImageMark.TheVariants.{Third, Earlier as OfEarlier}
+use Rattle.image_parts.specs.Marks.{earlier_in}
+use Rattle.image_commands.specs.declared.verifying.Asked.{Asked}
+use Rattle.image_commands.specs.declared.verifying.Asked.TheVariants.{Present, Earlier}
 use Rattle.image_parts.specs.Causes.{FirstSplitCauseBy, Tested, TestedPartsBy}
 use Rattle.image_parts.specs.Image.{image_in}
 use Rattle.verifier.specs.Grammar.{FirstFault}
 use Rattle.verifier.specs.Rows.{ChainsStand}
+use Rattle.verifier.specs.Audit.{AuditStands}
+use Rattle.codec.specs.declared.versions.ImageVersion.TheVariants.{First, Second}
 use Rattle.image_commands.specs.Files.{AreKnown}
 use Rattle.image_commands.specs.Faults.{SaysDamaged}
-use Rattle.image_commands.specs.Verifying.{IsDamaged, IsUnsplit}
+use Rattle.image_commands.specs.Verifying.{IsDamaged, IsUnsplit, mark_asked}
 
 -- a reader at its end gave all that is known of it
 pub all_read : (known left : Option (List ℕ)) (bytes : List ℕ) → Consumes known left bytes → IsAtEnd left → AreKnown known bytes
@@ -50,47 +55,54 @@ refused_so known bytes e same (inl memory) = inl memory
 refused_so known bytes e same (inr (found, told, fault)) = inr (subst (SaysDamaged known) (sym told) (known_damaged known bytes found same fault))
 
 -- what can't be split into parts is refused by all tests of an image, for the same cause
-pub split_fault : (version : ImageVersion) (bytes : List ℕ) (later : Option Cause → Type 0) (cause : Cause) → FirstSplitCauseBy version bytes (Some cause) → TestedPartsBy version bytes later (Some cause)
-split_fault version bytes later cause (inl bad) = inl bad
-split_fault version bytes later cause (inr (long, inl bad)) = inr (long, inl bad)
-split_fault version bytes later cause (inr (long, inr (header, inl bad))) = inr (long, inr (header, inl bad))
-split_fault version bytes later cause (inr (long, inr (header, inr (filled, e)))) = absurd cc
+pub split_fault : (mark : ImageMark) (bytes : List ℕ) (later : Option Cause → Type 0) (cause : Cause) → FirstSplitCauseBy mark bytes (Some cause) → TestedPartsBy mark bytes later (Some cause)
+split_fault mark bytes later cause (inl bad) = inl bad
+split_fault mark bytes later cause (inr (long, inl bad)) = inr (long, inl bad)
+split_fault mark bytes later cause (inr (long, inr (header, inl bad))) = inr (long, inr (header, inl bad))
+split_fault mark bytes later cause (inr (long, inr (header, inr (filled, e)))) = absurd cc
 
 -- what is known to be such bytes is damaged
-pub unsplit_is_damaged : (known : Option (List ℕ)) (cause : Cause) → IsUnsplit Second known cause → IsDamaged known cause
+pub unsplit_is_damaged : (known : Option (List ℕ)) (cause : Cause) → IsUnsplit Present known cause → IsDamaged known cause
 unsplit_is_damaged None cause unsplit = tt
-unsplit_is_damaged (Some bytes) cause unsplit = split_fault Second bytes (Tested (ChainsStand (image_in bytes)) Chain (λ found. found ≡ None)) cause unsplit
+unsplit_is_damaged (Some bytes) cause unsplit = split_fault Third bytes (Tested (ChainsStand (image_in bytes)) Chain (Tested (AuditStands (image_in bytes)) Audit (λ found. found ≡ None))) cause unsplit
 
--- What is read may be an image of this version.
-module _ (version : ImageVersion) where
+-- the mark that is asked for is told by the front
+mark_of_front : (asked : Asked) (front rest : List ℕ) → 8 ≤ length front → mark_asked asked (front ++ rest) ≡ mark_asked asked front
+mark_of_front Present front rest long = refl
+mark_of_front Earlier front rest long = ap (λ (n : ℕ). OfEarlier (cond (n == 0x31) First Second)) (get_or_append_left front rest 0 7 (omega (arith, long)))
+
+-- What is read may be such an image.
+module _ (asked : Asked) where
   -- what was found first of known bytes is found of what is known
-  known_unsplit : (known : Option (List ℕ)) (bytes : List ℕ) (cause : Cause) → AreKnown known bytes → FirstSplitCauseBy version bytes (Some cause) → IsUnsplit version known cause
+  known_unsplit : (known : Option (List ℕ)) (bytes : List ℕ) (cause : Cause) → AreKnown known bytes → FirstSplitCauseBy (mark_asked asked bytes) bytes (Some cause) → IsUnsplit asked known cause
   known_unsplit None bytes cause same fault = tt
-  known_unsplit (Some whole) bytes cause same fault = subst (λ (xs : List ℕ). FirstSplitCauseBy version xs (Some cause)) (sym same) fault
+  known_unsplit (Some whole) bytes cause same fault = subst (λ (xs : List ℕ). FirstSplitCauseBy (mark_asked asked xs) xs (Some cause)) (sym same) fault
 
   -- too few bytes
-  pub too_short : (known left : Option (List ℕ)) (bytes : List ℕ) → Consumes known left bytes → IsAtEnd left → length bytes < 544 → IsUnsplit version known Length
+  pub too_short : (known left : Option (List ℕ)) (bytes : List ℕ) → Consumes known left bytes → IsAtEnd left → length bytes < 544 → IsUnsplit asked known Length
   too_short known left bytes read end short =
       known_unsplit known bytes Length (all_read known left bytes read end) (inl ((λ long. omega (arith, long, short)), refl))
 
   -- bytes whose front has no header
-  pub no_header : (known left : Option (List ℕ)) (front : List ℕ) → Consumes known left front → ((rest : List ℕ) → FirstSplitCauseBy version (front ++ rest) (Some Header)) → IsUnsplit version known Header
-  no_header None left front read none = tt
-  no_header (Some whole) None front read none = absurd read
-  no_header (Some whole) (Some rest) front read none = subst (λ (xs : List ℕ). FirstSplitCauseBy version xs (Some Header)) (sym read) (none rest)
+  pub no_header : (known left : Option (List ℕ)) (front : List ℕ) → 8 ≤ length front → Consumes known left front → ((rest : List ℕ) → FirstSplitCauseBy (mark_asked asked front) (front ++ rest) (Some Header)) → IsUnsplit asked known Header
+  no_header None left front long read none = tt
+  no_header (Some whole) None front long read none = absurd read
+  no_header (Some whole) (Some rest) front long read none = subst (λ (xs : List ℕ). FirstSplitCauseBy (mark_asked asked xs) xs (Some Header)) (sym read)
+      (subst (λ (m : ImageMark). FirstSplitCauseBy m (front ++ rest) (Some Header)) (sym (mark_of_front asked front rest long)) (none rest))
 
   -- more bytes than an image with their front can have
   pub too_long : (known left : Option (List ℕ)) (front bytes : List ℕ) (longest : ℕ) → Consumes known left bytes → StartsWith bytes front
-      → ((rest : List ℕ) → longest < length (front ++ rest) → FirstSplitCauseBy version (front ++ rest) (Some Length)) → longest < length bytes → IsUnsplit version known Length
-  too_long None left front bytes longest read begins longer long = tt
-  too_long (Some whole) None front bytes longest read begins longer long = absurd read
-  too_long (Some whole) (Some left) front bytes longest read begins longer long =
+      → 8 ≤ length front → ((rest : List ℕ) → longest < length (front ++ rest) → FirstSplitCauseBy (mark_asked asked front) (front ++ rest) (Some Length)) → longest < length bytes → IsUnsplit asked known Length
+  too_long None left front bytes longest read begins wide longer long = tt
+  too_long (Some whole) None front bytes longest read begins wide longer long = absurd read
+  too_long (Some whole) (Some left) front bytes longest read begins wide longer long =
       let more = drop (length front) bytes in
       let is : bytes ≡ front ++ more = starts_with_rest bytes front begins in
       let all : whole ≡ front ++ (more ++ left) = read ∙ ap (λ (xs : List ℕ). xs ++ left) is ∙ append_assoc front more left in
       let size : longest < length (front ++ (more ++ left)) =
       omega (arith, long, ap length is, length-append front more, length-append front (more ++ left), length-append more left) in
-      subst (λ (xs : List ℕ). FirstSplitCauseBy version xs (Some Length)) (sym all) (longer (more ++ left) size)
+      subst (λ (xs : List ℕ). FirstSplitCauseBy (mark_asked asked xs) xs (Some Length)) (sym all)
+      (subst (λ (m : ImageMark). FirstSplitCauseBy m (front ++ (more ++ left)) (Some Length)) (sym (mark_of_front asked front (more ++ left) wide)) (longer (more ++ left) size))
 
 -- ---- what is read piece by piece
 

@@ -2,8 +2,8 @@
 use Rattle.std.proofs.Common.{◌≡◌, ◌⊎◌, ℕ, List, Option, inl, inr, sym, subst}
 use Rattle.s4_types.specs.History.{Base}
 use Rattle.s4_types.specs.declared.refusals.Refusal.{Refusal}
-use Rattle.codec.specs.declared.versions.ImageVersion.{ImageVersion}
-use Rattle.codec.specs.declared.versions.ImageVersion.TheVariants.{Second}
+use Rattle.image_commands.specs.declared.verifying.Asked.{Asked}
+use Rattle.image_commands.specs.declared.verifying.Asked.TheVariants.{Present}
 use Rattle.image_parts.specs.Image.{image_in}
 use Rattle.verifier.specs.Images.{ImageFields}
 use Rattle.verifier.specs.Opened.{IsToldBy}
@@ -25,16 +25,16 @@ unread known image (KeptIn path obstacle kept) is = absurd is
 unread known image WriteFailed is = absurd is
 
 -- nor were its bytes
-pub unsplit : (version : ImageVersion) (known : Option (List ℕ)) (image : List ℕ) (fault : Fault) → SaysUnreadable image fault → SaysUnsplit version known image fault
-unsplit version known image (Refused refusal) is = inl is
-unsplit version known image (CannotRead path obstacle) is = is
-unsplit version known image (CannotWrite path obstacle) is = absurd is
-unsplit version known image (HasBytes path) is = absurd is
-unsplit version known image (KeptIn path obstacle kept) is = absurd is
-unsplit version known image WriteFailed is = absurd is
+pub unsplit : (asked : Asked) (known : Option (List ℕ)) (image : List ℕ) (fault : Fault) → SaysUnreadable image fault → SaysUnsplit asked known image fault
+unsplit asked known image (Refused refusal) is = inl is
+unsplit asked known image (CannotRead path obstacle) is = is
+unsplit asked known image (CannotWrite path obstacle) is = absurd is
+unsplit asked known image (HasBytes path) is = absurd is
+unsplit asked known image (KeptIn path obstacle kept) is = absurd is
+unsplit asked known image WriteFailed is = absurd is
 
 -- an image whose bytes weren't read wasn't either
-pub unread_unsplit : (known : Option (List ℕ)) (image : List ℕ) (fault : Fault) → SaysUnsplit Second known image fault → SaysUnread known image fault
+pub unread_unsplit : (known : Option (List ℕ)) (image : List ℕ) (fault : Fault) → SaysUnsplit Present known image fault → SaysUnread known image fault
 unread_unsplit known image (Refused refusal) (inl is) = inl is
 unread_unsplit known image (Refused refusal) (inr (cause, is, bytes)) = inr (subst (SaysDamaged known) (sym is) (unsplit_is_damaged known cause bytes))
 unread_unsplit known image (CannotRead path obstacle) is = is

@@ -3,7 +3,7 @@ use Rattle.std.specs.Prelude.{◌≡◌, ◌⊎◌, ◌+◌, ℕ, List, Option, 
 use Rattle.s4_types.specs.declared.refusals.Cause.{Cause}
 use Rattle.s4_types.specs.declared.refusals.Refusal.{Refusal}
 use Rattle.s4_types.specs.declared.refusals.Refusal.TheVariants.{Busy, Damaged, NoMemory}
-use Rattle.codec.specs.declared.versions.ImageVersion.{ImageVersion}
+use Rattle.image_commands.specs.declared.verifying.Asked.{Asked}
 use Rattle.image_commands.specs.declared.faults.Fault.{Fault}
 use Rattle.image_commands.specs.declared.faults.Fault.TheVariants.{CannotRead, CannotWrite, HasBytes, KeptIn, Refused, WriteFailed}
 use Rattle.image_commands.specs.Files.{AreKnown, HasSome}
@@ -52,10 +52,10 @@ SaysUnread known image _ = ⊥
 
 -- Why the bytes of a file aren't read that may be an image of a version: it can't be read; they can't be split into the parts of one; or
 -- memory was short.
-abbrev pub SaysUnsplit : ImageVersion → Option (List ℕ) → (image : List ℕ) → Fault → Type 0
-SaysUnsplit version known image (Refused refusal) = (refusal ≡ NoMemory) ⊎ ((cause : Cause) × (refusal ≡ Damaged cause) × IsUnsplit version known cause)
-SaysUnsplit version known image (CannotRead path obstacle) = path.now ≡ image
-SaysUnsplit version known image _ = ⊥
+abbrev pub SaysUnsplit : Asked → Option (List ℕ) → (image : List ℕ) → Fault → Type 0
+SaysUnsplit asked known image (Refused refusal) = (refusal ≡ NoMemory) ⊎ ((cause : Cause) × (refusal ≡ Damaged cause) × IsUnsplit asked known cause)
+SaysUnsplit asked known image (CannotRead path obstacle) = path.now ≡ image
+SaysUnsplit asked known image _ = ⊥
 
 -- Why an output has not all that it is to have: it failed once more.
 abbrev pub SaysUnwritten : (failures failures' : ℕ) → Fault → Type 0

@@ -2,7 +2,11 @@
 use Rattle.std.specs.Prelude.{ℕ, ◌++◌, List, ⊤, Option, None, Some, codes, decimal, length}
 use Rattle.std.specs.Io.KnownBytes.{Appends}
 use Rattle.s4_types.specs.declared.refusals.Cause.{Cause}
-use Rattle.codec.specs.declared.versions.ImageVersion.{ImageVersion}
+use Rattle.image_parts.specs.Marks.{earlier_in}
+use Rattle.image_parts.specs.declared.marks.ImageMark.{ImageMark}
+use Rattle.image_parts.specs.declared.marks.ImageMark.TheVariants.{Earlier as OfEarlier, Third}
+use Rattle.image_commands.specs.declared.verifying.Asked.{Asked}
+use Rattle.image_commands.specs.declared.verifying.Asked.TheVariants.{Present, Earlier}
 use Rattle.image_parts.specs.Causes.{FirstSplitCauseBy}
 use Rattle.image_parts.specs.Image.{image_in}
 use Rattle.verifier.specs.Grammar.{SpellsDrive, FirstFault}
@@ -31,10 +35,15 @@ abbrev pub IsDamaged : Option (List ℕ) → Cause → Type 0
 IsDamaged None cause = ⊤
 IsDamaged (Some bytes) cause = FirstFault bytes (Some cause)
 
--- the bytes, where they are known, can't be split into the parts of an image of a version, for this cause first
-abbrev pub IsUnsplit : ImageVersion → Option (List ℕ) → Cause → Type 0
-IsUnsplit version None cause = ⊤
-IsUnsplit version (Some bytes) cause = FirstSplitCauseBy version bytes (Some cause)
+-- the mark that an image has which is asked for and begins with these bytes
+abbrev pub mark_asked : Asked → List ℕ → ImageMark
+mark_asked Present bytes = Third
+mark_asked Earlier bytes = OfEarlier (earlier_in bytes)
+
+-- the bytes, where they are known, can't be split into the parts of an image that is asked for, for this cause first
+abbrev pub IsUnsplit : Asked → Option (List ℕ) → Cause → Type 0
+IsUnsplit asked None cause = ⊤
+IsUnsplit asked (Some bytes) cause = FirstSplitCauseBy (mark_asked asked bytes) bytes (Some cause)
 
 -- the output has the line of an image that was read and verified after it
 pub record TellsImage (known : Option (List ℕ)) (output output' : Option (List ℕ)) : Type 0 where

@@ -2,10 +2,10 @@
 //! reads an image and writes one.
 //!
 //! The layer above may rely on this: `read_image` gives the image that a file's bytes encode,
-//! `read_whole` the bytes of what may be an image of a version, and `read_bytes` all bytes, whatever
-//! they are. `verify_file` writes its line, `write_object` the bytes
-//! of an object at a moment in the drive that begins with it, and `make_file` leaves the image of a
-//! new drive in a file that had no bytes; what was written has been passed on where they succeed.
+//! `read_whole` the bytes of what may be an image that is asked for, and `read_bytes` all bytes,
+//! whatever they are. `verify_file` writes its line, `write_object` the bytes of an object at a
+//! moment in the drive that begins with it, and `make_file` leaves the image of a new drive in a
+//! file that had no bytes; what was written has been passed on where they succeed.
 //! `remove_leftovers` removes nothing that `verify` takes. That is proved over any `Files` that say
 //! what files hold. The system's files say nothing of it, since no clause of the standard library
 //! does: that they read and write as the trait says is tested through the program, and so is the
@@ -31,4 +31,4 @@ pub use obstacles::Obstacle;
 pub use reading_past::{write_object, write_version};
 pub use saving::{Place, longest_image, make_file};
 pub use streams::hold_standard_streams;
-pub use verifying::{number_line, read_bytes, read_image, read_whole, verify_file, write_out};
+pub use verifying::{Asked, number_line, read_bytes, read_image, read_whole, verify_file, write_out};

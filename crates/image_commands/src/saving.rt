@@ -192,13 +192,14 @@ impl<'a, F: Files> Place<'a, F> {
     }
 }
 
-/// How many bytes the longest image of this many frames has: all are used, each block of payload is
-/// a row's own, and there are as many runs of hidden moments as a drive may have.
+/// How many bytes the longest image of this many frames has but for audit rows: all are used, each
+/// block of payload is a row's own, and there are as many runs of hidden moments as a drive may
+/// have.
 pub fn longest_image(frames: u16) -> usize
     ensures { result
         ≡ 512 + 8 * frames + 8192 * frames + 40 * (frames * PAYLOAD_BLOCKS) + 24 * RUNS_IN_ALL
         + 32 }
 {
     let rows = u32::from(frames) * PAYLOAD_BLOCKS as u32;
-    image_length(frames, frames, rows, RUNS_IN_ALL as u32)
+    image_length(frames, frames, rows, RUNS_IN_ALL as u32, 0)
 }

@@ -1,5 +1,5 @@
 //! `verify`, and how each command reads an image.
-ghost use Rattle.std.specs.Prelude.{◌≡◌, ℕ, ◌+◌, ◌^◌, ◌<◌, List, Option, IfOk, IfSome, IfErr};
+ghost use Rattle.std.specs.Prelude.{◌≡◌, ℕ, ◌+◌, ◌^◌, ◌<◌, ◌≤◌, List, Option, IfOk, IfSome, IfErr};
 ghost use Rattle.std.specs.Prelude.{IsTrue, OnOk, length, string_bytes};
 ghost use Rattle.std.specs.Io.{StartsWith};
 ghost use Rattle.std.specs.Io.KnownBytes.{Appends, Consumes, IsAtEnd};
@@ -8,13 +8,12 @@ ghost use Rattle.image_commands.specs.Faults.{SaysUnwritten};
 ghost use Rattle.image_commands.specs.Files.{AreKnown};
 ghost use Rattle.image_commands.specs.Leaving.{IsNoImage};
 ghost use Rattle.image_commands.specs.Verifying.{number_line, image_line, IsUnsplit, IsVerified};
-ghost use Rattle.image_commands.specs.Verifying.{TellsImage};
+ghost use Rattle.image_commands.specs.Verifying.{TellsImage, mark_asked};
 
 use crate::faults::{Fault, reading};
 use crate::files::Files;
 use crate::saving::longest_image;
-use codec::ImageVersion;
-use image_parts::longest_with_by;
+use image_parts::{ImageMark, LONGEST_IMAGE, earlier_version, longest_with_by};
 use s4_types::limits::MOST_FRAMES;
 use s4_types::{Cause, Moment, Refusal};
 use s4d_command::Verify;
@@ -31,6 +30,28 @@ const FRONT_BYTES: usize = 544;
 /// How many bytes are asked for at once.
 const PIECE_BYTES: usize = 4096;
 
+/// Which images a command reads.
+#[derive(Clone, Copy)]
+pub enum Asked {
+    /// Those that are written now.
+    Present,
+    /// Those of earlier versions, by the mark that they begin with.
+    Earlier,
+}
+
+impl Asked {
+    /// The mark that such an image has which begins with these bytes.
+    fn mark(self, front: &[u8]) -> ImageMark
+        requires { 8 ≤ length front.now }
+        ensures { result ≡ mark_asked self front.now }
+    {
+        match self {
+            Asked::Present => ImageMark::Third,
+            Asked::Earlier => ImageMark::Earlier(earlier_version(front)),
+        }
+    }
+}
+
 /// The image in a file, which was verified. What is damaged by the length that its front gives
 /// isn't read further.
 pub fn read_image<'a, T: Threads, F: Files>(
@@ -42,7 +63,7 @@ pub fn read_image<'a, T: Threads, F: Files>(
     ensures verified { IfOk result (IsVerified (F.contents files.now path.now)) }
     ensures fault { IfErr result (SaysUnread (F.contents files.now path.now) path.now) }
 {
-    let bytes = match read_whole(alloc, files, ImageVersion::Second, path) {
+    let bytes = match read_whole(alloc, files, Asked::Present, path) {
         Ok(bytes) => bytes,
         Err(fault) => return Err(fault),
     };
@@ -56,7 +77,7 @@ pub fn read_image<'a, T: Threads, F: Files>(
 pub fn is_damaged<T: Threads, R: Read>(rt: &T, alloc: Global, reader: &mut R) -> bool
     ensures damaged { IsTrue result → IsNoImage (R.remaining reader.old) }
 {
-    match read_bounded(alloc, ImageVersion::Second, reader) {
+    match read_bounded(alloc, Asked::Present, reader) {
         Ok(Ok(bytes)) => match verify(rt, alloc, bytes.as_slice()) {
             Err(Refusal::Damaged(_)) => true,
             _ => false,
@@ -66,23 +87,23 @@ pub fn is_damaged<T: Threads, R: Read>(rt: &T, alloc: Global, reader: &mut R) ->
     }
 }
 
-/// All bytes of a file, which may be an image of a version. What is damaged by the length that its
-/// front gives isn't read further.
+/// All bytes of a file, which may be an image that is asked for. What is damaged by the length that
+/// its front gives isn't read further.
 pub fn read_whole<'a, F: Files>(
     alloc: Global,
     files: &F,
-    version: ImageVersion,
+    asked: Asked,
     path: &'a str,
 ) -> Result<Vec<u8>, Fault<'a>>
     ensures bytes { IfOk result (λ bytes. AreKnown (F.contents files.now path.now) bytes.items) }
     ensures fault { IfErr result
-        (SaysUnsplit version (F.contents files.now path.now) path.now) }
+        (SaysUnsplit asked (F.contents files.now path.now) path.now) }
 {
     let mut reader = match files.open(path) {
         Ok(reader) => reader,
         Err(error) => return Err(reading(error.kind(), path)),
     };
-    match read_bounded(alloc, version, &mut reader) {
+    match read_bounded(alloc, asked, &mut reader) {
         Ok(Ok(bytes)) => Ok(bytes),
         Ok(Err(cause)) => Err(Fault::Refused(Refusal::Damaged(cause))),
         Err(error) => Err(reading(error.kind(), path)),
@@ -123,29 +144,34 @@ fn read_shorter<R: Read>(alloc: Global, reader: &mut R, most: usize) -> io::Resu
     Ok(Some(bytes))
 }
 
-// All bytes of a reader. Where they are too few or have no header of a version in front, or are
-// more than an image with that header can have, why they are no image of it: then no more of them
-// is read, since they may be many.
+// All bytes of a reader. Where they are too few or have no header that is asked for in front, or
+// are more than an image with that header can have, why they are no such image: then no more of
+// them is read, since they may be many.
 fn read_bounded<R: Read>(
     alloc: Global,
-    version: ImageVersion,
+    asked: Asked,
     reader: &mut R,
 ) -> io::Result<Result<Vec<u8>, Cause>>
     ensures bytes { IfOk result
         (λ read. IfOk read (λ bytes. AreKnown (R.remaining reader.old) bytes.items)) }
     ensures damaged { IfOk result
-        (λ read. IfErr read (IsUnsplit version (R.remaining reader.old))) }
+        (λ read. IfErr read (IsUnsplit asked (R.remaining reader.old))) }
 {
     let mut bytes = Vec::new(alloc);
     read_until(reader, &mut bytes, FRONT_BYTES)?;
     if bytes.len() < FRONT_BYTES {
         return Ok(Err(Cause::Length));
     }
-    let Some(longest) = longest_with_by(version, bytes.as_slice()) else {
+    let mark = asked.mark(bytes.as_slice());
+    let Some(longest) = longest_with_by(mark, bytes.as_slice()) else {
         return Ok(Err(Cause::Header));
     };
     read_until(reader, &mut bytes, longest + 1)?;
     if bytes.len() > longest {
+        // No memory has so many bytes; a length that is told is less.
+        if longest == LONGEST_IMAGE {
+            return Err(io::Error::from(io::ErrorKind::OutOfMemory));
+        }
         return Ok(Err(Cause::Length));
     }
     Ok(Ok(bytes))

@@ -5,7 +5,7 @@ use Rattle.s4_types.specs.Pointer.{Place}
 use Rattle.block_log.specs.Log.{Stored}
 use Rattle.codec.specs.Checkpoint.{CheckpointFields}
 use Rattle.codec.specs.declared.inodes.Inode.{Inode}
-use Rattle.codec.specs.declared.versions.ImageVersion.TheVariants.{First}
+use Rattle.codec.specs.declared.versions.ImageVersion.{ImageVersion}
 use Rattle.undo_redo.specs.Runs.{inode_after}
 use Rattle.inode.specs.Contents.{contents_of}
 use Rattle.inode.specs.Tidiness.{Tidy}
@@ -22,21 +22,23 @@ same_pointers : (c : Option CheckpointFields) → pointers_in (option_map (λ k.
 same_pointers None = refl
 same_pointers (Some c) = refl
 
-pub can_copy : AnObjectOfAVersionCanBeWritten → (used : Place → Option Stored) (row : ImageRow) (clock : ℕ) → ObjectStandsBy First used row clock → CanCopy used row (inode_kept_in used row) (entries_used_by First used row)
-can_copy law used row clock stands =
-    let can = law First used row clock stands in
-    let entries = entries_used_by First used row in
-    record {
-      write = can.can;
-      led = subst (λ (x : List (Option Place)). All (IsLed used row.object) (x ++ sides_told entries)) (sym (same_pointers (checkpoint_used used row))) stands.led;
-      tidy = λ t. subst (λ (i : Inode). Tidy (contents_of used) (inode_after i entries t)) (sym can.first) (stands.tidy t);
-    }
+-- of images of this version
+module _ (v : ImageVersion) where
+  pub can_copy : AnObjectOfAVersionCanBeWritten → (used : Place → Option Stored) (row : ImageRow) (clock : ℕ) → ObjectStandsBy v used row clock → CanCopy used row (inode_kept_in used row) (entries_used_by v used row)
+  can_copy law used row clock stands =
+      let can = law v used row clock stands in
+      let entries = entries_used_by v used row in
+      record {
+        write = can.can;
+        led = subst (λ (x : List (Option Place)). All (IsLed used row.object) (x ++ sides_told entries)) (sym (same_pointers (checkpoint_used used row))) stands.led;
+        tidy = λ t. subst (λ (i : Inode). Tidy (contents_of used) (inode_after i entries t)) (sym can.first) (stands.tidy t);
+      }
 
-pub in_order_by : AnObjectOfAVersionCanBeWritten → (used : Place → Option Stored) (row : ImageRow) (clock : ℕ) → IsFromTo 1 clock row.created → ObjectStandsBy First used row clock → IsInOrder row (inode_kept_in used row) (entries_used_by First used row) clock
-in_order_by law used row clock made stands =
-    let can = law First used row clock stands in
-    record {
-      made = made;
-      chain = subst (λ (i : Inode). IsOrderlyChain row.created clock i (entries_used_by First used row)) (sym can.first) can.order;
-      beginning = can.beginning;
-    }
+  pub in_order_by : AnObjectOfAVersionCanBeWritten → (used : Place → Option Stored) (row : ImageRow) (clock : ℕ) → IsFromTo 1 clock row.created → ObjectStandsBy v used row clock → IsInOrder row (inode_kept_in used row) (entries_used_by v used row) clock
+  in_order_by law used row clock made stands =
+      let can = law v used row clock stands in
+      record {
+        made = made;
+        chain = subst (λ (i : Inode). IsOrderlyChain row.created clock i (entries_used_by v used row)) (sym can.first) can.order;
+        beginning = can.beginning;
+      }

@@ -10,6 +10,7 @@ use Rattle.s4_types.specs.Pointer.{Place}
 use Rattle.s4_types.specs.declared.refusals.Refusal.{Refusal}
 use Rattle.block_log.specs.Log.{Log, Stored, appended, appended_at}
 use Rattle.block_log.specs.Taken.{TakesPlaces}
+use Rattle.codec.specs.declared.versions.ImageVersion.{ImageVersion}
 use Rattle.codec.specs.declared.summaries.BlockRole.{BlockRole}
 use Rattle.segment_word.specs.Frames.{Open, Sealed, Frame, no_frame}
 use Rattle.segment_word.specs.Handles.{Drive, fresh_frame}
@@ -172,12 +173,12 @@ filled_more (Err e) old new role bytes block takes is exact same filled = subst 
 
 -- ---- all rows
 
-pub takes_all : PlacesAddUp → ((log : Log) → TakesPlaces 0 log log) → (used : Place → Option Stored) (rows : List ImageRow) (laters : List Row) (before after : Log) → CopyRows used rows laters before after → TakesPlaces (blocks_of_rows used rows) before after
-takes_all add_up none used [] [] before after copied = subst (λ (l : Log). TakesPlaces 0 before l) copied (none before)
-takes_all add_up none used [] (later ∷ laters) before after copied = absurd copied
-takes_all add_up none used (row ∷ rows) [] before after copied = absurd copied
-takes_all add_up none used (row ∷ rows) (later ∷ laters) before after (between, one, rest) =
-    add_up _ (blocks_of_rows used rows) before between after one.takes (takes_all add_up none used rows laters between after rest)
+pub takes_all : PlacesAddUp → ((log : Log) → TakesPlaces 0 log log) → (v : ImageVersion) (used : Place → Option Stored) (rows : List ImageRow) (laters : List Row) (before after : Log) → CopyRows v used rows laters before after → TakesPlaces (blocks_of_rows v used rows) before after
+takes_all add_up none v used [] [] before after copied = subst (λ (l : Log). TakesPlaces 0 before l) copied (none before)
+takes_all add_up none v used [] (later ∷ laters) before after copied = absurd copied
+takes_all add_up none v used (row ∷ rows) [] before after copied = absurd copied
+takes_all add_up none v used (row ∷ rows) (later ∷ laters) before after (between, one, rest) =
+    add_up _ (blocks_of_rows v used rows) before between after one.takes (takes_all add_up none v used rows laters between after rest)
 
 -- as many blocks were counted as there are
 pub counted : (found : Option ℕ) (blocks total most : ℕ) → found ≡ Some blocks → MatchOption found (most < total) (λ n. (n ≡ total) × (n ≤ most)) → blocks ≡ total

@@ -8,7 +8,8 @@ use Rattle.s4_types.specs.Sizes.{IsFrameCount}
 use Rattle.s4_types.specs.declared.spans.Span.{Span}
 use Rattle.block_log.specs.Log.{Stored}
 use Rattle.codec.specs.Fields.{number, SpellsSlot}
-use Rattle.codec.specs.declared.versions.ImageVersion.TheVariants.{First, Second}
+use Rattle.image_parts.specs.declared.marks.ImageMark.TheVariants.{Earlier, Third}
+use Rattle.image_parts.specs.Marks.{earlier_in}
 use Rattle.object_map.specs.declared.map.Row.{Row}
 use Rattle.time_read.specs.Orderly.{IsFromTo}
 use Rattle.segment_table.specs.Table.{Table}
@@ -77,7 +78,7 @@ hole n m none kept None spells known is = known.0
 hole n m none kept (Some p) spells known is = absurd (no_pointer p spells.0 (ap (number w64) (sym is) ∙ spells.1))
 
 pub new_follow : (used newer : Place → Option Stored) (time : ℕ) (h k : Header) (object created o made : ℕ) (parts next : List RowPart) (rows : List ImageRow) (laters : List Row)
-    → h.next ≡ k.next → h.clock ≡ k.clock → o ≡ object → made ≡ created → RowsFollow h object created parts → SpellRows parts rows → SpellRows next (rows_then rows laters) → AreThen used newer rows laters time → RowsFollow k o made next
+    → h.next ≡ k.next → h.clock ≡ k.clock → o ≡ object → made ≡ created → RowsFollow h object created parts → SpellRows parts rows → SpellRows next (rows_then rows laters) → AreThen earlier.version used newer rows laters time → RowsFollow k o made next
 new_follow used newer time h k object created o made [] [] [] [] same_next same_clock same_object same_made follow was is are = tt
 new_follow used newer time h k object created o made [] (n ∷ next) [] [] same_next same_clock same_object same_made follow was is are = absurd is
 new_follow used newer time h k object created o made [] next (row ∷ rows) laters same_next same_clock same_object same_made follow was is are = absurd was
@@ -117,14 +118,14 @@ as_many_then (part ∷ parts) (row ∷ rows) (later ∷ laters) spelled = let re
 
 -- the image that the parts are
 abbrev pub image_written : EarlierFields → List FrameFields → List RowPart → Image
-image_written old frames parts = record { clock = old.clock; window = old.window; floor = old.floor; next = old.next; frames = frames; rows = parts; spans = old.spans }
+image_written old frames parts = record { clock = old.clock; window = old.window; floor = old.floor; next = old.next; frames = frames; rows = parts; spans = old.spans; audit = [] }
 
-spelled_by : (image : Image) (bytes : List ℕ) → bytes ≡ image_bytes image → bytes ≡ image_bytes_by Second image
+spelled_by : (image : Image) (bytes : List ℕ) → bytes ≡ image_bytes image → bytes ≡ image_bytes_by Third image
 unfolding image_bytes
 spelled_by image bytes is = is
 
-pub spells : (bytes new : List ℕ) (was : Image) (earlier : EarlierFields) (t : Table) (laters : List Row) → SpellsImageBy First bytes was → IsEarlierOf was earlier → IsFrameCount (length t.seat.frames)
-    → AreThen (used_in earlier.frames) (used_at t) earlier.rows laters earlier.clock → RowsStand (used_at t) (rows_then earlier.rows laters) earlier.clock → (parts : AreBytesOf earlier t laters new)
+pub spells : (bytes new : List ℕ) (was : Image) (earlier : EarlierFields) (t : Table) (laters : List Row) → SpellsImageBy (Earlier (earlier_in bytes)) bytes was → IsEarlierOf (earlier_in bytes) was earlier → IsFrameCount (length t.seat.frames)
+    → AreThen earlier.version (used_in earlier.frames) (used_at t) earlier.rows laters earlier.clock → RowsStand (used_at t) (rows_then earlier.rows laters) earlier.clock → (parts : AreBytesOf earlier t laters new)
     → SpellsDrive new (image_written earlier parts.frames parts.parts)
 spells bytes new was earlier t laters read of count are stand parts =
     let image : Image = image_written earlier parts.frames parts.parts in
@@ -151,6 +152,8 @@ spells bytes new was earlier t laters read of count are stand parts =
           rows = parts.rows.are;
           spans = subst (λ (s : List Span). AllByRecursion IsSpan s) (sym of.spans) numbers.spans;
           row_count = omega (arith, few, as_many, most);
+          audit = tt;
+          audit_count = omega arith;
         };
         rules = record {
           header = record {
@@ -159,6 +162,7 @@ spells bytes new was earlier t laters read of count are stand parts =
             floor = omega (arith, floor, of.clock, of.floor);
             next = omega (arith, next, of.next);
             given = omega (arith, given, of.next, of.clock);
+            audit = tt;
           };
           frames = parts.rules;
           spans = subst (λ (s : List Span). KeepSpanRules (header_of image) s) (sym of.spans) (record { each = spans_keep (header_of was) (header_of image) was.spans (sym of.next) (sym of.floor) (sym of.clock) read.rules.spans.each; few = read.rules.spans.few });
@@ -173,4 +177,5 @@ spells bytes new was earlier t laters read of count are stand parts =
         spelled = parts.rows.spelled;
         stand = stand;
       };
+      audit = record { rows = []; spelled = refl; kept = record { each = tt; ascend = tt } };
     }

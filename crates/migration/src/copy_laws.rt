@@ -5,6 +5,7 @@ ghost use Rattle.object_map.specs.declared.map.Row.{Row};
 ghost use Rattle.row_changes.specs.Laws.{AFreshRowStands, AMappedChainCanBeWritten};
 ghost use Rattle.segment_table.specs.Table.{Table};
 ghost use Rattle.image_parts.specs.Image.{Image};
+ghost use Rattle.image_parts.specs.Marks.{earlier_in};
 ghost use Rattle.earlier_images.specs.Grammar.{SpellsEarlier};
 ghost use Rattle.earlier_images.specs.Images.{EarlierFields, IsEarlierOf};
 ghost use Rattle.migration.specs.declared.moves.Move.{Move};
@@ -22,7 +23,7 @@ use checkpoint::laws::a_checkpoint_is_in_its_blocks;
 use earlier_images::laws::one_image_is_read;
 use image_objects::saving_laws::{a_row_that_is_held_stands, a_saved_row_tells_the_same};
 use image_objects::writing_laws::an_object_of_a_version_can_be_written;
-use image_parts::laws::images_of_a_version;
+use image_parts::laws::images_with_a_mark;
 use inode::laws::only_its_blocks_matter;
 use row_changes::laws::{
     a_fresh_row_stands, an_orderly_row_is_by_its_moment, what_a_row_tells_can_be_written,
@@ -50,15 +51,15 @@ pub(crate) fn a_copied_object_keeps_its_history()
     an_orderly_row_is_by_its_moment();
 }
 
-/// What was copied of an image of the first version, and written, is the image that it becomes; and
-/// an image whose frames are no more than there may be isn't too much.
+/// What was copied of an image of an earlier version, and written, is the image that it becomes;
+/// and an image whose frames are no more than there may be isn't too much.
 pub(crate) fn what_was_written_is_migrated()
     ensures migrates { (bytes new : List ℕ) (was : Image) (old : EarlierFields) (t : Table)
         (laters : List Row) → IsWritten bytes new was old t laters → Migrates bytes new }
     ensures layout { (bytes new : List ℕ) (was : Image) (old : EarlierFields) (t : Table)
         (laters : List Row) → IsWritten bytes new was old t laters → LaysOut bytes new }
     ensures fits { (bytes : List ℕ) (was : Image) (old : EarlierFields)
-        → SpellsEarlier bytes was → IsEarlierOf was old → frames_then old ≤ MOST_FRAMES
+        → SpellsEarlier bytes was → IsEarlierOf (earlier_in bytes) was old → frames_then old ≤ MOST_FRAMES
         → IsTooMuch bytes → ⊥ }
 {
     a_saved_row_tells_the_same();
@@ -66,6 +67,6 @@ pub(crate) fn what_was_written_is_migrated()
     an_object_of_a_version_can_be_written();
     only_its_blocks_matter();
     mapped_entries_stay_in_order();
-    images_of_a_version();
+    images_with_a_mark();
     one_image_is_read();
 }

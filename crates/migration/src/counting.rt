@@ -1,11 +1,10 @@
-//! How many blocks and frames the objects of an image of the first version take.
+//! How many blocks and frames the objects of an image of an earlier version take.
 ghost use Rattle.std.specs.Prelude.{◌≡◌, ◌+◌, ◌<◌, ◌≤◌, IfOk, IfErr, MatchOption};
 ghost use Rattle.std.specs.Prelude.{option_copied, ◌^◌};
 ghost use Rattle.std.specs.List.{AllByRecursion};
 ghost use Rattle.s4_types.specs.declared.limits.TheConstants.{CHECKPOINT_BLOCKS, MOST_FRAMES};
 ghost use Rattle.s4_types.specs.declared.limits.TheConstants.{RESERVE_FRAMES};
 ghost use Rattle.s4_types.specs.declared.refusals.Refusal.TheVariants.{NoMemory};
-ghost use Rattle.codec.specs.declared.versions.ImageVersion.TheVariants.{First};
 ghost use Rattle.row_changes.specs.Moving.{kept_blocks};
 ghost use Rattle.image_objects.specs.Versions.{ObjectStandsBy};
 ghost use Rattle.migration.specs.Rows.{blocks_of, blocks_of_rows};
@@ -42,17 +41,18 @@ fn kept_blocks(kept: Option<&Inode>) -> usize
 /// How many blocks the object of a row still has. NoMemory alone.
 fn blocks_of<U: UsedBlocks>(
     alloc: Global,
+    version: ImageVersion,
     used: &U,
     row: &ImageRow,
     clock: Moment,
 ) -> Result<usize, Refusal>
-    requires { ObjectStandsBy First (U.used used.now) row.now clock }
-    ensures blocks { IfOk result (λ n. n ≡ blocks_of (U.used used.now) row.now) }
+    requires { ObjectStandsBy version (U.used used.now) row.now clock }
+    ensures blocks { IfOk result (λ n. n ≡ blocks_of version (U.used used.now) row.now) }
     ensures few { IfOk result (λ n. n < 2 ^ 62) }
     ensures refusal { IfErr result (λ e. e ≡ NoMemory) }
 {
     an_object_of_a_version_can_be_written();
-    let Some(versions) = read_object_by(alloc, ImageVersion::First, used, row, clock)? else {
+    let Some(versions) = read_object_by(alloc, version, used, row, clock)? else {
         unreachable!()
     };
     let kept = inode_kept(used, row);
@@ -65,19 +65,20 @@ fn blocks_of<U: UsedBlocks>(
 /// `MOST_COPIED`. NoMemory alone.
 pub(crate) fn count_blocks<U: UsedBlocks>(
     alloc: Global,
+    version: ImageVersion,
     used: &U,
     rows: &[ImageRow],
     clock: Moment,
 ) -> Result<Option<usize>, Refusal>
-    requires { AllByRecursion (λ row. ObjectStandsBy First (U.used used.now) row clock) rows.now }
+    requires { AllByRecursion (λ row. ObjectStandsBy version (U.used used.now) row clock) rows.now }
     ensures blocks { IfOk result
-        (λ found. MatchOption found (MOST_COPIED < blocks_of_rows (U.used used.now) rows.now)
-        (λ n. (n ≡ blocks_of_rows (U.used used.now) rows.now) × (n ≤ MOST_COPIED))) }
+        (λ found. MatchOption found (MOST_COPIED < blocks_of_rows version (U.used used.now) rows.now)
+        (λ n. (n ≡ blocks_of_rows version (U.used used.now) rows.now) × (n ≤ MOST_COPIED))) }
     ensures refusal { IfErr result (λ e. e ≡ NoMemory) }
 {
     let mut count = 0;
     for row in rows {
-        count += blocks_of(alloc, used, row, clock)?;
+        count += blocks_of(alloc, version, used, row, clock)?;
         if count > MOST_COPIED {
             return Ok(None);
         }

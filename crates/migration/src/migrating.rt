@@ -1,4 +1,4 @@
-//! Images of the first version, made into images of the present one.
+//! Images of earlier versions, made into images of the present one.
 ghost use Rattle.std.specs.Prelude.{◌≡◌, ◌⊎◌, ℕ, List, Some, IfOk, IfErr};
 ghost use Rattle.s4_types.specs.declared.refusals.Cause.{Cause as Found};
 ghost use Rattle.s4_types.specs.declared.refusals.Refusal.TheVariants.{NoMemory, Damaged};
@@ -18,7 +18,7 @@ use std::thread::Threads;
 use verifier::laws::what_has_a_fault_spells_nothing;
 use verifier::{Image, verify};
 
-/// The bytes of the image of the present version that an image of the first one becomes. It says
+/// The bytes of the image of the present version that an image of an earlier one becomes. It says
 /// what that one says, at all moments. Its blocks are written in a fixed order from the first frame
 /// on: of each object, by ascending number, the data that it still has, by its old places, then its
 /// checkpoint, and then its journal, the oldest block first.
@@ -38,7 +38,7 @@ pub fn migrated(alloc: Global, bytes: &[u8]) -> Result<Vec<u8>, Refusal>
     what_was_written_is_migrated();
     let old = read_earlier(alloc, bytes)?;
     let used = old.frames();
-    let copied = copy_image(alloc, used, old.rows(), old.clock(), used.len())?;
+    let copied = copy_image(alloc, old.version(), used, old.rows(), old.clock(), used.len())?;
     let mut table = copied.table;
     table.frame_rules();
     let new = write_image(
@@ -51,7 +51,7 @@ pub fn migrated(alloc: Global, bytes: &[u8]) -> Result<Vec<u8>, Refusal>
     Ok(new)
 }
 
-/// The image of the present version that an image of the first one becomes, read back from the
+/// The image of the present version that an image of an earlier one becomes, read back from the
 /// bytes that `migrated` writes. It refuses what that refuses, with the same causes.
 pub fn migrate<R: Threads>(rt: &R, alloc: Global, bytes: &[u8]) -> Result<Image, Refusal>
     ensures migrates { IfOk result (λ image. (new : List ℕ) × Migrates bytes.now new × LaysOut bytes.now new × IsReadOf new image) }

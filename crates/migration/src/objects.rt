@@ -1,9 +1,8 @@
-//! The objects of an image of the first version, copied into a table one after the other.
+//! The objects of an image of an earlier version, copied into a table one after the other.
 ghost use Rattle.std.specs.Prelude.{◌≡◌, ◌≤◌, ℕ, List, length, None, [], IfOk, IfErr};
 ghost use Rattle.std.specs.List.{AllByRecursion};
 ghost use Rattle.s4_types.specs.Pointer.{Place};
 ghost use Rattle.s4_types.specs.declared.refusals.Refusal.TheVariants.{NoMemory};
-ghost use Rattle.codec.specs.declared.versions.ImageVersion.TheVariants.{First};
 ghost use Rattle.version_store.specs.Store.{HasNothing};
 ghost use Rattle.image_objects.specs.Versions.{ObjectStandsBy};
 ghost use Rattle.image_objects.specs.Writing.{inode_kept_in};
@@ -32,19 +31,20 @@ pub(crate) fn inode_kept<U: UsedBlocks>(used: &U, row: &ImageRow) -> Option<Inod
 fn copy_object<B: Blocks, U: UsedBlocks>(
     alloc: Global,
     table: &mut B,
+    version: ImageVersion,
     used: &U,
     row: &ImageRow,
     clock: Moment,
 ) -> Result<Row, Refusal>
     requires object { 1 ≤ row.now.object }
-    requires stands { ObjectStandsBy First (U.used used.now) row.now clock }
+    requires stands { ObjectStandsBy version (U.used used.now) row.now clock }
     requires nothing { HasNothing (B.log table.old).held row.now.object }
-    requires room { blocks_of (U.used used.now) row.now ≤ length (B.log table.old).ahead }
-    ensures copied { IfOk result (λ later. CopiesObject (U.used used.now) row.now (B.log table.old) (B.log table.new) later) }
+    requires room { blocks_of version (U.used used.now) row.now ≤ length (B.log table.old).ahead }
+    ensures copied { IfOk result (λ later. CopiesObject version (U.used used.now) row.now (B.log table.old) (B.log table.new) later) }
     ensures refusal { IfErr result (λ e. e ≡ NoMemory) }
 {
     an_object_of_a_version_can_be_written();
-    let Some(mut versions) = read_object_by(alloc, ImageVersion::First, used, row, clock)? else {
+    let Some(mut versions) = read_object_by(alloc, version, used, row, clock)? else {
         unreachable!()
     };
     let kept = inode_kept(used, row);
@@ -57,21 +57,22 @@ fn copy_object<B: Blocks, U: UsedBlocks>(
 pub(crate) fn copy_objects<B: Blocks, U: UsedBlocks>(
     alloc: Global,
     table: &mut B,
+    version: ImageVersion,
     used: &U,
     rows: &[ImageRow],
     clock: Moment,
 ) -> Result<Vec<Row>, Refusal>
     requires ascend { AscendAbove 0 rows.now }
-    requires stand { AllByRecursion (λ row. ObjectStandsBy First (U.used used.now) row clock)
+    requires stand { AllByRecursion (λ row. ObjectStandsBy version (U.used used.now) row clock)
         rows.now }
     requires empty { (p : Place) → (B.log table.old).held p ≡ None }
-    requires room { blocks_of_rows (U.used used.now) rows.now ≤ length (B.log table.old).ahead }
-    ensures copied { IfOk result (λ laters. CopyRows (U.used used.now) rows.now laters.items (B.log table.old) (B.log table.new)) }
+    requires room { blocks_of_rows version (U.used used.now) rows.now ≤ length (B.log table.old).ahead }
+    ensures copied { IfOk result (λ laters. CopyRows version (U.used used.now) rows.now laters.items (B.log table.old) (B.log table.new)) }
     ensures refusal { IfErr result (λ e. e ≡ NoMemory) }
 {
     let mut laters = Vec::new(alloc);
     for row in rows {
-        let later = copy_object(alloc, table, used, row, clock)?;
+        let later = copy_object(alloc, table, version, used, row, clock)?;
         laters.push(later)?;
     }
     Ok(laters)

@@ -28,7 +28,8 @@ fn parts_of(alloc: Global, rows: &[ImageRow], laters: &[Row]) -> Result<Vec<RowP
     Ok(parts)
 }
 
-/// The header of an image with an old one's numbers, and with as many frames, rows and spans.
+/// The header of an image with an old one's numbers, and with as many frames, rows and spans. It
+/// has no audit rows.
 fn header_of(old: &EarlierImage<'_>, frames: u16, rows: u32, spans: u32) -> Header
     ensures { result ≡ header_with old.now frames rows spans }
 {
@@ -40,11 +41,12 @@ fn header_of(old: &EarlierImage<'_>, frames: u16, rows: u32, spans: u32) -> Head
         next: old.next(),
         rows,
         spans,
+        audit: 0,
     }
 }
 
-/// The bytes of the image that has a table's frames, of which this many have blocks, rows with these
-/// objects, and an old image's numbers and spans. NoMemory alone.
+/// The bytes of the image that has a table's frames, of which this many have blocks, rows with
+/// these objects, and an old image's numbers and spans. NoMemory alone.
 pub(crate) fn write_image(
     alloc: Global,
     old: &EarlierImage<'_>,
@@ -66,7 +68,7 @@ pub(crate) fn write_image(
         parts.len() as u32,
         old.spans().len() as u32,
     );
-    let length = image_length(header.frames, with_blocks, header.rows, header.spans);
+    let length = image_length(header.frames, with_blocks, header.rows, header.spans, 0);
     let mut out = Vec::with_capacity(alloc, length)?;
     push_header(&mut out, &header)?;
     push_frames(table, &mut out)?;

@@ -4,7 +4,9 @@ use Rattle.s4_types.specs.declared.refusals.Cause.{Cause}
 use Rattle.s4_types.specs.declared.refusals.Cause.TheVariants.{Chain}
 use Rattle.s4_types.specs.declared.refusals.Refusal.{Refusal}
 use Rattle.s4_types.specs.declared.refusals.Refusal.TheVariants.{Damaged, NoMemory, NoRoom}
-use Rattle.codec.specs.declared.versions.ImageVersion.TheVariants.{First}
+use Rattle.image_parts.specs.Marks.{earlier_in}
+use Rattle.image_parts.specs.declared.marks.ImageMark.TheVariants.{Earlier as OfEarlier}
+use Rattle.image_commands.specs.declared.verifying.Asked.TheVariants.{Earlier}
 use Rattle.s4d_command.specs.declared.Migrate.{Migrate}
 use Rattle.image_commands.specs.declared.faults.Fault.{Fault}
 use Rattle.image_commands.specs.declared.faults.Fault.TheVariants.{CannotRead, CannotWrite, HasBytes, KeptIn, Refused, WriteFailed}
@@ -63,12 +65,12 @@ has_line known bytes image line saved one read of told is =
       is = is ∙ told;
     }
 
-unsplit_is_damaged : (known : Option (List ℕ)) (cause : Cause) → IsUnsplit First known cause → IsDamagedEarlier known cause
+unsplit_is_damaged : (known : Option (List ℕ)) (cause : Cause) → IsUnsplit Earlier known cause → IsDamagedEarlier known cause
 unsplit_is_damaged None cause unsplit = tt
-unsplit_is_damaged (Some bytes) cause unsplit = split_fault First bytes (Tested (EarlierChainsStand (image_in bytes)) Chain (λ found. found ≡ None)) cause unsplit
+unsplit_is_damaged (Some bytes) cause unsplit = split_fault (OfEarlier (earlier_in bytes)) bytes (Tested (EarlierChainsStand (earlier_in bytes) (image_in bytes)) Chain (λ found. found ≡ None)) cause unsplit
 
 -- an earlier image whose bytes aren't read
-pub earlier_unread : (known : Option (List ℕ)) (earlier : List ℕ) (fault : Fault) → SaysUnsplit First known earlier fault → SaysEarlierUnread known earlier fault
+pub earlier_unread : (known : Option (List ℕ)) (earlier : List ℕ) (fault : Fault) → SaysUnsplit Earlier known earlier fault → SaysEarlierUnread known earlier fault
 earlier_unread known earlier (Refused refusal) (inl is) = memory known refusal is
 earlier_unread known earlier (Refused refusal) (inr (cause, is, unsplit)) = subst (RefusesEarlier known) (sym is) (unsplit_is_damaged known cause unsplit)
 earlier_unread known earlier (CannotRead path obstacle) says = says

@@ -17,8 +17,7 @@ ghost use Rattle.migration.specs.Migrated.{IsTooMuch, LaysOut, Migrates};
 ghost use Rattle.s4d.specs.Migrating.{HasLine, HasMigrated, SaysEarlierUnread, SaysNoPlace};
 ghost use Rattle.s4d.specs.Migrating.{SaysUnmigrated, SaysUntaken, parts_line};
 
-use codec::ImageVersion;
-use image_commands::{Fault, Files, Obstacle, Place, Placed, number_line, read_whole, writing};
+use image_commands::{Asked, Fault, Files, Obstacle, Place, Placed, number_line, read_whole, writing};
 use image_parts::split_parts;
 use migration::migrated;
 use s4_types::Refusal;
@@ -148,7 +147,7 @@ fn read_earlier<'a, F: Files>(
     ensures bytes { IfOk result (λ bytes. AreKnown (F.contents files.now path.now) bytes.items) }
     ensures fault { IfErr result (SaysEarlierUnread (F.contents files.now path.now) path.now) }
 {
-    read_whole(alloc, files, ImageVersion::First, path)
+    read_whole(alloc, files, Asked::Earlier, path)
 }
 
 // The bytes of the new image of an earlier one, and the line of its numbers.

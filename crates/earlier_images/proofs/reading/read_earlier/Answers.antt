@@ -2,7 +2,8 @@ use Rattle.std.proofs.Common.{rules, ◌≡◌, ◌⊎◌, Some, None, inl, inr}
 use Rattle.std.proofs.lemmas.Result.{IfOk-weaker, IfErr-weaker}
 use Rattle.s4_types.specs.declared.refusals.Cause.{Cause}
 use Rattle.s4_types.specs.declared.refusals.Refusal.TheVariants.{NoMemory, Damaged}
-use Rattle.codec.specs.declared.versions.ImageVersion.TheVariants.{First}
+use Rattle.image_parts.specs.declared.marks.ImageMark.TheVariants.{Earlier}
+use Rattle.image_parts.specs.Marks.{earlier_in}
 use Rattle.image_parts.specs.Image.{image_in}
 use Rattle.image_parts.specs.Causes.{HasDigest}
 use Rattle.earlier_images.specs.Grammar.{SpellsEarlier, FirstEarlierFault}
@@ -15,8 +16,8 @@ returns-clause-whole c =
     let bytes = c.args.bytes.now in
     let digest : HasDigest bytes = search rules in
     let parts = c.in-Ok.parts in
-    IfOk-weaker c.read_rest.result (λ image. FirstEarlierRest parts None) (λ image. SpellsEarlier bytes (image_in bytes))
-    (λ image none. spelled_where_none bytes (c.images_of_a_version.ensures.found First bytes (λ i. (c.type_inv.bytes i).fits))
+    IfOk-weaker c.read_rest.result (λ image. FirstEarlierRest (earlier_in bytes) parts None) (λ image. SpellsEarlier bytes (image_in bytes))
+    (λ image none. spelled_where_none bytes (c.images_with_a_mark.ensures.found (Earlier (earlier_in bytes)) bytes (λ i. (c.type_inv.bytes i).fits))
     (rest_fault bytes parts None c.in-Ok.ensures.whole c.in-Ok.ensures.read c.in-Ok.ensures.header digest none))
     c.read_rest.ensures.whole
 
@@ -26,7 +27,7 @@ returns-clause-damaged c =
     let digest : HasDigest bytes = search rules in
     let parts = c.in-Ok.parts in
     IfErr-weaker c.read_rest.result
-    (λ e. (e ≡ NoMemory) ⊎ ((cause : Cause) × (e ≡ Damaged cause) × FirstEarlierRest parts (Some cause)))
+    (λ e. (e ≡ NoMemory) ⊎ ((cause : Cause) × (e ≡ Damaged cause) × FirstEarlierRest (earlier_in bytes) parts (Some cause)))
     (λ e. (e ≡ NoMemory) ⊎ ((cause : Cause) × (e ≡ Damaged cause) × FirstEarlierFault bytes (Some cause)))
     (λ e why. elim why [
       | inl none ↦ inl none

@@ -5,6 +5,6 @@ use Rattle.earlier_images.proofs.rows.read_rows.Given as goal
 
 abbrev pub invariant-loop-part : goal.invariant-loop-part
 invariant-loop-part l = record {
-  read : HaveRead (used_in l.frames) l.clock l.yielded l.reading;
+  read : HaveRead l.version (used_in l.frames) l.clock l.yielded l.reading;
   whole : l.parts.rows ≡ l.yielded ++ l.part-iterator;
 }

@@ -1,4 +1,3 @@
-use Rattle.codec.specs.declared.versions.ImageVersion.TheVariants.{First}
 use Rattle.migration.proofs.Then.{Laws}
 use Rattle.migration.proofs.Done.{migrates, lays_out, no_more}
 use Rattle.migration.proofs.copy_laws.what_was_written_is_migrated.Goals as goal
@@ -26,4 +25,4 @@ returns-clause-layout c =
     lays_out laws
 
 pub returns-clause-fits : goal.returns-clause-fits
-returns-clause-fits c = no_more (c.images_of_a_version.ensures.read First) c.one_image_is_read.ensures
+returns-clause-fits c = no_more c.images_with_a_mark.ensures.read c.one_image_is_read.ensures

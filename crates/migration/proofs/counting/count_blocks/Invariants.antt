@@ -7,6 +7,6 @@ abbrev pub invariant-loop-row : goal.invariant-loop-row
 invariant-loop-row g l =
     let used = g.U.UsedBlocks.used l.used in
     record {
-      left : l.count + blocks_of_rows used (drop l.row-index l.rows) ≡ blocks_of_rows used l.rows;
+      left : l.count + blocks_of_rows l.version used (drop l.row-index l.rows) ≡ blocks_of_rows l.version used l.rows;
       few : l.count ≤ MOST_COPIED;
     }

@@ -10,8 +10,8 @@ pub loop-row-init : goal.loop-row-init
 loop-row-init g c =
     let used = g.U.UsedBlocks.used c.args.used.now in
     let log = g.B.Blocks.log c.args.table.now in
-    subst (λ (laters : List Row). CopyingRows used c.args.clock c.args.rows.now c.args.rows.now log log laters) (sym c.new-laters.ensures.items)
-    (begun used c.args.clock c.args.rows.now log c.requires.ascend c.requires.stand c.requires.empty c.requires.room)
+    subst (λ (laters : List Row). CopyingRows c.args.version used c.args.clock c.args.rows.now c.args.rows.now log log laters) (sym c.new-laters.ensures.items)
+    (begun c.args.version used c.args.clock c.args.rows.now log c.requires.ascend c.requires.stand c.requires.empty c.requires.room)
 
 pub copy_object-requires-clause-nothing : goal.copy_object-requires-clause-nothing
 copy_object-requires-clause-nothing g c =
@@ -20,8 +20,8 @@ copy_object-requires-clause-nothing g c =
     let i = c.loop-row.row-index in
     let row = c.row-item.result in
     let split = drop_more rows i row c.loop-row-test.true ∙ ap (λ (x : ImageRow). x ∷ drop (i + 1) rows) (sym c.row-item.is) in
-    let at : CopyingRows used c.args.clock rows (row ∷ drop (i + 1) rows) (g.B.Blocks.log c.args.table.now) (g.B.Blocks.log c.loop-row.table) c.loop-row.laters.items =
-    subst (λ (left : List ImageRow). CopyingRows used c.args.clock rows left (g.B.Blocks.log c.args.table.now) (g.B.Blocks.log c.loop-row.table) c.loop-row.laters.items) split c.loop-row.invariant in
+    let at : CopyingRows c.args.version used c.args.clock rows (row ∷ drop (i + 1) rows) (g.B.Blocks.log c.args.table.now) (g.B.Blocks.log c.loop-row.table) c.loop-row.laters.items =
+    subst (λ (left : List ImageRow). CopyingRows c.args.version used c.args.clock rows left (g.B.Blocks.log c.args.table.now) (g.B.Blocks.log c.loop-row.table) c.loop-row.laters.items) split c.loop-row.invariant in
     at.nothing row.object at.ascend.0
 
 pub loop-row-preserved : goal.loop-row-preserved
@@ -35,7 +35,7 @@ loop-row-preserved g c =
     let now = g.B.Blocks.log c.loop-row.table in
     let after = g.B.Blocks.log c.copy_object.new.table in
     let split = drop_more rows i row c.loop-row-test.true ∙ ap (λ (x : ImageRow). x ∷ rest) (sym c.row-item.is) in
-    let at : CopyingRows used c.args.clock rows (row ∷ rest) before now c.loop-row.laters.items =
-    subst (λ (left : List ImageRow). CopyingRows used c.args.clock rows left before now c.loop-row.laters.items) split c.loop-row.invariant in
-    subst (λ (laters : List Row). CopyingRows used c.args.clock rows rest before after laters) (sym c.in_ok-push.ensures.items)
-    (one_copied used c.args.clock rows rest row before now after c.loop-row.laters.items c.in_ok-later.later at c.in_ok-later.ensures.copied)
+    let at : CopyingRows c.args.version used c.args.clock rows (row ∷ rest) before now c.loop-row.laters.items =
+    subst (λ (left : List ImageRow). CopyingRows c.args.version used c.args.clock rows left before now c.loop-row.laters.items) split c.loop-row.invariant in
+    subst (λ (laters : List Row). CopyingRows c.args.version used c.args.clock rows rest before after laters) (sym c.in_ok-push.ensures.items)
+    (one_copied c.args.version used c.args.clock rows rest row before now after c.loop-row.laters.items c.in_ok-later.later at c.in_ok-later.ensures.copied)

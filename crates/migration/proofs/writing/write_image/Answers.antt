@@ -1,4 +1,4 @@
-use Rattle.std.proofs.Common.{◌≡◌, ℕ, List, [], ◌++◌, length, ap, subst, ◌∙◌}
+use Rattle.std.proofs.Common.{◌≡◌, ℕ, List, [], ◌++◌, append-nil, length, sym, ap, subst, ◌∙◌}
 use Rattle.std.specs.List.{flat_map}
 use Rattle.s4_types.specs.declared.spans.Span.{Span}
 use Rattle.image_parts.specs.declared.headers.Header.{Header}
@@ -39,5 +39,5 @@ returns-clause-written c =
       table = adds.table;
       parts = parts;
       rows = subst (λ (rs : List ImageRow). ArePartsOf rs c.args.laters.now parts) c.rows.ensures c.in_ok-parts.ensures.parts;
-      bytes_are = c.in_ok-push_digest.ensures.items ∙ whole_bytes (image_written old adds.frames parts) h c.push_spans.new.out.items same out;
+      bytes_are = c.in_ok-push_digest.ensures.items ∙ whole_bytes (image_written old adds.frames parts) h c.push_spans.new.out.items same (out ∙ sym (append-nil (((([] ++ header_bytes h) ++ flat_map frame_bytes adds.frames) ++ flat_map row_bytes parts) ++ flat_map span_bytes old.spans)));
     }
