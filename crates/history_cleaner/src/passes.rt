@@ -188,8 +188,8 @@ fn pass<J: Naming>(alloc: Global, drive: &mut Drive<J>) -> Result<PassReport, Re
     })
 }
 
-/// Drops the rows of the audit that are below the floor. It takes no memory and refuses nothing, and
-/// no answer depends on it: the history, the objects and what is answered stay as they are.
+/// Drops the rows of the audit that are below the floor. It takes no memory and refuses nothing,
+/// and no answer depends on it: the history, the objects and what is answered stay as they are.
 pub fn clean_audit<J: Naming>(drive: &mut Drive<J>)
     ensures { drive.new ≡ record drive.old { audit = audit_of (state_in drive.old) } }
 {

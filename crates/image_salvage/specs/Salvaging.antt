@@ -2,7 +2,7 @@
 use Rattle.std.specs.Prelude.{◌≡◌, ◌⊎◌, ℕ, ◌-◌, max, nat_le, if◌then◌else◌, List, [], length, drop, Option, Some, None}
 use Rattle.std.specs.Int.{w32}
 use Rattle.s4_types.specs.declared.refusals.Cause.{Cause}
-use Rattle.s4_types.specs.declared.refusals.Cause.TheVariants.{Header, Length, Digest, Frame, Span, Row, Chain}
+use Rattle.s4_types.specs.declared.refusals.Cause.TheVariants.{Header, Length, Digest, Frame, Span, Row, Chain, Audit}
 use Rattle.segment_table.specs.Table.{Table}
 use Rattle.segment_table.specs.Used.{used_at}
 use Rattle.image_parts.specs.Causes.{FirstSplitCause}
@@ -36,6 +36,7 @@ rows_counted bytes Frame = 0
 rows_counted bytes Span = 0
 rows_counted bytes Row = 0
 rows_counted bytes Chain = 0
+rows_counted bytes Audit = 0
 
 -- why bytes are no image of a drive, or none where they encode the one that is read from them
 abbrev pub HasFault : List ℕ → Option Cause → Type 0

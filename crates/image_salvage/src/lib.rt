@@ -16,7 +16,8 @@
 //!
 //! `give_out` writes these into an empty folder, one file for each object that is there, and a
 //! manifest of them and of what is lost. It says that nothing is lost only where `verify` finds no
-//! fault and each live object was written whole (`laws::what_is_whole_is_all`).
+//! fault and each live object was written whole (`laws::what_is_whole_is_all`). Rows of the audit
+//! are no part of a salvage.
 #![tactic(auto)]
 
 mod contents;
