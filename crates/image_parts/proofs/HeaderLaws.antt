@@ -1,5 +1,5 @@
 -- A header that is encoded is read, and one that bytes begin with is read of all that begins so.
-use Rattle.std.proofs.Common.{◌≡◌, ℕ, ◌+◌, ◌^◌, ◌<◌, ◌≤◌, List, ◌++◌, refl, sym, ap, ◌∙◌, length, get_or, take, drop, arith, length-append, length-drop}
+use Rattle.std.proofs.Common.{◌≡◌, ℕ, ◌+◌, ◌^◌, ◌<◌, ◌≤◌, List, [], ◌∷◌, ◌++◌, refl, sym, ap, ◌∙◌, length, get_or, take, drop, arith, append_assoc, length-append, length-drop}
 use Rattle.std.specs.Int.{Width, w16, w32, w64, byte_len, from_be_bytes}
 use Rattle.std.proofs.lemmas.List.{take-append-le, drop-append-le}
 use Rattle.std.proofs.lemmas.Nat.{from_be_bytes-to_be_bytes_2, from_be_bytes-to_be_bytes_4, from_be_bytes-to_be_bytes_8}
@@ -48,6 +48,40 @@ header_length v h =
     let last = number w64 h.audit ++ zeros 448 in
     let numbers = number w64 h.clock ++ (number w64 h.window ++ (number w64 h.floor ++ (number w64 h.next ++ (number w32 h.rows ++ (number w32 h.spans ++ last))))) in
     omega (arith, length-append (zeros 6) numbers, zeros_length 6, zeros_length 448)
+
+-- what was put out and all after it, where the last part is taken from the one to the other
+put_behind : (out before part rest whole : List ℕ) → out ≡ before ++ part → before ++ (part ++ rest) ≡ whole → out ++ rest ≡ whole
+put_behind out before part rest whole e is = ap (λ (o : List ℕ). o ++ rest) e ∙ append_assoc before part rest ∙ is
+
+-- the parts of a header put out one after the other
+pub header_put : (v : ImageMark) (h : Header) (a b c d e f g i j k l : List ℕ)
+    → a ≡ 0x53 ∷ 0x34 ∷ 0x49 ∷ 0x4d ∷ 0x41 ∷ 0x47 ∷ 0x45 ∷ digit_of v ∷ []
+    → b ≡ a ++ number w16 h.frames → c ≡ b ++ zeros 6 → d ≡ c ++ number w64 h.clock → e ≡ d ++ number w64 h.window → f ≡ e ++ number w64 h.floor
+    → g ≡ f ++ number w64 h.next → i ≡ g ++ number w32 h.rows → j ≡ i ++ number w32 h.spans → k ≡ j ++ number w64 h.audit → l ≡ k ++ zeros 448
+    → l ≡ header_bytes_by v h
+unfolding header_bytes_by
+header_put v h a b c d e f g i j k l is_a is_b is_c is_d is_e is_f is_g is_i is_j is_k is_l =
+    let whole = header_bytes_by v h in
+    let to_k = zeros 448 in
+    let to_j = number w64 h.audit ++ to_k in
+    let to_i = number w32 h.spans ++ to_j in
+    let to_g = number w32 h.rows ++ to_i in
+    let to_f = number w64 h.next ++ to_g in
+    let to_e = number w64 h.floor ++ to_f in
+    let to_d = number w64 h.window ++ to_e in
+    let to_c = number w64 h.clock ++ to_d in
+    let to_b = zeros 6 ++ to_c in
+    let to_a = number w16 h.frames ++ to_b in
+    let from_a : a ++ to_a ≡ whole = ap (λ (o : List ℕ). o ++ to_a) is_a in
+    let from_b = put_behind b a (number w16 h.frames) to_b whole is_b from_a in
+    let from_c = put_behind c b (zeros 6) to_c whole is_c from_b in
+    let from_d = put_behind d c (number w64 h.clock) to_d whole is_d from_c in
+    let from_e = put_behind e d (number w64 h.window) to_e whole is_e from_d in
+    let from_f = put_behind f e (number w64 h.floor) to_f whole is_f from_e in
+    let from_g = put_behind g f (number w64 h.next) to_g whole is_g from_f in
+    let from_i = put_behind i g (number w32 h.rows) to_i whole is_i from_g in
+    let from_j = put_behind j i (number w32 h.spans) to_j whole is_j from_i in
+    is_l ∙ put_behind k j (number w64 h.audit) to_k whole is_k from_j
 
 -- the digit is in its place
 digit_is : (v : ImageMark) (bytes : List ℕ) → HasHeaderBy v bytes → get_or (take 512 bytes) 7 0 ≡ digit_of v

@@ -1,5 +1,5 @@
 -- Whether a block of a frame is listed as a part of a checkpoint is seen of the summary that is read of it.
-use Rattle.std.proofs.Common.{◌≡◌, ◌≢◌, ℕ, Bool, true, false, List, [], refl, sym, ap, subst, ◌∙◌, drop}
+use Rattle.std.proofs.Common.{◌≡◌, ◌≢◌, ℕ, Bool, true, false, List, [], sym, ap, ◌∙◌, drop}
 use Rattle.std.specs.Prelude.{MatchBool, slice_index_or}
 use Rattle.std.proofs.lemmas.Bool.{false≢true}
 use Rattle.codec.specs.Summary.{SummaryFields, SpellsSummary, has_no_parts}

@@ -41,7 +41,8 @@ pub use frame_rules::{FrameRead, read_frame, read_frame_by};
 pub use frames::{FramePart, Frames};
 pub use headers::Header;
 pub use image_writing::{
-    LONGEST_IMAGE, image_length, push_audit, push_digest, push_frame, push_header, push_row, push_span,
+    LONGEST_IMAGE, image_length, push_audit, push_digest, push_frame, push_header, push_row,
+    push_span,
 };
 pub use marks::{ImageMark, earlier_version};
 pub use parts::ImageParts;

@@ -62,7 +62,8 @@ impl<'a> ImageParts<'a> {
         let rows = behind_frames(header.frames, frames)?;
         let row_bytes = ROW_BYTES * header.rows as usize;
         let span_bytes = SPAN_BYTES * header.spans as usize;
-        if !fills(rows.len(), row_bytes + span_bytes + DIGEST_BYTES, header.audit) {
+        let others = row_bytes + span_bytes + DIGEST_BYTES;
+        if !fills(rows.len(), others, header.audit) {
             return None;
         }
         let (_, spans) = rows.split_at(row_bytes);
