@@ -31,4 +31,6 @@ pub use obstacles::Obstacle;
 pub use reading_past::{write_object, write_version};
 pub use saving::{Place, longest_image, make_file};
 pub use streams::hold_standard_streams;
-pub use verifying::{Asked, number_line, read_bytes, read_image, read_whole, verify_file, write_out};
+pub use verifying::{
+    Asked, number_line, read_bytes, read_image, read_whole, verify_file, write_out,
+};

@@ -38,7 +38,14 @@ pub fn migrated(alloc: Global, bytes: &[u8]) -> Result<Vec<u8>, Refusal>
     what_was_written_is_migrated();
     let old = read_earlier(alloc, bytes)?;
     let used = old.frames();
-    let copied = copy_image(alloc, old.version(), used, old.rows(), old.clock(), used.len())?;
+    let copied = copy_image(
+        alloc,
+        old.version(),
+        used,
+        old.rows(),
+        old.clock(),
+        used.len(),
+    )?;
     let mut table = copied.table;
     table.frame_rules();
     let new = write_image(

@@ -17,7 +17,9 @@ ghost use Rattle.migration.specs.Migrated.{IsTooMuch, LaysOut, Migrates};
 ghost use Rattle.s4d.specs.Migrating.{HasLine, HasMigrated, SaysEarlierUnread, SaysNoPlace};
 ghost use Rattle.s4d.specs.Migrating.{SaysUnmigrated, SaysUntaken, parts_line};
 
-use image_commands::{Asked, Fault, Files, Obstacle, Place, Placed, number_line, read_whole, writing};
+use image_commands::{
+    Asked, Fault, Files, Obstacle, Place, Placed, number_line, read_whole, writing,
+};
 use image_parts::split_parts;
 use migration::migrated;
 use s4_types::Refusal;

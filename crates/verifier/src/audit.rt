@@ -95,10 +95,7 @@ fn is_later(last: Option<Moment>, moment: Moment) -> bool
 /// The audit of an image, as a log of rows. None exactly where it breaks a rule.
 ///
 /// NoMemory alone. Linear in the rows.
-pub(crate) fn read_audit(
-    alloc: Global,
-    parts: &ImageParts<'_>,
-) -> Result<Option<AuditLog>, Refusal>
+pub(crate) fn read_audit(alloc: Global, parts: &ImageParts<'_>) -> Result<Option<AuditLog>, Refusal>
     ensures rows { IfOk result
         (λ found. IfSome found (λ log. parts.now.audit ≡ map audit_part log.rows)) }
     ensures kept { IfOk result
