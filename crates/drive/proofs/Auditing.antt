@@ -1,5 +1,5 @@
 -- The rows that a drive keeps of its audit go on with each record of its history.
-use Rattle.std.proofs.Common.{◌≡◌, ℕ, ◌<◌, ◌≤◌, ◌-◌, max, Bool, true, false, cond, List, [], ◌∷◌, ◌++◌, append-nil, length, take, Option, Some, None, Result, Ok, Err, IfOk, IfErr, inl, inr, refl, sym, ap, subst, ◌∙◌, arith}
+use Rattle.std.proofs.Common.{◌≡◌, ℕ, ◌<◌, ◌≤◌, max, true, false, cond, List, [], ◌∷◌, ◌++◌, append-nil, length, take, Some, None, inl, inr, refl, sym, ap, subst, ◌∙◌, arith}
 use Rattle.std.specs.Prelude.{nat_lt}
 use Rattle.std.specs.List.{AllByRecursion}
 use Rattle.std.proofs.lemmas.Bool.{cases_lt, cond-true, cond-false, lt-ltb, le-ltb}
@@ -102,7 +102,8 @@ audit_of_client s role from most client = audit_first s role from most ∙ cond-
 pub audit_too_large : (s : State) (role : Role) (from most : ℕ) → is_client role ≡ false → AUDIT_ROWS < most → first_refusal s role (Query (Audit from most)) ≡ Some TooLarge
 audit_too_large s role from most admin many = audit_first s role from most ∙ cond-false (is_client role) _ _ admin ∙ cond-true (nat_lt AUDIT_ROWS most) _ _ (lt-ltb AUDIT_ROWS most many)
 
-pub audit_let_pass : (s : State) (role : Role) (from most : ℕ) → is_client role ≡ false → most ≤ AUDIT_ROWS → first_refusal s role (Query (Audit from most)) ≡ None
+pub audit_let_pass : (s : State) (role : Role) (from most : ℕ) → is_client role ≡ false → most ≤ AUDIT_ROWS
+    → first_refusal s role (Query (Audit from most)) ≡ later_refusal s (Query (Audit from most))
 audit_let_pass s role from most admin few = audit_first s role from most ∙ cond-false (is_client role) _ _ admin ∙ cond-false (nat_lt AUDIT_ROWS most) _ _ (le-ltb AUDIT_ROWS most few)
 
 -- ---- what is kept, and what is cut

@@ -13,14 +13,16 @@ use Rattle.s4_types.specs.declared.requests.Request.TheVariants.{Update, Query, 
 use Rattle.s4_types.specs.declared.requests.ObjectRequest.{ObjectRequest}
 use Rattle.s4_types.specs.declared.requests.AdminRequest.TheVariants.{SetWindow, Flush, FlushO}
 use Rattle.s4_types.specs.declared.refusals.Refusal.{Refusal}
+use Rattle.s4_types.specs.declared.replies.Reply.{Reply}
 use Rattle.s4_types.specs.declared.refusals.Refusal.TheVariants.{NoMemory, ChainFull, NoSpace}
 use Rattle.s4_model.specs.Numbers.{next_by}
 use Rattle.s4_model.specs.State.{State, state_of, took}
 use Rattle.s4_model.specs.Refusals.{is_absent}
-use Rattle.s4_model.specs.Step.{change_of, stamp, accepted_record}
+use Rattle.s4_model.specs.Step.{change_of, stamp, accepted_record, reply_at}
 use Rattle.s4_model.specs.Plain.{HasNext}
 use Rattle.s4_model.specs.Sound.{IsSound}
-use Rattle.segment_word.specs.AcceptViews.{Ledger, with_change}
+use Rattle.segment_word.specs.AcceptViews.{Ledger, with_change, credited}
+use Rattle.segment_word.specs.AcceptRule.{FitsLedger}
 use Rattle.window.specs.Timeline.{Timeline, StandsFor}
 use Rattle.block_log.specs.Log.{Stored}
 use Rattle.object_map.specs.declared.map.Row.{Row}
@@ -33,7 +35,7 @@ use Rattle.version_store.specs.Taking.{IsThere, IsReadyFor, RowChanges, AppendsB
 use Rattle.version_store.specs.Laws.{ThePresentStays}
 use Rattle.drive.specs.Keeping.{IsKeptDrive}
 use Rattle.drive.specs.Fields.{DriveFields, SessionFields, store_of, state_in}
-use Rattle.drive.specs.Answering.{StoresVersion, StoresChange, RefusesChange}
+use Rattle.drive.specs.Answering.{StoresVersion, StoresChange, TakesChange, RefusesChange}
 use Rattle.drive.specs.Refusing.{or_then, storing_refusal, want_of, IsOfBlocks, MayLackMemory, IsRefusal}
 use Rattle.drive.proofs.Kept.{kept_taken, given_by}
 use Rattle.drive.proofs.Unversioned.{StateByChanges}
@@ -155,6 +157,28 @@ refuses_untaken first d later before request now m c e store ledger same held as
   ledger = ledger;
   store = same;
   session = refl;
+}
+
+-- a change that its store takes is accepted
+pub takes_stored : (first : Option Refusal) (d later : DriveFields) (before after : SessionFields) (request : Request) (now m : ℕ) (c : Change) (given : Reply) (l : Ledger) (session : SessionFields) (store : StoreFields)
+    → store ≡ store_of d → l ≡ d.ledger → session ≡ before
+    → change_of (state_in d) request ≡ Some c → IsReadyFor (store_of d) c → first ≡ None → m ≡ stamp (state_in d) now → change_refusal store c m ≡ None
+    → AppendsBy store c m (store_of later).log → RowChanges store (object_of c) m (store_of later).rows → (store_of later).latest ≡ m
+    → later.ledger ≡ with_change l session.told.seat m c → given ≡ reply_at c m
+    → after ≡ record session { told = credited later.ledger session.told } → FitsLedger l session.told → FitsLedger later.ledger after.told
+    → TakesChange first d later before after request now given
+takes_stored first d later before after request now m c given l session store held ledger same asked ready free at fits blocks rows latest goes reply told true_before true_after = record {
+  change = c;
+  free = ap (λ (r : Option Refusal). or_then r (want_of (store_of d) (state_in d) request now)) free
+      ∙ wants_none (store_of d) (state_in d) request now c asked (subst (λ (t : ℕ). change_refusal (store_of d) c t ≡ None) at (subst (λ (x : StoreFields). change_refusal x c m ≡ None) held fits));
+  asked = asked;
+  reply = reply ∙ ap (λ (t : ℕ). reply_at c t) at;
+  ledger = goes ∙ ap (λ (x : Ledger). with_change x session.told.seat m c) ledger ∙ ap (λ (x : SessionFields). with_change d.ledger x.told.seat m c) same ∙ ap (λ (t : ℕ). with_change d.ledger before.told.seat t c) at;
+  stored = subst (λ (x : StoreFields). StoresChange x c (stamp (state_in d) now) (store_of later)) held
+      (stored_version store (store_of later) c m (stamp (state_in d) now) (subst (λ (x : StoreFields). IsReadyFor x c) (sym held) ready) at blocks rows latest);
+  told = told ∙ ap (λ (x : SessionFields). record x { told = credited later.ledger x.told }) same;
+  true_before = subst (λ (x : Ledger). FitsLedger x before.told) ledger (subst (λ (x : SessionFields). FitsLedger l x.told) same true_before);
+  true_after = true_after;
 }
 
 -- a change that the checks refuse is refused before anything has changed

@@ -100,7 +100,6 @@ impl<J: Naming> Drive<J> {
     }
 
     /// A request for a version of an object, once `check_update` let it pass.
-    #[tactic(auto, using(crate::proofs::Storing::stored_version))]
     pub(crate) fn change_object(
         &mut self,
         session: &mut Session<J>,

@@ -1,5 +1,5 @@
 //! What a request's role and own numbers decide. These checks come before all others.
-ghost use Rattle.std.specs.Prelude.{◌≡◌, ℕ, ◌↔◌, ◌⊎◌, ◌+◌, ◌<◌, ◌≤◌, Option, None, Some, true, false};
+ghost use Rattle.std.specs.Prelude.{◌≡◌, ℕ, ◌↔◌, ◌⊎◌, ◌+◌, ◌<◌, ◌≤◌, Option, Some, true, false};
 ghost use Rattle.std.specs.Prelude.{MatchResult, IfErr, OnOk, IsTrue, length};
 ghost use Rattle.s4_types.specs.declared.limits.TheConstants.{OBJECT_BYTES, ATTRIBUTE_BYTES};
 ghost use Rattle.s4_types.specs.declared.limits.TheConstants.{READ_BYTES, AUDIT_ROWS};
@@ -72,7 +72,8 @@ fn check_audit(role: Role, most: u16) -> Result<(), Refusal>
         (λ e. ((e ≡ NotAdmin) × (is_client role ≡ true))
         ⊎ ((e ≡ TooLarge) × (is_client role ≡ false) × (AUDIT_ROWS < most))) }
     ensures ok { OnOk result
-        ((s : State) (from : ℕ) → first_refusal s role (Query (Audit from most)) ≡ None) }
+        ((s : State) (from : ℕ) → first_refusal s role (Query (Audit from most))
+        ≡ later_refusal s (Query (Audit from most))) }
     ensures refused { IfErr result
         (λ e. (s : State) (from : ℕ) → first_refusal s role (Query (Audit from most)) ≡ Some e) }
 {

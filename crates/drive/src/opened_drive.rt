@@ -93,7 +93,6 @@ impl OpenedDrive {
     }
 
     /// The drive, under a name that says which one it is and what its history begins with.
-    #[tactic(auto, using(crate::proofs::Auditing::base_kept))]
     pub fn named<J: Naming>(self) -> Drive<J>
         requires accepts { self.accepts ≡ J.accepts }
         requires frames { self.store.table.seat.table ≡ J.frames }

@@ -1,4 +1,5 @@
-use Rattle.std.proofs.Common.{◌≡◌, ◌+◌, ◌<◌, max, ℕ, sym, ap, subst, ◌∙◌}
+use Rattle.std.proofs.Common.{◌≡◌, ◌+◌, ◌++◌, ◌<◌, ◌∷◌, [], List, max, ℕ, sym, ap, subst, ◌∙◌}
+use Rattle.std.specs.List.{AllByRecursion}
 use Rattle.std.proofs.lemmas.Result.{err_from_is_err_and}
 use Rattle.s4_types.specs.declared.audit_rows.AuditRow.{AuditRow}
 use Rattle.s4_types.specs.declared.changes.Change.{Change}
@@ -13,11 +14,11 @@ use Rattle.segment_table.specs.Room.{log_of}
 use Rattle.version_store.specs.Store.{StoreFields, fields_of}
 use Rattle.version_store.specs.Taking.{Takes}
 use Rattle.drive.specs.Later.{later_refusal}
-use Rattle.drive.specs.Fields.{DriveFields, state_in, store_of}
+use Rattle.drive.specs.Fields.{DriveFields, SessionFields, state_in, store_of}
 use Rattle.drive.specs.Keeping.{IsKeptDrive}
 use Rattle.drive.proofs.Parts.{can_count}
 use Rattle.drive.proofs.Auditing.{audit_after_change, row_is_later}
-use Rattle.drive.proofs.Storing.{after_stored, ready_of_versions, refuses_untaken, refuses_roomless, refuses_checked}
+use Rattle.drive.proofs.Storing.{after_stored, ready_of_versions, takes_stored, refuses_untaken, refuses_roomless, refuses_checked}
 use Rattle.drive.proofs.drive.Drive.change_object.Goals as goal
 
 pub accept-requires : goal.accept-requires
@@ -25,8 +26,8 @@ accept-requires g c =
     let ledger : c.self.inside.history ≡ c.args.self.now.ledger = ap (λ (d : DriveFields). d.ledger) c.self.view_is in
     can_count c.self.inside.history c.self.invariant.1.sound (subst (λ (l : Ledger). (state_of l.history).clock < last_number) (sym ledger) c.in_ok-change.ensures.clock)
 
-pub invariant_of-self-3 : goal.invariant_of-self-3
-invariant_of-self-3 g c =
+pub invariant_of-self-2 : goal.invariant_of-self-2
+invariant_of-self-2 g c =
     let s : State = state_of c.self.inside.history.history in
     let store : StoreFields = fields_of log_of c.self.inside.store in
     let change : Change = c.in_ok-change.field-0.change in
@@ -60,8 +61,8 @@ returns-in_err-reserve g c =
     rw (p.1, p.2) (refuses_roomless (later_refusal (state_in c.args.self.now) (Update c.args.update)) c.args.self.now _ c.args.session.now c.args.update c.args.now _
     (ap (λ (d : DriveFields). d.ledger) c.self.view_is) (ap (λ (d : DriveFields). store_of d) c.self.view_is) c.in_ok-change.ensures.free c.in_err-reserve.ensures.err)
 
-pub push-requires-later : goal.push-requires-later
-push-requires-later g c =
+pub push-requires-clause-later : goal.push-requires-clause-later
+push-requires-clause-later g c =
     let s : State = state_of c.self.inside.history.history in
     let change : Change = c.in_ok-change.field-0.change in
     let ledger : c.self.inside.history ≡ c.args.self.now.ledger = ap (λ (d : DriveFields). d.ledger) c.self.view_is in
@@ -78,3 +79,14 @@ returns-in_err-take g c =
     rw (p.1, p.2) (refuses_untaken (later_refusal (state_in c.args.self.now) (Update c.args.update)) c.args.self.now _ c.args.session.now (Update c.args.update) c.args.now c.in_ok-change.field-0.moment change _ (fields_of log_of c.self.inside.store)
     ledger (c.in_err-take.ensures.unchanged ∙ held) held c.in_ok-change.ensures.asked c.in_ok-change.ensures.takes.ready c.in_ok-change.ensures.free
     c.in_ok-change.ensures.moment c.in_err-take.ensures.answer c.in_err-take.ensures.memory)
+
+pub returns : goal.returns
+returns g c =
+    let inside : SessionFields = record { told = c.session.inside.seat; role = c.session.inside.role } in
+    let after : SessionFields = record { told = c.accept.new.session; role = c.session.inside.role } in
+    takes_stored (later_refusal (state_in c.args.self.now) (Update c.args.update)) c.args.self.now _ c.args.session.now after (Update c.args.update) c.args.now c.in_ok-change.field-0.moment c.in_ok-change.field-0.change c.reply_at.result
+    c.self.inside.history inside (fields_of log_of c.self.inside.store)
+    (ap (λ (d : DriveFields). store_of d) c.self.view_is) (ap (λ (d : DriveFields). d.ledger) c.self.view_is) c.session.view_is
+    c.in_ok-change.ensures.asked c.in_ok-change.ensures.takes.ready c.in_ok-change.ensures.free c.in_ok-change.ensures.moment c.in_ok-take.ensures.answer
+    c.in_ok-take.ensures.blocks c.in_ok-take.ensures.row c.in_ok-take.ensures.latest
+    c.accept.ensures.history c.reply_at.ensures (ap (λ t. record inside { told = t }) c.accept.ensures.session) c.accept.ensures.before c.accept.ensures.after

@@ -39,8 +39,8 @@ returns-in_err-reserve g c =
     rw (p.1, p.2) (refuses_roomless_control (later_refusal (state_in c.args.self.now) (Control (SetWindow c.args.window))) c.args.self.now _ c.args.session.now (Control (SetWindow c.args.window)) c.args.now _
     refl (ap (λ (r : Option Refusal). or_then r None) free) (ap (λ (d : DriveFields). d.ledger) c.self.view_is) (ap (λ (d : DriveFields). store_of d) c.self.view_is) c.in_err-reserve.ensures.err)
 
-pub push-requires-later : goal.push-requires-later
-push-requires-later g c =
+pub push-requires-clause-later : goal.push-requires-clause-later
+push-requires-clause-later g c =
     let s : State = state_of c.self.inside.history.history in
     let at : c.set-moment.result ≡ stamp s c.args.now = c.set-moment.ensures.moment ∙ ap (λ (t : ℕ). max c.args.now (t + 1)) c.self.invariant.1.window.clock in
     subst (λ (rows : List AuditRow). AllByRecursion (λ other. other.moment < c.row_of.result.moment) rows) (sym c.reserve.ensures.rows)
