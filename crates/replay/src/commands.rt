@@ -143,7 +143,7 @@ pub(crate) enum Verb {
 
 /// How commands are encoded: `$` represents a name, `#` for a number, `%` for bytes, `[at]` and
 /// `[now]` for such a word and a number, or for none.
-static COMMANDS: [(&str, Verb); 80] = [
+static COMMANDS: [(&str, Verb); 81] = [
     ("drive # window #", Verb::Begin(Beginning::Drive)),
     ("drive # window # alone", Verb::Begin(Beginning::Alone)),
     ("drive # window # inodes #", Verb::Begin(Beginning::Caching)),

@@ -6,7 +6,7 @@ use Rattle.s4_images.proofs.commands.over_opened.Goals as goal
 
 pub returns : goal.returns
 returns g c =
-    let named : IsNamedOf c.args.opened c.named-drive.result = record { ledger = c.named-drive.ensures.ledger ∙ ap begun (sym c.requires.base); store = c.named-drive.ensures.store } in
+    let named : IsNamedOf c.args.opened c.named-drive.result = record { ledger = c.named-drive.ensures.ledger ∙ ap begun (sym c.requires.base); store = c.named-drive.ensures.store; audit = c.named-drive.ensures.audit } in
     record {
       shows = IfOk-weaker c.perform.result _ _ (λ verdict done. record { drive = c.named-drive.result; named = named; holds = done }) c.perform.ensures.shows;
       fails = IfErr-weaker c.perform.result _ _ (λ failure done. record { drive = c.named-drive.result; named = named; holds = done }) c.perform.ensures.fails;
