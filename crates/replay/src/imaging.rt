@@ -55,7 +55,7 @@ pub(crate) fn new_image(
     let length = FRAMES.saturating_add(words).saturating_add(DIGEST_BYTES);
     let mut image = Vec::from_elem(alloc, 0, length)?;
     let number = u16::try_from(frames).unwrap_or(u16::MAX);
-    put(image.as_mut_slice(), 0, b"S4IMAGE2");
+    put(image.as_mut_slice(), 0, b"S4IMAGE3");
     put(image.as_mut_slice(), 8, &number.to_be_bytes());
     put(image.as_mut_slice(), 24, &window.to_be_bytes());
     put(image.as_mut_slice(), 40, &1u64.to_be_bytes());
