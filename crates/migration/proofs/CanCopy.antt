@@ -1,4 +1,4 @@
--- An object of an image of the first version can be copied.
+-- An object of an image of an earlier version can be copied.
 use Rattle.std.proofs.Common.{◌≡◌, ℕ, List, ◌++◌, Option, Some, None, option_map, refl, sym, subst}
 use Rattle.std.specs.List.{All}
 use Rattle.s4_types.specs.Pointer.{Place}
@@ -22,7 +22,7 @@ same_pointers : (c : Option CheckpointFields) → pointers_in (option_map (λ k.
 same_pointers None = refl
 same_pointers (Some c) = refl
 
--- of images of this version
+-- Of images of this version.
 module _ (v : ImageVersion) where
   pub can_copy : AnObjectOfAVersionCanBeWritten → (used : Place → Option Stored) (row : ImageRow) (clock : ℕ) → ObjectStandsBy v used row clock → CanCopy used row (inode_kept_in used row) (entries_used_by v used row)
   can_copy law used row clock stands =

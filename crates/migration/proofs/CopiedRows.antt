@@ -12,7 +12,7 @@ use Rattle.image_objects.specs.Versions.{ObjectStandsBy}
 use Rattle.migration.specs.Rows.{AscendAbove, CopiesObject, CopyRows, blocks_of, blocks_of_rows}
 use Rattle.migration.specs.private.Copied.{CopyingRows}
 
--- of images of this version
+-- Of images of this version.
 module _ (v : ImageVersion) where
   pub begun : (used : Place → Option Stored) (clock : ℕ) (rows : List ImageRow) (log : Log) → AscendAbove 0 rows → AllByRecursion (λ row. ObjectStandsBy v used row clock) rows → ((p : Place) → log.held p ≡ None) → blocks_of_rows v used rows ≤ length log.ahead
       → CopyingRows v used clock rows rows log log []

@@ -109,18 +109,19 @@ pub record IsCopied (version : ImageVersion) (frames : List EarlierFrame) (rows 
   pub filled : FillsFrames (blocks_of_rows version (used_in frames) rows) (frames_needed count (blocks_of_rows version (used_in frames) rows)) t
   pub few : frames_needed count (blocks_of_rows version (used_in frames) rows) ≤ MOST_FRAMES
 
-pub copied_of : (earlier : EarlierFields) (frames : List EarlierFrame) (rows : List ImageRow) (count : ℕ) (t : Table) (laters : List Row) → frames ≡ earlier.frames → rows ≡ earlier.rows → count ≡ length frames → IsCopied earlier.version frames rows count t laters
-    → IsCopied earlier.version earlier.frames earlier.rows (length earlier.frames) t laters
-copied_of earlier frames rows count t laters same_frames same_rows same_count told =
-    subst (λ (fs : List EarlierFrame). IsCopied earlier.version fs earlier.rows (length earlier.frames) t laters) same_frames
-    (subst (λ (rs : List ImageRow). IsCopied earlier.version frames rs (length earlier.frames) t laters) same_rows
-    (subst (λ n. IsCopied earlier.version frames rows n t laters) (same_count ∙ ap (λ (fs : List EarlierFrame). length fs) same_frames) told))
+pub copied_of : (earlier : EarlierFields) (version : ImageVersion) (frames : List EarlierFrame) (rows : List ImageRow) (count : ℕ) (t : Table) (laters : List Row) → version ≡ earlier.version → frames ≡ earlier.frames → rows ≡ earlier.rows → count ≡ length frames
+    → IsCopied version frames rows count t laters → IsCopied earlier.version earlier.frames earlier.rows (length earlier.frames) t laters
+copied_of earlier version frames rows count t laters same_version same_frames same_rows same_count told =
+    subst (λ (v : ImageVersion). IsCopied v earlier.frames earlier.rows (length earlier.frames) t laters) same_version
+    (subst (λ (fs : List EarlierFrame). IsCopied version fs earlier.rows (length earlier.frames) t laters) same_frames
+    (subst (λ (rs : List ImageRow). IsCopied version frames rs (length earlier.frames) t laters) same_rows
+    (subst (λ n. IsCopied version frames rows n t laters) (same_count ∙ ap (λ (fs : List EarlierFrame). length fs) same_frames) told)))
 
-pub done : (bytes new : List ℕ) (was : Image) (earlier : EarlierFields) (frames : List EarlierFrame) (rows : List ImageRow) (count : ℕ) (t : Table) (laters slice : List Row) → SpellsEarlier bytes was → IsEarlierOf (earlier_in bytes) was earlier
-    → frames ≡ earlier.frames → rows ≡ earlier.rows → count ≡ length frames → IsCopied earlier.version frames rows count t laters → IsFrameCount (length t.seat.frames) → HoldsUsedBlocks t → slice ≡ laters → AreBytesOf earlier t slice new
-    → IsWritten bytes new was earlier t laters
-done bytes new was earlier frames rows count t laters slice read of same_frames same_rows same_count copied frame_count used same parts =
-    let told : IsCopied earlier.version earlier.frames earlier.rows (length earlier.frames) t laters = copied_of earlier frames rows count t laters same_frames same_rows same_count copied in
+pub done : (bytes new : List ℕ) (was : Image) (earlier : EarlierFields) (version : ImageVersion) (frames : List EarlierFrame) (rows : List ImageRow) (count : ℕ) (t : Table) (laters slice : List Row) → SpellsEarlier bytes was
+    → IsEarlierOf (earlier_in bytes) was earlier → version ≡ earlier.version → frames ≡ earlier.frames → rows ≡ earlier.rows → count ≡ length frames → IsCopied version frames rows count t laters → IsFrameCount (length t.seat.frames) → HoldsUsedBlocks t → slice ≡ laters
+    → AreBytesOf earlier t slice new → IsWritten bytes new was earlier t laters
+done bytes new was earlier version frames rows count t laters slice read of same_version same_frames same_rows same_count copied frame_count used same parts =
+    let told : IsCopied earlier.version earlier.frames earlier.rows (length earlier.frames) t laters = copied_of earlier version frames rows count t laters same_version same_frames same_rows same_count copied in
     record {
       read = read;
       of = of;

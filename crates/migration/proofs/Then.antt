@@ -42,9 +42,9 @@ pub record Laws : Type 0 where
   pub matter : OnlyItsBlocksMatter
   pub moments : (f : Place → Place) → TheMomentsOfMappedEntriesAreOld f
 
--- what is held stays
--- of images of this version
+-- Of images of this version.
 module _ (v : ImageVersion) where
+  -- what is held stays
   pub grows : (used : Place → Option Stored) (rows : List ImageRow) (laters : List Row) (before after : Log) → CopyRows v used rows laters before after → HoldsUsed after.held before.held
   grows used [] [] before after copied = λ p block held. ap (λ (l : Log). l.held p) (sym copied) ∙ held
   grows used [] (later ∷ laters) before after copied = absurd copied

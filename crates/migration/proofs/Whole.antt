@@ -8,6 +8,7 @@ use Rattle.s4_types.specs.Sizes.{IsFrameCount}
 use Rattle.s4_types.specs.declared.spans.Span.{Span}
 use Rattle.block_log.specs.Log.{Stored}
 use Rattle.codec.specs.Fields.{number, SpellsSlot}
+use Rattle.codec.specs.declared.versions.ImageVersion.{ImageVersion}
 use Rattle.image_parts.specs.declared.marks.ImageMark.TheVariants.{Earlier, Third}
 use Rattle.image_parts.specs.Marks.{earlier_in}
 use Rattle.object_map.specs.declared.map.Row.{Row}
@@ -77,16 +78,16 @@ hole : (n m : ℕ) (none : Type 0) (kept : Place → Type 0) (q : Option Place) 
 hole n m none kept None spells known is = known.0
 hole n m none kept (Some p) spells known is = absurd (no_pointer p spells.0 (ap (number w64) (sym is) ∙ spells.1))
 
-pub new_follow : (used newer : Place → Option Stored) (time : ℕ) (h k : Header) (object created o made : ℕ) (parts next : List RowPart) (rows : List ImageRow) (laters : List Row)
-    → h.next ≡ k.next → h.clock ≡ k.clock → o ≡ object → made ≡ created → RowsFollow h object created parts → SpellRows parts rows → SpellRows next (rows_then rows laters) → AreThen earlier.version used newer rows laters time → RowsFollow k o made next
-new_follow used newer time h k object created o made [] [] [] [] same_next same_clock same_object same_made follow was is are = tt
-new_follow used newer time h k object created o made [] (n ∷ next) [] [] same_next same_clock same_object same_made follow was is are = absurd is
-new_follow used newer time h k object created o made [] next (row ∷ rows) laters same_next same_clock same_object same_made follow was is are = absurd was
-new_follow used newer time h k object created o made (part ∷ parts) next [] laters same_next same_clock same_object same_made follow was is are = absurd was
-new_follow used newer time h k object created o made [] next [] (later ∷ laters) same_next same_clock same_object same_made follow was is are = absurd are
-new_follow used newer time h k object created o made (part ∷ parts) next (row ∷ rows) [] same_next same_clock same_object same_made follow was is are = absurd are
-new_follow used newer time h k object created o made (part ∷ parts) [] (row ∷ rows) (later ∷ laters) same_next same_clock same_object same_made follow was is are = absurd is
-new_follow used newer time h k object created o made (part ∷ parts) (n ∷ next) (row ∷ rows) (later ∷ laters) same_next same_clock same_object same_made follow was is are =
+pub new_follow : (v : ImageVersion) (used newer : Place → Option Stored) (time : ℕ) (h k : Header) (object created o made : ℕ) (parts next : List RowPart) (rows : List ImageRow) (laters : List Row)
+    → h.next ≡ k.next → h.clock ≡ k.clock → o ≡ object → made ≡ created → RowsFollow h object created parts → SpellRows parts rows → SpellRows next (rows_then rows laters) → AreThen v used newer rows laters time → RowsFollow k o made next
+new_follow v used newer time h k object created o made [] [] [] [] same_next same_clock same_object same_made follow was is are = tt
+new_follow v used newer time h k object created o made [] (n ∷ next) [] [] same_next same_clock same_object same_made follow was is are = absurd is
+new_follow v used newer time h k object created o made [] next (row ∷ rows) laters same_next same_clock same_object same_made follow was is are = absurd was
+new_follow v used newer time h k object created o made (part ∷ parts) next [] laters same_next same_clock same_object same_made follow was is are = absurd was
+new_follow v used newer time h k object created o made [] next [] (later ∷ laters) same_next same_clock same_object same_made follow was is are = absurd are
+new_follow v used newer time h k object created o made (part ∷ parts) next (row ∷ rows) [] same_next same_clock same_object same_made follow was is are = absurd are
+new_follow v used newer time h k object created o made (part ∷ parts) [] (row ∷ rows) (later ∷ laters) same_next same_clock same_object same_made follow was is are = absurd is
+new_follow v used newer time h k object created o made (part ∷ parts) (n ∷ next) (row ∷ rows) (later ∷ laters) same_next same_clock same_object same_made follow was is are =
     let was_object : row.object ≡ part.object = was.0.object in
     let was_created : row.created ≡ part.created = was.0.created in
     let is_object : row.object ≡ n.object = is.0.object in
@@ -105,7 +106,7 @@ new_follow used newer time h k object created o made (part ∷ parts) (n ∷ nex
         made = omega (arith, same_clock, was_created, is_created, kept, past);
         hole = λ zeros. sym is_moment ∙ hole n.checkpoint later.checkpoint_moment _ _ later.checkpoint is.0.checkpoint are.0.stands.versions.beginning zeros;
       },
-      new_follow used newer time h k part.object part.created n.object n.created parts next rows laters same_next same_clock (sym is_object ∙ was_object) (sym is_created ∙ kept ∙ was_created) follow.1 was.1 is.1 are.1,
+      new_follow v used newer time h k part.object part.created n.object n.created parts next rows laters same_next same_clock (sym is_object ∙ was_object) (sym is_created ∙ kept ∙ was_created) follow.1 was.1 is.1 are.1,
     )
 
 as_many_then : (parts : List RowPart) (rows : List ImageRow) (laters : List Row) → SpellRows parts (rows_then rows laters) → length parts ≤ length rows
@@ -166,7 +167,7 @@ spells bytes new was earlier t laters read of count are stand parts =
           };
           frames = parts.rules;
           spans = subst (λ (s : List Span). KeepSpanRules (header_of image) s) (sym of.spans) (record { each = spans_keep (header_of was) (header_of image) was.spans (sym of.next) (sym of.floor) (sym of.clock) read.rules.spans.each; few = read.rules.spans.few });
-          rows = new_follow (used_in earlier.frames) (used_at t) earlier.clock (header_of was) (header_of image) 0 0 0 0 was.rows parts.parts earlier.rows laters (sym of.next) (sym of.clock) refl refl read.rules.rows of.spelled parts.rows.spelled are;
+          rows = new_follow earlier.version (used_in earlier.frames) (used_at t) earlier.clock (header_of was) (header_of image) 0 0 0 0 was.rows parts.parts earlier.rows laters (sym of.next) (sym of.clock) refl refl read.rules.rows of.spelled parts.rows.spelled are;
         };
         spelled = spelled_by image new parts.bytes_are;
       };

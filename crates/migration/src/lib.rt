@@ -1,8 +1,8 @@
-//! An image of the first version becomes one of the present version.
+//! An image of an earlier version becomes one of the present version.
 //!
 //! The layers above may rely on this: the new image says what the old one says, at all moments; its
-//! blocks are where a fixed order puts them; and what can't become an image is refused with the
-//! first version's own causes.
+//! blocks are where a fixed order puts them; and what can't become an image is refused with that
+//! version's own causes.
 #![tactic(auto)]
 
 mod copies;

@@ -38,7 +38,7 @@ pub record MigratesImage (files files' : List ℕ → Option (List ℕ)) (output
   pub image : HasMigrated (files asked.earlier.now) (files' asked.image.now)
   pub line : TellsImage (files' asked.image.now) output output'
 
--- the bytes, where they are known, are no image of the first version, for this cause first
+-- the bytes, where they are known, are no image of an earlier version, for this cause first
 abbrev pub IsDamagedEarlier : Option (List ℕ) → Cause → Type 0
 IsDamagedEarlier None cause = ⊤
 IsDamagedEarlier (Some bytes) cause = FirstEarlierFault bytes (Some cause)
@@ -61,7 +61,7 @@ SaysUntaken earlier (CannotRead path obstacle) = path.now ≡ earlier
 SaysUntaken earlier (CannotWrite path obstacle) = path.now ≡ earlier
 SaysUntaken earlier _ = ⊥
 
--- why its bytes aren't read: it can't be read; they are no image of the first version; or memory was short
+-- why its bytes aren't read: it can't be read; they are no image of an earlier version; or memory was short
 abbrev pub SaysEarlierUnread : Option (List ℕ) → (earlier : List ℕ) → Fault → Type 0
 SaysEarlierUnread known earlier (Refused refusal) = RefusesEarlier known refusal
 SaysEarlierUnread known earlier (CannotRead path obstacle) = path.now ≡ earlier

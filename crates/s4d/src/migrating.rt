@@ -1,4 +1,4 @@
-//! `migrate`: a new image of one of the first version.
+//! `migrate`: a new image of one of an earlier version.
 ghost use Rattle.std.specs.Prelude.{◌≡◌, ◌⊎◌, ℕ, [], List, IfErr, IfOk, OnErr, OnOk};
 ghost use Rattle.std.specs.Prelude.{string_bytes};
 ghost use Rattle.std.specs.Io.KnownBytes.{Keeps};
@@ -44,7 +44,7 @@ struct Saved {
     line: String,
 }
 
-/// Makes a new image of one of the first version, by a name that no file has or in place of a file
+/// Makes a new image of one of an earlier version, by a name that no file has or in place of a file
 /// without bytes. What has bytes is refused, since it may be a drive.
 ///
 /// The earlier image is claimed until the new one is in its place: nobody changes it meanwhile, and
