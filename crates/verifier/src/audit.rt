@@ -1,6 +1,6 @@
 //! The audit rows of an image: read and judged, and written.
 ghost use Rattle.std.specs.Prelude.{◌≡◌, ◌++◌, ◌≤◌, MatchBool, IfSome, IfNone, OnOk, IfOk, IfErr};
-ghost use Rattle.std.specs.Prelude.{map};
+ghost use Rattle.std.specs.Prelude.{◌+◌, map};
 ghost use Rattle.std.specs.List.{AllByRecursion, flat_map};
 ghost use Rattle.s4_types.specs.declared.audit_rows.AuditRow.{AuditRow as Row};
 ghost use Rattle.s4_types.specs.declared.refusals.Refusal.TheVariants.{NoMemory};
@@ -92,6 +92,18 @@ fn is_later(last: Option<Moment>, moment: Moment) -> bool
     }
 }
 
+/// Whether a row can come next in the audit of an image, behind one of the last moment, if there is
+/// one.
+fn may_follow(header: &Header, last: Option<Moment>, row: &AuditRow) -> bool
+    ensures { MatchBool result
+        (IsLater last row.now.moment
+        × IsRowBetween header.now.floor header.now.clock header.now.next row.now)
+        (IsLater last row.now.moment
+        → IsRowBetween header.now.floor header.now.clock header.now.next row.now → ⊥) }
+{
+    is_later(last, row.moment) && is_between(header, row)
+}
+
 /// The audit of an image, as a log of rows. None exactly where it breaks a rule.
 ///
 /// NoMemory alone. Linear in the rows.
@@ -112,7 +124,7 @@ pub(crate) fn read_audit(alloc: Global, parts: &ImageParts<'_>) -> Result<Option
         let Some(row) = row_of_part(&part) else {
             return Ok(None);
         };
-        if !is_later(last, row.moment) || !is_between(&header, &row) {
+        if !may_follow(&header, last, &row) {
             return Ok(None);
         }
         log.reserve()?;
