@@ -30,6 +30,7 @@ use Rattle.image_objects.specs.Inodes.{checkpoint_places_used}
 use Rattle.image_objects.specs.Naming.{NamesUsed, IsNamedBy, HoldsWhatIsNamed}
 use Rattle.image_objects.specs.Objects.{pointers_used}
 use Rattle.image_objects.specs.VersionChain.{kept_row, present_used}
+use Rattle.verifier.specs.Audit.{AuditStands}
 use Rattle.verifier.specs.Images.{ImageFields, IsImageOf}
 use Rattle.verifier.specs.Opened.{IsReadOf}
 use Rattle.verifier.specs.Grammar.{SpellsDrive}
@@ -262,19 +263,20 @@ objects_kept : (used : Place → Option Stored) (rows : List ImageRow) → AreKe
 objects_kept used [] = tt
 objects_kept used (row ∷ rows) = (record { object = refl; row = refl; inode = refl; entries = tt }, objects_kept used rows)
 
--- the parts of an image whose chains stand are those of one that is read
-image_of_parts : (parts : Image) → ChainsStand parts → (image : ImageFields) × IsImageOf parts image
-image_of_parts parts stand =
+-- the parts of an image whose chains and audit keep the rules are those of one that is read
+image_of_parts : (parts : Image) → ChainsStand parts → AuditStands parts → (image : ImageFields) × IsImageOf parts image
+image_of_parts parts stand audited =
     let t : Table = table_holding stand.table stand.rows in
     let used : Place → Option Stored = used_at stand.table in
     let alike : used ≡ used_at t = λ i p. sym (same_used stand.table stand.rows p) i in (
-      record { clock = parts.clock; window = parts.window; floor = parts.floor; next = parts.next; table = t; objects = kept_objects (used_at t) stand.rows; spans = parts.spans },
+      record { clock = parts.clock; window = parts.window; floor = parts.floor; next = parts.next; table = t; objects = kept_objects (used_at t) stand.rows; spans = parts.spans; audit = audited.rows },
       record {
         clock = refl;
         window = refl;
         floor = refl;
         next = refl;
         spans = refl;
+        audit = audited.spelled;
         frames = table_is parts.frames stand.table stand.rows stand.frames;
         rows = stand.rows;
         spelled = stand.spelled;
@@ -302,5 +304,5 @@ as_many_objects parts image is = objects_counted (used_at image.table) is.rows i
 -- bytes that encode a drive are read as an image
 pub image_read : (bytes : List ℕ) (parts : Image) → SpellsDrive bytes parts → (image : ImageFields) × IsReadOf bytes image
 image_read bytes parts spelled =
-    let found = image_of_parts parts spelled.chains in
+    let found = image_of_parts parts spelled.chains spelled.audit in
     (found.0, record { parts = parts; spelled = spelled; told = found.1 })

@@ -12,8 +12,8 @@ pub loop-part-init : goal.loop-part-init
 loop-part-init c =
     none_read c.args.parts.now None c.new-log.result.rows c.into_iter-part-iterator.result refl c.new-log.ensures (c.into_iter-part-iterator.ensures.into_iter_gives ∙ c.audit-part-items.ensures)
 
-pub push-requires-later : goal.push-requires-later
-push-requires-later c =
+pub push-requires-clause-later : goal.push-requires-clause-later
+push-requires-clause-later c =
     let row : AuditRow = c.in-Some-row_of_part.row in
     let may = rw c.if-not-may_follow.false at c.may_follow.ensures in
     subst (λ (rows : List AuditRow). AllByRecursion (λ other. other.moment < row.moment) rows) (sym c.in_ok-reserve.ensures.rows)
