@@ -1,4 +1,7 @@
-use Rattle.std.proofs.Common.{refl}
+use Rattle.std.proofs.Common.{ap, sym, subst, ◌∙◌}
+use Rattle.s4_model.specs.Audit.{audit_of}
+use Rattle.drive.specs.Fields.{DriveFields, state_in, store_of}
+use Rattle.drive.specs.Keeping.{KeepsVersions}
 use Rattle.history_cleaner.proofs.passes.full_pass.Goals as goal
 
 -- the rows of the audit aside, the drive is as the pass left it
@@ -21,10 +24,12 @@ pub returns-clause-released : goal.returns-clause-released
 returns-clause-released g c = rw c.clean_audit.ensures c.in_ok-report.ensures.released
 
 pub returns-clause-ledger : goal.returns-clause-ledger
-returns-clause-ledger g c = rw c.clean_audit.ensures c.pass-report.ensures.ledger
+returns-clause-ledger g c = ap (λ (d : DriveFields). d.ledger) c.clean_audit.ensures ∙ c.pass.ensures.ledger
 
 pub returns-clause-needed : goal.returns-clause-needed
-returns-clause-needed g c = rw c.clean_audit.ensures c.pass-report.ensures.needed
+returns-clause-needed g c =
+    subst (λ (d : DriveFields). KeepsVersions (state_in c.args.drive.now) (store_of c.args.drive.now) (store_of d)) (sym c.clean_audit.ensures) c.pass.ensures.needed
 
+-- the state is that of the history, which the cut leaves
 pub returns-clause-audit : goal.returns-clause-audit
-returns-clause-audit g c = rw c.clean_audit.ensures refl
+returns-clause-audit g c = ap (λ (d : DriveFields). d.audit) c.clean_audit.ensures ∙ sym (ap (λ (d : DriveFields). audit_of (state_in d)) c.clean_audit.ensures)
