@@ -11,7 +11,6 @@ use Rattle.s4_types.specs.declared.refusals.Refusal.{Refusal}
 use Rattle.s4_types.specs.declared.refusals.Refusal.TheVariants.{Damaged, NoMemory}
 use Rattle.image_parts.specs.declared.marks.ImageMark.{ImageMark}
 use Rattle.image_parts.specs.declared.marks.ImageMark.TheVariants.{Third, Earlier as OfEarlier}
-use Rattle.image_parts.specs.Marks.{earlier_in}
 use Rattle.image_commands.specs.declared.verifying.Asked.{Asked}
 use Rattle.image_commands.specs.declared.verifying.Asked.TheVariants.{Present, Earlier}
 use Rattle.image_parts.specs.Causes.{FirstSplitCauseBy, Tested, TestedPartsBy}
