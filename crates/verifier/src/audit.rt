@@ -135,8 +135,8 @@ pub(crate) fn read_audit(alloc: Global, parts: &ImageParts<'_>) -> Result<Option
 }
 
 /// A row of the audit as it is saved.
-pub(crate) fn part_of_row(row: &AuditRow) -> AuditPart
-    ensures part { result ≡ audit_part row.now }
+fn part_of_row(row: AuditRow) -> AuditPart
+    ensures part { result ≡ audit_part row }
     ensures is { IsAuditPart result }
 {
     AuditPart {
@@ -157,7 +157,7 @@ pub(crate) fn push_audit_rows(out: &mut Vec<u8>, rows: &[AuditRow]) -> Result<()
     ensures refusal { IfErr result (λ e. e ≡ NoMemory) }
 {
     for row in rows {
-        push_audit(out, &part_of_row(row))?;
+        push_audit(out, &part_of_row(*row))?;
     }
     Ok(())
 }

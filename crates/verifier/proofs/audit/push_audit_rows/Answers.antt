@@ -1,6 +1,6 @@
-use Rattle.std.proofs.Common.{◌≡◌, ◌<◌, ◌+◌, ℕ, List, [], ◌∷◌, ◌++◌, ◌∙◌, sym, ap, subst, length, take, get_or, arith, rules}
+use Rattle.std.proofs.Common.{◌<◌, ℕ, List, [], ◌∷◌, ◌++◌, ◌∙◌, sym, ap, subst, length, take, get_or, arith}
 use Rattle.std.specs.List.{AllByRecursion, flat_map}
-use Rattle.std.proofs.lemmas.List.{take_more}
+use Rattle.std.proofs.lemmas.List.{take_more, take_all}
 use Rattle.std.proofs.lemmas.List.Folds.{flat_map-map}
 use Rattle.s4_types.specs.declared.audit_rows.AuditRow.{AuditRow}
 use Rattle.lemmas.proofs.List.{all_append}
@@ -36,5 +36,10 @@ loop-row-preserved c =
 
 pub returns-clause-items : goal.returns-clause-items
 returns-clause-items c =
-    let all : c.loop-row.out.items ≡ c.args.out.now.items ++ flat_map spelled c.args.rows.now = search rules in
-    all ∙ ap (λ (b : List ℕ). c.args.out.now.items ++ b) (sym (flat_map-map audit_bytes audit_part c.args.rows.now))
+    let rows : List AuditRow = c.args.rows.now in
+    c.loop-row.invariant.items
+    ∙ ap (λ (done : List AuditRow). c.args.out.now.items ++ flat_map spelled done) (take_all c.loop-row.row-index rows c.loop-row-test.false)
+    ∙ ap (λ (b : List ℕ). c.args.out.now.items ++ b) (sym (flat_map-map audit_bytes audit_part rows))
+
+pub returns-clause-fit : goal.returns-clause-fit
+returns-clause-fit c = subst (AllByRecursion Fits) (take_all c.loop-row.row-index c.args.rows.now c.loop-row-test.false) c.loop-row.invariant.fit
