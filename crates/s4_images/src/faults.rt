@@ -152,7 +152,7 @@ impl From<AllocError> for Failure {
 fn advice(refusal: Refusal) -> &'static str {
     match refusal {
         Refusal::Damaged(Cause::Header) => {
-            "`s4d migrate` makes a new image of one of version 1; else read an older copy of the image"
+            "`s4d migrate` makes a new image of one of version 1 or 2; else read an older copy of the image"
         }
         Refusal::Damaged(_) => "read an older copy of the image",
         Refusal::NoMemory => "try again with more memory",
