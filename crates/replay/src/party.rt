@@ -331,7 +331,8 @@ fn play_opened<J: Naming, R: Threads>(
 ) -> Result<Start, Refusal>
     requires frames { opened.store.table.seat.table ≡ J.frames }
     requires accepts { opened.accepts ≡ J.accepts }
-    requires base { base_of (fields_of log_of opened.store) opened.timeline opened.next opened.audit ≡ J.base }
+    requires base { base_of (fields_of log_of opened.store) opened.timeline opened.next
+        opened.audit ≡ J.base }
 {
     play_over(rt, alloc, opened.named::<J>(), player)
 }

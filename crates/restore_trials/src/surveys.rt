@@ -62,7 +62,8 @@ fn survey_opened<J: Naming>(
 ) -> Result<Option<Survey>, Failure>
     requires accepts { opened.accepts ≡ J.accepts }
     requires frames { opened.store.table.seat.table ≡ J.frames }
-    requires base { base_of (fields_of log_of opened.store) opened.timeline opened.next opened.audit ≡ J.base }
+    requires base { base_of (fields_of log_of opened.store) opened.timeline opened.next
+        opened.audit ≡ J.base }
     ensures finds { IfOk result (λ found. OverOpened opened (λ d. Finds d order.now found)) }
     ensures serves { IfOk result (λ found. OverOpened opened (λ d. Serves d order.now found)) }
     ensures style { IfErr result

@@ -124,7 +124,8 @@ fn try_opened<J: Naming>(
 ) -> Result<Option<usize>, Failure>
     requires accepts { opened.accepts ≡ J.accepts }
     requires frames { opened.store.table.seat.table ≡ J.frames }
-    requires base { base_of (fields_of log_of opened.store) opened.timeline opened.next opened.audit ≡ J.base }
+    requires base { base_of (fields_of log_of opened.store) opened.timeline opened.next
+        opened.audit ≡ J.base }
     ensures leaves { IfOk result (λ room. OverOpened opened (λ drive. Leaves way drive room)) }
 {
     let mut drive = opened.named::<J>();

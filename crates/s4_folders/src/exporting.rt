@@ -66,7 +66,8 @@ fn export_opened<J: Naming, D: Folders>(
 ) -> Result<(), Failure>
     requires accepts { opened.accepts ≡ J.accepts }
     requires frames { opened.store.table.seat.table ≡ J.frames }
-    requires base { base_of (fields_of log_of opened.store) opened.timeline opened.next opened.audit ≡ J.base }
+    requires base { base_of (fields_of log_of opened.store) opened.timeline opened.next
+        opened.audit ≡ J.base }
     ensures exports { OnOk result
         (OverOpened opened (λ drive. Exported D.Opened.path D.Opened.files drive asked.now)) }
 {

@@ -80,7 +80,8 @@ fn change_opened<'a, J: Naming, F: Files, C: DriveChange, W: Sink>(
 ) -> Result<Placed, Failure>
     requires accepts { opened.accepts ≡ J.accepts }
     requires frames { opened.store.table.seat.table ≡ J.frames }
-    requires base { base_of (fields_of log_of opened.store) opened.timeline opened.next opened.audit ≡ J.base }
+    requires base { base_of (fields_of log_of opened.store) opened.timeline opened.next
+        opened.audit ≡ J.base }
     requires writer { W.failures writer.old + 1 < 2 ^ 64 }
     requires claimed { F.leads place.claim place.path.now }
     ensures changed { OnOk result
@@ -113,7 +114,8 @@ fn changed_bytes<J: Naming, C: DriveChange, W: Sink>(
 ) -> Result<Vec<u8>, Failure>
     requires accepts { opened.accepts ≡ J.accepts }
     requires frames { opened.store.table.seat.table ≡ J.frames }
-    requires base { base_of (fields_of log_of opened.store) opened.timeline opened.next opened.audit ≡ J.base }
+    requires base { base_of (fields_of log_of opened.store) opened.timeline opened.next
+        opened.audit ≡ J.base }
     requires writer { W.failures writer.old + 1 < 2 ^ 64 }
     ensures changed { IfOk result
         (λ bytes. ChangesOpened opened bytes.items

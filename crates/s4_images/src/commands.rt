@@ -81,7 +81,8 @@ fn over_opened<J: Naming, C: DriveCommand, W: Sink>(
 ) -> Result<Verdict, Failure>
     requires accepts { opened.accepts ≡ J.accepts }
     requires frames { opened.store.table.seat.table ≡ J.frames }
-    requires base { base_of (fields_of log_of opened.store) opened.timeline opened.next opened.audit ≡ J.base }
+    requires base { base_of (fields_of log_of opened.store) opened.timeline opened.next
+        opened.audit ≡ J.base }
     requires writer { W.failures writer.old + 1 < 2 ^ 64 }
     ensures shows { IfOk result
         (λ verdict. OverOpened opened
