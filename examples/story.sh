@@ -1,6 +1,6 @@
 #!/usr/bin/env bash
 # Plays a story over fresh files: an owner makes two objects, an intruder overwrites one and deletes the other, and an
-# administrator restores both from what they held before.
+# administrator restores both from what they held before, hides the intruder's versions, and asks what was accepted.
 #     story.sh        S4D names the program, else the one that `rt ci` or `rt run` left, else an unproved build, which is
 #                     made once and kept: about a minute
 set -euo pipefail
@@ -58,4 +58,10 @@ show 3 9
 echo
 echo "# The intruder's version is kept too, and the image is whole"
 show 1 6
+run verify drive.image
+echo
+echo "# HIDDEN. An administrator hides the intruder's versions: the audit still has each change that was accepted, and the hiding too"
+session admin hiding
+show 1 6
+show 1 9
 run verify drive.image
