@@ -1,7 +1,7 @@
 -- Tests in a fixed order, of which the first that fails says the cause.
-use Rattle.std.proofs.Common.{◌≡◌, ℕ, ◌<◌, List, length, Option, Some, None, refl, sym, subst, inl, inr, arith}
+use Rattle.std.proofs.Common.{◌≡◌, ℕ, List, Option, Some, None, refl, sym, subst, inl, inr}
 use Rattle.s4_types.specs.declared.refusals.Cause.{Cause}
-use Rattle.s4_types.specs.declared.refusals.Cause.TheVariants.{Length, Digest, Frame, Span, Row, Chain}
+use Rattle.s4_types.specs.declared.refusals.Cause.TheVariants.{Frame, Span, Row, Chain}
 use Rattle.image_parts.specs.declared.headers.Header.{Header}
 use Rattle.image_parts.specs.declared.marks.ImageMark.TheVariants.{Earlier}
 use Rattle.image_parts.specs.Marks.{earlier_in}
@@ -69,22 +69,6 @@ spelled_where_none bytes is none =
     record { parts = is parts; chains = (test_none (parts_behind (earlier_in bytes) bytes (Tested (EarlierChainsStand (earlier_in bytes) (image_in bytes)) Chain (λ f. f ≡ None)) None parts none)).0 }
 
 -- ---- what was read
-
--- where the bytes are too few for a mark, that is the fault
-pub short_fault : (bytes : List ℕ) → length bytes < 8 → FirstEarlierFault bytes (Some Length)
-short_fault bytes short = inl (λ long. omega (arith, long, short), refl)
-
--- where they can't be split, that is
-pub split_fault : (v : ImageVersion) (bytes : List ℕ) (cause : Cause) → v ≡ earlier_in bytes → FirstSplitCauseBy (Earlier v) bytes (Some cause) → FirstEarlierFault bytes (Some cause)
-split_fault v bytes cause is tests =
-    let told = subst (λ (w : ImageVersion). FirstSplitCauseBy (Earlier w) bytes (Some cause)) is tests in
-    test_kept told (λ a. test_kept a (λ b. test_kept b (λ c. none_is_no_cause cause (sym c))))
-
--- where they can, and have another digest, this is
-pub digest_fault : (v : ImageVersion) (bytes : List ℕ) → v ≡ earlier_in bytes → FirstSplitCauseBy (Earlier v) bytes None → (HasDigest bytes → ⊥) → FirstEarlierFault bytes (Some Digest)
-digest_fault v bytes is tests other =
-    let told = subst (λ (w : ImageVersion). FirstSplitCauseBy (Earlier w) bytes None) is tests in
-    test_passed told (λ a. test_passed a (λ b. test_passed b (λ c. inl (other, refl))))
 
 -- what comes after the digest, of these parts and this header
 abbrev rest : ImageVersion → Header → Image → Option Cause → Type 0
