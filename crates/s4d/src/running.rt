@@ -67,7 +67,7 @@ struct Begun<'a, F: Files> {
     /// The image's path.
     path: &'a str,
     claim: F::Claim,
-    /// How many bytes the image of what the sessions leave has at most.
+    /// How many bytes the image of what the sessions leave has at most, but for its audit rows.
     length: usize,
     manner: Manner,
     opened: OpenedDrive,
@@ -81,10 +81,11 @@ struct Begun<'a, F: Files> {
 ///
 /// Where the image or a file fails, no session is served, and each file that was there has its
 /// bytes; an output that wasn't there may be left, empty. That the image can be replaced is known
-/// before: another program that serves it, a file that can't be made beside it, or a disk without
-/// room for the longest image is a fault then. So is a session that is to write over the image,
-/// over what a session reads or another one writes, or that is to use a file beside the image; and
-/// then no output is made. What was left beside the image and is none itself is removed.
+/// before, but for the room of its audit rows: another program that serves it, a file that can't be
+/// made beside it, or a disk without room for the longest image that has none is a fault then. So
+/// is a session that is to write over the image, over what a session reads or another one writes,
+/// or that is to use a file beside the image; and then no output is made. What was left beside the
+/// image and is none itself is removed.
 pub fn run_file<'a, T: Threads + Wait + Clock + Sync, F: Files, E: Write>(
     rt: &T,
     alloc: Global,
