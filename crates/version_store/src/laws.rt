@@ -156,8 +156,8 @@ pub fn a_cut_journal_shows_the_same()
     a_row_keeps_the_making();
 }
 
-// That the present stays, and what the crates below say of an object's inodes, for the functions that
-// read by one of them.
+// That the present stays, and what the crates below say of an object's inodes, for the functions
+// that read by one of them.
 pub(crate) fn what_reads_rest_on()
     ensures present { ThePresentStays }
     ensures last { LastIsCurrent }
