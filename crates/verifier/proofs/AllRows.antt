@@ -1,8 +1,8 @@
 -- The rows of an image that were read, one after another.
-use Rattle.std.proofs.Common.{◌≡◌, ℕ, List, [], ◌∷◌, ◌++◌, Bool, true, false, MatchBool, Option, None, Some, IfSome, refl, sym, ap, ◌∙◌, subst, append_assoc}
-use Rattle.std.specs.List.{AllByRecursion, Contains}
+use Rattle.std.proofs.Common.{◌≡◌, ℕ, List, [], ◌∷◌, ◌++◌, Bool, true, false, MatchBool, Option, None, Some, IfSome, sym, ap, ◌∙◌, subst, append_assoc}
+use Rattle.std.specs.List.{AllByRecursion}
 use Rattle.std.proofs.lemmas.List.{append-nil}
-use Rattle.std.proofs.lemmas.List.Elements.{All-contains, All-from_recursion, recursion_from_All, All-push, Contains-append_left, Contains-push}
+use Rattle.std.proofs.lemmas.List.Elements.{All-contains, All-from_recursion, recursion_from_All, All-push}
 use Rattle.std.proofs.lemmas.Grind.{flat_map-append}
 use Rattle.s4_types.specs.Pointer.{Place}
 use Rattle.block_log.specs.Log.{Stored, NamesAreOfData}
@@ -18,7 +18,7 @@ use Rattle.segment_table.specs.Used.{used_at}
 use Rattle.segment_table.specs.Room.{log_of}
 use Rattle.version_store.specs.Opening.{OpenedFields}
 use Rattle.verifier.specs.declared.objects.ReadRows.{ReadRows}
-use Rattle.verifier.specs.Rows.{SpellsRow, SpellRows}
+use Rattle.verifier.specs.Rows.{SpellRows}
 use Rattle.verifier.specs.Reading.{IsKept, AreKept, NamesAreCapped, AreRead}
 use Rattle.verifier.specs.private.Holding.{IsUsedAlike}
 use Rattle.verifier.specs.private.OneRow.{IsRowRead, PartStands}

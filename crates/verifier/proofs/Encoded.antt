@@ -1,5 +1,5 @@
 -- What encodes a drive is read as an image: its rows name blocks of its frames, and a table holds just these.
-use Rattle.std.proofs.Common.{◌≡◌, ◌<◌, ◌≤◌, ◌==◌, ◌&&◌, ◌||◌, ℕ, zero, suc, Bool, true, false, cond, ltb, List, [], ◌∷◌, drop, length, map, get_or, Option, Some, None, refl, sym, ap, subst, ◌∙◌, inl, inr, arith}
+use Rattle.std.proofs.Common.{◌≡◌, ◌==◌, ◌&&◌, ◌||◌, ℕ, zero, suc, Bool, true, false, cond, ltb, List, [], ◌∷◌, drop, length, map, get_or, Option, Some, None, refl, sym, ap, subst, ◌∙◌, inl, inr, arith}
 use Rattle.std.specs.List.{Contains, list_any, slice_get}
 use Rattle.std.specs.Option.{is_some, option_map, unwrap_or}
 use Rattle.std.proofs.lemmas.Bool.{and_from, and_parts, and_right, cases_Bool, cond-false, cond-true, eq-eqb, eqb-true, false≢true, lt-ltb, ltb-true}
@@ -14,13 +14,12 @@ use Rattle.checkpoint.specs.Held.{is_one_of}
 use Rattle.codec.specs.Summary.{SpellsSummary}
 use Rattle.codec.specs.declared.summaries.BlockRole.{BlockRole}
 use Rattle.journal_chain.specs.Chain.{times, chain_places}
-use Rattle.segment_word.specs.Frames.{Free, Frame}
+use Rattle.segment_word.specs.Frames.{Frame}
 use Rattle.segment_word.specs.Layout.{frame_at, block_bytes}
 use Rattle.segment_table.specs.declared.slots.Slot.{Slot}
 use Rattle.segment_table.specs.Slots.{no_slot}
 use Rattle.segment_table.specs.Table.{Table, slots_at, stored, held_block, held_at}
 use Rattle.segment_table.specs.Used.{is_named, used_slot, with_bytes, used_block, used_at}
-use Rattle.segment_table.specs.Sealing.{summary_of}
 use Rattle.version_store.specs.Opening.{OpenedFields}
 use Rattle.image_parts.specs.Frames.{FrameFields, blocks_of}
 use Rattle.image_parts.specs.Image.{Image}

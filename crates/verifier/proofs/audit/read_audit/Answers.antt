@@ -4,7 +4,6 @@ use Rattle.std.proofs.lemmas.Option.{none-some}
 use Rattle.s4_types.specs.declared.audit_rows.AuditRow.{AuditRow}
 use Rattle.s4_model.specs.Audit.{IsRowBetween}
 use Rattle.image_parts.specs.declared.headers.Header.{Header}
-use Rattle.verifier.specs.private.AuditRows.{IsLater}
 use Rattle.verifier.proofs.AuditRows.{none_read, row_read, no_row, bad_row, later_than_all, all_read, audit_stands}
 use Rattle.verifier.proofs.audit.read_audit.Goals as goal
 
