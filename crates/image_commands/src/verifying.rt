@@ -13,7 +13,7 @@ ghost use Rattle.image_commands.specs.Verifying.{TellsImage, mark_asked};
 use crate::faults::{Fault, reading};
 use crate::files::Files;
 use crate::saving::longest_image;
-use image_parts::{ImageMark, LONGEST_IMAGE, earlier_version, longest_with_by};
+use image_parts::{ImageMark, LONGEST_IMAGE, earlier_version, longest_with, longest_with_by};
 use s4_types::limits::MOST_FRAMES;
 use s4_types::{Cause, Moment, Refusal};
 use s4d_command::Verify;
@@ -111,7 +111,8 @@ pub fn read_whole<'a, F: Files>(
 }
 
 /// All bytes of a file, whatever they are. Damaged by its length where it has more than the longest
-/// image: it isn't read to its end then.
+/// image has that begins as it does, and more than any image without audit rows: it isn't read to
+/// its end then.
 pub fn read_bytes<'a, F: Files>(
     alloc: Global,
     files: &F,
@@ -123,25 +124,42 @@ pub fn read_bytes<'a, F: Files>(
         Ok(reader) => reader,
         Err(error) => return Err(reading(error.kind(), path)),
     };
-    match read_shorter(alloc, &mut reader, longest_image(MOST_FRAMES as u16)) {
+    match read_shorter(alloc, &mut reader) {
         Ok(Some(bytes)) => Ok(bytes),
         Ok(None) => Err(Fault::Refused(Refusal::Damaged(Cause::Length))),
         Err(error) => Err(reading(error.kind(), path)),
     }
 }
 
-// All bytes of a reader, none where they are more than this many: then one more of them is read.
-fn read_shorter<R: Read>(alloc: Global, reader: &mut R, most: usize) -> io::Result<Option<Vec<u8>>>
-    requires most { most < 2 ^ 39 }
+// All bytes of a reader, none where they are more than an image may have that begins with them: then
+// one more of them is read.
+fn read_shorter<R: Read>(alloc: Global, reader: &mut R) -> io::Result<Option<Vec<u8>>>
     ensures bytes { IfOk result
         (λ read. IfSome read (λ bytes. AreKnown (R.remaining reader.old) bytes.items)) }
 {
     let mut bytes = Vec::new(alloc);
+    read_until(reader, &mut bytes, FRONT_BYTES)?;
+    let most = most_with(bytes.as_slice());
     read_until(reader, &mut bytes, most + 1)?;
     if bytes.len() > most {
         return Ok(None);
     }
     Ok(Some(bytes))
+}
+
+// How many bytes are looked at where these are in front. An image has no more that has no audit
+// rows, whatever is in front, nor does one that has as many as its header says.
+fn most_with(front: &[u8]) -> usize
+    ensures below { result < 2 ^ 63 }
+{
+    let least = longest_image(MOST_FRAMES as u16);
+    if front.len() < FRONT_BYTES {
+        return least;
+    }
+    match longest_with(front) {
+        Some(longest) if longest > least => longest,
+        _ => least,
+    }
 }
 
 // All bytes of a reader. Where they are too few or have no header that is asked for in front, or

@@ -7,8 +7,8 @@ use Rattle.image_commands.proofs.verifying.read_shorter.Goals as goal
 pub returns : goal.returns
 returns g c =
     let known = g.R.Read.remaining c.args.reader.now in
-    let left = g.R.Read.remaining c.read_until.new.reader in
-    let bytes = c.read_until.new.bytes.items in
+    let left = g.R.Read.remaining c.read_until-2.new.reader in
+    let bytes = c.read_until-2.new.bytes.items in
     let begun : Consumes known known c.new-bytes.result.items = subst (Consumes known known) (sym c.new-bytes.ensures.items) (Consumes-nil known) in
-    let short : length bytes < c.args.most + 1 = search rules in
-    record { bytes = all_read known left bytes (c.in_ok-read_until.ensures.read known begun) (c.in_ok-read_until.ensures.whole short) }
+    let short : length bytes < c.most_with-most.result + 1 = search rules in
+    record { bytes = all_read known left bytes (c.in_ok-read_until-2.ensures.read known (c.in_ok-read_until.ensures.read known begun)) (c.in_ok-read_until-2.ensures.whole short) }
