@@ -43,7 +43,12 @@ pub fn text_value(alloc: Global, bytes: &[u8]) -> Result<Value, AllocError>
     }
 }
 
-fn time_value(alloc: Global, moment: Moment, style: MomentStyle) -> Result<Value, AllocError>
+/// The date of a moment; null where moments are numbers.
+pub(crate) fn time_value(
+    alloc: Global,
+    moment: Moment,
+    style: MomentStyle,
+) -> Result<Value, AllocError>
     ensures { IfOk result (λ value. view value ≡ time_data style moment) }
 {
     match style {

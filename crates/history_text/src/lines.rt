@@ -33,7 +33,12 @@ fn column(alloc: Global, number: u64) -> Result<String, AllocError>
     format!(in alloc; "{number:10}")
 }
 
-fn moment_column(alloc: Global, moment: Moment, style: MomentStyle) -> Result<String, AllocError>
+/// A moment in its column.
+pub(crate) fn moment_column(
+    alloc: Global,
+    moment: Moment,
+    style: MomentStyle,
+) -> Result<String, AllocError>
     ensures { IfOk result (λ text. string_bytes text ≡ moment_column style moment) }
 {
     match style {
