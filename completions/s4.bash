@@ -32,6 +32,7 @@ _s4_options() {
         log)
             echo --object --name --since --until --kind --limit --by-object --reverse --stat --moments --json
             ;;
+        audit) echo --object --since --until --kind --limit --moments --json ;;
         cat) echo --at --name ;;
         info) echo --moments --json ;;
         diff) echo --object --name --patch --text --moments --json ;;
@@ -54,10 +55,12 @@ _s4_files() {
 
 _s4() {
     local command operands option is_past_options word=${COMP_WORDS[COMP_CWORD]}
-    local commands='list log cat info diff export restore check compact salvage report'
+    local commands='list log audit cat info diff export restore check compact salvage report'
     COMPREPLY=()
     _s4_read
-    if [[ $option == --kind ]]; then
+    if [[ $option == --kind && $command == audit ]]; then
+        _s4_words 'create delete write truncate setattr setwindow flush flusho'
+    elif [[ $option == --kind ]]; then
         _s4_words 'made deleted written cut lengthened attribute touched'
     elif [[ $option == --map ]]; then
         _s4_files -f

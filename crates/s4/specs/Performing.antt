@@ -15,6 +15,7 @@ use Rattle.s4_command.specs.declared.whole.SalvageAsked.{SalvageAsked}
 use Rattle.drive.specs.Fields.{DriveFields}
 use Rattle.s4_images.specs.Commands.{OverImage, ChangesImage}
 use Rattle.s4_images.specs.declared.commands.Verdict.TheVariants.{Fine, Differs}
+use Rattle.s4_audit.specs.Auditing.{PrintsAudit}
 use Rattle.s4_reading.specs.Checking.{Checks}
 use Rattle.s4_reading.specs.Comparing.{Compares}
 use Rattle.s4_reading.specs.Listing.{Lists}
@@ -30,6 +31,7 @@ use Rattle.s4_compact.specs.Compacting.{Compacts}
 abbrev pub IsDoneOver : (files files' : List ℕ → Option (List ℕ)) → (Exported : DriveFields → ExportAsked → Type 0) → (Salvaged : Option (List ℕ) → SalvageAsked → (output output' : Option (List ℕ)) → Type 0) → (output output' : Option (List ℕ)) → Command → Type 0
 IsDoneOver files files' Exported Salvaged output output' (command.List list) = OverImage (files list.image.now) (λ d. Lists d list output output')
 IsDoneOver files files' Exported Salvaged output output' (command.Log log) = OverImage (files log.image.now) (λ d. Logs d log output output')
+IsDoneOver files files' Exported Salvaged output output' (command.Audit audit) = OverImage (files audit.image.now) (λ d. PrintsAudit d audit output output')
 IsDoneOver files files' Exported Salvaged output output' (command.Cat cat) = OverImage (files cat.image.now) (λ d. Gives d cat output output')
 IsDoneOver files files' Exported Salvaged output output' (command.Info info) = OverImage (files info.image.now) (λ d. Informs d info output output')
 IsDoneOver files files' Exported Salvaged output output' (command.Diff diff) = OverImage (files diff.image.now) (λ d. Compares d diff Fine output output')

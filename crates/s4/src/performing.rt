@@ -6,6 +6,7 @@ ghost use Rattle.s4_folders.specs.Salvaging.{SalvagesFile};
 ghost use Rattle.s4.specs.Performing.{DiffersOver, IsDiffering, IsDone, IsDoneOver, IsUndone};
 
 use image_commands::{Files, Obstacle, Placed};
+use s4_audit::Auditing;
 use s4_command::{Command, ExportAsked, NoCommand, RestoreAsked, SalvageAsked, command_of};
 use s4_compact::compact_image;
 use s4_folders::{Folders, export_image, salvage_image};
@@ -101,6 +102,7 @@ fn perform_command<T: Threads, F: Files, D: Folders + Screens, W: Sink, E: Write
     match command {
         Command::List(list) => show_over(rt, alloc, files, &Listing(list), writer, errors),
         Command::Log(log) => show_over(rt, alloc, files, &Logging(log), writer, errors),
+        Command::Audit(audit) => show_over(rt, alloc, files, &Auditing(audit), writer, errors),
         Command::Cat(cat) => show_over(rt, alloc, files, &Reading(cat), writer, errors),
         Command::Info(info) => show_over(rt, alloc, files, &Numbering(info), writer, errors),
         Command::Report(report) => show_over(rt, alloc, files, &Reporting(report), writer, errors),

@@ -9,6 +9,8 @@ use Rattle.clap.specs.Values.{kind_of}
 use Rattle.clap.specs.declared.error.kind.ErrorKind.{ErrorKind}
 use Rattle.clap.specs.declared.error.kind.ErrorKind.TheVariants as kind
 use Rattle.clap.specs.declared.builder.action.ArgAction.TheVariants.{Set, Append}
+use Rattle.s4_types.specs.declared.audit_rows.AuditKind.{AuditKind}
+use Rattle.s4_types.specs.declared.audit_rows.AuditKind.TheVariants.{Create, Delete, Write, Truncate, SetAttr, SetWindow, Flush, FlushO}
 use Rattle.moment_words.specs.Words.{IsMomentWord}
 use Rattle.moment_words.specs.declared.words.MomentWord.{MomentWord}
 use Rattle.s4d_command.specs.CommandLine.{flag_rule, IsGiven, IsNumber}
@@ -16,6 +18,7 @@ use Rattle.s4_command.specs.declared.Command.{Command}
 use Rattle.s4_command.specs.declared.Command.TheVariants as command
 use Rattle.s4_command.specs.declared.NoCommand.{NoCommand}
 use Rattle.s4_command.specs.declared.NoCommand.TheVariants as refusal
+use Rattle.s4_command.specs.declared.auditing.AuditAsked.{AuditAsked}
 use Rattle.s4_command.specs.declared.contents.ListAsked.{ListAsked}
 use Rattle.s4_command.specs.declared.contents.CatAsked.{CatAsked}
 use Rattle.s4_command.specs.declared.contents.ExportAsked.{ExportAsked}
@@ -72,6 +75,18 @@ log_line = with_rule (with_rule (with_rule (with_rule (with_rule (with_rule (wit
     (flag_rule (codes "by-object")))
     (flag_rule (codes "reverse")))
     (flag_rule (codes "stat")))
+    (flag_rule (codes "moments")))
+    (flag_rule (codes "json")))
+    (needed_rule (codes "image"))
+
+-- `audit [--object O] [--since M] [--until M] [--kind KIND] [--limit N] [--moments] [--json] IMAGE`
+abbrev pub audit_line : App
+audit_line = with_rule (with_rule (with_rule (with_rule (with_rule (with_rule (with_rule (with_rule (new_app (codes "audit"))
+    (value_rule (codes "object")))
+    (value_rule (codes "since")))
+    (value_rule (codes "until")))
+    (value_rule (codes "kind")))
+    (value_rule (codes "limit")))
     (flag_rule (codes "moments")))
     (flag_rule (codes "json")))
     (needed_rule (codes "image"))
@@ -162,8 +177,8 @@ program = on_top (λ s. record s { has_version = true; propagate_version = true;
 -- the program's whole command line
 abbrev pub line : App
 line = with_subcommand (with_subcommand (with_subcommand (with_subcommand (with_subcommand (with_subcommand (with_subcommand
-    (with_subcommand (with_subcommand (with_subcommand (with_subcommand program
-    list_line.top) log_line.top) cat_line.top) info_line.top)
+    (with_subcommand (with_subcommand (with_subcommand (with_subcommand (with_subcommand program
+    list_line.top) log_line.top) audit_line.top) cat_line.top) info_line.top)
     diff_line.top) export_line.top) restore_line.top) check_line.top) compact_line.top) salvage_line.top) report_line.top
 
 -- a number that is given is what the text reads as; none is where no text is there
@@ -199,6 +214,22 @@ kind_word Touched = codes "touched"
 abbrev pub IsKindAsked : List Row → Option ChangeKind → Type 0
 IsKindAsked rows None = first_of (codes "kind") rows ≡ None
 IsKindAsked rows (Some kind) = first_of (codes "kind") rows ≡ Some (kind_word kind)
+
+-- the word for a kind of accepted change
+abbrev pub accepted_word : AuditKind → Text
+accepted_word Create = codes "create"
+accepted_word Delete = codes "delete"
+accepted_word Write = codes "write"
+accepted_word Truncate = codes "truncate"
+accepted_word SetAttr = codes "setattr"
+accepted_word SetWindow = codes "setwindow"
+accepted_word Flush = codes "flush"
+accepted_word FlushO = codes "flusho"
+
+-- a kind of accepted change that is given is the one with this word; none is where no text is there
+abbrev pub IsAcceptedAsked : List Row → Option AuditKind → Type 0
+IsAcceptedAsked rows None = first_of (codes "kind") rows ≡ None
+IsAcceptedAsked rows (Some kind) = first_of (codes "kind") rows ≡ Some (accepted_word kind)
 
 -- at most one of the two is given
 abbrev pub AreApart : Text → Text → List Row → Type 0
@@ -243,6 +274,17 @@ pub record SpellsLog (rows : List Row) (log : LogAsked) : Type 0 where
   pub stat : (log.stat ≡ true) ↔ IsGiven (codes "stat") rows
   pub moments : (log.moments ≡ true) ↔ IsGiven (codes "moments") rows
   pub json : (log.json ≡ true) ↔ IsGiven (codes "json") rows
+
+-- The matches of `audit` have this text, this object, these moments, this kind, this limit and these flags.
+pub record SpellsAudit (rows : List Row) (audit : AuditAsked) : Type 0 where
+  pub image : first_of (codes "image") rows ≡ Some audit.image.now
+  pub object : IsAsked (codes "object") rows audit.object
+  pub since : IsMomentAsked (codes "since") rows audit.since
+  pub until : IsMomentAsked (codes "until") rows audit.until
+  pub kind : IsAcceptedAsked rows audit.kind
+  pub limit : IsAsked (codes "limit") rows audit.limit
+  pub moments : (audit.moments ≡ true) ↔ IsGiven (codes "moments") rows
+  pub json : (audit.json ≡ true) ↔ IsGiven (codes "json") rows
 
 -- The matches of `cat` have this text, a number or a name and not both, and this moment.
 pub record SpellsCat (rows : List Row) (cat : CatAsked) : Type 0 where
@@ -319,6 +361,7 @@ abbrev pub Spells : Option (Text × List Row) → Command → Type 0
 Spells None c = ⊥
 Spells (Some named) (command.List list) = (named.0 ≡ codes "list") × SpellsList named.1 list
 Spells (Some named) (command.Log log) = (named.0 ≡ codes "log") × SpellsLog named.1 log
+Spells (Some named) (command.Audit audit) = (named.0 ≡ codes "audit") × SpellsAudit named.1 audit
 Spells (Some named) (command.Cat cat) = (named.0 ≡ codes "cat") × SpellsCat named.1 cat
 Spells (Some named) (command.Info info) = (named.0 ≡ codes "info") × SpellsInfo named.1 info
 Spells (Some named) (command.Diff diff) = (named.0 ≡ codes "diff") × SpellsDiff named.1 diff

@@ -18,6 +18,7 @@ ghost use Rattle.s4_command.specs.CommandLine.{line, IsAskedAmong, IsOwn, IsRefu
 ghost use Rattle.s4_command.specs.CommandLine.{Spells, SpellsNone};
 
 mod arguments;
+mod auditing;
 mod changes;
 mod choosing;
 mod contents;
@@ -26,6 +27,8 @@ mod reading;
 mod restoring;
 mod whole;
 
+pub use auditing::AuditAsked;
+use auditing::audit_asked;
 pub use changes::{ChangeKind, DiffAsked, LogAsked, ReportAsked};
 use changes::{diff_asked, log_asked, report_asked};
 use clap::ArgMatches;
@@ -48,6 +51,8 @@ pub enum Command<'a> {
     List(ListAsked<'a>),
     /// Prints what was changed.
     Log(LogAsked<'a>),
+    /// Prints what was accepted.
+    Audit(AuditAsked<'a>),
     /// Prints an object's bytes at a moment.
     Cat(CatAsked<'a>),
     /// Prints the numbers of an image.
@@ -92,6 +97,11 @@ pub enum NoCommand<'a> {
     /// The word is no kind of change.
     #[error("{word} is no kind of change; give made, deleted, written, cut, lengthened, attribute or touched")]
     NoKind {
+        word: &'a str,
+    },
+    /// The word is no kind of accepted change.
+    #[error("{word} is no kind of change; give create, delete, write, truncate, setattr, setwindow, flush or flusho")]
+    NoAuditKind {
         word: &'a str,
     },
     /// Both are given, of which one alone may be.
@@ -193,6 +203,7 @@ fn named_command<'a>(
     match name {
         "list" => list_asked(found),
         "log" => log_asked(found),
+        "audit" => audit_asked(found),
         "cat" => cat_asked(found),
         "info" => info_asked(found),
         "diff" => diff_asked(found),

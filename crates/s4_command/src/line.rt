@@ -2,7 +2,8 @@
 ghost use Rattle.std.specs.Prelude.{◌≡◌, IfOk};
 ghost use Rattle.clap.specs.Simple.{App, app_of, with_subcommand};
 ghost use Rattle.s4d_command.specs.CommandLine.{IsLine};
-ghost use Rattle.s4_command.specs.CommandLine.{line, program, list_line, log_line, cat_line};
+ghost use Rattle.s4_command.specs.CommandLine.{line, program, list_line, log_line, audit_line};
+ghost use Rattle.s4_command.specs.CommandLine.{cat_line};
 ghost use Rattle.s4_command.specs.CommandLine.{info_line, diff_line, export_line, restore_line};
 ghost use Rattle.s4_command.specs.CommandLine.{with_restore_rules};
 ghost use Rattle.s4_command.specs.CommandLine.{check_line, compact_line, salvage_line, report_line};
@@ -82,6 +83,30 @@ fn log_command<'a>(alloc: Global) -> Result<Command<'a>, AllocError>
         "Prints one line an object: how many changes, and when",
     );
     let moments = with_flag(alloc, stat, "moments", MOMENTS);
+    let json = with_flag(alloc, moments, "json", JSON);
+    with_operand(alloc, json, "image", IMAGE.0, IMAGE.1)
+}
+
+fn audit_command<'a>(alloc: Global) -> Result<Command<'a>, AllocError>
+    ensures { IsLine result audit_line }
+{
+    let audit = named(
+        alloc,
+        "audit",
+        "Prints what was accepted, by ascending moment",
+    );
+    let object = with_value(alloc, audit, "object", "O", OBJECT);
+    let since = with_value(alloc, object, "since", "M", "From this moment on");
+    let until = with_value(alloc, since, "until", "M", "Up to this moment");
+    let kind = with_value(
+        alloc,
+        until,
+        "kind",
+        "KIND",
+        "Of this kind: create, delete, write, truncate, setattr, setwindow, flush or flusho",
+    );
+    let limit = with_value(alloc, kind, "limit", "N", "At most so many changes");
+    let moments = with_flag(alloc, limit, "moments", MOMENTS);
     let json = with_flag(alloc, moments, "json", JSON);
     with_operand(alloc, json, "image", IMAGE.0, IMAGE.1)
 }
@@ -293,7 +318,8 @@ pub(crate) fn command_line<'a>(alloc: Global) -> Result<Command<'a>, AllocError>
 {
     let list = with_command(empty_program(alloc), list_command(alloc));
     let log = with_command(list, log_command(alloc));
-    let cat = with_command(log, cat_command(alloc));
+    let audit = with_command(log, audit_command(alloc));
+    let cat = with_command(audit, cat_command(alloc));
     let info = with_command(cat, info_command(alloc));
     let diff = with_command(info, diff_command(alloc));
     let export = with_command(diff, export_command(alloc));
