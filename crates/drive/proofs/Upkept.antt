@@ -38,15 +38,16 @@ same_objects s later log rows latest =
     ap (λ (l : Log). objects_of later.rows l later.latest) log ∙ ap (λ (r : List (ℕ × Row)). objects_of r s.log later.latest) rows ∙ ap (λ (m : ℕ). objects_of s.rows s.log m) latest
 
 pub marks : (r : Result (Unit {0}) Refusal) (f : ℕ) (d later : DriveFields) → MarksFrame f d.store.table r later.store.table → OnErr r (later.store ≡ d.store) → store_of later ≡ store_of d → later.ledger ≡ d.ledger → later.audit ≡ d.audit → Marks f d r later
-marks (Ok x) f d later frame refused store ledger audit = record { frame = frame; refused = tt; store = store; ledger = ledger }
-marks (Err e) f d later frame refused store ledger audit = record { frame = frame; refused = same_drive d later refused ledger audit; store = store; ledger = ledger }
+marks (Ok x) f d later frame refused store ledger audit = record { frame = frame; refused = tt; store = store; ledger = ledger; audit = audit }
+marks (Err e) f d later frame refused store ledger audit = record { frame = frame; refused = same_drive d later refused ledger audit; store = store; ledger = ledger; audit = audit }
 
 pub releases : (r : Result (Unit {0}) Refusal) (f : ℕ) (d later : DriveFields) → ReleasesFrame f d.store.table r later.store.table → KeepsObjects (store_of d) (store_of later) → later.ledger ≡ d.ledger → later.audit ≡ d.audit → Releases f d r later
-releases (Ok x) f d later frame objects ledger audit = record { frame = frame; idle = tt; unchanged = tt; objects = objects; ledger = ledger }
+releases (Ok x) f d later frame objects ledger audit = record { frame = frame; idle = tt; unchanged = tt; objects = objects; ledger = ledger; audit = audit }
 releases (Err e) f d later frame objects ledger audit = record {
   frame = frame;
   idle = λ other. same_drive d later (same_table d.store later.store (frame.idle other) objects.rows objects.latest) ledger audit;
   unchanged = same_objects (store_of d) (store_of later) frame.log objects.rows objects.latest;
   objects = objects;
   ledger = ledger;
+  audit = audit;
 }

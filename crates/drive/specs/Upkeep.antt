@@ -1,4 +1,4 @@
--- What a step of upkeep is answered, and what it leaves of the drive: the history stays, and so does every version.
+-- What a step of upkeep is answered, and what it leaves of the drive: the history stays, and so do every version and the rows of the audit.
 use Rattle.std.specs.Prelude.{◌≡◌, ◌≢◌, ℕ, None, Some, IfSome, Result, OnOk, OnErr, MatchResult}
 use Rattle.s4_types.specs.declared.refusals.Refusal.{Refusal}
 use Rattle.undo_redo.specs.Runs.{AllBy}
@@ -17,6 +17,7 @@ pub record Seals (d later : DriveFields) : Type 0 where
   pub frame : SealsFrame d.store.table later.store.table
   pub objects : KeepsObjects (store_of d) (store_of later)
   pub ledger : later.ledger ≡ d.ledger
+  pub audit : later.audit ≡ d.audit
 
 -- An object's checkpoint is as new as its last entry: it is written where it has to be. NoObject exactly where the object has no
 -- row; else NoSpace exactly where a block has to be written and there is no room for it.
@@ -26,6 +27,7 @@ pub record WritesCheckpoint (object : ℕ) (d : DriveFields) (done : Result (Uni
   pub answer : MatchResult done (λ _. checkpoint_refusal (store_of d) object ≡ None) (λ e. checkpoint_refusal (store_of d) object ≡ Some e)
   pub unchanged : OnErr done (store_of later ≡ store_of d)
   pub ledger : later.ledger ≡ d.ledger
+  pub audit : later.audit ≡ d.audit
   pub versions : (o t : ℕ) → version_in (store_of later) o t ≡ version_in (store_of d) o t
   pub inodes : (o t : ℕ) → inode_in (store_of later) o t ≡ inode_in (store_of d) o t
 
@@ -35,6 +37,7 @@ pub record Marks (f : ℕ) (d : DriveFields) (done : Result (Unit {0}) Refusal) 
   pub refused : OnErr done (later ≡ d)
   pub store : store_of later ≡ store_of d
   pub ledger : later.ledger ≡ d.ledger
+  pub audit : later.audit ≡ d.audit
 
 -- A frame that was being emptied and had no reader is free at its next generation, or that is refused. Nothing has changed where
 -- the frame isn't being emptied, and no object where it had a reader.
@@ -44,3 +47,4 @@ pub record Releases (f : ℕ) (d : DriveFields) (done : Result (Unit {0}) Refusa
   pub unchanged : OnErr done (store_of later ≡ store_of d)
   pub objects : KeepsObjects (store_of d) (store_of later)
   pub ledger : later.ledger ≡ d.ledger
+  pub audit : later.audit ≡ d.audit

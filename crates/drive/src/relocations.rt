@@ -46,6 +46,7 @@ impl<J: Naming> Drive<J> {
             ⊎ ((e ≡ NoMemory) × (blocks_relocated (store_of self.old).log.held object row copies.now ≤ length (store_of self.old).log.ahead)))) }
         ensures unchanged { OnErr result (store_of self.new ≡ store_of self.old) }
         ensures ledger { self.new.ledger ≡ self.old.ledger }
+        ensures audit { self.new.audit ≡ self.old.audit }
         ensures needed { KeepsVersions (state_in self.old) (store_of self.old) (store_of self.new) }
     {
         self.store.relocate(object, copies)

@@ -43,6 +43,7 @@ impl<J: Naming> Drive<J> {
         ensures refusal { IfErr result (λ e. e ≡ NoMemory) }
         ensures unchanged { OnErr result (store_of self.new ≡ store_of self.old) }
         ensures ledger { self.new.ledger ≡ self.old.ledger }
+        ensures audit { self.new.audit ≡ self.old.audit }
         ensures needed { KeepsVersions (state_in self.old) (store_of self.old) (store_of self.new) }
     {
         self.store.remove(object, entries)
@@ -91,6 +92,7 @@ impl<J: Naming> Drive<J> {
             ⊎ ((e ≡ NoMemory) × (rewritten_blocks present.now entries.now ≤ length (store_of self.old).log.ahead))) }
         ensures unchanged { OnErr result (store_of self.new ≡ store_of self.old) }
         ensures ledger { self.new.ledger ≡ self.old.ledger }
+        ensures audit { self.new.audit ≡ self.old.audit }
         ensures needed { KeepsVersions (state_in self.old) (store_of self.old) (store_of self.new) }
     {
         self.store.replace(object, before, present, entries)

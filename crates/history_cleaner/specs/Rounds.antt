@@ -3,6 +3,7 @@ use Rattle.std.specs.Prelude.{◌≡◌, ◌≢◌, ◌⊎◌, ℕ, zero, suc, �
 use Rattle.s4_types.specs.declared.limits.TheConstants.{MOVE_BLOCKS}
 use Rattle.s4_types.specs.declared.refusals.Refusal.{Refusal}
 use Rattle.s4_types.specs.declared.refusals.Refusal.TheVariants.{NoMemory, NoRoom}
+use Rattle.s4_model.specs.Audit.{audit_of}
 use Rattle.segment_word.specs.Frames.{Draining}
 use Rattle.segment_word.specs.Layout.{frame_at}
 use Rattle.segment_word.specs.Handles.{Drive, HasMissed, with_released}
@@ -74,12 +75,14 @@ pub record PassesOver (d : DriveFields) (passed object : ℕ) (refusal : Refusal
   pub same : store_of later ≡ store_of d
   pub why : IsPutOff d object refusal
 
--- No object with a row was left: all objects are as they were, frames were emptied, and the next round begins.
+-- No object with a row was left: all objects are as they were, frames were emptied, no row of the audit is kept below the floor, and
+-- the next round begins.
 pub record EndsRound (d : DriveFields) (passed next : ℕ) (later : DriveFields) : Type 0 where
   pub none : (q : ℕ) → passed < q → row_of d.store.rows q ≡ None
   pub begins : next ≡ 0
   pub objects : KeepsObjects (store_of d) (store_of later)
   pub swept : IsSwept d.store.table later.store.table
+  pub audit : later.audit ≡ audit_of (state_in d)
 
 -- what a turn comes to, by what it answers
 abbrev pub Turns : DriveFields → ℕ → Turn → ℕ → DriveFields → Type 0

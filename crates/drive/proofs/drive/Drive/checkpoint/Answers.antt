@@ -26,6 +26,7 @@ returns g c =
       answer = done.answer;
       unchanged = done.unchanged;
       ledger = refl;
+      audit = refl;
       versions = done.versions;
       inodes = done.inodes;
     })

@@ -22,4 +22,4 @@ pub returns : goal.returns
 returns g c =
     let later : DriveFields = record { ledger = c.self.inside.history; store = c.seal.new.self; audit = c.self.inside.audit.rows } in
     let S : DriveFields → Type 0 = λ d. Seals d later in
-    subst S c.self.view_is (record { frame = c.seal.ensures.frame; objects = c.seal.ensures.objects; ledger = refl })
+    subst S c.self.view_is (record { frame = c.seal.ensures.frame; objects = c.seal.ensures.objects; ledger = refl; audit = refl })
