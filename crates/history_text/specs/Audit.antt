@@ -8,7 +8,7 @@ use Rattle.s4_types.specs.declared.audit_rows.AuditKind.{AuditKind}
 use Rattle.s4_types.specs.declared.audit_rows.AuditKind.TheVariants.{Create, Delete, Write, Truncate, SetAttr, SetWindow, Flush, FlushO}
 use Rattle.s4_types.specs.declared.audit_rows.AuditRow.{AuditRow}
 use Rattle.history_text.specs.Json.{time_data}
-use Rattle.history_text.specs.Lines.{column, moment_column}
+use Rattle.history_text.specs.Lines.{column, hidden_of, moment_column}
 
 -- the word for a kind of accepted change
 abbrev pub kind_word : AuditKind → List ℕ
@@ -54,6 +54,12 @@ abbrev pub audit_line : MomentStyle → AuditRow → List ℕ
 audit_line style row =
     moment_column style row.moment
     ++ (codes "  " ++ (kind_column row.kind ++ (codes "  " ++ (column 10 row.object ++ (what_text style row.kind row.first row.second ++ codes "\n")))))
+
+-- the line of a flush below the rows of a log: its moment, the first and the last moment that it hid, and the object where it wasn't of all
+abbrev pub flush_line : MomentStyle → AuditRow → List ℕ
+flush_line style row =
+    moment_column style row.moment
+    ++ (codes "  flush hid " ++ (moment_text row.first style ++ (codes "-" ++ (moment_text row.second style ++ (hidden_of row.object ++ codes "\n")))))
 
 -- where bytes were written, and how many
 abbrev pub bytes_data : (offset length : ℕ) → Data

@@ -3,11 +3,11 @@ ghost use Rattle.std.specs.Prelude.{◌≡◌, IfOk, string_bytes};
 ghost use Rattle.serde_json.specs.View.{view};
 ghost use Rattle.history_text.specs.Audit.{kind_word, kind_column, what_text, audit_head};
 ghost use Rattle.history_text.specs.Audit.{audit_line, bytes_data, moments_data, what_data};
-ghost use Rattle.history_text.specs.Audit.{audit_data};
+ghost use Rattle.history_text.specs.Audit.{audit_data, flush_line};
 ghost use Rattle.history_text.specs.Json.{json_line};
 
 use crate::json::{json_line, time_value};
-use crate::lines::moment_column;
+use crate::lines::{hidden_of, moment_column};
 use moment_words::{MomentStyle, moment_text};
 use s4_types::{AuditKind, AuditRow, Moment};
 use serde_json::{Value, json};
@@ -97,6 +97,19 @@ pub fn audit_line(alloc: Global, row: &AuditRow, style: MomentStyle) -> Result<S
     let (kind, object) = (kind_column(row.kind), row.object.number());
     let what = what_text(alloc, row.kind, row.first, row.second, style)?;
     format!(in alloc; "{moment}  {kind}  {object:10}{what}\n")
+}
+
+/// The line of a flush below the rows of a log that it cut: when it was, and what it hid.
+///
+/// An error where memory is refused, and nowhere else.
+pub fn flush_line(alloc: Global, row: &AuditRow, style: MomentStyle) -> Result<String, AllocError>
+    ensures { IfOk result (λ line. string_bytes line ≡ flush_line style row.now) }
+{
+    let moment = moment_column(alloc, row.moment, style)?;
+    let first = moment_text(alloc, row.first, style)?;
+    let last = moment_text(alloc, row.second, style)?;
+    let object = hidden_of(alloc, row.object)?;
+    format!(in alloc; "{moment}  flush hid {first}-{last}{object}\n")
 }
 
 fn bytes_value(alloc: Global, offset: u64, length: u64) -> Result<Value, AllocError>

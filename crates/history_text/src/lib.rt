@@ -11,7 +11,7 @@ mod lines;
 mod numbers;
 
 pub use attributes::printed_attribute;
-pub use audit::{audit_head, audit_json, audit_line};
+pub use audit::{audit_head, audit_json, audit_line, flush_line};
 pub use json::{json_line, listed_json, log_json, numbers_json, stat_json, text_value};
 pub use lines::{
     attributes_text, list_head, listed_line, log_head, log_line, numbers_lines, stat_head,

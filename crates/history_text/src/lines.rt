@@ -163,7 +163,8 @@ fn change_line(
     format!(in alloc; "{moment}  {object:10}  {kind}  {before:6}  {after:6}{detail}\n")
 }
 
-fn hidden_of(alloc: Global, object: ObjectId) -> Result<String, AllocError>
+// Whose moments are hidden, where they aren't those of all objects.
+pub(crate) fn hidden_of(alloc: Global, object: ObjectId) -> Result<String, AllocError>
     ensures { IfOk result (λ text. string_bytes text ≡ hidden_of object) }
 {
     let number = object.number();
