@@ -435,5 +435,10 @@ pub(crate) fn perform_tidying<D: Played>(
             drop_plans(stage, drive, true, text);
             Ok(())
         }
+        Tidying::CleanAudit => {
+            drive.clean_audit();
+            tell_done(text, true);
+            Ok(())
+        }
     }
 }

@@ -52,6 +52,7 @@ pub(crate) enum Tidying {
     Take,
     Drop,
     DropAll,
+    CleanAudit,
 }
 
 /// What is looked at.
@@ -143,7 +144,7 @@ pub(crate) enum Verb {
 
 /// How commands are encoded: `$` represents a name, `#` for a number, `%` for bytes, `[at]` and
 /// `[now]` for such a word and a number, or for none.
-static COMMANDS: [(&str, Verb); 81] = [
+static COMMANDS: [(&str, Verb); 82] = [
     ("drive # window #", Verb::Begin(Beginning::Drive)),
     ("drive # window # alone", Verb::Begin(Beginning::Alone)),
     ("drive # window # inodes #", Verb::Begin(Beginning::Caching)),
@@ -176,6 +177,7 @@ static COMMANDS: [(&str, Verb); 81] = [
     ("take", Verb::Tidy(Tidying::Take)),
     ("drop", Verb::Tidy(Tidying::Drop)),
     ("drop all", Verb::Tidy(Tidying::DropAll)),
+    ("clean_audit", Verb::Tidy(Tidying::CleanAudit)),
     ("clock", Verb::Look(Look::Clock)),
     ("floor", Verb::Look(Look::Floor)),
     ("window", Verb::Look(Look::Window)),

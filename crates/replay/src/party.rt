@@ -11,7 +11,9 @@ ghost use Rattle.drive.specs.Opened.{base_of};
 use crate::player::{Player, Start};
 use codec::{Entry, Inode};
 use drive::{Drive, NewDrive, OpenedDrive};
-use history_cleaner::{Cleaner, PassReport, Rounds, Turn, empty_frames, full_pass};
+use history_cleaner::{
+    Cleaner, PassReport, Rounds, Turn, clean_audit, empty_frames, full_pass,
+};
 use interleaving::{Actor, Answer, Step, run};
 use object_map::Row;
 use s4_types::{Moment, ObjectId, Ptr, Refusal, Role};
@@ -60,6 +62,9 @@ pub(crate) trait Played {
     fn drop_plans(&mut self, is_all: bool);
 
     fn pass(&mut self) -> Result<PassReport, Refusal>;
+
+    /// The rows of the audit below the floor are dropped.
+    fn clean_audit(&mut self);
 
     fn turn(&mut self) -> Turn;
 
@@ -199,6 +204,10 @@ impl<J: Naming> Played for Party<J> {
 
     fn pass(&mut self) -> Result<PassReport, Refusal> {
         full_pass(self.alloc, &mut self.drive)
+    }
+
+    fn clean_audit(&mut self) {
+        clean_audit(&mut self.drive);
     }
 
     fn turn(&mut self) -> Turn {
