@@ -76,7 +76,7 @@ class Reports(unittest.TestCase):
             drive.delete(4)
             drive.set_attribute(3, ATTRIBUTES[2].encode())
         with image.session("admin") as drive:
-            drive.flush_object(1, hidden, hidden)
+            self.flushed = drive.flush_object(1, hidden, hidden)
         self.hidden = hidden
         self.page = pathlib.Path(self.folder.name) / "report.html"
         with self.page.open("wb") as file:
@@ -112,6 +112,11 @@ class Reports(unittest.TestCase):
         self.assertIn(f"object 4 deleted at 10: {len(CONTENT)} to {len(CONTENT)} bytes", titles)
         self.assertIn("object 3 changed (touched) at 11: 46 to 46 bytes", titles)
         self.assertEqual(len(titles), 11)
+
+    def test_each_flush_has_a_paragraph(self):
+        text = self.page.read_text(encoding="utf-8")
+        self.assertIn(f"<p>{self.flushed}: moments {self.hidden} to {self.hidden} of object 1 hidden</p>\n", text)
+        self.assertNotIn("<p>None.</p>", text)
 
     def test_text_differs_by_lines(self):
         text = self.page.read_text(encoding="utf-8")

@@ -29,6 +29,12 @@ module _ {X : Type 0} (f : X → List Part) where
   pub appends_more : (a b c : Option (List ℕ)) (xs : List X) (x : X) → Appends a b (page_text (flat_map f xs)) → Appends b c (page_text (f x)) → Appends a c (page_text (flat_map f (xs ++ x ∷ [])))
   appends_more a b c xs x first second = subst (Appends a c) (sym (page_more xs x)) (Appends-trans a b c (page_text (flat_map f xs)) (page_text (f x)) first second)
 
+  -- what is written of the first elements of a list, and then of the next one
+  pub appends_taken : (xs : List X) (i : ℕ) (x : X) (a b c : Option (List ℕ)) → i < length xs → x ≡ get_or xs i x → Appends a b (page_text (flat_map f (take i xs))) → Appends b c (page_text (f x))
+      → Appends a c (page_text (flat_map f (take (i + 1) xs)))
+  appends_taken xs i x a b c lt is first second =
+      subst (λ l. Appends a c (page_text (flat_map f l))) (ap (λ y. take i xs ++ y ∷ []) is ∙ sym (take_more xs i x lt)) (appends_more a b c (take i xs) x first second)
+
   -- a text that had the parts of the first elements of a list has those of one more
   pub text_took : (xs : List X) (i : ℕ) (x : X) (a b c : List ℕ) → i < length xs → x ≡ get_or xs i x → b ≡ a ++ page_text (flat_map f (take i xs)) → c ≡ b ++ page_text (f x)
       → c ≡ a ++ page_text (flat_map f (take (i + 1) xs))

@@ -1,5 +1,8 @@
 -- The data of a page is where it may be.
 use Rattle.std.proofs.Common.{◌+◌, ◌-◌, ◌++◌, ℕ, Bool, true, false, List, [], ◌∷◌, filter, flat_map, decimal, refl, sym, subst, codes}
+use Rattle.s4_types.specs.declared.audit_rows.AuditKind.{AuditKind}
+use Rattle.s4_types.specs.declared.audit_rows.AuditKind.TheVariants as audit
+use Rattle.s4_types.specs.declared.audit_rows.AuditRow.{AuditRow}
 use Rattle.s4_types.specs.declared.spans.Span.{Span}
 use Rattle.s4_model.specs.State.{State}
 use Rattle.version_store.specs.Store.{StoreFields}
@@ -16,6 +19,7 @@ use Rattle.history_report.specs.declared.texts.TheConstants.{TIMELINE_HEAD}
 use Rattle.history_report.specs.Page.{Part, Constant, Escaped}
 use Rattle.history_report.specs.Timeline.{scale_of, place_of, mark_head, mark_shape, done_text, mark_of, marks_by, change_marks, run_mark, run_marks, strip_head, strip_end, strip_by, strip_of}
 use Rattle.history_report.specs.Table.{row_of, state_cell}
+use Rattle.history_report.specs.Flushes.{flush_parts, flushes_of, flushes_part, none_flushed, parts_by}
 use Rattle.history_diff.specs.Diffing.{has_any}
 use Rattle.history_report.specs.Differences.{ShownDifference, difference_end, difference_of, first_lines, has_more_lines, lines_of}
 use Rattle.history_report.specs.Report.{head_of, numbers_of, axis_of, timeline_of, table_of, end_of, since_of}
@@ -94,6 +98,32 @@ row_parts false a b c d e = (tt, in_text a, (tt, in_text b, (tt, in_text c, (tt,
 row_safe : (style : MomentStyle) (row : Listed) → AreSafe Text (row_of style row)
 row_safe style row = row_parts row.is_live (decimal row.object) (decimal row.size) (moment_text row.created style) (moment_text row.changed style) row.attribute
 
+-- ---- the flushes and windows
+
+parts_safe : (kind : AuditKind) (style : MomentStyle) (row : AuditRow) → AreSafe Text (parts_by kind style row)
+parts_safe audit.Create style row = refl
+parts_safe audit.Delete style row = refl
+parts_safe audit.Write style row = refl
+parts_safe audit.Truncate style row = refl
+parts_safe audit.SetAttr style row = refl
+parts_safe audit.SetWindow style row = (tt, in_text (moment_text row.moment style), (tt, in_text (decimal row.first), refl))
+parts_safe audit.Flush style row =
+    (tt, in_text (moment_text row.moment style), (tt, in_text (moment_text row.first style), (tt, in_text (moment_text row.second style), refl)))
+parts_safe audit.FlushO style row =
+    (tt, in_text (moment_text row.moment style), (tt, in_text (moment_text row.first style), (tt, in_text (moment_text row.second style), (tt, in_text (decimal row.object), refl))))
+
+flush_safe : (style : MomentStyle) (row : AuditRow) → AreSafe Text (flush_parts style row)
+flush_safe style row = parts_safe row.kind style row
+
+none_safe : (rows : List AuditRow) → AreSafe Text (Constant (none_flushed rows) ∷ [])
+none_safe [] = refl
+none_safe (row ∷ rows) = refl
+
+flushes_safe : (s : State) → AreSafe Text (flushes_part s)
+flushes_safe s =
+    let style = style_of s.clock false in
+    safe_two Text (flat_map (flush_parts style) (flushes_of s)) (Constant (none_flushed (flushes_of s)) ∷ []) (safe_each (flush_parts style) (flush_safe style) (flushes_of s)) (none_safe (flushes_of s))
+
 -- ---- the differences
 
 difference_parts : (is_cut : Bool) (a b : List ℕ) → AreSafe Text (Constant (codes "<h3>object ") ∷ Escaped a ∷ Constant (codes "</h3>\n<pre>") ∷ Escaped b ∷ Constant (difference_end is_cut) ∷ [])
@@ -124,7 +154,8 @@ page_head_safe s from = safe_two Text (numbers_of s from) (Constant TIMELINE_HEA
 
 pub pages_are_safe : PagesAreSafe
 pages_are_safe s store runs from objects rows differences =
-    safe_two Text (timeline_of s store runs from objects) (table_of (style_of s.clock false) rows ++ since_of differences)
+    safe_two Text (timeline_of s store runs from objects) (table_of (style_of s.clock false) rows ++ (flushes_part s ++ since_of differences))
     (safe_two Text (head_of s from) (flat_map (strip_of (scale_of s) s store runs) objects) (page_head_safe s from) (safe_each (strip_of (scale_of s) s store runs) (strip_safe (scale_of s) s store runs) objects))
-    (safe_two Text (table_of (style_of s.clock false) rows) (since_of differences) (safe_each (row_of (style_of s.clock false)) (row_safe (style_of s.clock false)) rows)
-    (safe_two Text (flat_map difference_of differences) (end_of (has_any differences)) (safe_each difference_of difference_safe differences) (end_safe (has_any differences))))
+    (safe_two Text (table_of (style_of s.clock false) rows) (flushes_part s ++ since_of differences) (safe_each (row_of (style_of s.clock false)) (row_safe (style_of s.clock false)) rows)
+    (safe_two Text (flushes_part s) (since_of differences) (flushes_safe s)
+    (safe_two Text (flat_map difference_of differences) (end_of (has_any differences)) (safe_each difference_of difference_safe differences) (end_safe (has_any differences)))))

@@ -19,6 +19,7 @@ use Rattle.history_report.specs.declared.texts.TheConstants.{PAGE_HEAD, TIMELINE
 use Rattle.history_report.specs.Page.{Part, Constant, Escaped, page_text}
 use Rattle.history_report.specs.Timeline.{scale_of, strip_of}
 use Rattle.history_report.specs.Table.{row_of}
+use Rattle.history_report.specs.Flushes.{flushes_part}
 use Rattle.history_diff.specs.Diffing.{has_any}
 use Rattle.history_report.specs.Differences.{ShownDifference, AreShownFrom, difference_of}
 
@@ -61,10 +62,10 @@ end_of differs = Constant (none_text differs) ∷ Constant PAGE_END.now ∷ []
 abbrev pub since_of : List ShownDifference → List Part
 since_of differences = Constant DIFFERENCES_HEAD.now ∷ (flat_map difference_of differences ++ end_of (has_any differences))
 
--- The parts of a page: the timeline, the table, and the differences. All but the data of the drive are fixed texts; the one script is within the last of
+-- The parts of a page: the timeline, the table, the flushes and windows, and the differences. All but the data of the drive are fixed texts; the one script is within the last of
 -- them.
 abbrev pub page_of : State → StoreFields → List Span → ℕ → List ℕ → List Listed → List ShownDifference → List Part
-page_of s store runs from objects rows differences = timeline_of s store runs from objects ++ (table_of (style_of s.clock false) rows ++ since_of differences)
+page_of s store runs from objects rows differences = timeline_of s store runs from objects ++ (table_of (style_of s.clock false) rows ++ (flushes_part s ++ since_of differences))
 
 -- the moment since which differences are shown: the one that is asked for, or the earliest that can be read where none is
 abbrev pub IsSince : State → Option ℕ → ℕ → Type 0
@@ -72,7 +73,7 @@ IsSince s None from = IsVisible s 0 from × ((t : ℕ) → t < from → IsVisibl
 IsSince s (Some since) from = (from ≡ since) × IsVisible s 0 since
 
 -- The output has the page about a drive after it: the strips of all objects that have a row, with the moments that the drive hides; the table of all that are listed
--- at the clock, live or deleted; and all differences between a moment and the clock.
+-- at the clock, live or deleted; what administrators hid and which windows they set, since the floor; and all differences between a moment and the clock.
 pub record WritesPage (s : State) (store : StoreFields) (from : ℕ) (output output' : Option (List ℕ)) : Type 0 where
   pub runs : List Span
   pub hidden : CoverAlike s.floor runs (spans_of s)

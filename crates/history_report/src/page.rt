@@ -8,16 +8,18 @@ ghost use Rattle.drive.specs.Fields.{state_in, store_of};
 ghost use Rattle.history_report.specs.Page.{page_text};
 ghost use Rattle.history_report.specs.Report.{IsFaultOf, IsSince, Reports, axis_of, end_of};
 ghost use Rattle.history_report.specs.Report.{WritesPage, head_of, none_text, numbers_of};
-ghost use Rattle.history_report.specs.private.Sections.{WritesSince, WritesTable, WritesTimeline};
+ghost use Rattle.history_report.specs.private.Sections.{WritesFlushes, WritesSince, WritesTable};
+ghost use Rattle.history_report.specs.private.Sections.{WritesTimeline};
 
 use crate::differences::write_differences;
 use crate::escaping::moment_cell;
 use crate::faults::ReportFault;
+use crate::flushes::{flushes_of, none_flushed, write_each_flush};
 use crate::scale::scale_of;
 use crate::strips::write_strips;
 use crate::table::write_rows;
 use crate::texts::{
-    DIFFERENCES_HEAD, NO_DIFFERENCE, PAGE_END, PAGE_HEAD, TABLE_HEAD, TIMELINE_HEAD,
+    DIFFERENCES_HEAD, FLUSHES_HEAD, NO_DIFFERENCE, PAGE_END, PAGE_HEAD, TABLE_HEAD, TIMELINE_HEAD,
 };
 use drive::Drive;
 use history_diff::{Stop, write_out};
@@ -29,10 +31,10 @@ use serving::Sink;
 use std::alloc::{AllocError, Global};
 
 /// Writes the page about a drive: a strip of time for each object with its changes and its hidden
-/// moments, a table of all that are live or
-/// were deleted, and for each object that differs what does since a moment, the earliest that can
-/// be read where none is given. A difference has `DIFFERENCE_LINES` lines at most, and says where
-/// it was cut.
+/// moments, a table of all that are live or were deleted, what administrators hid and which windows
+/// they set since the floor, and for each object that differs what does since a moment, the
+/// earliest that can be read where none is given. A difference has `DIFFERENCE_LINES` lines at
+/// most, and says where it was cut.
 ///
 /// An object of which alone the moment is hidden has no difference. Unreadable where the moment
 /// can't be read of any, before anything is written. Stopped where memory, a seat or the writer
@@ -94,6 +96,7 @@ fn write_page<J: Naming, W: Sink>(
     let runs = drive.spans()?;
     write_timeline(alloc, drive, from, runs.as_slice(), writer)?;
     write_table(alloc, drive, writer)?;
+    write_flushes(alloc, drive, writer)?;
     write_since(alloc, drive, from, writer)
 }
 
@@ -187,6 +190,24 @@ fn write_table<J: Naming, W: Sink>(
     let clock = drive.clock();
     let style = style_of(clock.number(), false);
     write_rows(alloc, drive, clock, style, writer)
+}
+
+// Writes what administrators hid and which windows they set, since the floor.
+fn write_flushes<J: Naming, W: Sink>(
+    alloc: Global,
+    drive: &Drive<J>,
+    writer: &mut W,
+) -> Result<(), Stop>
+    requires writer { W.failures writer.old + 1 < 2 ^ 64 }
+    ensures flushes { OnOk result
+        (WritesFlushes (state_in drive.now) (W.passed writer.old) (W.passed writer.new)) }
+    ensures failures { OnOk result (W.failures writer.new ≡ W.failures writer.old) }
+{
+    let flushes = flushes_of(alloc, drive)?;
+    let style = style_of(drive.clock().number(), false);
+    write_out(writer, FLUSHES_HEAD.as_bytes())?;
+    write_each_flush(alloc, flushes.as_slice(), style, writer)?;
+    write_out(writer, none_flushed(flushes.as_slice()).as_bytes())
 }
 
 // Writes what differs between a moment and the clock, and the end of the page.

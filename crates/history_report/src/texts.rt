@@ -58,10 +58,21 @@ pub(crate) const TABLE_HEAD: &str = "\
 <tbody>\n\
 ";
 
-/// What is between the rows and the differences.
-pub(crate) const DIFFERENCES_HEAD: &str = "\
+/// What is between the rows and the flushes.
+pub(crate) const FLUSHES_HEAD: &str = "\
 </tbody>\n\
 </table>\n\
+<h2>Flushes and windows</h2>\n\
+<p>What administrators hid and which windows they set, since the floor.</p>\n\
+";
+
+/// What is in place of the flushes and windows where there are none.
+pub(crate) const NO_FLUSH: &str = "\
+<p>None.</p>\n\
+";
+
+/// What is above the differences.
+pub(crate) const DIFFERENCES_HEAD: &str = "\
 <h2>Differences</h2>\n\
 ";
 

@@ -15,6 +15,7 @@ use Rattle.history_report.specs.declared.scale.Scale.{Scale}
 use Rattle.history_report.specs.Page.{page_text}
 use Rattle.history_report.specs.Timeline.{strip_of}
 use Rattle.history_report.specs.Table.{row_of}
+use Rattle.history_report.specs.Flushes.{flushes_part}
 use Rattle.history_report.specs.Differences.{ShownDifference, AreShownFrom, difference_of}
 use Rattle.history_report.specs.Report.{timeline_of, table_of, since_of}
 
@@ -48,6 +49,10 @@ pub record WritesTable (s : State) (store : StoreFields) (output output' : Optio
   pub rows : List Listed
   pub listed : AreListedFrom s store true s.clock 0 rows
   pub wrote : Appends output output' (page_text (table_of (style_of s.clock false) rows))
+
+-- The output has the flushes and windows of the audit after it.
+pub record WritesFlushes (s : State) (output output' : Option (List ℕ)) : Type 0 where
+  pub wrote : Appends output output' (page_text (flushes_part s))
 
 -- The output has what differs between a moment and the clock after it, and the end of a page.
 pub record WritesSince (s : State) (from : ℕ) (output output' : Option (List ℕ)) : Type 0 where

@@ -1,0 +1,18 @@
+use Rattle.std.proofs.Common.{◌∙◌, refl}
+use Rattle.std.proofs.KnownBytes.{Appends-nil}
+use Rattle.history_report.specs.Flushes.{flush_parts}
+use Rattle.history_report.proofs.Pages.{appends_taken}
+use Rattle.history_report.proofs.flushes.write_each_flush.Goals as goal
+
+pub loop-row-init : goal.loop-row-init
+loop-row-init g c = record { failures = refl; wrote = Appends-nil (g.W.Sink.passed c.args.writer.now) }
+
+pub loop-row-preserved : goal.loop-row-preserved
+loop-row-preserved g c =
+    let passed = g.W.Sink.passed in
+    let before = c.loop-row.invariant in
+    record {
+      failures = c.in_ok-write_flush.ensures.failures ∙ before.failures;
+      wrote = appends_taken (flush_parts c.args.style) c.args.flushes.now c.loop-row.row-index c.row-item.result (passed c.args.writer.now) (passed c.loop-row.writer) (passed c.write_flush.new.writer) c.loop-row-test.true c.row-item.is before.wrote
+          c.in_ok-write_flush.ensures.flush;
+    }

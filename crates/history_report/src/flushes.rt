@@ -1,0 +1,144 @@
+//! What administrators hid and which windows they set: a paragraph for each, from the drive's
+//! audit.
+ghost use Rattle.std.specs.Prelude.{◌≡◌, ◌+◌, ◌^◌, ◌<◌, IfOk, OnOk, string_bytes};
+ghost use Rattle.std.specs.List.{flat_map};
+ghost use Rattle.std.specs.Io.KnownBytes.{Appends};
+ghost use Rattle.drive.specs.Fields.{state_in};
+ghost use Rattle.history_report.specs.Flushes.{all_hidden, flush_parts, flushes_among, flushes_of};
+ghost use Rattle.history_report.specs.Flushes.{is_flush_row, none_flushed, object_hidden};
+ghost use Rattle.history_report.specs.Flushes.{window_set};
+ghost use Rattle.history_report.specs.Page.{page_text};
+
+use crate::escaping::{moment_cell, number_text};
+use crate::texts::NO_FLUSH;
+use drive::Drive;
+use history_diff::{Stop, write_out};
+use moment_words::MomentStyle;
+use s4_types::{AuditKind, AuditRow, Moment};
+use segment_word::Naming;
+use serving::Sink;
+use std::alloc::{AllocError, Global};
+
+fn is_flush_row(row: &AuditRow) -> bool
+    ensures { result ≡ is_flush_row row.now }
+{
+    match row.kind {
+        AuditKind::Flush => true,
+        AuditKind::FlushO => true,
+        AuditKind::SetWindow => true,
+        _ => false,
+    }
+}
+
+// The rows of these that are of a flush or of a window, in their order.
+fn flushes_among(alloc: Global, rows: &[AuditRow]) -> Result<Vec<AuditRow>, AllocError>
+    ensures { IfOk result (λ kept. kept.items ≡ flushes_among rows.now) }
+{
+    let mut kept = Vec::new(alloc);
+    for row in rows {
+        if is_flush_row(row) {
+            kept.push(*row)?;
+        }
+    }
+    Ok(kept)
+}
+
+/// The rows of a drive's audit that are of a flush or of a window, in order of time.
+pub(crate) fn flushes_of<J: Naming>(
+    alloc: Global,
+    drive: &Drive<J>,
+) -> Result<Vec<AuditRow>, Stop>
+    ensures { IfOk result (λ flushes. flushes.items ≡ flushes_of (state_in drive.now)) }
+{
+    let rows = drive.audit_rows()?;
+    let flushes = flushes_among(alloc, rows.as_slice())?;
+    Ok(flushes)
+}
+
+// The paragraph about moments of all objects that were hidden.
+fn all_hidden(alloc: Global, row: &AuditRow, style: MomentStyle) -> Result<String, AllocError>
+    ensures { IfOk result (λ text. string_bytes text ≡ page_text (all_hidden style row.now)) }
+{
+    let moment = moment_cell(alloc, row.moment, style)?;
+    let first = moment_cell(alloc, Moment::new(row.first), style)?;
+    let last = moment_cell(alloc, Moment::new(row.second), style)?;
+    format!(in alloc; "<p>{moment}: moments {first} to {last} of all objects hidden</p>\n")
+}
+
+// The paragraph about moments of one object that were hidden.
+fn object_hidden(alloc: Global, row: &AuditRow, style: MomentStyle) -> Result<String, AllocError>
+    ensures { IfOk result (λ text. string_bytes text ≡ page_text (object_hidden style row.now)) }
+{
+    let moment = moment_cell(alloc, row.moment, style)?;
+    let first = moment_cell(alloc, Moment::new(row.first), style)?;
+    let last = moment_cell(alloc, Moment::new(row.second), style)?;
+    let number = number_text(alloc, row.object.number())?;
+    format!(in alloc; "<p>{moment}: moments {first} to {last} of object {number} hidden</p>\n")
+}
+
+// The paragraph about a window that was set.
+fn window_set(alloc: Global, row: &AuditRow, style: MomentStyle) -> Result<String, AllocError>
+    ensures { IfOk result (λ text. string_bytes text ≡ page_text (window_set style row.now)) }
+{
+    let moment = moment_cell(alloc, row.moment, style)?;
+    let window = number_text(alloc, row.first)?;
+    format!(in alloc; "<p>{moment}: the window was set to {window}</p>\n")
+}
+
+// The paragraph about a row. Nothing for one that is of neither a flush nor a window.
+fn flush_text(alloc: Global, row: &AuditRow, style: MomentStyle) -> Result<String, AllocError>
+    ensures { IfOk result (λ text. string_bytes text ≡ page_text (flush_parts style row.now)) }
+{
+    match row.kind {
+        AuditKind::Flush => all_hidden(alloc, row, style),
+        AuditKind::FlushO => object_hidden(alloc, row, style),
+        AuditKind::SetWindow => window_set(alloc, row, style),
+        _ => Ok(String::new(alloc)),
+    }
+}
+
+// Writes the paragraph about a row.
+fn write_flush<W: Sink>(
+    alloc: Global,
+    row: &AuditRow,
+    style: MomentStyle,
+    writer: &mut W,
+) -> Result<(), Stop>
+    requires writer { W.failures writer.old + 1 < 2 ^ 64 }
+    ensures flush { OnOk result
+        (Appends (W.passed writer.old) (W.passed writer.new)
+        (page_text (flush_parts style row.now))) }
+    ensures failures { OnOk result (W.failures writer.new ≡ W.failures writer.old) }
+{
+    let text = flush_text(alloc, row, style)?;
+    write_out(writer, text.as_bytes())
+}
+
+/// Writes the paragraph about each of these rows, one after the other.
+pub(crate) fn write_each_flush<W: Sink>(
+    alloc: Global,
+    flushes: &[AuditRow],
+    style: MomentStyle,
+    writer: &mut W,
+) -> Result<(), Stop>
+    requires writer { W.failures writer.old + 1 < 2 ^ 64 }
+    ensures flushes { OnOk result
+        (Appends (W.passed writer.old) (W.passed writer.new)
+        (page_text (flat_map (flush_parts style) flushes.now))) }
+    ensures failures { OnOk result (W.failures writer.new ≡ W.failures writer.old) }
+{
+    for row in flushes {
+        write_flush(alloc, row, style, writer)?;
+    }
+    Ok(())
+}
+
+/// What is said where there are no such rows.
+pub(crate) fn none_flushed(flushes: &[AuditRow]) -> &'static str
+    ensures { result.now ≡ none_flushed flushes.now }
+{
+    match flushes {
+        [] => NO_FLUSH,
+        [_, ..] => "",
+    }
+}
