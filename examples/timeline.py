@@ -9,7 +9,7 @@
 PROGRAM is a built s4d. An image is copied, and the copy is served with a tick of 0 and without upkeep, so nothing ages by
 being looked at. Over a socket each request moves the drive's clock by its tick: a drive with a small window forgets then. A log
 says nothing of the moments after its last change, nor why moments before an object's first change are missing, and its
-hidden moments aren't drawn.
+hidden moments and its flushes aren't drawn.
 """
 import argparse
 import contextlib
@@ -106,10 +106,10 @@ def add_change(spans, change, last):
 
 
 def read_log(path):
-    """The changes of a log in a file, or on standard input. Its hidden moments aren't drawn: a version goes on over them."""
+    """The changes of a log in a file, or on standard input. What a flush hid isn't drawn: a version goes on over it."""
     with contextlib.nullcontext(sys.stdin) if path == "-" else open(path, encoding="utf-8") as file:
         rows = [json.loads(line) for line in file]
-    return [row for row in rows if row["kind"] != "hidden"]
+    return [row for row in rows if row["kind"] not in ("hidden", "flush", "flusho")]
 
 
 @contextlib.contextmanager

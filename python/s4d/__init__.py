@@ -27,7 +27,7 @@ from .history import Kind, Span
 from .image import Facts, Image, Moment
 from .pipeline import Pipeline, Reply
 from .retry import NEVER, Retry
-from .rows import (Change, ChangeKind, Checked, Compacted, Difference, Hidden, HiddenCounts, HiddenVersions, Info,
+from .rows import (Change, ChangeKind, Checked, Compacted, Difference, Flush, Hidden, HiddenCounts, HiddenVersions, Info,
                    Listed, Range, Restored, Stat, Times, Widened)
 from .wire import ATTRIBUTE_BYTES, AUDIT_ROWS, BODY_BYTES, LAST, OBJECT_BYTES, READ_BYTES, WRITE_BYTES
 from .wire import Attributes, AuditKind, AuditRow, Created
@@ -37,7 +37,7 @@ __version__ = "0.1.0"
 __all__ = [
     "ATTRIBUTE_BYTES", "AUDIT_ROWS", "Attributes", "AuditKind", "AuditRow", "BODY_BYTES", "BadAttr", "BadFrame", "BadReply", "BadSpan", "Busy",
     "ChainFull", "Change", "ChangeKind", "Checked", "ClockEnd", "Compacted", "Created", "Difference",
-    "Disconnected", "Drive", "Ended", "Error", "Expired", "Facts", "Flushed", "Future", "Hidden", "HiddenCounts",
+    "Disconnected", "Drive", "Ended", "Error", "Expired", "Facts", "Flush", "Flushed", "Future", "Hidden", "HiddenCounts",
     "HiddenVersions", "Image", "InUse", "Info", "Kind", "LAST", "Listed", "Moment", "NEVER", "NoMemory", "NoObject",
     "NoRoom", "NoSpace", "NotAdmin", "OBJECT_BYTES", "Past", "Peer", "Pipeline", "ProgramFailed", "READ_BYTES",
     "REFUSALS", "Range", "Reader", "Refused", "Reply", "Restored", "Retry", "Span", "Stale", "Stat", "Times",

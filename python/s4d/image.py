@@ -10,8 +10,8 @@ from .drive import Drive
 from .errors import REFUSALS, ProgramFailed
 from .program import output_of
 from .retry import NEVER, Retry
-from .rows import (Change, ChangeKind, Checked, Compacted, Difference, Hidden, HiddenVersions, Info, Listed, Restored,
-                   Stat, Widened)
+from .rows import (Change, ChangeKind, Checked, Compacted, Difference, Flush, Hidden, HiddenVersions, Info, Listed,
+                   Restored, Stat, Widened)
 
 DIFFERS = 1  # the status of `diff` where anything differs
 
@@ -73,11 +73,12 @@ class Image:
 
     def log(self, *, object: Optional[int] = None, name: Optional[str] = None, since: Optional[Moment] = None,
             until: Optional[Moment] = None, kind: Union[ChangeKind, str, None] = None, limit: Optional[int] = None,
-            by_object: bool = False, reverse: bool = False) -> List[Union[Change, Hidden]]:
+            by_object: bool = False, reverse: bool = False) -> List[Union[Change, Hidden, Flush]]:
         """What was changed, and what is hidden, by ascending moment: of all objects, or of one by its number or attribute.
 
         From the moment `since` up to `until`; of one kind alone, and no more changes than the limit, beside the hidden
-        moments between. By object they are in the order of objects, and each order can be reversed.
+        moments between. By object they are in the order of objects, and each order can be reversed. Then come the
+        flushes that hid what is asked for, by ascending moment, whatever kind, limit and order.
         """
         printed = self._s4("log", [], object=object, name=name, since=since, until=until, kind=kind, limit=limit,
                            by_object=by_object, reverse=reverse, json=True)

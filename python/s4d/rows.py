@@ -75,6 +75,19 @@ class Hidden:
 
 
 @dataclass(frozen=True)
+class Flush:
+    """A flush at a moment, which hid those from `first` to `last`, of one object, or of all (object 0)."""
+
+    moment: int
+    time: Optional[datetime]
+    object: int
+    first: int
+    first_time: Optional[datetime]
+    last: int
+    last_time: Optional[datetime]
+
+
+@dataclass(frozen=True)
 class Stat:
     """How many changes an object has, and the moments of the first and the last of them."""
 
@@ -233,9 +246,13 @@ def listed(row: Json) -> Listed:
                   time_of(row["changed_time"]), bytes.fromhex(row["attribute"]), row["attribute_text"])
 
 
-def logged(row: Json) -> Union[Change, Hidden]:
+def logged(row: Json) -> Union[Change, Hidden, Flush]:
     if row["kind"] == "hidden":
         return Hidden(row["moment"], time_of(row["time"]), row["last"], time_of(row["last_time"]), row["object"])
+    if row["kind"] in ("flush", "flusho"):
+        hid = row["what"]
+        return Flush(row["moment"], time_of(row["time"]), row["object"], hid["first"], time_of(hid["first_time"]),
+                     hid["last"], time_of(hid["last_time"]))
     return Change(row["moment"], time_of(row["time"]), row["object"], ChangeKind(row["kind"]), row["size_before"],
                   row["size_after"], row["first_block"], row["last_block"], bytes_of(row["attribute_before"]),
                   bytes_of(row["attribute_after"]))

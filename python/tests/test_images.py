@@ -8,7 +8,7 @@ from datetime import datetime, timedelta, timezone
 from unittest import mock
 
 import s4d
-from s4d import Change, ChangeKind, Hidden, HiddenVersions, Listed, Range, Restored, Stat, Widened, program
+from s4d import Change, ChangeKind, Flush, Hidden, HiddenVersions, Listed, Range, Restored, Stat, Widened, program
 
 from .built import PROGRAM, S4, needs_program, needs_s4
 
@@ -44,6 +44,7 @@ class Images(unittest.TestCase):
     def test_log(self):
         log = self.image.log()
         self.assertEqual([row for row in log if isinstance(row, Hidden)], [Hidden(2, None, 2, None, 1)])
+        self.assertEqual(log[-1], Flush(9, None, 1, 2, None, 2, None))
         changes = [row for row in log if isinstance(row, Change)]
         self.assertEqual([row.moment for row in changes], [1, 3, 4, 5, 6, 7, 8])
         self.assertEqual(changes[0], Change(1, None, 1, ChangeKind.MADE, 0, 0, None, None, b"", b"note"))
@@ -56,7 +57,7 @@ class Images(unittest.TestCase):
         self.assertEqual(moments(name="--memo", since=6), [6, 7])
         self.assertEqual(moments(since="4", until=6), [4, 5, 6])
         self.assertEqual(moments(kind="made"), moments(kind=ChangeKind.MADE))
-        self.assertEqual(moments(kind="made", limit=2), [1, 2, 3])
+        self.assertEqual(moments(kind="made", limit=2), [1, 2, 3, 9])
         self.assertEqual(moments(since=4, reverse=True), [8, 7, 6, 5, 4])
         self.assertEqual(moments(since=3, by_object=True), [5, 6, 7, 3, 4, 8])
         self.assertEqual(self.image.stats(since=3)[1], Stat(2, 2, 3, None, 4, None))

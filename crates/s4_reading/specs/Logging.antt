@@ -1,8 +1,12 @@
 -- What `log` prints.
-use Rattle.std.specs.Prelude.{◌≡◌, ℕ, ◌^◌, ◌-◌, ◌++◌, if◌then◌else◌, MatchBool, Bool, List, [], Option, Some, None, option_map}
+use Rattle.std.specs.Prelude.{◌≡◌, ℕ, ◌^◌, ◌-◌, ◌++◌, ◌&&◌, if◌then◌else◌, MatchBool, Bool, false, true, List, [], filter, Option, Some, None, option_map}
 use Rattle.std.specs.List.{flat_map}
 use Rattle.std.specs.Io.KnownBytes.{Appends}
+use Rattle.s4_types.specs.declared.audit_rows.AuditKind.{AuditKind}
+use Rattle.s4_types.specs.declared.audit_rows.AuditKind.TheVariants.{Flush, FlushO}
+use Rattle.s4_types.specs.declared.audit_rows.AuditRow.{AuditRow}
 use Rattle.s4_model.specs.State.{State}
+use Rattle.s4_model.specs.Audit.{audit_of}
 use Rattle.version_store.specs.Store.{StoreFields}
 use Rattle.drive.specs.Fields.{DriveFields, state_in, store_of}
 use Rattle.history_view.specs.declared.changes.Kind.{Kind}
@@ -10,7 +14,8 @@ use Rattle.history_view.specs.declared.changes.Kind.TheVariants as kind
 use Rattle.history_view.specs.declared.logs.LogQuery.{LogQuery}
 use Rattle.history_view.specs.declared.rows.LogRow.{LogRow}
 use Rattle.history_view.specs.declared.stats.ObjectStat.{ObjectStat}
-use Rattle.history_view.specs.Logs.{ShowsLog, ShowsStats}
+use Rattle.history_view.specs.Logs.{ShowsLog, ShowsStats, cuts}
+use Rattle.history_text.specs.Audit.{audit_data, flush_line}
 use Rattle.history_text.specs.Lines.{log_head, log_line, stat_head, stat_line}
 use Rattle.history_text.specs.Json.{json_line, row_data, stat_data}
 use Rattle.moment_words.specs.declared.printing.MomentStyle.{MomentStyle}
@@ -59,11 +64,34 @@ head_of_log json style = if json then [] else log_head style
 abbrev pub line_of_row : Bool → MomentStyle → LogRow → List ℕ
 line_of_row json style row = if json then json_line (row_data style row) else log_line style row
 
--- The output has the log that a query asks for after it: the head, and then a line for each row.
+-- whether an accepted change was a flush
+abbrev pub is_flush : AuditKind → Bool
+is_flush Flush = true
+is_flush FlushO = true
+is_flush _ = false
+
+-- whether the moments that a flush's row names, of its object or of all, are asked for
+abbrev pub hides : LogQuery → AuditRow → Bool
+hides query row = cuts query.object query.since query.until (record { object = row.object; first = row.first; last = row.second })
+
+-- whether a row of an audit is a flush that hid moments that are asked for
+abbrev pub is_cut : LogQuery → AuditRow → Bool
+is_cut query row = is_flush row.kind && hides query row
+
+-- the flushes of the audit that hid what is asked for, in order of time: whatever kind, limit and order of the changes are asked for
+abbrev pub flushes_of : State → LogQuery → List AuditRow
+flushes_of s query = filter (is_cut query) (audit_of s)
+
+-- the line of a flush, for programs or for people
+abbrev pub line_of_flush : Bool → MomentStyle → AuditRow → List ℕ
+line_of_flush json style row = if json then json_line (audit_data style row) else flush_line style row
+
+-- The output has the log that a query asks for after it: the head, then a line for each row, and then one for each flush that hid what is
+-- asked for.
 pub record PrintsLog (s : State) (store : StoreFields) (query : LogQuery) (style : MomentStyle) (json : Bool) (output output' : Option (List ℕ)) : Type 0 where
   pub rows : List LogRow
   pub shows : ShowsLog s store query rows
-  pub wrote : Appends output output' (head_of_log json style ++ flat_map (line_of_row json style) rows)
+  pub wrote : Appends output output' (head_of_log json style ++ (flat_map (line_of_row json style) rows ++ flat_map (line_of_flush json style) (flushes_of s query)))
 
 -- the line above what changes come to; no line above JSON
 abbrev pub head_of_stats : Bool → MomentStyle → List ℕ

@@ -5,15 +5,16 @@
 //!
 //! The layer above may rely on this: each of them writes, over the drive that it is given, exactly
 //! what its definition in specs/ says for what is asked. `Listing` writes the line of each object
-//! that is listed at a moment, `Logging` a line for each entry of the journals between two moments,
-//! `Reading` the bytes of an object at a moment, `Numbering` the numbers of the drive, `Comparing`
-//! what differs between two moments, with the verdict whether anything does, and `Checking` how
-//! many versions can be read, all of which were. What a check shows meanwhile on its `Meter` isn't
-//! proved.
+//! that is listed at a moment, `Logging` a line for each entry of the journals between two moments
+//! and for each flush of the audit that hid some of them, `Reading` the bytes of an object at a
+//! moment, `Numbering` the numbers of the drive, `Comparing` what differs between two moments, with
+//! the verdict whether anything does, and `Checking` how many versions can be read, all of which
+//! were. What a check shows meanwhile on its `Meter` isn't proved.
 #![tactic(auto)]
 
 mod checking;
 mod comparing;
+mod flushes;
 mod forms;
 mod listing;
 mod logging;

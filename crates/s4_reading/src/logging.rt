@@ -1,10 +1,11 @@
-//! `log`: what was changed, and when.
+//! `log`: what was changed, and when, and which flushes hid some of it.
 ghost use Rattle.std.specs.Prelude.{◌≡◌, ◌+◌, ◌^◌, ◌<◌, IfNone, IfOk, IfSome, OnOk, option_map};
 ghost use Rattle.drive.specs.Fields.{state_in, store_of};
 ghost use Rattle.s4_images.specs.Moments.{moment_said};
 ghost use Rattle.s4_reading.specs.Logging.{Logs, PrintsLog, PrintsStats, IsQuery, kind_asked};
 ghost use Rattle.s4_reading.specs.Logging.{line_of_row, line_of_stat};
 
+use crate::flushes::flushes_of;
 use crate::forms::Form;
 use drive::Drive;
 use history_text::{log_head, log_json, log_line, stat_head, stat_json, stat_line};
@@ -118,7 +119,7 @@ fn moment_or<J: Naming>(drive: &Drive<J>, word: Option<MomentWord>, other: u64) 
     }
 }
 
-// Prints the log that is asked for.
+// Prints the log that is asked for, and below it the flushes that hid what is asked for.
 fn write_log<J: Naming, W: Sink>(
     alloc: Global,
     drive: &mut Drive<J>,
@@ -132,8 +133,10 @@ fn write_log<J: Naming, W: Sink>(
         (W.passed writer.old) (W.passed writer.new)) }
 {
     let rows = log_rows(alloc, drive, query)?;
+    let flushes = flushes_of(alloc, drive, query)?;
     write_out(writer, form.head(log_head(form.style)).as_bytes())?;
     write_lines(alloc, form, rows.as_slice(), writer)?;
+    write_lines(alloc, form, flushes.as_slice(), writer)?;
     Ok(())
 }
 

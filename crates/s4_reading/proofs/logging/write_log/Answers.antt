@@ -1,22 +1,35 @@
-use Rattle.std.proofs.Common.{rules, List, subst}
+use Rattle.std.proofs.Common.{rules, ◌≡◌, ◌++◌, ◌∙◌, List, ap, subst}
 use Rattle.std.specs.List.{flat_map}
 use Rattle.std.specs.Io.KnownBytes.{Appends}
 use Rattle.std.proofs.KnownBytes.{Appends-trans}
+use Rattle.s4_model.specs.State.{state_of}
+use Rattle.s4_types.specs.declared.audit_rows.AuditRow.{AuditRow}
+use Rattle.drive.specs.Fields.{state_in}
 use Rattle.history_view.specs.declared.rows.LogRow.{LogRow}
-use Rattle.s4_reading.specs.Logging.{head_of_log, line_of_row}
+use Rattle.s4_reading.specs.Logging.{flushes_of, head_of_log, line_of_flush, line_of_row}
 use Rattle.s4_reading.proofs.logging.write_log.Goals as goal
 
 pub returns : goal.returns
 returns g c =
     let passed = g.W.Sink.passed in
-    let line = line_of_row c.args.form.now.json c.args.form.now.style in
-    let first : Appends (passed c.args.writer.now) (passed c.write_out.new.writer) (head_of_log c.args.form.now.json c.args.form.now.style) = search rules in
-    let rest : Appends (passed c.write_out.new.writer) (passed c.write_lines.new.writer) (flat_map line c.in_ok-rows.rows.items) =
-    subst (λ (l : List LogRow). Appends (passed c.write_out.new.writer) (passed c.write_lines.new.writer) (flat_map line l)) c.as_slice.ensures.value c.in_ok-write_lines.ensures.lines in
+    let json = c.args.form.now.json in
+    let style = c.args.form.now.style in
+    let head = head_of_log json style in
+    let lines = flat_map (line_of_row json style) c.in_ok-rows.rows.items in
+    let flushes = flushes_of (state_in c.args.drive.now) c.args.query.now in
+    let hid = flat_map (line_of_flush json style) flushes in
+    let first : Appends (passed c.args.writer.now) (passed c.write_out.new.writer) head = search rules in
+    let second : Appends (passed c.write_out.new.writer) (passed c.write_lines.new.writer) lines =
+    subst (λ (l : List LogRow). Appends (passed c.write_out.new.writer) (passed c.write_lines.new.writer) (flat_map (line_of_row json style) l)) c.as_slice.ensures.value c.in_ok-write_lines.ensures.lines in
+    let are : c.as_slice-2.result.now ≡ flushes =
+    c.as_slice-2.ensures.value ∙ c.in_ok-flushes.ensures ∙ ap (λ l. flushes_of (state_of l.history) c.args.query.now) c.log_rows.ensures.ledger in
+    let third : Appends (passed c.write_lines.new.writer) (passed c.write_lines-2.new.writer) hid =
+    subst (λ (l : List AuditRow). Appends (passed c.write_lines.new.writer) (passed c.write_lines-2.new.writer) (flat_map (line_of_flush json style) l)) are c.in_ok-write_lines-2.ensures.lines in
     record {
       log = record {
         rows = c.in_ok-rows.rows.items;
         shows = c.in_ok-rows.ensures.rows;
-        wrote = Appends-trans (passed c.args.writer.now) (passed c.write_out.new.writer) (passed c.write_lines.new.writer) (head_of_log c.args.form.now.json c.args.form.now.style) (flat_map line c.in_ok-rows.rows.items) first rest;
+        wrote = Appends-trans (passed c.args.writer.now) (passed c.write_out.new.writer) (passed c.write_lines-2.new.writer) head (lines ++ hid) first
+            (Appends-trans (passed c.write_out.new.writer) (passed c.write_lines.new.writer) (passed c.write_lines-2.new.writer) lines hid second third);
       };
     }
