@@ -44,10 +44,7 @@ fn flushes_among(alloc: Global, rows: &[AuditRow]) -> Result<Vec<AuditRow>, Allo
 }
 
 /// The rows of a drive's audit that are of a flush or of a window, in order of time.
-pub(crate) fn flushes_of<J: Naming>(
-    alloc: Global,
-    drive: &Drive<J>,
-) -> Result<Vec<AuditRow>, Stop>
+pub(crate) fn flushes_of<J: Naming>(alloc: Global, drive: &Drive<J>) -> Result<Vec<AuditRow>, Stop>
     ensures { IfOk result (λ flushes. flushes.items ≡ flushes_of (state_in drive.now)) }
 {
     let rows = drive.audit_rows()?;

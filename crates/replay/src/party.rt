@@ -11,9 +11,7 @@ ghost use Rattle.drive.specs.Opened.{base_of};
 use crate::player::{Player, Start};
 use codec::{Entry, Inode};
 use drive::{Drive, NewDrive, OpenedDrive};
-use history_cleaner::{
-    Cleaner, PassReport, Rounds, Turn, clean_audit, empty_frames, full_pass,
-};
+use history_cleaner::{Cleaner, PassReport, Rounds, Turn, clean_audit, empty_frames, full_pass};
 use interleaving::{Actor, Answer, Step, run};
 use object_map::Row;
 use s4_types::{Moment, ObjectId, Ptr, Refusal, Role};
