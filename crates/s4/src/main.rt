@@ -4,13 +4,14 @@
 //! with the system's, on a thread whose stack is had before anything is read. `restore` and
 //! `compact` alone change an image; no other command does, or keeps another program from it. What
 //! is proved over any files that say what they hold: `list` writes the line of exactly the objects
-//! that are listed at a moment, `log` a line for each entry of the journals between two moments,
-//! `audit` a line for each accepted change that is asked for, `cat` the bytes of an object at a
-//! moment, `diff` what differs between two moments, `check` how many versions can be read, all of
-//! which were; `salvage` how much of a damaged image was written into a folder, file by file;
-//! `restore` leaves what the drive is saved as in which the objects are what they were, and
-//! `compact` what the compacted drive is saved as. That the system's files read and write as such
-//! files do is tested, and so are the texts on standard error.
+//! that are listed at a moment, `log` a line for each entry of the journals and each hidden run
+//! between two moments, and for each flush that hid some of them, `audit` a line for each accepted
+//! change that is asked for, `cat` the bytes of an object at a moment, `diff` what differs between
+//! two moments, `check` how many versions can be read, all of which were; `salvage` how much of a
+//! damaged image was written into a folder, file by file; `restore` leaves what the drive is saved
+//! as in which the objects are what they were, and `compact` what the compacted drive is saved as.
+//! That the system's files read and write as such files do is tested, and so are the texts on
+//! standard error.
 #![tactic(auto)]
 
 ghost use Rattle.std.specs.Prelude.{◌≡◌, ◌+◌, ◌^◌, ◌<◌, ◌≤◌};
