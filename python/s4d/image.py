@@ -12,11 +12,12 @@ from .program import output_of
 from .retry import NEVER, Retry
 from .rows import (Change, ChangeKind, Checked, Compacted, Difference, Flush, Hidden, HiddenVersions, Info, Listed,
                    Restored, Stat, Widened)
+from .wire import AuditKind, AuditRow
 
 DIFFERS = 1  # the status of `diff` where anything differs
 
 Moment = Union[int, datetime, str]
-Option = Union[Moment, ChangeKind, Tuple[int, ...], None]
+Option = Union[Moment, ChangeKind, AuditKind, Tuple[int, ...], None]
 
 
 class Facts(NamedTuple):
@@ -84,6 +85,16 @@ class Image:
                            by_object=by_object, reverse=reverse, json=True)
         return rows.rows_of(printed, rows.logged)
 
+    def audit(self, *, object: Optional[int] = None, since: Optional[Moment] = None, until: Optional[Moment] = None,
+              kind: Union[AuditKind, str, None] = None, limit: Optional[int] = None) -> List[AuditRow]:
+        """What was accepted from the floor on, whether a flush hides it or not, oldest first: the rows of `Drive.audit`.
+
+        From the moment `since` up to `until`; of one object alone, 0 for what is of none, of one kind alone, and no more
+        rows than the limit.
+        """
+        printed = self._s4("audit", [], object=object, since=since, until=until, kind=kind, limit=limit, json=True)
+        return rows.rows_of(printed, rows.audited)
+
     def stats(self, *, object: Optional[int] = None, name: Optional[str] = None, since: Optional[Moment] = None,
               until: Optional[Moment] = None, kind: Union[ChangeKind, str, None] = None) -> List[Stat]:
         """How many changes each object has in the log that is asked for, and when, by ascending number."""
@@ -150,10 +161,12 @@ def option_of(name: str, value: Option) -> List[str]:
     return [option] if value is True else [f"{option}={word_of(value)}"]
 
 
-def word_of(value: Union[Moment, ChangeKind]) -> str:
+def word_of(value: Union[Moment, ChangeKind, AuditKind]) -> str:
     """The word for a moment or a kind; ValueError for a time without an offset from UTC."""
     if isinstance(value, ChangeKind):
         return str(value.value)
+    if isinstance(value, AuditKind):
+        return next(word for word, (kind, _) in rows.AUDIT_KINDS.items() if kind is value)
     if not isinstance(value, datetime):
         return str(value)
     if value.utcoffset() is None:

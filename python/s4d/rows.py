@@ -11,9 +11,22 @@ from enum import Enum
 from typing import Any, Callable, Dict, List, Optional, Tuple, TypeVar, Union
 
 from .errors import BadReply
+from .wire import AuditKind, AuditRow
 
 T = TypeVar("T")
 Json = Dict[str, Any]
+
+# By the kind that a row of `audit` prints: what it is here, and the names of its numbers.
+AUDIT_KINDS: Dict[str, Tuple[AuditKind, Tuple[str, ...]]] = {
+    "create": (AuditKind.CREATE, ("attribute_length",)),
+    "delete": (AuditKind.DELETE, ()),
+    "write": (AuditKind.WRITE, ("offset", "length")),
+    "truncate": (AuditKind.TRUNCATE, ("size",)),
+    "setattr": (AuditKind.SET_ATTRIBUTE, ("attribute_length",)),
+    "setwindow": (AuditKind.SET_WINDOW, ("window",)),
+    "flush": (AuditKind.FLUSH, ("first", "last")),
+    "flusho": (AuditKind.FLUSH_OBJECT, ("first", "last")),
+}
 
 
 class ChangeKind(Enum):
@@ -256,6 +269,12 @@ def logged(row: Json) -> Union[Change, Hidden, Flush]:
     return Change(row["moment"], time_of(row["time"]), row["object"], ChangeKind(row["kind"]), row["size_before"],
                   row["size_after"], row["first_block"], row["last_block"], bytes_of(row["attribute_before"]),
                   bytes_of(row["attribute_after"]))
+
+
+def audited(row: Json) -> AuditRow:
+    kind, names = AUDIT_KINDS[row["kind"]]
+    first, second = [*(row["what"][name] for name in names), 0, 0][:2]
+    return AuditRow(row["moment"], kind, row["object"], first, second)
 
 
 def stat(row: Json) -> Stat:

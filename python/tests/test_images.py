@@ -8,7 +8,8 @@ from datetime import datetime, timedelta, timezone
 from unittest import mock
 
 import s4d
-from s4d import Change, ChangeKind, Flush, Hidden, HiddenVersions, Listed, Range, Restored, Stat, Widened, program
+from s4d import (AuditKind, AuditRow, Change, ChangeKind, Flush, Hidden, HiddenVersions, Listed, Range, Restored, Stat,
+                 Widened, program)
 
 from .built import PROGRAM, S4, needs_program, needs_s4
 
@@ -61,6 +62,30 @@ class Images(unittest.TestCase):
         self.assertEqual(moments(since=4, reverse=True), [8, 7, 6, 5, 4])
         self.assertEqual(moments(since=3, by_object=True), [5, 6, 7, 3, 4, 8])
         self.assertEqual(self.image.stats(since=3)[1], Stat(2, 2, 3, None, 4, None))
+
+    def test_audit(self):
+        every = [(1, AuditKind.CREATE, 1, 4, 0), (2, AuditKind.WRITE, 1, 0, 17), (3, AuditKind.CREATE, 2, 2, 0),
+                 (4, AuditKind.DELETE, 2, 0, 0), (5, AuditKind.WRITE, 1, 17, 8), (6, AuditKind.WRITE, 1, 13, 3),
+                 (7, AuditKind.SET_ATTRIBUTE, 1, 6, 0), (8, AuditKind.CREATE, 3, 6, 0),
+                 (9, AuditKind.FLUSH_OBJECT, 1, 2, 2), (10, AuditKind.TRUNCATE, 1, 4, 0),
+                 (11, AuditKind.SET_WINDOW, 0, 50, 0), (12, AuditKind.FLUSH, 0, 3, 4)]
+        with self.image.session("admin", upkeep=False) as it:
+            it.truncate(1, 4)
+            it.set_window(50)
+            it.flush(3, 4)
+            self.assertEqual(list(it.audit()), every)
+        self.assertEqual(self.image.audit(), [AuditRow(*row) for row in every])
+        self.assertEqual({row.kind for row in self.image.audit()}, set(AuditKind))
+
+        def moments(**asked):
+            return [row.moment for row in self.image.audit(**asked)]
+
+        self.assertEqual(moments(object=1, since=5, until="9"), [5, 6, 7, 9])
+        self.assertEqual(moments(object=0), [11, 12])
+        self.assertEqual(moments(object=7), [])
+        self.assertEqual(moments(kind="write", limit=2), [2, 5])
+        for kind in AuditKind:
+            self.assertEqual(self.image.audit(kind=kind), [row for row in every if row[1] is kind])
 
     def test_diff(self):
         found = self.image.diff(self.before)
@@ -154,6 +179,7 @@ class Images(unittest.TestCase):
 
     def test_words_that_are_wrong(self):
         for ask in (lambda: self.image.list(at="soon"), lambda: self.image.log(kind="lost"),
+                    lambda: self.image.audit(kind="made"), lambda: self.image.log(kind=AuditKind.WRITE),
                     lambda: self.image.log(object=1, name="note"), lambda: self.image.diff(1, patch=True, text=True)):
             with self.assertRaises(s4d.ProgramFailed) as caught:
                 ask()
@@ -194,6 +220,15 @@ class DatedImages(unittest.TestCase):
         self.assertEqual((info.clock, info.time.clock), (self.moment + 60_000_000, later))
         self.assertEqual(self.image.stats()[0].last_time, later)
 
+    def test_times_of_a_flush(self):
+        last = self.moment + 60_000_000
+        with self.image.session("admin") as it:
+            it.flush_object(1, self.moment + 1, last)
+        later = self.START + timedelta(minutes=1)
+        first_time, time = [it + timedelta(microseconds=1) for it in (self.START, later)]
+        self.assertEqual(self.image.log()[-1], Flush(last + 1, time, 1, self.moment + 1, first_time, last, later))
+        self.assertEqual(self.image.audit(since=later, until=time, limit=1)[0].moment, last)
+
     def test_moments_that_are_times(self):
         paris = timezone(timedelta(hours=1))
         for at in (self.START, self.START.astimezone(paris), "2026-11-27T13:18:02.000123Z", "1m", self.moment):
@@ -220,7 +255,7 @@ class Fakes(unittest.TestCase):
     def test_what_is_no_row(self):
         for printed in ("1 live", "{}", "[]", '{"object":1,"kind":"turned"}'):
             image = self.image(f"echo '{printed}'")
-            for ask in (image.list, image.log, image.stats, image.info, lambda: image.diff(1)):
+            for ask in (image.list, image.log, image.audit, image.stats, image.info, lambda: image.diff(1)):
                 with self.subTest(printed), self.assertRaisesRegex(s4d.BadReply, "s4 printed"):
                     ask()
 
