@@ -19,7 +19,6 @@ use crate::judgements::{judge, object_of};
 use crate::laws::what_changes_of_objects_rest_on;
 use crate::session::Session;
 use codec::Inode;
-use s4_model::laws::the_audit_goes_on_row_by_row;
 use s4_model::row_of;
 use s4_types::{Change, Moment, ObjectId, ObjectRequest, Refusal, Reply};
 use segment_word::Naming;
@@ -111,7 +110,6 @@ impl<J: Naming> Drive<J> {
             session.old session.new (Update update) now result }
     {
         what_changes_of_objects_rest_on();
-        the_audit_goes_on_row_by_row();
         let Judged { change, moment } = self.judge_object(update, now)?;
         self.audit.reserve()?;
         self.store.take(&change, moment)?;

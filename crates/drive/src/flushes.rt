@@ -17,7 +17,7 @@ use crate::acceptance::accept;
 use crate::drive::Drive;
 use crate::judgements::check_clock;
 use crate::session::Session;
-use s4_model::laws::{histories_go_on_record_by_record, the_audit_goes_on_row_by_row};
+use s4_model::laws::histories_go_on_record_by_record;
 use s4_model::row_of;
 use s4_types::{Change, Moment, ObjectId, Refusal, Reply, Span};
 use segment_word::Naming;
@@ -63,7 +63,6 @@ impl<J: Naming> Drive<J> {
             session.old session.new (Control (SetWindow window)) now result }
     {
         histories_go_on_record_by_record();
-        the_audit_goes_on_row_by_row();
         check_clock(self.window.clock())?;
         self.audit.reserve()?;
         let moment = self.window.set(window, now);
@@ -85,7 +84,6 @@ impl<J: Naming> Drive<J> {
             session.old session.new (Control (Flush first last)) now result }
     {
         histories_go_on_record_by_record();
-        the_audit_goes_on_row_by_row();
         self.window.check_span(first, last)?;
         let span = Span {
             object: ObjectId::new(0),
@@ -114,7 +112,6 @@ impl<J: Naming> Drive<J> {
             self.new session.old session.new (Control (FlushO object first last)) now result }
     {
         histories_go_on_record_by_record();
-        the_audit_goes_on_row_by_row();
         self.window.check_span(first, last)?;
         check_given(object, self.next)?;
         let span = Span {

@@ -7,7 +7,7 @@ ghost use Rattle.std.specs.Prelude.{◌≡◌};
 ghost use Rattle.s4_types.specs.History.{History, Took};
 ghost use Rattle.s4_types.specs.declared.changes.Accepted.{Accepted};
 ghost use Rattle.s4_model.specs.State.{state_of, grown, took};
-ghost use Rattle.s4_model.specs.Laws.{EveryStepKeepsSoundness};
+ghost use Rattle.s4_model.specs.Laws.{EveryStepKeepsSoundness, KeptAuditsGoOn};
 ghost use Rattle.inode.specs.Laws.{TheSizeCountsTheBytes};
 ghost use Rattle.version_store.specs.Laws.{ThePresentStays};
 
@@ -43,6 +43,7 @@ pub(crate) fn what_changes_of_objects_rest_on()
     ensures by_changes { (h : History) (a : Accepted)
         → state_of (grown h (Took a)) ≡ took (state_of h) a }
     ensures steps { EveryStepKeepsSoundness }
+    ensures audit { KeptAuditsGoOn }
 {
     the_present_stays();
     bytes_are_the_blocks_joined();

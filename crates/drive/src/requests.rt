@@ -14,7 +14,7 @@ ghost use Rattle.drive.specs.Answering.{told_after, owners_after};
 use crate::checks::{check_role, check_update};
 use crate::drive::Drive;
 use crate::session::Session;
-use s4_model::laws::{histories_go_on_record_by_record, the_audit_goes_on_row_by_row};
+use s4_model::laws::histories_go_on_record_by_record;
 use s4_types::{AdminRequest, Moment, ObjectRequest, Question, Refusal, Reply, Request};
 use segment_word::Naming;
 
@@ -124,7 +124,6 @@ impl<J: Naming> Drive<J> {
         ensures after { FitsLedger self.new.ledger session.new.told }
     {
         histories_go_on_record_by_record();
-        the_audit_goes_on_row_by_row();
         self.window.observe(now);
         self.history.see(now);
         self.history.meet(&mut session.seat);

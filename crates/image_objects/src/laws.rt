@@ -1,15 +1,16 @@
 //! Laws of the objects of an image, for the layers above: each function does nothing, and its
 //! contract is the law.
 ghost use Rattle.std.specs.Prelude.{◌≡◌, ◌↔◌, ℕ, ◌+◌, ◌^◌, ◌<◌, ◌≤◌, ◌==◌, if◌then◌else◌, true};
-ghost use Rattle.std.specs.Prelude.{List, [], ◌∷◌, ◌++◌, length, slice_index, Option, Some, None};
+ghost use Rattle.std.specs.Prelude.{List, [], ◌∷◌, ◌++◌, length, slice_index, Option, Some, None, IsSome};
 ghost use Rattle.std.specs.List.{AllByRecursion, Contains};
 ghost use Rattle.std.specs.List.Sorted.{IsPermutation, IsSorted};
 ghost use Rattle.std.specs.Ordering.{nat_cmp};
 ghost use Rattle.s4_types.specs.Pointer.{Place};
 ghost use Rattle.s4_types.specs.declared.limits.TheConstants.{ROW_POINTERS};
 ghost use Rattle.block_log.specs.Log.{Log, Stored, of_kind, NamesAreOfData};
+ghost use Rattle.block_log.specs.declared.kinds.BlockKind.{BlockKind};
 ghost use Rattle.block_log.specs.declared.kinds.BlockKind.TheVariants.{Journal, Data};
-ghost use Rattle.checkpoint.specs.Held.{of_checkpoints};
+ghost use Rattle.checkpoint.specs.Held.{HasItsBlocks, of_checkpoints};
 ghost use Rattle.codec.specs.Entry.{EntryFields};
 ghost use Rattle.codec.specs.declared.versions.ImageVersion.{ImageVersion as Version};
 ghost use Rattle.undo_redo.specs.Groups.{grouped};
@@ -20,8 +21,8 @@ ghost use Rattle.version_store.specs.Store.{IsStore};
 ghost use Rattle.image_objects.specs.declared.rows.ImageRow.{ImageRow};
 ghost use Rattle.image_objects.specs.Chains.{chain_view, entries_used};
 ghost use Rattle.image_objects.specs.VersionChain.{checkpoint_view, kept_row};
-ghost use Rattle.image_objects.specs.Objects.{pointers_used};
-ghost use Rattle.image_objects.specs.Naming.{HoldsWhatIsNamed, NamesAreCounted, times_told};
+ghost use Rattle.image_objects.specs.Objects.{ObjectStands, pointers_used};
+ghost use Rattle.image_objects.specs.Naming.{HoldsWhatIsNamed, NamesAreCounted, NamesUsed, times_told};
 ghost use Rattle.image_objects.specs.Rows.{RowsAscend, RowsStand, kept_rows};
 ghost use Rattle.image_objects.specs.Moments.{moments_of_chain, moments_of, moments_used};
 ghost use Rattle.image_objects.specs.Moments.{ChainsShareNoMoment, StandOnce};
@@ -147,3 +148,17 @@ pub fn neighbours_tell_what_stands_twice()
         ↔ ((k : ℕ) → k + 1 < length sorted
         → slice_index sorted k ≡ slice_index sorted (k + 1) → ⊥) }
 {}
+
+/// Each place that a row of an object which is in an image names has a used block of the object, of
+/// that kind. Each place of the row's checkpoint has one of the object's checkpoints, which begins
+/// with the number of its kind.
+pub fn what_a_row_names_is_used()
+    ensures named { (used : Place → Option Stored) (row : ImageRow) (clock : ℕ) (kind : BlockKind)
+        (p : Place) → ObjectStands used row clock → NamesUsed used row kind p
+        → IsSome (of_kind kind row.object used p) }
+    ensures checkpoint { (used : Place → Option Stored) (row : ImageRow) (clock : ℕ)
+        → ObjectStands used row clock → HasItsBlocks used row.object row.checkpoint }
+{
+    one_place_has_one_name();
+    a_checkpoint_is_in_its_blocks();
+}

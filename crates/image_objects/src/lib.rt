@@ -40,7 +40,7 @@ pub mod writing_laws;
 
 pub use chains::{ChainRead, ImageChain, read_chain, read_chain_by};
 pub use checkpoint_blocks::read_checkpoint;
-pub use naming::{push_named, what_a_row_names_is_used};
+pub use naming::push_named;
 pub use objects::{read_object, read_object_by};
 pub use reading::{read_journal, read_journal_by};
 pub use rows::ImageRow;

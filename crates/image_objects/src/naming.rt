@@ -1,15 +1,13 @@
 //! The places that a row of an image names.
-ghost use Rattle.std.specs.Prelude.{◌≡◌, ℕ, ◌+◌, ◌⊎◌, true, ◌++◌, Option, IsSome, IfOk, IfErr};
+ghost use Rattle.std.specs.Prelude.{◌≡◌, ℕ, ◌+◌, ◌⊎◌, true, ◌++◌, IsSome, IfOk, IfErr};
 ghost use Rattle.std.specs.List.{Contains};
 ghost use Rattle.std.specs.Option.{option_to_list};
 ghost use Rattle.s4_types.specs.Pointer.{Place};
 ghost use Rattle.s4_types.specs.declared.refusals.Refusal.TheVariants.{NoMemory};
-ghost use Rattle.block_log.specs.Log.{Stored, of_kind, is_data};
+ghost use Rattle.block_log.specs.Log.{is_data};
 ghost use Rattle.block_log.specs.declared.kinds.BlockKind.{BlockKind};
-ghost use Rattle.checkpoint.specs.Held.{HasItsBlocks};
 ghost use Rattle.journal_chain.specs.Chain.{times};
 ghost use Rattle.version_store.specs.Store.{sides_of, sides_told, pointers_kept, times_led};
-ghost use Rattle.image_objects.specs.declared.rows.ImageRow.{ImageRow as RowFields};
 ghost use Rattle.image_objects.specs.Chains.{ChainStands, entries_used};
 ghost use Rattle.image_objects.specs.Inodes.{checkpoint_used, checkpoint_places_used};
 ghost use Rattle.image_objects.specs.Objects.{ObjectStands, pointers_used};
@@ -189,17 +187,4 @@ pub fn push_named<U: UsedBlocks>(
     one_place_has_one_name();
     a_checkpoint_is_in_its_blocks();
     push_all(used, row, versions.chain.entries.as_slice(), places)
-}
-
-/// Each place that a row of an object which is in an image names has a used block of the object, of
-/// that kind. Each place of the row's checkpoint has one of the object's checkpoints, which begins
-/// with the number of its kind.
-pub fn what_a_row_names_is_used()
-    ensures named { (used : Place → Option Stored) (row : RowFields) (clock : ℕ) (kind : BlockKind) (p : Place) → ObjectStands used row clock
-        → NamesUsed used row kind p → IsSome (of_kind kind row.object used p) }
-    ensures checkpoint { (used : Place → Option Stored) (row : RowFields) (clock : ℕ)
-        → ObjectStands used row clock → HasItsBlocks used row.object row.checkpoint }
-{
-    one_place_has_one_name();
-    a_checkpoint_is_in_its_blocks();
 }

@@ -25,7 +25,8 @@ ghost use Rattle.s4_model.specs.Laws.{KeptAuditsGoOn};
 ///
 /// A moment seen moves the state's clock and floor alone, an accepted change adds itself to the
 /// changes and moves the four numbers. A new drive's history is sound, and every step leaves it so:
-/// the floor isn't above the clock, moments ascend, spans end before the clock.
+/// the floor isn't above the clock, moments ascend, spans end before the clock. Rows that are kept
+/// of the audit go on with each record, and answer as the audit does.
 pub fn histories_go_on_record_by_record()
     ensures by_moments { (h : History) (now : ℕ)
         → state_of (grown h (Seen now)) ≡ seen (state_of h) now }
@@ -34,7 +35,10 @@ pub fn histories_go_on_record_by_record()
     ensures new { ANewDriveIsSound }
     ensures steps { EveryStepKeepsSoundness }
     ensures exchanges { ExchangesKeepSoundness }
-{}
+    ensures audit { KeptAuditsGoOn }
+{
+    the_audit_goes_on_row_by_row();
+}
 
 /// Whatever clients ask: each version that could be read before, and whose moment is still at or
 /// above the floor, can still be read and is the same.

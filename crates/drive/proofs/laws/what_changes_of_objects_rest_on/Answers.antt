@@ -6,4 +6,5 @@ returns c = record {
   count = c.bytes_are_the_blocks_joined.ensures.count;
   by_changes = c.histories_go_on_record_by_record.ensures.by_changes;
   steps = c.histories_go_on_record_by_record.ensures.steps;
+  audit = c.histories_go_on_record_by_record.ensures.audit;
 }

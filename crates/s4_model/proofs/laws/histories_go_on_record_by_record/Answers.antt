@@ -9,4 +9,5 @@ returns c = record {
   new = IsSound-new;
   steps = λ h after role request now reply. IsSound-step h role request now reply after;
   exchanges = λ h after exchanges. IsSound-leads h exchanges after;
+  audit = c.the_audit_goes_on_row_by_row.ensures.kept;
 }

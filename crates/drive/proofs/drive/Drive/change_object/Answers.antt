@@ -45,7 +45,7 @@ invariant_of-self-2 g c =
           c.take.ensures.store c.in_ok-take.ensures.taken c.in_ok-take.ensures.latest c.in_ok-take.ensures.rows
           (c.stamp.ensures.taken s (accepted_record s change c.args.now) c.self.invariant.1.window (sym stamped) (ready_of_versions store change takes.ready))
           (subst (λ (l : Ledger). IsSound (took (state_of l.history) (accepted_record (state_of l.history) change c.args.now))) (sym ledger) c.in_ok-change.ensures.sound)),
-      audit_after_change c.the_audit_goes_on_row_by_row.ensures.kept c.what_changes_of_objects_rest_on.ensures.by_changes c.self.inside.history c.accept.new.history c.session.inside.seat.seat c.self.inside.audit.rows c.push.new.self.rows c.args.now c.in_ok-change.field-0.moment change c.row_of.result
+      audit_after_change c.what_changes_of_objects_rest_on.ensures.audit c.what_changes_of_objects_rest_on.ensures.by_changes c.self.inside.history c.accept.new.history c.session.inside.seat.seat c.self.inside.audit.rows c.push.new.self.rows c.args.now c.in_ok-change.field-0.moment change c.row_of.result
           c.self.invariant.2 c.self.invariant.1.sound at c.accept.ensures.history c.row_of.ensures
           (c.push.ensures ∙ ap (λ (rows : List AuditRow). rows ++ c.row_of.result ∷ []) c.reserve.ensures.rows),
     )

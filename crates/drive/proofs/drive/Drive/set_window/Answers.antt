@@ -59,6 +59,6 @@ invariant_of-self-2 g c =
           (window_free c.self.inside.window.clock s.clock clock (omega arith))
           refl refl at c.accept.ensures.history
           (c.set-moment.ensures.taken s (accepted_record s (change.SetWindow c.args.window) c.args.now) c.self.invariant.1.window (sym at) refl),
-      audit_after_change c.the_audit_goes_on_row_by_row.ensures.kept c.histories_go_on_record_by_record.ensures.by_changes c.self.inside.history c.accept.new.history c.session.inside.seat.seat c.self.inside.audit.rows c.push.new.self.rows c.args.now c.set-moment.result (change.SetWindow c.args.window) c.row_of.result
+      audit_after_change c.histories_go_on_record_by_record.ensures.audit c.histories_go_on_record_by_record.ensures.by_changes c.self.inside.history c.accept.new.history c.session.inside.seat.seat c.self.inside.audit.rows c.push.new.self.rows c.args.now c.set-moment.result (change.SetWindow c.args.window) c.row_of.result
           c.self.invariant.2 c.self.invariant.1.sound at c.accept.ensures.history c.row_of.ensures (c.push.ensures ∙ ap (λ (rows : List AuditRow). rows ++ c.row_of.result ∷ []) c.reserve.ensures.rows),
     )

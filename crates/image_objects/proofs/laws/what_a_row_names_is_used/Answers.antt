@@ -1,5 +1,5 @@
 use Rattle.image_objects.proofs.Named.{named_is_used, has_its_blocks}
-use Rattle.image_objects.proofs.naming.what_a_row_names_is_used.Goals as goal
+use Rattle.image_objects.proofs.laws.what_a_row_names_is_used.Goals as goal
 
 pub returns-clause-named : goal.returns-clause-named
 returns-clause-named c = λ used row clock kind p stands named. named_is_used c.one_place_has_one_name.ensures used row clock kind p stands named
