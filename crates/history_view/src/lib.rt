@@ -25,7 +25,7 @@ mod versions;
 
 pub use changes::{Blocks, Kind, ObjectChange, change_of, changes_between};
 pub use listing::{Listed, listed_of, look_at, next_listed};
-pub use logs::{LogQuery, all_objects, log_rows};
+pub use logs::{LogQuery, all_objects, cuts, log_rows};
 pub use moments::{earliest, is_visible};
 pub use names::{NameRefusal, named_object};
 pub use rows::{LogOrder, LogRow};

@@ -71,7 +71,9 @@ fn concerns(asked: &Option<ObjectId>, object: ObjectId) -> bool
     }
 }
 
-fn cuts(asked: &Option<ObjectId>, since: Moment, until: Moment, run: &Span) -> bool
+/// Whether a run of hidden moments, of an object or of all under number 0, hides moments between
+/// these two of the object that is asked for, or of any where none is named.
+pub fn cuts(asked: &Option<ObjectId>, since: Moment, until: Moment, run: &Span) -> bool
     ensures { result ≡ cuts asked.now since until run.now }
 {
     run.first.number() <= until.number()

@@ -15,7 +15,7 @@ use Rattle.s4_command.specs.declared.whole.SalvageAsked.{SalvageAsked}
 use Rattle.drive.specs.Fields.{DriveFields}
 use Rattle.s4_images.specs.Commands.{OverImage, ChangesImage}
 use Rattle.s4_images.specs.declared.commands.Verdict.TheVariants.{Fine, Differs}
-use Rattle.s4_audit.specs.Auditing.{PrintsAudit}
+use Rattle.s4_reading.specs.Auditing.{PrintsAudit}
 use Rattle.s4_reading.specs.Checking.{Checks}
 use Rattle.s4_reading.specs.Comparing.{Compares}
 use Rattle.s4_reading.specs.Listing.{Lists}
@@ -29,16 +29,16 @@ use Rattle.s4_compact.specs.Compacting.{Compacts}
 -- A command is done, by what is known of the files before and after it, by what an export of a drive is and a salvage of a file's bytes, and by what
 -- the output has then. `diff` is where nothing that it compares differs (an object with a hidden moment is passed over), and `salvage` where nothing is lost.
 abbrev pub IsDoneOver : (files files' : List ℕ → Option (List ℕ)) → (Exported : DriveFields → ExportAsked → Type 0) → (Salvaged : Option (List ℕ) → SalvageAsked → (output output' : Option (List ℕ)) → Type 0) → (output output' : Option (List ℕ)) → Command → Type 0
-IsDoneOver files files' Exported Salvaged output output' (command.List list) = OverImage (files list.image.now) (λ d. Lists d list output output')
-IsDoneOver files files' Exported Salvaged output output' (command.Log log) = OverImage (files log.image.now) (λ d. Logs d log output output')
-IsDoneOver files files' Exported Salvaged output output' (command.Audit audit) = OverImage (files audit.image.now) (λ d. PrintsAudit d audit output output')
-IsDoneOver files files' Exported Salvaged output output' (command.Cat cat) = OverImage (files cat.image.now) (λ d. Gives d cat output output')
-IsDoneOver files files' Exported Salvaged output output' (command.Info info) = OverImage (files info.image.now) (λ d. Informs d info output output')
+IsDoneOver files files' Exported Salvaged output output' (command.List list) = OverImage (files list.image.now) (λ d. Lists d list Fine output output')
+IsDoneOver files files' Exported Salvaged output output' (command.Log log) = OverImage (files log.image.now) (λ d. Logs d log Fine output output')
+IsDoneOver files files' Exported Salvaged output output' (command.Audit audit) = OverImage (files audit.image.now) (λ d. PrintsAudit d audit Fine output output')
+IsDoneOver files files' Exported Salvaged output output' (command.Cat cat) = OverImage (files cat.image.now) (λ d. Gives d cat Fine output output')
+IsDoneOver files files' Exported Salvaged output output' (command.Info info) = OverImage (files info.image.now) (λ d. Informs d info Fine output output')
 IsDoneOver files files' Exported Salvaged output output' (command.Diff diff) = OverImage (files diff.image.now) (λ d. Compares d diff Fine output output')
-IsDoneOver files files' Exported Salvaged output output' (command.Report report) = OverImage (files report.image.now) (λ d. ReportsDrive d report output output')
+IsDoneOver files files' Exported Salvaged output output' (command.Report report) = OverImage (files report.image.now) (λ d. ReportsDrive d report Fine output output')
 IsDoneOver files files' Exported Salvaged output output' (command.Export export) = OverImage (files export.image.now) (λ d. Exported d export)
 IsDoneOver files files' Exported Salvaged output output' (command.Restore restore) = PerformsRestore files files' restore output output'
-IsDoneOver files files' Exported Salvaged output output' (command.Check check) = OverImage (files check.image.now) (λ d. Checks d check output output')
+IsDoneOver files files' Exported Salvaged output output' (command.Check check) = OverImage (files check.image.now) (λ d. Checks d check Fine output output')
 IsDoneOver files files' Exported Salvaged output output' (command.Compact compact) = ChangesImage (files compact.image.now) (files' compact.image.now) (λ d later. Compacts d later compact output output')
 IsDoneOver files files' Exported Salvaged output output' (command.Salvage salvage) = Salvaged (files salvage.image.now) salvage output output'
 

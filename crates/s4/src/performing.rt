@@ -6,12 +6,11 @@ ghost use Rattle.s4_folders.specs.Salvaging.{SalvagesFile};
 ghost use Rattle.s4.specs.Performing.{DiffersOver, IsDiffering, IsDone, IsDoneOver, IsUndone};
 
 use image_commands::{Files, Obstacle, Placed};
-use s4_audit::Auditing;
 use s4_command::{Command, ExportAsked, NoCommand, RestoreAsked, SalvageAsked, command_of};
 use s4_compact::compact_image;
 use s4_folders::{Folders, export_image, salvage_image};
 use s4_images::{DriveCommand, Failure, ImageCommand, Verdict, show_image};
-use s4_reading::{Checking, Comparing, Listing, Logging, Numbering, Reading, Screens};
+use s4_reading::{Auditing, Checking, Comparing, Listing, Logging, Numbering, Reading, Screens};
 use s4_report::Reporting;
 use s4_restore::{MapFault, RestoreFailure, perform_restore};
 use s4_types::Refusal;

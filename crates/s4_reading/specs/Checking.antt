@@ -1,5 +1,5 @@
 -- What `check` prints.
-use Rattle.std.specs.Prelude.{ℕ, ◌++◌, if◌then◌else◌, Bool, List, Option, None, codes, decimal}
+use Rattle.std.specs.Prelude.{◌≡◌, ℕ, ◌++◌, if◌then◌else◌, Bool, List, Option, None, codes, decimal}
 use Rattle.std.specs.Io.KnownBytes.{Appends}
 use Rattle.hex.specs.Hex.{encode_lower}
 use Rattle.serde_json.specs.Data.{Data, number, unsigned, string, object, member, no_members}
@@ -11,6 +11,8 @@ use Rattle.history_export.specs.Checks.{ChecksAll}
 use Rattle.history_export.specs.declared.checking.CheckReport.{CheckReport}
 use Rattle.history_export.specs.declared.checking.Checked.{Checked}
 use Rattle.s4_command.specs.declared.whole.CheckAsked.{CheckAsked}
+use Rattle.s4_images.specs.declared.commands.Verdict.{Verdict}
+use Rattle.s4_images.specs.declared.commands.Verdict.TheVariants.{Fine}
 
 -- how many versions were read, how many bytes they have, and these digits
 abbrev pub counts_text : Checked → List ℕ → List ℕ
@@ -38,6 +40,6 @@ pub record ChecksVersions (s : State) (store : StoreFields) (json : Bool) (outpu
   pub all : ChecksAll s store report None None
   pub wrote : Appends output output' (printed_report json report)
 
--- What `check` asks for was done over a drive.
-abbrev pub Checks : DriveFields → CheckAsked → (output output' : Option (List ℕ)) → Type 0
-Checks d check output output' = ChecksVersions (state_in d) (store_of d) check.json output output'
+-- What `check` asks for was done over a drive, and the verdict says so.
+abbrev pub Checks : DriveFields → CheckAsked → Verdict → (output output' : Option (List ℕ)) → Type 0
+Checks d check verdict output output' = (verdict ≡ Fine) × ChecksVersions (state_in d) (store_of d) check.json output output'

@@ -1,3 +1,4 @@
+pub mod Auditing
 pub mod Checking
 pub mod Comparing
 pub mod Listing

@@ -1,5 +1,5 @@
 -- What `list` prints.
-use Rattle.std.specs.Prelude.{ℕ, ◌++◌, if◌then◌else◌, Bool, List, [], Option}
+use Rattle.std.specs.Prelude.{◌≡◌, ℕ, ◌++◌, if◌then◌else◌, Bool, List, [], Option}
 use Rattle.std.specs.List.{flat_map}
 use Rattle.std.specs.Io.KnownBytes.{Appends}
 use Rattle.s4_model.specs.State.{State}
@@ -14,6 +14,8 @@ use Rattle.s4_command.specs.declared.contents.ListAsked.{ListAsked}
 use Rattle.moment_words.specs.declared.printing.MomentStyle.{MomentStyle}
 use Rattle.moment_words.specs.declared.words.MomentWord.{MomentWord}
 use Rattle.moment_words.specs.Texts.{style_of}
+use Rattle.s4_images.specs.declared.commands.Verdict.{Verdict}
+use Rattle.s4_images.specs.declared.commands.Verdict.TheVariants.{Fine}
 use Rattle.s4_images.specs.Moments.{moment_asked}
 
 -- the line above the objects; no line above JSON
@@ -38,6 +40,6 @@ pub record ListsObjects (s : State) (store : StoreFields) (at : Option MomentWor
   pub listed : AreListedFrom s store deleted (moment_asked s at) 0 rows
   pub wrote : Appends output output' (head_of_list json style ++ flat_map (line_of_listed json style) rows)
 
--- What `list` asks for was printed of a drive.
-abbrev pub Lists : DriveFields → ListAsked → (output output' : Option (List ℕ)) → Type 0
-Lists d list output output' = ListsObjects (state_in d) (store_of d) list.at list.deleted list.json (style_of (state_in d).clock list.moments) output output'
+-- What `list` asks for was printed of a drive, and the verdict says so.
+abbrev pub Lists : DriveFields → ListAsked → Verdict → (output output' : Option (List ℕ)) → Type 0
+Lists d list verdict output output' = (verdict ≡ Fine) × ListsObjects (state_in d) (store_of d) list.at list.deleted list.json (style_of (state_in d).clock list.moments) output output'

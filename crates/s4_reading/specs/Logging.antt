@@ -24,6 +24,8 @@ use Rattle.moment_words.specs.Texts.{style_of}
 use Rattle.s4_command.specs.declared.changes.ChangeKind.{ChangeKind}
 use Rattle.s4_command.specs.declared.changes.ChangeKind.TheVariants.{Made, Deleted, Written, Cut, Lengthened, Attribute, Touched}
 use Rattle.s4_command.specs.declared.changes.LogAsked.{LogAsked}
+use Rattle.s4_images.specs.declared.commands.Verdict.{Verdict}
+use Rattle.s4_images.specs.declared.commands.Verdict.TheVariants.{Fine}
 use Rattle.s4_images.specs.Moments.{IsObjectAsked, moment_said}
 
 -- the first moment that is asked for; the least of all where none is
@@ -75,12 +77,12 @@ abbrev pub hides : LogQuery → AuditRow → Bool
 hides query row = cuts query.object query.since query.until (record { object = row.object; first = row.first; last = row.second })
 
 -- whether a row of an audit is a flush that hid moments that are asked for
-abbrev pub is_cut : LogQuery → AuditRow → Bool
-is_cut query row = is_flush row.kind && hides query row
+abbrev pub is_hiding_flush : LogQuery → AuditRow → Bool
+is_hiding_flush query row = is_flush row.kind && hides query row
 
 -- the flushes of the audit that hid what is asked for, in order of time: whatever kind, limit and order of the changes are asked for
 abbrev pub flushes_of : State → LogQuery → List AuditRow
-flushes_of s query = filter (is_cut query) (audit_of s)
+flushes_of s query = filter (is_hiding_flush query) (audit_of s)
 
 -- the line of a flush, for programs or for people
 abbrev pub line_of_flush : Bool → MomentStyle → AuditRow → List ℕ
@@ -113,6 +115,6 @@ pub record LogsDrive (s : State) (store : StoreFields) (log : LogAsked) (output 
   pub is : IsQuery s store log query
   pub printed : MatchBool log.stat (PrintsStats s store query (style_of s.clock log.moments) log.json output output') (PrintsLog s store query (style_of s.clock log.moments) log.json output output')
 
--- The same over a drive.
-abbrev pub Logs : DriveFields → LogAsked → (output output' : Option (List ℕ)) → Type 0
-Logs d log output output' = LogsDrive (state_in d) (store_of d) log output output'
+-- The same over a drive, and the verdict says so.
+abbrev pub Logs : DriveFields → LogAsked → Verdict → (output output' : Option (List ℕ)) → Type 0
+Logs d log verdict output output' = (verdict ≡ Fine) × LogsDrive (state_in d) (store_of d) log output output'

@@ -16,6 +16,8 @@ use Rattle.history_text.specs.Json.{json_line, numbers_data}
 use Rattle.moment_words.specs.declared.printing.MomentStyle.{MomentStyle}
 use Rattle.moment_words.specs.Texts.{style_of}
 use Rattle.s4_command.specs.declared.whole.InfoAsked.{InfoAsked}
+use Rattle.s4_images.specs.declared.commands.Verdict.{Verdict}
+use Rattle.s4_images.specs.declared.commands.Verdict.TheVariants.{Fine}
 
 -- This many objects are live at the clock, and this many were deleted by then.
 pub record CountsObjects (s : State) (store : StoreFields) (live deleted : ℕ) : Type 0 where
@@ -66,6 +68,6 @@ pub record TellsNumbers (s : State) (store : StoreFields) (frames : List Frame) 
   pub is : IsNumbersOf s store frames numbers
   pub wrote : Appends output output' (text_of_numbers json style numbers)
 
--- What `info` asks for was printed of a drive.
-abbrev pub Informs : DriveFields → InfoAsked → (output output' : Option (List ℕ)) → Type 0
-Informs d info output output' = TellsNumbers (state_in d) (store_of d) d.store.table.seat.frames info.json (style_of (state_in d).clock info.moments) output output'
+-- What `info` asks for was printed of a drive, and the verdict says so.
+abbrev pub Informs : DriveFields → InfoAsked → Verdict → (output output' : Option (List ℕ)) → Type 0
+Informs d info verdict output output' = (verdict ≡ Fine) × TellsNumbers (state_in d) (store_of d) d.store.table.seat.frames info.json (style_of (state_in d).clock info.moments) output output'

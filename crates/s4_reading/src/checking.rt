@@ -43,7 +43,7 @@ impl<M: Meter> ImageCommand for Checking<'_, M> {
 }
 
 impl<M: Meter> DriveCommand for Checking<'_, M> {
-    ghost shows = { λ it d verdict. Checks d it.asked.now };
+    ghost shows = { λ it d verdict. Checks d it.asked.now verdict };
 
     fn perform<J: Naming, W: Sink>(
         &self,

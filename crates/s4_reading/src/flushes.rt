@@ -1,15 +1,15 @@
 //! The flushes that hid moments which a log asks for.
-ghost use Rattle.std.specs.Prelude.{◌≡◌, filter, IfOk};
+ghost use Rattle.std.specs.Prelude.{◌≡◌, filter, IfErr, IfOk};
+ghost use Rattle.s4_types.specs.declared.refusals.Refusal.TheVariants.{NoMemory};
 ghost use Rattle.drive.specs.Fields.{state_in};
-ghost use Rattle.history_view.specs.Logs.{concerns};
-ghost use Rattle.s4_reading.specs.Logging.{flushes_of, hides, is_cut, is_flush, line_of_flush};
+ghost use Rattle.s4_reading.specs.Logging.{flushes_of, hides, is_hiding_flush, is_flush, line_of_flush};
 
 use crate::forms::Form;
 use drive::Drive;
 use history_text::{audit_json, flush_line};
-use history_view::LogQuery;
-use s4_images::{Failure, Prints};
-use s4_types::{AuditKind, AuditRow, ObjectId};
+use history_view::{LogQuery, cuts};
+use s4_images::Prints;
+use s4_types::{AuditKind, AuditRow, Moment, Refusal, Span};
 use segment_word::Naming;
 use std::alloc::{AllocError, Global};
 
@@ -27,26 +27,20 @@ fn is_flush(kind: AuditKind) -> bool
     }
 }
 
-fn concerns(asked: &Option<ObjectId>, object: ObjectId) -> bool
-    ensures { result ≡ concerns asked.now object }
-{
-    match asked {
-        None => true,
-        Some(asked) => object.number() == 0 || object.number() == asked.number(),
-    }
-}
-
 // Whether the moments that a row names, of its object or of all, are among those asked for.
 fn hides(query: &LogQuery, row: &AuditRow) -> bool
     ensures { result ≡ hides query.now row.now }
 {
-    row.first <= query.until.number()
-        && query.since.number() <= row.second
-        && concerns(&query.object, row.object)
+    let run = Span {
+        object: row.object,
+        first: Moment::new(row.first),
+        last: Moment::new(row.second),
+    };
+    cuts(&query.object, query.since, query.until, &run)
 }
 
-fn is_cut(query: &LogQuery, row: &AuditRow) -> bool
-    ensures { result ≡ is_cut query.now row.now }
+fn is_hiding_flush(query: &LogQuery, row: &AuditRow) -> bool
+    ensures { result ≡ is_hiding_flush query.now row.now }
 {
     is_flush(row.kind) && hides(query, row)
 }
@@ -57,11 +51,11 @@ fn flushes_among(
     rows: &[AuditRow],
     query: &LogQuery,
 ) -> Result<Vec<AuditRow>, AllocError>
-    ensures { IfOk result (λ flushes. flushes.items ≡ filter (is_cut query.now) rows.now) }
+    ensures { IfOk result (λ flushes. flushes.items ≡ filter (is_hiding_flush query.now) rows.now) }
 {
     let mut flushes = Vec::new(alloc);
     for row in rows {
-        if is_cut(query, row) {
+        if is_hiding_flush(query, row) {
             flushes.push(*row)?;
         }
     }
@@ -70,13 +64,16 @@ fn flushes_among(
 
 /// The flushes of a drive's audit that hid what is asked for, in order of time, whatever kind,
 /// limit and order of the changes are asked for.
+///
+/// NoMemory alone, where the memory for them is refused.
 pub(crate) fn flushes_of<J: Naming>(
     alloc: Global,
     drive: &Drive<J>,
     query: &LogQuery,
-) -> Result<Vec<AuditRow>, Failure>
-    ensures { IfOk result
+) -> Result<Vec<AuditRow>, Refusal>
+    ensures flushes { IfOk result
         (λ flushes. flushes.items ≡ flushes_of (state_in drive.now) query.now) }
+    ensures refusal { IfErr result (λ e. e ≡ NoMemory) }
 {
     let rows = drive.audit_rows()?;
     let flushes = flushes_among(alloc, rows.as_slice(), query)?;

@@ -35,7 +35,7 @@ impl ImageCommand for Listing<'_> {
 }
 
 impl DriveCommand for Listing<'_> {
-    ghost shows = { λ it d verdict. Lists d it.0.now };
+    ghost shows = { λ it d verdict. Lists d it.0.now verdict };
 
     fn perform<J: Naming, W: Sink>(
         &self,

@@ -41,7 +41,7 @@ impl ImageCommand for Logging<'_> {
 }
 
 impl DriveCommand for Logging<'_> {
-    ghost shows = { λ it d verdict. Logs d it.0.now };
+    ghost shows = { λ it d verdict. Logs d it.0.now verdict };
 
     fn perform<J: Naming, W: Sink>(
         &self,
@@ -108,8 +108,8 @@ fn query_of<J: Naming>(drive: &mut Drive<J>, asked: &LogAsked<'_>) -> Result<Log
     })
 }
 
-// The moment that a word says, and this one where there is no word.
-fn moment_or<J: Naming>(drive: &Drive<J>, word: Option<MomentWord>, other: u64) -> Moment
+/// The moment that a word says, and this one where there is no word.
+pub(crate) fn moment_or<J: Naming>(drive: &Drive<J>, word: Option<MomentWord>, other: u64) -> Moment
     ensures none { IfNone word (result ≡ other) }
     ensures some { IfSome word (λ w. result ≡ moment_said (state_in drive.now) w) }
 {

@@ -39,7 +39,7 @@ impl ImageCommand for Reading<'_> {
 }
 
 impl DriveCommand for Reading<'_> {
-    ghost shows = { λ it d verdict. Gives d it.0.now };
+    ghost shows = { λ it d verdict. Gives d it.0.now verdict };
 
     fn perform<J: Naming, W: Sink>(
         &self,

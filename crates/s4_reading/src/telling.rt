@@ -37,7 +37,7 @@ impl ImageCommand for Numbering<'_> {
 }
 
 impl DriveCommand for Numbering<'_> {
-    ghost shows = { λ it d verdict. Informs d it.0.now };
+    ghost shows = { λ it d verdict. Informs d it.0.now verdict };
 
     fn perform<J: Naming, W: Sink>(
         &self,

@@ -31,7 +31,7 @@ impl ImageCommand for Reporting<'_> {
 }
 
 impl DriveCommand for Reporting<'_> {
-    ghost shows = { λ it d verdict. ReportsDrive d it.0.now };
+    ghost shows = { λ it d verdict. ReportsDrive d it.0.now verdict };
 
     fn perform<J: Naming, W: Sink>(
         &self,

@@ -22,7 +22,7 @@ returns g c =
     let second : Appends (passed c.write_out.new.writer) (passed c.write_lines.new.writer) lines =
     subst (λ (l : List LogRow). Appends (passed c.write_out.new.writer) (passed c.write_lines.new.writer) (flat_map (line_of_row json style) l)) c.as_slice.ensures.value c.in_ok-write_lines.ensures.lines in
     let are : c.as_slice-2.result.now ≡ flushes =
-    c.as_slice-2.ensures.value ∙ c.in_ok-flushes.ensures ∙ ap (λ l. flushes_of (state_of l.history) c.args.query.now) c.log_rows.ensures.ledger in
+    c.as_slice-2.ensures.value ∙ c.in_ok-flushes.ensures.flushes ∙ ap (λ l. flushes_of (state_of l.history) c.args.query.now) c.log_rows.ensures.ledger in
     let third : Appends (passed c.write_lines.new.writer) (passed c.write_lines-2.new.writer) hid =
     subst (λ (l : List AuditRow). Appends (passed c.write_lines.new.writer) (passed c.write_lines-2.new.writer) (flat_map (line_of_flush json style) l)) are c.in_ok-write_lines-2.ensures.lines in
     record {

@@ -1,3 +1,4 @@
+use Rattle.std.proofs.Common.{refl}
 use Rattle.s4_reading.proofs.Checked.{same_checks}
 use Rattle.s4_reading.proofs.checking.CheckingDriveCommand.perform.Goals as goal
 
@@ -5,4 +6,4 @@ use Rattle.s4_reading.proofs.checking.CheckingDriveCommand.perform.Goals as goal
 pub returns-clause-shows : goal.returns-clause-shows
 returns-clause-shows g c =
     let all = same_checks _ _ _ _ _ c.session.ensures.same c.in_ok-report.ensures.checked in
-    record { report = c.in_ok-report.report; all = all; wrote = c.in_ok-write_report.ensures.text }
+    (refl, record { report = c.in_ok-report.report; all = all; wrote = c.in_ok-write_report.ensures.text })

@@ -1,6 +1,6 @@
 //! Which rows are printed.
 ghost use Rattle.std.specs.Prelude.{◌≡◌, ◌&&◌, nat_le, filter, IfOk};
-ghost use Rattle.s4_audit.specs.Auditing.{at_most, is_among, is_of_kind, is_of_object};
+ghost use Rattle.s4_reading.specs.Auditing.{at_most, is_among, is_of_kind, is_of_object};
 
 use s4_types::{AuditKind, AuditRow, Moment};
 use std::alloc::{AllocError, Global};

@@ -1,6 +1,6 @@
 use Rattle.std.proofs.Common.{◌≡◌, ◌++◌, filter, drop}
-use Rattle.s4_audit.specs.Auditing.{is_among}
-use Rattle.s4_audit.proofs.choosing.rows_among.Given as goal
+use Rattle.s4_reading.specs.Auditing.{is_among}
+use Rattle.s4_reading.proofs.choosing.rows_among.Given as goal
 
 -- what is kept, and what the rest will give, are all that are asked for
 abbrev pub invariant-loop-row : goal.invariant-loop-row

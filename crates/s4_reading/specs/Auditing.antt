@@ -1,5 +1,5 @@
 -- What `audit` prints.
-use Rattle.std.specs.Prelude.{◌≡◌, ℕ, ◌+◌, ◌-◌, ◌^◌, ◌++◌, ◌==◌, ◌&&◌, nat_le, if◌then◌else◌, Bool, true, List, [], take, filter, Option, Some, None}
+use Rattle.std.specs.Prelude.{◌≡◌, ℕ, ◌++◌, ◌==◌, ◌&&◌, nat_le, if◌then◌else◌, Bool, true, List, [], take, filter, Option, Some, None}
 use Rattle.std.specs.List.{flat_map}
 use Rattle.std.specs.Io.KnownBytes.{Appends}
 use Rattle.s4_types.specs.AuditKinds.{number_of_kind}
@@ -8,26 +8,14 @@ use Rattle.s4_types.specs.declared.audit_rows.AuditRow.{AuditRow}
 use Rattle.s4_model.specs.State.{State}
 use Rattle.s4_model.specs.Audit.{audit_of}
 use Rattle.drive.specs.Fields.{DriveFields, state_in}
-use Rattle.serving.specs.Streams.{AppendsPart}
 use Rattle.history_text.specs.Audit.{audit_head, audit_line, audit_data}
 use Rattle.history_text.specs.Json.{json_line}
 use Rattle.moment_words.specs.declared.printing.MomentStyle.{MomentStyle}
-use Rattle.moment_words.specs.declared.words.MomentWord.{MomentWord}
 use Rattle.moment_words.specs.Texts.{style_of}
 use Rattle.s4_command.specs.declared.auditing.AuditAsked.{AuditAsked}
-use Rattle.s4_images.specs.Moments.{moment_said}
-use Rattle.s4_audit.specs.declared.writing.Stop.{Stop}
-use Rattle.s4_audit.specs.declared.writing.Stop.TheVariants.{NoMemory, WriteFailed}
-
--- the first moment that is asked for; the least of all where none is
-abbrev pub first_asked : State → Option MomentWord → ℕ
-first_asked s None = 0
-first_asked s (Some since) = moment_said s since
-
--- the last moment that is asked for; the greatest of all where none is
-abbrev pub last_asked : State → Option MomentWord → ℕ
-last_asked s None = 2 ^ 64 - 1
-last_asked s (Some until) = moment_said s until
+use Rattle.s4_images.specs.declared.commands.Verdict.{Verdict}
+use Rattle.s4_images.specs.declared.commands.Verdict.TheVariants.{Fine}
+use Rattle.s4_reading.specs.Logging.{first_asked, last_asked}
 
 -- whether a row is of the object that is asked for; of whatever object where none is
 abbrev pub is_of_object : Option ℕ → AuditRow → Bool
@@ -73,11 +61,6 @@ text_of_rows json style rows = head_of_audit json style ++ flat_map (line_of_row
 abbrev pub audit_text : State → AuditAsked → List ℕ
 audit_text s asked = text_of_rows asked.json (style_of s.clock asked.moments) (rows_shown s asked)
 
--- What `audit` asks for was printed of a drive, and nothing else.
-abbrev pub PrintsAudit : DriveFields → AuditAsked → (output output' : Option (List ℕ)) → Type 0
-PrintsAudit d asked output output' = Appends output output' (audit_text (state_in d) asked)
-
--- A text wasn't written to its end, and why: memory was refused, or the writer failed, once more than before. A beginning of it was written.
-abbrev pub StopsIn : List ℕ → (output output' : Option (List ℕ)) → (failures failures' : ℕ) → Stop → Type 0
-StopsIn text output output' failures failures' NoMemory = AppendsPart output output' text × (failures' ≡ failures)
-StopsIn text output output' failures failures' WriteFailed = AppendsPart output output' text × (failures' ≡ failures + 1)
+-- What `audit` asks for was printed of a drive, and nothing else, and the verdict says so.
+abbrev pub PrintsAudit : DriveFields → AuditAsked → Verdict → (output output' : Option (List ℕ)) → Type 0
+PrintsAudit d asked verdict output output' = (verdict ≡ Fine) × Appends output output' (audit_text (state_in d) asked)
