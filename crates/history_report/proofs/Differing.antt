@@ -1,7 +1,5 @@
 -- What is written of the objects that differ, one after the other.
 use Rattle.std.proofs.Common.{◌≡◌, ◌<◌, ◌++◌, ℕ, Bool, true, false, List, [], ◌∷◌, Option, refl, sym}
-use Rattle.std.specs.List.{AllByRecursion}
-use Rattle.std.specs.Io.KnownBytes.{Appends}
 use Rattle.s4_model.specs.State.{State}
 use Rattle.history_view.proofs.Fronts.{front_whole}
 use Rattle.history_diff.specs.Diffing.{ObjectDifference, IsDifferenceNext, IsPassed, has_any}

@@ -19,7 +19,7 @@ use Rattle.history_report.specs.declared.texts.TheConstants.{TIMELINE_HEAD}
 use Rattle.history_report.specs.Page.{Part, Constant, Escaped}
 use Rattle.history_report.specs.Timeline.{scale_of, place_of, mark_head, mark_shape, done_text, mark_of, marks_by, change_marks, run_mark, run_marks, strip_head, strip_end, strip_by, strip_of}
 use Rattle.history_report.specs.Table.{row_of, state_cell}
-use Rattle.history_report.specs.Flushes.{flush_parts, flushes_of, flushes_part, none_flushed, parts_by}
+use Rattle.history_report.specs.Flushes.{flush_parts, flushes_and_windows_of, flushes_part, none_flushed, parts_by}
 use Rattle.history_diff.specs.Diffing.{has_any}
 use Rattle.history_report.specs.Differences.{ShownDifference, difference_end, difference_of, first_lines, has_more_lines, lines_of}
 use Rattle.history_report.specs.Report.{head_of, numbers_of, axis_of, timeline_of, table_of, end_of, since_of}
@@ -122,7 +122,7 @@ none_safe (row ∷ rows) = refl
 flushes_safe : (s : State) → AreSafe Text (flushes_part s)
 flushes_safe s =
     let style = style_of s.clock false in
-    safe_two Text (flat_map (flush_parts style) (flushes_of s)) (Constant (none_flushed (flushes_of s)) ∷ []) (safe_each (flush_parts style) (flush_safe style) (flushes_of s)) (none_safe (flushes_of s))
+    safe_two Text (flat_map (flush_parts style) (flushes_and_windows_of s)) (Constant (none_flushed (flushes_and_windows_of s)) ∷ []) (safe_each (flush_parts style) (flush_safe style) (flushes_and_windows_of s)) (none_safe (flushes_and_windows_of s))
 
 -- ---- the differences
 

@@ -12,22 +12,19 @@ use Rattle.history_report.specs.declared.texts.TheConstants.{FLUSHES_HEAD, NO_FL
 use Rattle.history_report.specs.Page.{Part, Constant, Escaped}
 
 -- whether a page has a row of this kind: that of a flush or of a window
-abbrev pub is_flush_kind : AuditKind → Bool
-is_flush_kind Flush = true
-is_flush_kind FlushO = true
-is_flush_kind SetWindow = true
-is_flush_kind _ = false
-
-abbrev pub is_flush_row : AuditRow → Bool
-is_flush_row row = is_flush_kind row.kind
+abbrev pub is_flush_or_window : AuditKind → Bool
+is_flush_or_window Flush = true
+is_flush_or_window FlushO = true
+is_flush_or_window SetWindow = true
+is_flush_or_window _ = false
 
 -- the rows of these that it has, in their order
-abbrev pub flushes_among : List AuditRow → List AuditRow
-flushes_among rows = filter is_flush_row rows
+abbrev pub flushes_and_windows_among : List AuditRow → List AuditRow
+flushes_and_windows_among rows = filter (λ row. is_flush_or_window row.kind) rows
 
 -- the rows of the audit that it has
-abbrev pub flushes_of : State → List AuditRow
-flushes_of s = flushes_among (audit_of s)
+abbrev pub flushes_and_windows_of : State → List AuditRow
+flushes_and_windows_of s = flushes_and_windows_among (audit_of s)
 
 -- moments of all objects that were hidden, and when
 abbrev pub all_hidden : MomentStyle → AuditRow → List Part
@@ -42,7 +39,7 @@ object_hidden style row =
 
 -- a window that was set, and when
 abbrev pub window_set : MomentStyle → AuditRow → List Part
-window_set style row = Constant (codes "<p>") ∷ Escaped (moment_text row.moment style) ∷ Constant (codes ": the window was set to ") ∷ Escaped (decimal row.first) ∷ Constant (codes "</p>\n") ∷ []
+window_set style row = Constant (codes "<p>") ∷ Escaped (moment_text row.moment style) ∷ Constant (codes ": the window was set to ") ∷ Escaped (decimal row.first) ∷ Constant (codes " moments</p>\n") ∷ []
 
 -- the paragraph about a row of this kind
 abbrev pub parts_by : AuditKind → MomentStyle → AuditRow → List Part
@@ -65,4 +62,4 @@ flushes_by style rows = flat_map (flush_parts style) rows ++ Constant (none_flus
 
 -- the section of a page
 abbrev pub flushes_part : State → List Part
-flushes_part s = Constant FLUSHES_HEAD.now ∷ flushes_by (style_of s.clock false) (flushes_of s)
+flushes_part s = Constant FLUSHES_HEAD.now ∷ flushes_by (style_of s.clock false) (flushes_and_windows_of s)

@@ -1,12 +1,13 @@
 //! What administrators hid and which windows they set: a paragraph for each, from the drive's
 //! audit.
-ghost use Rattle.std.specs.Prelude.{◌≡◌, ◌+◌, ◌^◌, ◌<◌, IfOk, OnOk, string_bytes};
+ghost use Rattle.std.specs.Prelude.{◌≡◌, ◌+◌, ◌^◌, ◌<◌, IfErr, IfOk, OnOk, string_bytes};
 ghost use Rattle.std.specs.List.{flat_map};
 ghost use Rattle.std.specs.Io.KnownBytes.{Appends};
+ghost use Rattle.s4_types.specs.declared.refusals.Refusal.TheVariants.{NoMemory};
 ghost use Rattle.drive.specs.Fields.{state_in};
-ghost use Rattle.history_report.specs.Flushes.{all_hidden, flush_parts, flushes_among, flushes_of};
-ghost use Rattle.history_report.specs.Flushes.{is_flush_row, none_flushed, object_hidden};
-ghost use Rattle.history_report.specs.Flushes.{window_set};
+ghost use Rattle.history_report.specs.Flushes.{all_hidden, flush_parts, flushes_and_windows_among};
+ghost use Rattle.history_report.specs.Flushes.{flushes_and_windows_of, is_flush_or_window};
+ghost use Rattle.history_report.specs.Flushes.{none_flushed, object_hidden, window_set};
 ghost use Rattle.history_report.specs.Page.{page_text};
 
 use crate::escaping::{moment_cell, number_text};
@@ -14,29 +15,31 @@ use crate::texts::NO_FLUSH;
 use drive::Drive;
 use history_diff::{Stop, write_out};
 use moment_words::MomentStyle;
-use s4_types::{AuditKind, AuditRow, Moment};
+use s4_types::{AuditKind, AuditRow, Moment, Refusal};
 use segment_word::Naming;
 use serving::Sink;
 use std::alloc::{AllocError, Global};
 
-fn is_flush_row(row: &AuditRow) -> bool
-    ensures { result ≡ is_flush_row row.now }
+fn is_flush_or_window(kind: AuditKind) -> bool
+    ensures { result ≡ is_flush_or_window kind }
 {
-    match row.kind {
-        AuditKind::Flush => true,
-        AuditKind::FlushO => true,
-        AuditKind::SetWindow => true,
-        _ => false,
+    match kind {
+        AuditKind::Flush | AuditKind::FlushO | AuditKind::SetWindow => true,
+        AuditKind::Create
+        | AuditKind::Delete
+        | AuditKind::Write
+        | AuditKind::Truncate
+        | AuditKind::SetAttr => false,
     }
 }
 
 // The rows of these that are of a flush or of a window, in their order.
-fn flushes_among(alloc: Global, rows: &[AuditRow]) -> Result<Vec<AuditRow>, AllocError>
-    ensures { IfOk result (λ kept. kept.items ≡ flushes_among rows.now) }
+fn flushes_and_windows_among(alloc: Global, rows: &[AuditRow]) -> Result<Vec<AuditRow>, AllocError>
+    ensures { IfOk result (λ kept. kept.items ≡ flushes_and_windows_among rows.now) }
 {
     let mut kept = Vec::new(alloc);
     for row in rows {
-        if is_flush_row(row) {
+        if is_flush_or_window(row.kind) {
             kept.push(*row)?;
         }
     }
@@ -44,11 +47,18 @@ fn flushes_among(alloc: Global, rows: &[AuditRow]) -> Result<Vec<AuditRow>, Allo
 }
 
 /// The rows of a drive's audit that are of a flush or of a window, in order of time.
-pub(crate) fn flushes_of<J: Naming>(alloc: Global, drive: &Drive<J>) -> Result<Vec<AuditRow>, Stop>
-    ensures { IfOk result (λ flushes. flushes.items ≡ flushes_of (state_in drive.now)) }
+///
+/// NoMemory alone, where the memory for them is refused.
+pub(crate) fn flushes_and_windows_of<J: Naming>(
+    alloc: Global,
+    drive: &Drive<J>,
+) -> Result<Vec<AuditRow>, Refusal>
+    ensures flushes { IfOk result
+        (λ flushes. flushes.items ≡ flushes_and_windows_of (state_in drive.now)) }
+    ensures refusal { IfErr result (λ e. e ≡ NoMemory) }
 {
     let rows = drive.audit_rows()?;
-    let flushes = flushes_among(alloc, rows.as_slice())?;
+    let flushes = flushes_and_windows_among(alloc, rows.as_slice())?;
     Ok(flushes)
 }
 
@@ -79,7 +89,7 @@ fn window_set(alloc: Global, row: &AuditRow, style: MomentStyle) -> Result<Strin
 {
     let moment = moment_cell(alloc, row.moment, style)?;
     let window = number_text(alloc, row.first)?;
-    format!(in alloc; "<p>{moment}: the window was set to {window}</p>\n")
+    format!(in alloc; "<p>{moment}: the window was set to {window} moments</p>\n")
 }
 
 // The paragraph about a row. Nothing for one that is of neither a flush nor a window.
@@ -90,7 +100,11 @@ fn flush_text(alloc: Global, row: &AuditRow, style: MomentStyle) -> Result<Strin
         AuditKind::Flush => all_hidden(alloc, row, style),
         AuditKind::FlushO => object_hidden(alloc, row, style),
         AuditKind::SetWindow => window_set(alloc, row, style),
-        _ => Ok(String::new(alloc)),
+        AuditKind::Create
+        | AuditKind::Delete
+        | AuditKind::Write
+        | AuditKind::Truncate
+        | AuditKind::SetAttr => Ok(String::new(alloc)),
     }
 }
 

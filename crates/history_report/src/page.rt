@@ -14,7 +14,7 @@ ghost use Rattle.history_report.specs.private.Sections.{WritesTimeline};
 use crate::differences::write_differences;
 use crate::escaping::moment_cell;
 use crate::faults::ReportFault;
-use crate::flushes::{flushes_of, none_flushed, write_each_flush};
+use crate::flushes::{flushes_and_windows_of, none_flushed, write_each_flush};
 use crate::scale::scale_of;
 use crate::strips::write_strips;
 use crate::table::write_rows;
@@ -203,7 +203,7 @@ fn write_flushes<J: Naming, W: Sink>(
         (WritesFlushes (state_in drive.now) (W.passed writer.old) (W.passed writer.new)) }
     ensures failures { OnOk result (W.failures writer.new ≡ W.failures writer.old) }
 {
-    let flushes = flushes_of(alloc, drive)?;
+    let flushes = flushes_and_windows_of(alloc, drive)?;
     let style = style_of(drive.clock().number(), false);
     write_out(writer, FLUSHES_HEAD.as_bytes())?;
     write_each_flush(alloc, flushes.as_slice(), style, writer)?;

@@ -63,7 +63,7 @@ pub(crate) const FLUSHES_HEAD: &str = "\
 </tbody>\n\
 </table>\n\
 <h2>Flushes and windows</h2>\n\
-<p>What administrators hid and which windows they set, since the floor.</p>\n\
+<p>What administrators hid and which windows they set, by the audit's rows since the floor.</p>\n\
 ";
 
 /// What is in place of the flushes and windows where there are none.

@@ -10,7 +10,7 @@ use Rattle.moment_words.specs.declared.printing.MomentStyle.{MomentStyle}
 use Rattle.moment_words.specs.Texts.{style_of}
 use Rattle.history_report.specs.declared.texts.TheConstants.{FLUSHES_HEAD}
 use Rattle.history_report.specs.Page.{Constant, page_text}
-use Rattle.history_report.specs.Flushes.{flush_parts, flushes_by, flushes_of, none_flushed}
+use Rattle.history_report.specs.Flushes.{flush_parts, flushes_by, flushes_and_windows_of, none_flushed}
 use Rattle.history_report.proofs.Pages.{appends_two}
 use Rattle.history_report.proofs.page.write_flushes.Goals as goal
 
@@ -18,14 +18,14 @@ pub returns-clause-flushes : goal.returns-clause-flushes
 returns-clause-flushes g c =
     let passed = g.W.Sink.passed in
     let s = state_in c.args.drive.now in
-    let rows = flushes_of s in
+    let rows = flushes_and_windows_of s in
     let w = passed c.args.writer.now in
     let x = passed c.write_out.new.writer in
     let y = passed c.write_each_flush.new.writer in
     let z = passed c.write_out-2.new.writer in
     let style : c.style_of-style.result ≡ style_of s.clock false = c.style_of-style.ensures ∙ ap (λ (n : ℕ). style_of n false) (c.number.ensures ∙ c.clock.ensures) in
-    let are : c.as_slice.result.now ≡ rows = c.as_slice.ensures.value ∙ c.in_ok-flushes.ensures in
-    let again : c.as_slice-2.result.now ≡ rows = c.as_slice-2.ensures.value ∙ c.in_ok-flushes.ensures in
+    let are : c.as_slice.result.now ≡ rows = c.as_slice.ensures.value ∙ c.in_ok-flushes.ensures.flushes in
+    let again : c.as_slice-2.result.now ≡ rows = c.as_slice-2.ensures.value ∙ c.in_ok-flushes.ensures.flushes in
     let none : c.as_bytes-2.result.now ≡ none_flushed rows = c.as_bytes-2.ensures.value ∙ c.none_flushed.ensures ∙ ap none_flushed again in
     let paragraphs = flat_map (flush_parts (style_of s.clock false)) rows in
     let first : Appends w x FLUSHES_HEAD.now = search rules in
