@@ -1,3 +1,4 @@
+pub mod Crashes
 pub mod Faults
 pub mod Files
 pub mod Leaving

@@ -3,12 +3,24 @@ use crate::paths::folder_of;
 use std::alloc::{AllocError, Global};
 use std::path::Path;
 
-/// How many names there are for a file beside an image: `s4d.new`, and `s4d.new.1` to `s4d.new.99`.
+/// How many names of each kind there are for a file beside an image: `s4d.new`, and `s4d.new.1` to
+/// `s4d.new.99`.
 pub const MOST_BESIDE: u32 = 100;
+
+/// How the name of a file beside an image begins that may be told of while it is there.
+pub const TOLD: &str = "s4d.new";
+
+/// The same of one that nobody is told of before it has the image's name.
+pub const UNTOLD: &str = "s4serve.new";
 
 /// Whether a file of this name, in an image's folder, is one beside that image.
 pub fn is_beside_name(name: &str) -> bool {
-    match name.strip_prefix("s4d.new") {
+    is_numbered(name, TOLD) || is_numbered(name, UNTOLD)
+}
+
+// Whether a name is this one, or has a number from 1 to 99 after it.
+fn is_numbered(name: &str, front: &str) -> bool {
+    match name.strip_prefix(front) {
         Some("") => true,
         Some(rest) => match rest.as_bytes() {
             [b'.', b'1'..=b'9'] | [b'.', b'1'..=b'9', b'0'..=b'9'] => true,
@@ -18,12 +30,17 @@ pub fn is_beside_name(name: &str) -> bool {
     }
 }
 
-/// The path of that number for a file beside the image at a path.
-pub fn beside_path(alloc: Global, image: &str, number: u32) -> Result<String, AllocError> {
+/// The path of that number for a file beside the image at a path, whose name begins so.
+pub fn beside_path(
+    alloc: Global,
+    image: &str,
+    front: &str,
+    number: u32,
+) -> Result<String, AllocError> {
     let folder = Path::new(folder_of(Path::new(image)));
     let name = match number {
-        0 => format!(in alloc; "s4d.new")?,
-        _ => format!(in alloc; "s4d.new.{number}")?,
+        0 => String::from_str(alloc, front)?,
+        _ => format!(in alloc; "{front}.{number}")?,
     };
     Ok(folder.join(alloc, name)?.into_string())
 }

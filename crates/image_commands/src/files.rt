@@ -2,6 +2,7 @@
 ghost use Rattle.std.specs.Prelude.{◌≡◌, ℕ, Bool, true, false, List, [], Option, None, IfErr, IfOk};
 ghost use Rattle.std.specs.Prelude.{IfSome, IsFalse, IsTrue, OnErr, OnOk, string_bytes};
 ghost use Rattle.std.specs.Io.KnownBytes.{Keeps};
+ghost use Rattle.image_commands.specs.Crashes.{IsShort, LeavesMore, LeavesNoMore, LeavesOnly};
 ghost use Rattle.image_commands.specs.Files.{AreKnown, HasSome};
 
 use crate::obstacles::Obstacle;
@@ -36,6 +37,18 @@ pub trait Files {
     // Whether a path names what a writer writes.
     ghost writes: { Self.Writer → List ℕ → Type 0 };
 
+    // The bytes that the path of what was claimed may have after a crash now.
+    ghost may_leave: { Self → Self.Claim → List ℕ → Type 0 };
+
+    // Those that the file which is at that path now may have then.
+    ghost placed_leaves: { Self → Self.Claim → List ℕ → Type 0 };
+
+    // Those that the file beside an image may have then.
+    ghost beside_leaves: { Self.Beside → List ℕ → Type 0 };
+
+    // Whether the file beside an image was filled with these bytes.
+    ghost is_filled: { Self.Beside → List ℕ → Type 0 };
+
     /// What an opened file is read by.
     type Reader: Read + Send + Drop;
 
@@ -46,11 +59,11 @@ pub trait Files {
     type Writer: Write + Send + Drop;
 
     /// Where an image is, or will be. While this is kept no other program claims it.
-    type Claim: Drop;
+    type Claim: Send + Drop;
 
     /// A file beside an image, which is to take its place. While this is kept it is no leftover of
     /// any program.
-    type Beside: Drop;
+    type Beside: Send + Drop;
 
     /// A file that may have been left beside an image. While this is kept no other program has it.
     type Leftover: Drop;
@@ -91,6 +104,13 @@ pub trait Files {
     fn claim(&self, alloc: Global, path: &str) -> Result<Self::Claim, Obstacle>
         ensures claimed { IfOk result (λ c. leads c path.now) };
 
+    /// The claim of an image that is to be replaced again and again. From now on files beside it
+    /// have names of their own, since nobody is told of them before they have the image's name, and
+    /// those that were left by such names are removed.
+    fn keep_on(&mut self, claim: Self::Claim) -> Self::Claim
+        ensures claimed { (path : List ℕ) → leads claim path → leads result path }
+        ensures others { (path : List ℕ) → reserves claim path ≡ false → Keeps (contents self.old path) (contents self.new path) };
+
     /// Whether what was claimed is a file that has bytes.
     fn has_bytes(&self, claim: &Self::Claim) -> io::Result<bool>
         ensures empty { IfOk result
@@ -114,11 +134,13 @@ pub trait Files {
         ensures others { (path : List ℕ) → Keeps (contents self.old path) (contents self.new path) }
         ensures reserved { IfOk result
             (λ b. (path : List ℕ) → is_beside b path ≡ true → reserves claim.now path ≡ true) }
-        ensures unknown { IfOk result (λ b. (path : List ℕ) → is_beside b path ≡ true → contents self.old path ≡ None) };
+        ensures unknown { IfOk result (λ b. (path : List ℕ) → is_beside b path ≡ true → contents self.old path ≡ None) }
+        ensures crash { (any : Self.Claim) → LeavesNoMore (may_leave self.old any) (may_leave self.new any) };
 
     /// Removes the file beside an image.
     fn remove_beside(&mut self, beside: Self::Beside)
-        ensures others { (path : List ℕ) → is_beside beside path ≡ false → Keeps (contents self.old path) (contents self.new path) };
+        ensures others { (path : List ℕ) → is_beside beside path ≡ false → Keeps (contents self.old path) (contents self.new path) }
+        ensures crash { (any : Self.Claim) → LeavesNoMore (may_leave self.old any) (may_leave self.new any) };
 
     /// The file of this number that was left beside a claimed image, where there is one that no
     /// program has.
@@ -154,6 +176,65 @@ pub trait Files {
             → is_beside beside path ≡ false
             → Keeps (contents self.old path) (contents self.new path)) }
         ensures kept { IfErr result (λ why. IfSome why.kept (λ path. AreKnown (contents self.new (string_bytes path)) bytes.now)) };
+
+    /// Fills the file beside an image with these bytes. An obstacle leaves any bytes in it.
+    fn fill(&mut self, beside: &mut Self::Beside, bytes: &[u8]) -> Result<(), Obstacle>
+        ensures filled { OnOk result (is_filled beside.new bytes.now) }
+        ensures known { OnOk result
+            ((path : List ℕ) → is_beside beside.old path ≡ true
+            → AreKnown (contents self.new path) bytes.now) }
+        ensures same { (path : List ℕ) → is_beside beside.new path ≡ is_beside beside.old path }
+        ensures others { (path : List ℕ)
+            → is_beside beside.old path ≡ false
+            → Keeps (contents self.old path) (contents self.new path) }
+        ensures crash { (any : Self.Claim) → LeavesNoMore (may_leave self.old any) (may_leave self.new any) };
+
+    /// Writes all bytes of the file beside an image to the disk. After an obstacle they may be
+    /// lost, also where a later call meets none.
+    fn sync_beside(&mut self, beside: &mut Self::Beside) -> Result<(), Obstacle>
+        ensures lasting { OnOk result
+            ((bytes : List ℕ) → is_filled beside.old bytes
+            → LeavesOnly bytes (beside_leaves beside.new)) }
+        ensures filled { (bytes : List ℕ) → is_filled beside.old bytes → is_filled beside.new bytes }
+        ensures same { (path : List ℕ) → is_beside beside.new path ≡ is_beside beside.old path }
+        ensures others { (path : List ℕ) → Keeps (contents self.old path) (contents self.new path) }
+        ensures crash { (any : Self.Claim) → LeavesNoMore (may_leave self.old any) (may_leave self.new any) };
+
+    /// Gives the file beside an image the image's name, where that still names what was claimed.
+    /// Whoever reads the path, at whatever time, finds the old file or the new one, and no other
+    /// program claims it in between: the new one is claimed before it has the name, and the old one
+    /// is let go after that. An obstacle leaves the claim as it was, and gives the file back.
+    fn exchange(
+        &mut self,
+        claim: &mut Self::Claim,
+        beside: Self::Beside,
+    ) -> Result<(), NotExchanged<Self::Beside>>
+        ensures claimed { (path : List ℕ) → leads claim.old path → leads claim.new path }
+        ensures reserved { (path : List ℕ) → reserves claim.new path ≡ reserves claim.old path }
+        ensures kept { OnErr result (claim.new ≡ claim.old) }
+        ensures given { IfErr result (λ why. why.beside ≡ beside) }
+        ensures replaced { OnOk result
+            ((path bytes : List ℕ) → leads claim.old path → is_filled beside bytes
+            → AreKnown (contents self.new path) bytes) }
+        ensures elsewhere { OnOk result
+            ((path other : List ℕ) → leads claim.old path → apart path other
+            → is_beside beside other ≡ false
+            → Keeps (contents self.old other) (contents self.new other)) }
+        ensures others { OnErr result
+            ((path : List ℕ) → Keeps (contents self.old path) (contents self.new path)) }
+        ensures placed { OnOk result (LeavesNoMore (beside_leaves beside) (placed_leaves self.new claim.new)) }
+        ensures crash { LeavesMore (beside_leaves beside) (may_leave self.old claim.old) (may_leave self.new claim.new) }
+        ensures short { IfErr result
+            (λ why. IsShort why.obstacle
+            → LeavesNoMore (may_leave self.old claim.old) (may_leave self.new claim.new)) };
+
+    /// Writes the folder of a claimed image to the disk, so that the file which has the image's
+    /// name now keeps it. After an obstacle a failure of the machine may leave either file there,
+    /// also where a later call meets none.
+    fn sync_folder(&mut self, claim: &Self::Claim) -> Result<(), Obstacle>
+        ensures lasting { OnOk result (LeavesNoMore (placed_leaves self.old claim.now) (may_leave self.new claim.now)) }
+        ensures others { (path : List ℕ) → Keeps (contents self.old path) (contents self.new path) }
+        ensures crash { (any : Self.Claim) → LeavesNoMore (may_leave self.old any) (may_leave self.new any) };
 }
 
 /// How an image was put in its place.
@@ -171,4 +252,11 @@ pub struct NotReplaced {
     pub obstacle: Obstacle,
     /// The path of the file that has all of the new image's bytes, where there is one.
     pub kept: Option<String>,
+}
+
+/// Why a file beside an image didn't take its place, and that file.
+#[derive(Drop)]
+pub struct NotExchanged<B> {
+    pub obstacle: Obstacle,
+    pub beside: B,
 }

@@ -1,8 +1,8 @@
 //! The files of this system.
 ghost use Rattle.std.specs.Prelude.{false, None, ⊤};
 
-use crate::beside::{MOST_BESIDE, beside_path, is_beside_name};
-use crate::files::{Files, NotReplaced, Placed};
+use crate::beside::{MOST_BESIDE, TOLD, UNTOLD, beside_path, is_beside_name};
+use crate::files::{Files, NotExchanged, NotReplaced, Placed};
 use crate::obstacles::Obstacle;
 use crate::paths::{are_one_file, are_one_path, end_of_path, folder_of, found, real_path};
 use std::alloc::Global;
@@ -17,8 +17,11 @@ const PRIVATE: u32 = 0o600;
 /// Who may read and write a new image, by the mask of who made it.
 const ORDINARY: u32 = 0o666;
 
-/// Zeros that are written at once.
-const ZEROS: [u8; 4096] = [0; 4096];
+/// How many zeros are written at once, where memory allows.
+const ZEROS_AT_ONCE: usize = 1 << 20;
+
+/// Zeros that are written at once where it doesn't.
+const FEW_ZEROS: [u8; 4096] = [0; 4096];
 
 /// Where an image is, or will be, on this system.
 #[derive(Drop)]
@@ -29,6 +32,10 @@ pub struct ImageClaim {
     path: String,
     /// The image, locked, where it is there.
     image: Option<File>,
+    /// The folder that it is in, where it was put there.
+    folder: Option<File>,
+    /// How the names of files beside it begin.
+    beside: &'static str,
 }
 
 /// A file of this system beside an image, locked.
@@ -132,6 +139,15 @@ impl Files for HostRuntime {
 
     ghost writes = { λ _ _. ⊤ };
 
+    // Nor what a crash leaves of it: no outcome of one is named.
+    ghost may_leave = { λ _ _ _. ⊥ };
+
+    ghost placed_leaves = { λ _ _ _. ⊥ };
+
+    ghost beside_leaves = { λ _ _. ⊥ };
+
+    ghost is_filled = { λ _ _. ⊤ };
+
     fn open(&self, path: &str) -> io::Result<Input> {
         match standard_stream(path) {
             Some(Standard::Input) => Ok(Input::Standard(self.stdin())),
@@ -182,7 +198,24 @@ impl Files for HostRuntime {
             true => Some(locked(self, path.as_str())?),
             false => None,
         };
-        Ok(ImageClaim { given, path, image })
+        Ok(ImageClaim {
+            given,
+            path,
+            image,
+            folder: None,
+            beside: TOLD,
+        })
+    }
+
+    fn keep_on(&mut self, claim: ImageClaim) -> ImageClaim {
+        let mut claim = claim;
+        claim.beside = UNTOLD;
+        for number in 0..MOST_BESIDE {
+            if let Some(leftover) = self.leftover(self.alloc(), &claim, number) {
+                self.remove_leftover(leftover);
+            }
+        }
+        claim
     }
 
     fn has_bytes(&self, claim: &ImageClaim) -> io::Result<bool> {
@@ -213,7 +246,7 @@ impl Files for HostRuntime {
         length: usize,
     ) -> Result<BesideFile, Obstacle> {
         let mut beside = new_beside(self, alloc, claim)?;
-        match prepare(&mut beside.file, claim, length) {
+        match prepare(alloc, &mut beside.file, claim, length) {
             Ok(()) => Ok(beside),
             Err(obstacle) => {
                 self.remove_beside(beside);
@@ -228,7 +261,7 @@ impl Files for HostRuntime {
     }
 
     fn leftover(&self, alloc: Global, claim: &ImageClaim, number: u32) -> Option<LeftFile> {
-        match beside_path(alloc, claim.path.as_str(), number) {
+        match beside_path(alloc, claim.path.as_str(), claim.beside, number) {
             Ok(path) => left_at(self, path),
             Err(_) => None,
         }
@@ -264,6 +297,43 @@ impl Files for HostRuntime {
                 kept: Some(beside.path),
             }),
         }
+    }
+
+    fn fill(&mut self, beside: &mut BesideFile, bytes: &[u8]) -> Result<(), Obstacle> {
+        fill(&mut beside.file, bytes)?;
+        Ok(())
+    }
+
+    fn sync_beside(&mut self, beside: &mut BesideFile) -> Result<(), Obstacle> {
+        beside.file.sync_all()?;
+        Ok(())
+    }
+
+    fn exchange(
+        &mut self,
+        claim: &mut ImageClaim,
+        beside: BesideFile,
+    ) -> Result<(), NotExchanged<BesideFile>> {
+        if let Err(obstacle) = rename_over(self, claim, &beside) {
+            return Err(NotExchanged { obstacle, beside });
+        }
+        // Its lock is held since it was made. That of the file which had the name goes with it, now
+        // that nobody finds it there.
+        let BesideFile { file, folder, .. } = beside;
+        claim.image = Some(file);
+        claim.folder = Some(folder);
+        Ok(())
+    }
+
+    fn sync_folder(&mut self, claim: &ImageClaim) -> Result<(), Obstacle> {
+        match &claim.folder {
+            Some(folder) => sync_names(folder)?,
+            None => {
+                let folder = File::open(self, folder_of(Path::new(claim.path.as_str())))?;
+                sync_names(&folder)?;
+            }
+        }
+        Ok(())
     }
 }
 
@@ -361,7 +431,7 @@ fn new_beside(rt: &HostRuntime, alloc: Global, claim: &ImageClaim) -> Result<Bes
     // It is opened now, so that a folder of which that is refused is known before any session.
     let folder = File::open(rt, folder_of(Path::new(claim.path.as_str())))?;
     for number in 0..MOST_BESIDE {
-        let path = beside_path(alloc, claim.path.as_str(), number)?;
+        let path = beside_path(alloc, claim.path.as_str(), claim.beside, number)?;
         let is_free = can_be_linked(rt, claim, path.as_str())?;
         if !is_free {
             continue;
@@ -442,14 +512,19 @@ fn locked_at(rt: &HostRuntime, path: &str) -> io::Result<Option<File>> {
 }
 
 // Gives a file beside an image the image's mode and owner, and its length.
-fn prepare(file: &mut File, claim: &ImageClaim, length: usize) -> Result<(), Obstacle> {
+fn prepare(
+    alloc: Global,
+    file: &mut File,
+    claim: &ImageClaim,
+    length: usize,
+) -> Result<(), Obstacle> {
     if let Some(image) = &claim.image {
         let about = image.metadata()?;
         if keep_owner(file, &about).is_err() {
             return Err(Obstacle::NotKept);
         }
     }
-    write_zeros(file, length)?;
+    write_zeros(alloc, file, length)?;
     Ok(())
 }
 
@@ -463,11 +538,22 @@ fn keep_owner(file: &File, other: &Metadata) -> io::Result<()> {
 }
 
 // Gives a file this many zeros, which are written, so that the disk has room for them then.
-fn write_zeros(file: &mut File, count: usize) -> io::Result<()> {
-    for _ in 0..count.div_ceil(ZEROS.len()) {
-        file.write_all(&ZEROS)?;
+fn write_zeros(alloc: Global, file: &mut File, count: usize) -> io::Result<()> {
+    match Vec::from_elem(alloc, 0, count.min(ZEROS_AT_ONCE)) {
+        Ok(zeros) => write_in_pieces(file, zeros.as_slice(), count),
+        Err(_) => write_in_pieces(file, &FEW_ZEROS, count),
     }
-    file.set_len(count as u64)
+}
+
+// Writes a piece until this many bytes were written, the last time as much of it as is left.
+fn write_in_pieces(file: &mut File, piece: &[u8], count: usize) -> io::Result<()> {
+    let mut left = count;
+    for _ in 0..count.div_ceil(piece.len().max(1)) {
+        let part = left.min(piece.len());
+        file.write_all(&piece[..part])?;
+        left = left.saturating_sub(part);
+    }
+    Ok(())
 }
 
 // Gives a file these bytes.
@@ -485,15 +571,27 @@ fn put_in_place(
     beside: &BesideFile,
 ) -> Result<Placed, Obstacle> {
     beside.file.sync_all()?;
+    rename_over(rt, claim, beside)?;
+    match sync_names(&beside.folder) {
+        Ok(()) => Ok(Placed::Lasting),
+        Err(_) => Ok(Placed::NotLasting),
+    }
+}
+
+// Gives the file beside an image the image's name, where that still names what was claimed.
+fn rename_over(rt: &HostRuntime, claim: &ImageClaim, beside: &BesideFile) -> Result<(), Obstacle> {
     if !is_as_claimed(rt, claim)? {
         return Err(Obstacle::Moved);
     }
     fs::rename(rt, beside.path.as_str(), claim.path.as_str())?;
-    match beside.folder.sync_all() {
-        Ok(()) => Ok(Placed::Lasting),
-        // This file system does that for no folder.
-        Err(error) if error.kind() == io::ErrorKind::InvalidInput => Ok(Placed::Lasting),
-        Err(_) => Ok(Placed::NotLasting),
+    Ok(())
+}
+
+// Has the names of a folder on the disk, where its file system does that for a folder.
+fn sync_names(folder: &File) -> io::Result<()> {
+    match folder.sync_all() {
+        Err(error) if error.kind() == io::ErrorKind::InvalidInput => Ok(()),
+        answer => answer,
     }
 }
 

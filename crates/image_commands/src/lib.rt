@@ -25,7 +25,7 @@ mod streams;
 mod verifying;
 
 pub use faults::{Fault, reading, writing};
-pub use files::{Files, NotReplaced, Placed};
+pub use files::{Files, NotExchanged, NotReplaced, Placed};
 pub use leftovers::remove_leftovers;
 pub use obstacles::Obstacle;
 pub use reading_past::{write_object, write_version};

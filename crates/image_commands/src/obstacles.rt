@@ -1,5 +1,6 @@
 //! Why a file can't be read or written.
-ghost use Rattle.std.specs.Prelude.{◌≡◌, ◌≢◌};
+ghost use Rattle.std.specs.Prelude.{◌≡◌, ◌≢◌, ◌↔◌, IsTrue};
+ghost use Rattle.image_commands.specs.Crashes.{IsShort};
 ghost use Rattle.std.specs.declared.io.ErrorKind.TheVariants.{OutOfMemory};
 
 use std::alloc::AllocError;
@@ -75,6 +76,16 @@ impl Obstacle {
             // The second is what a rename over a file says that is mounted by itself.
             io::ErrorKind::CrossesDevices | io::ErrorKind::ResourceBusy => Obstacle::Mounted,
             _ => Obstacle::Other,
+        }
+    }
+
+    /// Whether it is want of memory, or of room on the disk: then it may go at another time.
+    pub fn is_short(self) -> bool
+        ensures { IsTrue result ↔ IsShort self }
+    {
+        match self {
+            Obstacle::NoMemory | Obstacle::NoRoom => true,
+            _ => false,
         }
     }
 

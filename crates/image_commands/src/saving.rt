@@ -194,7 +194,7 @@ impl<'a, F: Files> Place<'a, F> {
 
 /// How many bytes the longest image of this many frames has that has no audit rows: all frames are
 /// used, each block of payload is a row's own, and there are as many runs of hidden moments as a
-/// drive may have. So room for this many isn't room for the audit rows that a drive has or gets.
+/// drive may have. An image with audit rows may be longer.
 pub fn longest_image(frames: u16) -> usize
     ensures { result
         ≡ 512 + 8 * frames + 8192 * frames + 40 * (frames * PAYLOAD_BLOCKS) + 24 * RUNS_IN_ALL

@@ -131,8 +131,8 @@ pub fn read_bytes<'a, F: Files>(
     }
 }
 
-// All bytes of a reader, none where they are more than an image may have that begins with them: then
-// one more of them is read.
+// All bytes of a reader; none where they are more than `most_with` gives of their front: then one
+// more than that is read.
 fn read_shorter<R: Read>(alloc: Global, reader: &mut R) -> io::Result<Option<Vec<u8>>>
     ensures bytes { IfOk result
         (λ read. IfSome read (λ bytes. AreKnown (R.remaining reader.old) bytes.items)) }
@@ -147,8 +147,8 @@ fn read_shorter<R: Read>(alloc: Global, reader: &mut R) -> io::Result<Option<Vec
     Ok(Some(bytes))
 }
 
-// How many bytes are looked at where these are in front. An image has no more that has no audit
-// rows, whatever is in front, nor does one that has as many as its header says.
+// The most bytes that are read: as many as the longest image without audit rows has, or as one with
+// this header may have where that is more.
 fn most_with(front: &[u8]) -> usize
     ensures below { result < 2 ^ 63 }
 {

@@ -68,7 +68,7 @@ fn log_command<'a>(alloc: Global) -> Result<Command<'a>, AllocError>
         "KIND",
         "Changes of this kind: made, deleted, written, cut, lengthened, attribute or touched",
     );
-    let limit = with_value(alloc, kind, "limit", "N", "At most so many changes");
+    let limit = with_value(alloc, kind, "limit", "N", "At most N changes");
     let by_object = with_flag(
         alloc,
         limit,
@@ -105,7 +105,7 @@ fn audit_command<'a>(alloc: Global) -> Result<Command<'a>, AllocError>
         "KIND",
         "Of this kind: create, delete, write, truncate, setattr, setwindow, flush or flusho",
     );
-    let limit = with_value(alloc, kind, "limit", "N", "At most so many changes");
+    let limit = with_value(alloc, kind, "limit", "N", "At most N changes");
     let moments = with_flag(alloc, limit, "moments", MOMENTS);
     let json = with_flag(alloc, moments, "json", JSON);
     with_operand(alloc, json, "image", IMAGE.0, IMAGE.1)
