@@ -9,8 +9,10 @@
 mod each;
 mod joining;
 mod owned;
+mod spawned;
 mod task;
 
 pub use each::for_each_mut_with_stack;
 pub use joining::join_with_stack;
 pub use owned::{call_with_stack, join_owned_with_stack};
+pub use spawned::spawn_with_stack;
