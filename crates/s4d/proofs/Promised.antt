@@ -26,9 +26,10 @@ use Rattle.serving.specs.declared.ends.ServeEnd.{ServeEnd}
 use Rattle.server.specs.Accounts.{PartFields, requests_in, changes_in}
 use Rattle.server.specs.Acknowledged.{Acknowledges, AreAcknowledged}
 use Rattle.server.specs.Attending.{IsAttended, SeatFields, SeatSteps}
-use Rattle.server.specs.Drawing.{ClockFields, DrawsNothing, moment_at}
-use Rattle.server.specs.Sequence.{Event, Answers, Tends, Makes, is_answer}
+use Rattle.server.specs.Drawing.{AreTicks, ClockFields, DrawsNothing}
+use Rattle.server.specs.Sequence.{Event, Answers, Tends, Makes, is_answer, moments_of}
 use Rattle.server.specs.Sharing.{SharedStep}
+use Rattle.server.proofs.Ticks.{AreTicksFrom, answer_ticks, first_tick, later_ticks, ticks_from_first}
 use Rattle.server.specs.declared.clocks.Undrawn.{Undrawn}
 use Rattle.server.specs.declared.running.Outcome.{Outcome}
 use Rattle.server.specs.declared.running.Outcome.TheVariants.{Waiting, Served, Refused}
@@ -97,14 +98,17 @@ steps_beside base old new request now reply is = record {
   has_seen = ap seen_of is.told ∙ ap (λ (seen : List Accepted). record { role = old.role; seen = seen }) (told_seen (is_acceptance reply) is.after.ledger old.told);
 }
 
-answers_beside : (base : Base) (clock : ClockFields) (old new : SeatFields) (request : Request) (given : ℕ) (reply : Reply) → SeatSteps base clock old request given reply new
+answers_beside : (base : Base) (clock : ClockFields) (old new : SeatFields) (request : Request) (given : ℕ) (reply : Reply) → SeatSteps base (AreTicks clock) old request given reply new
     → AnswersBeside base clock (seat_seen old) request given reply (seat_seen new)
-answers_beside base clock old new request given reply is = record {
-  count = is.answer.count;
-  late = is.answer.late;
-  step = steps_beside base old.session new.session request (moment_at clock is.answer.count) reply is.answer.step;
-  counted = is.counted;
-}
+answers_beside base clock old new request given reply is =
+    let a = is.answer in
+    let ticks = answer_ticks base clock old.requests old.session new.session request reply new.clock a in
+    record {
+      count = length a.before + 1;
+      late = ticks.0;
+      step = subst (λ (m : ℕ). StepsBeside base (seen_of old.session) request m reply (seen_of new.session)) ticks.1 (steps_beside base old.session new.session request a.now reply a.step);
+      counted = is.counted;
+    }
 
 -- ---- how many changes replies accept
 
@@ -134,23 +138,23 @@ acknowledged steps draws changes (item ∷ items) moments replies old new is num
 -- ---- what a session came to
 
 came_to : (base : Base) (left : Ledger) (clock : ClockFields) (role : Role) (outcome : Outcome) (session : Option SessionFields) (part : Option PartFields) (input output input' output' : Option (List ℕ))
-    → IsAttended base clock role outcome session part input output input' output' → IfSome session (λ last. FitsLedger left last.told)
+    → IsAttended base (AreTicks clock) role outcome session part input output input' output' → IfSome session (λ last. FitsLedger left last.told)
     → ComesTo base left.history clock role outcome (requests_in part) (changes_in part) input output input' output'
 came_to base left clock role Waiting session part input output input' output' is told = is
 came_to base left clock role (Served end) None part input output input' output' is told = absurd is
 came_to base left clock role (Served end) (Some last) None input output input' output' is told = absurd is
 came_to base left clock role (Served end) (Some last) (Some part) input output input' output' is told =
     let finishes = is.serves.finishes in
-    let first : SeatFields = record { session = is.first; requests = 0 } in
-    let ended : SeatFields = record { session = last; requests = part.requests } in
-    let made = acknowledged {B = SeatFields} {C = Undrawn} (SeatSteps base clock) DrawsNothing last.told.seen finishes.items finishes.answered.moments finishes.replies first ended finishes.answered.run last.told.mine is.own in
+    let first : SeatFields = record { session = is.first; requests = 0; clock = is.opened } in
+    let ended : SeatFields = record { session = last; requests = part.requests; clock = is.closed } in
+    let made = acknowledged {B = SeatFields} {C = Undrawn} (SeatSteps base (AreTicks clock)) DrawsNothing last.told.seen finishes.items finishes.answered.moments finishes.replies first ended finishes.answered.run last.told.mine is.own in
     record {
       first = seen_of is.first;
-      role_is = is.fresh.role_is;
+      role_is = is.seated.fresh.role_is;
       last = seen_of last;
       before = is.before;
       after = is.after;
-      serves = serves_so (SeatSteps base clock) (AnswersBeside base clock) DrawsNothing seat_seen (λ old new request given reply. answers_beside base clock old new request given reply) end first ended is.before is.after input output input' output' is.serves;
+      serves = serves_so (SeatSteps base (AreTicks clock)) (AnswersBeside base clock) DrawsNothing seat_seen (λ old new request given reply. answers_beside base clock old new request given reply) end first ended is.before is.after input output input' output' is.serves;
       asked = is.asked;
       taken = is.accepted ∙ made;
       seen = told.seen;
@@ -158,7 +162,7 @@ came_to base left clock role (Served end) (Some last) (Some part) input output i
 came_to base left clock role (Refused refusal) session part input output input' output' is told = (is.0, ap requests_in is.2, ap changes_in is.2, is.3, is.4)
 
 session_of : (base : Base) (drive : DriveFields) (clock : ClockFields) (opens : List ℕ → Option (List ℕ) → Type 0) (files files' : List ℕ → Option (List ℕ)) (there : Bool) (asked : RunSession) (came : Came)
-    → RunsSession base clock opens files files' there drive asked came → IsSessionOf base (history_of drive) clock opens files files' there asked came
+    → RunsSession base (AreTicks clock) opens files files' there drive asked came → IsSessionOf base (history_of drive) clock opens files files' there asked came
 session_of base drive clock opens files files' there asked came is =
     let Comes : ℕ → ℕ → Type 0 = λ requests changes. ComesTo base (history_of drive) clock asked.role came.outcome requests changes is.input is.output is.unread is.written in
     let here : Comes (requests_in is.part) (changes_in is.part) = came_to base drive.ledger clock asked.role came.outcome is.session is.part is.input is.output is.unread is.written is.attended is.told in
@@ -180,35 +184,35 @@ zip_weaker P Q weaker (x ∷ xs) (y ∷ ys) each = (weaker x y each.0, zip_weake
 
 -- ---- what requests made of the drive
 
--- what was asked and answered in events, where k requests were answered before
-abbrev exchanges_in : ClockFields → ℕ → List Event → List Exchange
-exchanges_in clock k [] = []
-exchanges_in clock k (Answers seat role request reply ∷ events) = record { role = role; request = request; now = moment_at clock (k + 1); reply = reply } ∷ exchanges_in clock (k + 1) events
-exchanges_in clock k (Tends ∷ events) = exchanges_in clock k events
+-- what was asked and answered in events
+abbrev exchanges_in : List Event → List Exchange
+exchanges_in [] = []
+exchanges_in (Answers seat role request now reply ∷ events) = record { role = role; request = request; now = now; reply = reply } ∷ exchanges_in events
+exchanges_in (Tends ∷ events) = exchanges_in events
 
 -- they lead from the one history to the other
-led : (clock : ClockFields) (k : ℕ) (first : DriveFields) (events : List Event) (last : DriveFields) → Makes clock k first events last → Leads (history_of first) (exchanges_in clock k events) (history_of last)
-led clock k first [] last made = ap history_of made
-led clock k first (Answers seat role request reply ∷ events) last made = (history_of made.0, made.1.step, led clock (k + 1) made.0 events last made.2)
-led clock k first (Tends ∷ events) last made =
-    subst (λ (l : Ledger). Leads l.history (exchanges_in clock k events) (history_of last)) made.1 (led clock k made.0 events last made.2)
+led : (first : DriveFields) (events : List Event) (last : DriveFields) → Makes first events last → Leads (history_of first) (exchanges_in events) (history_of last)
+led first [] last made = ap history_of made
+led first (Answers seat role request now reply ∷ events) last made = (history_of made.0, made.1.step, led made.0 events last made.2)
+led first (Tends ∷ events) last made = subst (λ (l : Ledger). Leads l.history (exchanges_in events) (history_of last)) made.1 (led made.0 events last made.2)
 
 -- at the clock's moments
-at_moments : (clock : ClockFields) (k : ℕ) (events : List Event) → HaveMoments clock k (exchanges_in clock k events)
-at_moments clock k [] = tt
-at_moments clock k (Answers seat role request reply ∷ events) = (refl, at_moments clock (k + 1) events)
-at_moments clock k (Tends ∷ events) = at_moments clock k events
+at_moments : (clock : ClockFields) (k : ℕ) (events : List Event) → AreTicksFrom clock k (moments_of events) → HaveMoments clock k (exchanges_in events)
+at_moments clock k [] ticks = tt
+at_moments clock k (Answers seat role request now reply ∷ events) ticks =
+    (first_tick clock k now (moments_of events) ticks, at_moments clock (k + 1) events (later_ticks clock k now (moments_of events) ticks))
+at_moments clock k (Tends ∷ events) ticks = at_moments clock k events ticks
 
 -- and there are as many as answers
-as_many : (clock : ClockFields) (k : ℕ) (events : List Event) → length (exchanges_in clock k events) ≡ count_by is_answer events
-as_many clock k [] = refl
-as_many clock k (Answers seat role request reply ∷ events) =
-    let cons : count_by is_answer (Answers seat role request reply ∷ events) ≡ 1 + count_by is_answer events = count_cons is_answer (Answers seat role request reply) events in
-    let rest = as_many clock (k + 1) events in
+as_many : (events : List Event) → length (exchanges_in events) ≡ count_by is_answer events
+as_many [] = refl
+as_many (Answers seat role request now reply ∷ events) =
+    let cons : count_by is_answer (Answers seat role request now reply ∷ events) ≡ 1 + count_by is_answer events = count_cons is_answer (Answers seat role request now reply) events in
+    let rest = as_many events in
     omega (arith, cons, rest)
-as_many clock k (Tends ∷ events) =
+as_many (Tends ∷ events) =
     let cons : count_by is_answer (Tends ∷ events) ≡ 0 + count_by is_answer events = count_cons is_answer Tends events in
-    let rest = as_many clock k events in
+    let rest = as_many events in
     omega (arith, cons, rest)
 
 -- ---- the run
@@ -228,10 +232,10 @@ promised law opens run files files' ended is =
     let there = is.leaves.there in
     let come = settled.come in
     let clock : ClockFields = record { start = is.image.clock; tick = run.tick } in
-    let exchanges = exchanges_in clock 0 come.events in
+    let exchanges = exchanges_in come.events in
     let Each : ℕ → Type 0 = λ n. AllZip (IsSessionOf is.base (history_of drive) (record { start = n; tick = run.tick }) opens files files' settled.there) run.sessions.items settled.came in
     let Moments : ℕ → Type 0 = λ n. HaveMoments (record { start = n; tick = run.tick }) 0 exchanges in
-    let led_so = led clock 0 come.first come.events drive come.made in
+    let led_so = led come.first come.events drive come.made in
     record {
       bytes = is.verified.bytes;
       read = is.verified.read;
@@ -240,13 +244,13 @@ promised law opens run files files' ended is =
       left = history_of drive;
       came = settled.came;
       there = settled.there;
-      each = subst Each start (zip_weaker (RunsSession is.base clock opens files files' settled.there drive) (IsSessionOf is.base (history_of drive) clock opens files files' settled.there)
+      each = subst Each start (zip_weaker (RunsSession is.base (AreTicks clock) opens files files' settled.there drive) (IsSessionOf is.base (history_of drive) clock opens files files' settled.there)
           (session_of is.base drive clock opens files files' settled.there) run.sessions.items settled.came settled.each);
       ends = settled.ends;
       exchanges = exchanges;
       made = subst (λ (l : Ledger). Leads l.history exchanges (history_of drive)) come.began led_so;
-      moments = subst Moments start (at_moments clock 0 come.events);
-      requests = as_many clock 0 come.events ∙ come.answered;
+      moments = subst Moments start (at_moments clock 0 come.events (ticks_from_first clock (moments_of come.events) come.drawn));
+      requests = as_many come.events ∙ come.answered;
       changes = settled.changes;
       saved = spelled.bytes;
       kept = spelled.kept;

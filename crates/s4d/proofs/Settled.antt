@@ -13,9 +13,9 @@ use Rattle.drive.specs.Fields.{DriveFields, SessionFields, history_of, state_in}
 use Rattle.serving.specs.declared.ends.ServeEnd.TheVariants.{Ended}
 use Rattle.server.specs.Accounts.{PartFields, parts_in, requests_in, changes_in}
 use Rattle.server.specs.Attending.{AreServed, IsAttended, IsAttendedClient, Settles}
-use Rattle.server.specs.Drawing.{ClockFields}
+use Rattle.server.specs.Drawing.{AreTicks, ClockFields}
 use Rattle.server.specs.Laws.{ARunAddsItsChangesAlone, ARunsClockGoesByItsRequests}
-use Rattle.server.specs.Sequence.{HasCome, is_answer}
+use Rattle.server.specs.Sequence.{HasCome, is_answer, moments_of}
 use Rattle.server.specs.declared.running.Client.{Client}
 use Rattle.server.specs.declared.running.Outcome.{Outcome}
 use Rattle.server.specs.declared.running.Outcome.TheVariants.{Waiting, Served, Refused}
@@ -47,36 +47,36 @@ ones f (x ∷ xs) each =
     omega (arith, one, others, cons)
 
 -- a session that was attended has its part of the books
-part_of : (base : Base) (clock : ClockFields) (role : Role) (outcome : Outcome) (session : Option SessionFields) (part : Option PartFields) (input output input' output' : Option (List ℕ))
-    → IsAttended base clock role outcome session part input output input' output' → parts_in part ≡ 1
-part_of base clock role Waiting session part input output input' output' is = absurd is
-part_of base clock role (Served end) None part input output input' output' is = absurd is
-part_of base clock role (Served end) (Some last) None input output input' output' is = absurd is
-part_of base clock role (Served end) (Some last) (Some part) input output input' output' is = is.one
-part_of base clock role (Refused refusal) session part input output input' output' is = ap parts_in is.2
+part_of : (base : Base) (moments : List ℕ → Type 0) (role : Role) (outcome : Outcome) (session : Option SessionFields) (part : Option PartFields) (input output input' output' : Option (List ℕ))
+    → IsAttended base moments role outcome session part input output input' output' → parts_in part ≡ 1
+part_of base moments role Waiting session part input output input' output' is = absurd is
+part_of base moments role (Served end) None part input output input' output' is = absurd is
+part_of base moments role (Served end) (Some last) None input output input' output' is = absurd is
+part_of base moments role (Served end) (Some last) (Some part) input output input' output' is = is.one
+part_of base moments role (Refused refusal) session part input output input' output' is = ap parts_in is.2
 
 -- what became of a client, with what is counted on its part of the books
 abbrev pub came_of : {J S W : Type 0} → Client J S W → Came
 came_of client = record { outcome = client.outcome; requests = requests_in client.part; changes = changes_in client.part }
 
-module _ {J S W : Type 0} (remaining : S → Option (List ℕ)) (passed : W → Option (List ℕ)) (reader_failures : S → ℕ) (writer_failures : W → ℕ) (base : Base) (begins : DriveFields → Type 0) (clock : ClockFields) (has_upkeep : Bool) where
+module _ {J S W : Type 0} (remaining : S → Option (List ℕ)) (passed : W → Option (List ℕ)) (reader_failures : S → ℕ) (writer_failures : W → ℕ) (base : Base) (begins : DriveFields → Type 0) (moments : List ℕ → Type 0) (has_upkeep : Bool) where
   -- a client that was attended was begun
-  attended_begun : (before after : Client J S W) → IsAttendedClient remaining passed reader_failures writer_failures base clock before after → after.outcome ≢ Waiting
+  attended_begun : (before after : Client J S W) → IsAttendedClient remaining passed reader_failures writer_failures base moments before after → after.outcome ≢ Waiting
   attended_begun before after is waits =
-      subst (λ (x : Outcome). IsAttended base clock before.role x after.session after.part (remaining before.reader) (passed before.writer) (remaining after.reader) (passed after.writer)) waits is.attended
+      subst (λ (x : Outcome). IsAttended base moments before.role x after.session after.part (remaining before.reader) (passed before.writer) (remaining after.reader) (passed after.writer)) waits is.attended
 
   -- where each of several was attended, there are as many parts
   pub parts_served : (before served : List (Client J S W)) → length served ≡ length before
-      → ((i : ℕ) (d : Client J S W) → i < length before → IsAttendedClient remaining passed reader_failures writer_failures base clock (get_or before i d) (get_or served i d)) → sum_by (λ (x : Client J S W). parts_in x.part) served ≡ length before
+      → ((i : ℕ) (d : Client J S W) → i < length before → IsAttendedClient remaining passed reader_failures writer_failures base moments (get_or before i d) (get_or served i d)) → sum_by (λ (x : Client J S W). parts_in x.part) served ≡ length before
   parts_served before served count each =
       ones (λ (x : Client J S W). parts_in x.part) served (λ i d lt.
       let at : i < length before = omega (arith, lt, count) in
       let is = each i d at in
-      part_of base clock (get_or before i d).role (get_or served i d).outcome (get_or served i d).session (get_or served i d).part _ _ _ _ is.attended)
+      part_of base moments (get_or before i d).role (get_or served i d).outcome (get_or served i d).session (get_or served i d).part _ _ _ _ is.attended)
       ∙ count
 
   -- so was each
-  pub served_begun : (before after : List (Client J S W)) (drive : DriveFields) → AreServed remaining passed reader_failures writer_failures base begins clock has_upkeep before after drive
+  pub served_begun : (before after : List (Client J S W)) (drive : DriveFields) → AreServed remaining passed reader_failures writer_failures base begins moments has_upkeep before after drive
       → (i : ℕ) (d : Client J S W) → i < length before → (get_or after i d).outcome ≢ Waiting
   served_begun before after drive are i d lt waits =
       let settled = are.settled i d lt in
@@ -93,12 +93,12 @@ module _ {J S W : Type 0} (remaining : S → Option (List ℕ)) (passed : W → 
 
     -- it was attended, and what it was told fits the drive that is left
     abbrev IsTold : Client J S W → Client J S W → Type 0
-    IsTold before served = IsAttendedClient remaining passed reader_failures writer_failures base clock before served × IfSome served.session (λ last. FitsLedger drive.ledger last.told)
+    IsTold before served = IsAttendedClient remaining passed reader_failures writer_failures base moments before served × IfSome served.session (λ last. FitsLedger drive.ledger last.told)
 
     ran : (asked : RunSession) (before served : Client J S W) → IsAsked asked before → IsTold before served → IsLeft asked served
-        → RunsSession base clock opens files final there drive asked (came_of served)
+        → RunsSession base moments opens files final there drive asked (came_of served)
     ran asked before served first is last =
-        let Attends : Role → Type 0 = λ role. IsAttended base clock role served.outcome served.session served.part (remaining before.reader) (passed before.writer) (remaining served.reader) (passed served.writer) in
+        let Attends : Role → Type 0 = λ role. IsAttended base moments role served.outcome served.session served.part (remaining before.reader) (passed before.writer) (remaining served.reader) (passed served.writer) in
         record {
           input = remaining before.reader;
           output = passed before.writer;
@@ -115,7 +115,7 @@ module _ {J S W : Type 0} (remaining : S → Option (List ℕ)) (passed : W → 
         }
 
     -- each ended well where each is so in the end
-    ends_served : (before after : List (Client J S W)) (are : AreServed remaining passed reader_failures writer_failures base begins clock has_upkeep before after drive) → length after ≡ length before
+    ends_served : (before after : List (Client J S W)) (are : AreServed remaining passed reader_failures writer_failures base begins moments has_upkeep before after drive) → length after ≡ length before
         → All (λ (x : Client J S W). x.outcome ≡ Served Ended) after ↔ All (λ (c : Came). c.outcome ≡ Served Ended) (map came_of are.served)
     ends_served before after are count = (
       (λ all. All-map (λ (c : Came). c.outcome ≡ Served Ended) came_of are.served (λ i d lt.
@@ -132,12 +132,12 @@ module _ {J S W : Type 0} (remaining : S → Option (List ℕ)) (passed : W → 
     summed f (x ∷ xs) = sum_by-cons f (came_of x) (map came_of xs) ∙ (ap (λ n. f (came_of x) + n) (summed f xs) ∙ sym (sum_by-cons (λ y. f (came_of y)) x xs))
 
     -- the sessions of a line, from what became of their clients
-    pub sessions_ran : (sessions : List RunSession) (clients after : List (Client J S W)) (are_ended : Bool) → AllZip IsAsked sessions clients → length after ≡ length clients
-        → AreServed remaining passed reader_failures writer_failures base begins clock has_upkeep clients after drive → AllZip IsLeft sessions after
+    pub sessions_ran : (clock : ClockFields) → ((drawn : List ℕ) → moments drawn → AreTicks clock drawn) → (sessions : List RunSession) (clients after : List (Client J S W)) (are_ended : Bool) → AllZip IsAsked sessions clients → length after ≡ length clients
+        → AreServed remaining passed reader_failures writer_failures base begins moments has_upkeep clients after drive → AllZip IsLeft sessions after
         → (IsTrue are_ended ↔ All (λ x. x.outcome ≡ Served Ended) after) → ((d : DriveFields) → begins d → IsUnasked base d)
         → ARunAddsItsChangesAlone → ARunsClockGoesByItsRequests → base.clock ≤ clock.start
-        → RunsSessions base clock has_upkeep opens files final sessions (are_ended && there) drive
-    sessions_ran sessions clients after are_ended asked count are left ends unasked adds goes within =
+        → RunsSessions base moments clock has_upkeep opens files final sessions (are_ended && there) drive
+    sessions_ran clock ticks sessions clients after are_ended asked count are left ends unasked adds goes within =
         let so = ends_served clients after are count in
         let left_so = zip_moved IsLeft (λ (x y : Client J S W). passed x.writer ≡ passed y.writer) (λ s x y kept same is_there. subst (λ (bytes : Option (List ℕ)). Keeps bytes (final s.output.now)) same (kept is_there))
         sessions after are.served left (omega (arith, count, are.count))
@@ -150,23 +150,23 @@ module _ {J S W : Type 0} (remaining : S → Option (List ℕ)) (passed : W → 
         let first : come.first.ledger ≡ begun base = unasked come.first come.began in
         let none : length (accepted (history_of come.first)) ≡ 0 = ap (λ l. length (accepted l.history)) first in
         let opened : (state_in come.first).clock ≡ base.clock = ap (λ l. (state_of l.history).clock) first in
-        let added = adds clock come.first drive come.events come.made in
-        let gone = goes clock come.first drive come.events come.made (omega (arith, opened, within)) in
+        let added = adds come.first drive come.events come.made in
+        let gone = goes clock come.first drive come.events come.made (ticks (moments_of come.events) come.drawn) (omega (arith, opened, within)) in
         let accepted_are = come.accepted in
         let Within : ℕ → ℕ → Type 0 = λ a b. (state_in drive).clock ≤ clock.start + a * clock.tick + b in
         let here : Within n m = subst (λ a. Within a m) come.answered (subst (λ b. Within (count_by is_answer come.events) b) come.accepted gone) in
-        let Comes : ℕ → ℕ → Type 0 = λ a b. HasCome (IsUnasked base) clock has_upkeep a b drive in
+        let Comes : ℕ → ℕ → Type 0 = λ a b. HasCome (IsUnasked base) moments has_upkeep a b drive in
         record {
           came = map came_of are.served;
           there = there;
-          each = zip_on IsAsked IsTold IsLeft (RunsSession base clock opens files final there drive) came_of ran sessions clients are.served asked are.count
+          each = zip_on IsAsked IsTold IsLeft (RunsSession base moments opens files final there drive) came_of ran sessions clients are.served asked are.count
               (λ i d lt. (are.each i d lt, fits_ledger drive.ledger (get_or are.served i d).session (get_or after i d).session (are.settled i d lt).session)) left_so;
           ends = (
             (λ t. let both = ended_there are_ended there t in (both.1, so.0 (ends.0 both.0))),
             (λ both. there_ended are_ended there (ends.1 (so.1 both.1)) both.0),
           );
           come = subst (λ a. Comes a (sum_by (λ c. c.changes) (map came_of are.served))) (sym requests) (subst (λ b. Comes n b) (sym changes)
-              (record { first = come.first; began = first; events = come.events; made = come.made; answered = come.answered; accepted = come.accepted; untended = come.untended }));
+              (record { first = come.first; began = first; events = come.events; made = come.made; drawn = come.drawn; answered = come.answered; accepted = come.accepted; untended = come.untended }));
           changes = omega (arith, added, none, changes, accepted_are);
           latest = subst (λ a. Within a (sum_by (λ c. c.changes) (map came_of are.served))) (sym requests) (subst (λ b. Within n b) (sym changes) here);
         }

@@ -10,7 +10,7 @@ use Rattle.drive.specs.Fields.{DriveFields, SessionFields, history_of, state_in}
 use Rattle.serving.specs.declared.ends.ServeEnd.TheVariants.{Ended}
 use Rattle.server.specs.Accounts.{PartFields, requests_in, changes_in}
 use Rattle.server.specs.Attending.{IsAttended}
-use Rattle.server.specs.Drawing.{ClockFields}
+use Rattle.server.specs.Drawing.{AreTicks, ClockFields}
 use Rattle.server.specs.Sequence.{HasCome}
 use Rattle.server.specs.Sharing.{IsSharedDrive}
 use Rattle.server.specs.declared.running.Outcome.{Outcome}
@@ -59,7 +59,7 @@ pub record Came : Type 0 where
 -- What became of a session that the line asks for, beside the drive that is saved: it was attended in its role, and what it was told
 -- fits that drive. So the drive's history begins with all that the session had seen, and has the session's own changes, which its
 -- replies acknowledge. Where the paths of outputs lead to what was written, its file has just what its writer took, which is its replies.
-pub record RunsSession (base : Base) (clock : ClockFields) (opens : List ℕ → Option (List ℕ) → Type 0) (files files' : List ℕ → Option (List ℕ)) (there : Bool) (drive : DriveFields) (asked : RunSession) (came : Came) : Type 0 where
+pub record RunsSession (base : Base) (moments : List ℕ → Type 0) (opens : List ℕ → Option (List ℕ) → Type 0) (files files' : List ℕ → Option (List ℕ)) (there : Bool) (drive : DriveFields) (asked : RunSession) (came : Came) : Type 0 where
   pub input : Option (List ℕ)
   pub output : Option (List ℕ)
   pub first : HasFiles opens files asked input output
@@ -67,7 +67,7 @@ pub record RunsSession (base : Base) (clock : ClockFields) (opens : List ℕ →
   pub written : Option (List ℕ)
   pub session : Option SessionFields
   pub part : Option PartFields
-  pub attended : IsAttended base clock asked.role came.outcome session part input output unread written
+  pub attended : IsAttended base moments asked.role came.outcome session part input output unread written
   pub requests : came.requests ≡ requests_in part
   pub changes : came.changes ≡ changes_in part
   pub told : IfSome session (λ last. FitsLedger drive.ledger last.told)
@@ -77,28 +77,28 @@ pub record RunsSession (base : Base) (clock : ClockFields) (opens : List ℕ →
 abbrev pub IsUnasked : Base → DriveFields → Type 0
 IsUnasked base drive = drive.ledger ≡ begun base
 
--- Each session of the line came to this; and all of them ended at the end of their input, with the paths of their outputs leading to what
+-- Each session of the line came to this, at moments that may be drawn so; and all of them ended at the end of their input, with the paths of their outputs leading to what
 -- was written, exactly where that is answered. The drive is what the requests that were answered to them have made, in their order, of one
 -- whose history was the base; and without upkeep nothing else was done to it. So its accepted changes are as many as were accepted for
 -- the sessions of the line; and its clock is at most a tick for each request after the clock's start, and a moment for each such change.
-pub record RunsSessions (base : Base) (clock : ClockFields) (has_upkeep : Bool) (opens : List ℕ → Option (List ℕ) → Type 0) (files files' : List ℕ → Option (List ℕ)) (sessions : List RunSession) (ended : Bool) (drive : DriveFields) : Type 0 where
+pub record RunsSessions (base : Base) (moments : List ℕ → Type 0) (clock : ClockFields) (has_upkeep : Bool) (opens : List ℕ → Option (List ℕ) → Type 0) (files files' : List ℕ → Option (List ℕ)) (sessions : List RunSession) (ended : Bool) (drive : DriveFields) : Type 0 where
   pub came : List Came
   pub there : Bool
-  pub each : AllZip (RunsSession base clock opens files files' there drive) sessions came
+  pub each : AllZip (RunsSession base moments opens files files' there drive) sessions came
   pub ends : IsTrue ended ↔ (IsTrue there × All (λ c. c.outcome ≡ Served Ended) came)
-  pub come : HasCome (IsUnasked base) clock has_upkeep (sum_by (λ c. c.requests) came) (sum_by (λ c. c.changes) came) drive
+  pub come : HasCome (IsUnasked base) moments has_upkeep (sum_by (λ c. c.requests) came) (sum_by (λ c. c.changes) came) drive
   pub changes : length (accepted (history_of drive)) ≡ sum_by (λ c. c.changes) came
   pub latest : (state_in drive).clock ≤ clock.start + sum_by (λ c. c.requests) came * clock.tick + sum_by (λ c. c.changes) came
 
 -- What `run` does, by what is known of files before and after, and of the file that the new image is in. The image was read and verified.
--- A drive whose history began with what it told served the sessions of the line, from the image's clock on; and what it is saved as then
--- is in that file.
+-- A drive whose history began with what it told served the sessions of the line, from the image's clock on and a tick for each request; and
+-- what it is saved as then is in that file.
 pub record RunsImage (opens : List ℕ → Option (List ℕ) → Type 0) (run : Run) (files files' : List ℕ → Option (List ℕ)) (saved : Option (List ℕ)) (ended : Bool) : Type 0 where
   pub image : ImageFields
   pub verified : IsVerified (files run.image.now) image
   pub base : Base
   pub told : IsToldBy (image_in verified.bytes) base
-  pub leaves : LeavesDrive base (RunsSessions base (record { start = image.clock; tick = run.tick }) run.upkeep opens files files' run.sessions.items ended) (IsSavedIn saved)
+  pub leaves : LeavesDrive base (RunsSessions base (AreTicks (record { start = image.clock; tick = run.tick })) (record { start = image.clock; tick = run.tick }) run.upkeep opens files files' run.sessions.items ended) (IsSavedIn saved)
 
 -- no session was served
 abbrev pub IsUnserved : RunFault → Type 0

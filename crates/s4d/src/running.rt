@@ -5,10 +5,12 @@ ghost use Rattle.std.specs.Prelude.{true, false, IfErr, IfOk, IsTrue, OnErr, OnO
 ghost use Rattle.std.specs.Io.KnownBytes.{Keeps};
 ghost use Rattle.s4_types.specs.declared.refusals.Refusal.TheVariants.{NoMemory};
 ghost use Rattle.segment_table.specs.Room.{log_of};
+ghost use Rattle.segment_word.specs.AcceptViews.{count_of};
 ghost use Rattle.version_store.specs.Store.{fields_of};
 ghost use Rattle.drive.specs.Opened.{base_of};
 ghost use Rattle.server.specs.Accounts.{one_part};
 ghost use Rattle.server.specs.Attending.{AreServed, IsAttendedClient};
+ghost use Rattle.server.specs.Drawing.{AreTicks};
 ghost use Rattle.verifier.specs.Saved.{SpellsSaved};
 ghost use Rattle.image_commands.specs.Files.{AreKnown};
 ghost use Rattle.image_commands.specs.Leaving.{IsBeside, IsKeptOrLeft};
@@ -31,7 +33,7 @@ use server::{
     Blanks, Client, MOST_SESSIONS, Open, Outcome, Running, SharedDrive, give_parts, run_sessions,
     run_with_upkeep, settle,
 };
-use serving::{ReadSource, ServeEnd, Sink, Source, WriteSink};
+use serving::{ReadSource, ServeEnd, Sink, Source, Ticking, WriteSink};
 use std::alloc::Global;
 use std::io::Write;
 use std::marker::Brand;
@@ -169,14 +171,18 @@ fn run_begun<'a, J: Running + Send + Sync, T: Threads + Wait + Clock + Sync, F: 
     requires sessions { length sessions.now ≤ 16 }
     requires unasked { (d : _) → IsUnasked J.base d → J.begins d }
     requires begins { (d : _) → J.begins d → IsUnasked J.base d }
-    requires clock { J.clock ≡ record { start = begun.manner.start; tick = begun.manner.tick } }
+    requires ticks { (moments : List ℕ)
+        → AreTicks (record { start = begun.manner.start; tick = begun.manner.tick }) moments
+        → J.moments moments }
+    requires moments { (moments : List ℕ) → J.moments moments
+        → AreTicks (record { start = begun.manner.start; tick = begun.manner.tick }) moments }
     requires upkeep { J.has_upkeep ≡ begun.manner.upkeep }
     requires ledgers { (begun.blanks.requests ≡ J.asked) × (begun.blanks.changes ≡ J.name) }
     requires parts { (begun.blanks.parts ≡ J.parts) × (J.parts ≡ 17) }
     requires start { begun.opened.timeline.clock ≡ begun.manner.start }
     requires claimed { F.leads begun.claim begun.path.now }
     ensures left { IfOk result (λ ran. LeavesDrive J.base
-        (RunsSessions J.base (record { start = begun.entry.manner.start; tick = begun.entry.manner.tick }) begun.entry.manner.upkeep (HoldsAt F.writes F.Writer.contents) (F.contents files.old) (F.contents files.new) sessions.now ran.is_ended)
+        (RunsSessions J.base J.moments (record { start = begun.entry.manner.start; tick = begun.entry.manner.tick }) begun.entry.manner.upkeep (HoldsAt F.writes F.Writer.contents) (F.contents files.old) (F.contents files.new) sessions.now ran.is_ended)
         (IsSavedIn (F.contents files.new begun.entry.path.now))) }
     ensures apart { OnOk result
         (All (λ written. All (λ read. F.apart read.input.now written.output.now) sessions.now)
@@ -188,7 +194,7 @@ fn run_begun<'a, J: Running + Send + Sync, T: Threads + Wait + Clock + Sync, F: 
     ensures unserved { IfErr result (λ fault. IsUnserved fault → (path : List ℕ)
         → IsKeptOrLeft (IsBeside F.leads F.reserves begun.entry.path.now path) (F.contents files.old path) (F.contents files.new path)) }
     ensures fault { IfErr result (λ fault. (known : Option (List ℕ)) → SaysUnrun known begun.entry.path.now sessions.now (λ saved. (ended : Bool) × LeavesDrive J.base
-        (RunsSessions J.base (record { start = begun.entry.manner.start; tick = begun.entry.manner.tick }) begun.entry.manner.upkeep (HoldsAt F.writes F.Writer.contents) (F.contents files.old) (F.contents files.new) sessions.now ended)
+        (RunsSessions J.base J.moments (record { start = begun.entry.manner.start; tick = begun.entry.manner.tick }) begun.entry.manner.upkeep (HoldsAt F.writes F.Writer.contents) (F.contents files.old) (F.contents files.new) sessions.now ended)
         (IsSavedIn saved)) (F.contents files.new) fault) }
 {
     a_run_is_what_was_asked();
@@ -324,7 +330,9 @@ fn serve_named<
     requires frames { opened.store.table.seat.table ≡ J.frames }
     requires base { base_of (fields_of log_of opened.store) opened.timeline opened.next opened.audit ≡ J.base }
     requires unasked { (d : _) → IsUnasked J.base d → J.begins d }
-    requires clock { J.clock ≡ record { start = manner.start; tick = manner.tick } }
+    requires ticks { (moments : List ℕ)
+        → AreTicks (record { start = manner.start; tick = manner.tick }) moments
+        → J.moments moments }
     requires upkeep { J.has_upkeep ≡ manner.upkeep }
     requires ledgers { (blanks.requests ≡ J.asked) × (blanks.changes ≡ J.name) }
     requires parts { (blanks.parts ≡ J.parts) × (J.parts ≡ 17) }
@@ -337,7 +345,7 @@ fn serve_named<
     // history begins with all that a session had seen, and has the session's own changes at their
     // numbers; or there was no seat for the session.
     ensures left { LeavesDrive J.base
-        (AreServed S.remaining W.passed S.failures W.failures J.base J.begins J.clock J.has_upkeep
+        (AreServed S.remaining W.passed S.failures W.failures J.base J.begins J.moments J.has_upkeep
         clients.items result.0.items)
         (λ drive. IfOk result.1 (λ bytes. SpellsSaved drive bytes.items)) }
     ensures refusal { IfErr result.1 (λ e. e ≡ NoMemory) }
@@ -364,7 +372,10 @@ fn serve_and_save<
     clients: Vec<Client<J, S, W>>,
 ) -> (Vec<Client<J, S, W>>, Drive<J>, Result<Vec<u8>, Refusal>)
     requires begins { J.begins drive }
-    requires clock { J.clock ≡ record { start = manner.start; tick = manner.tick } }
+    requires none { count_of drive.ledger ≡ 0 }
+    requires ticks { (moments : List ℕ)
+        → AreTicks (record { start = manner.start; tick = manner.tick }) moments
+        → J.moments moments }
     requires upkeep { J.has_upkeep ≡ manner.upkeep }
     requires ledgers { (blanks.requests ≡ J.asked) × (blanks.changes ≡ J.name) }
     requires parts { (blanks.parts ≡ J.parts) × (J.parts ≡ 17) }
@@ -372,13 +383,14 @@ fn serve_and_save<
     requires readers { All (λ c. S.failures c.reader + 1 < 2 ^ 64) clients.items }
     requires writers { All (λ c. W.failures c.writer + 1 < 2 ^ 64) clients.items }
     ensures count { vec_len result.0 ≡ vec_len clients }
-    ensures served { AreServed S.remaining W.passed S.failures W.failures J.base J.begins J.clock
+    ensures served { AreServed S.remaining W.passed S.failures W.failures J.base J.begins J.moments
         J.has_upkeep clients.items result.0.items result.1 }
     // What is saved is the drive as the sessions left it.
     ensures saved { IfOk result.2 (λ bytes. SpellsSaved result.1 bytes.items) }
     ensures refusal { IfErr result.2 (λ e. e ≡ NoMemory) }
 {
-    let (shared, mut rest) = SharedDrive::new(drive, manner.start, manner.tick, blanks);
+    let clock = Ticking::new(manner.start, manner.tick);
+    let (shared, mut rest) = SharedDrive::new(drive, clock, blanks);
     let mut clients = clients;
     give_parts(&mut rest, clients.as_mut_slice());
     let shared = Mutex::new(shared);
@@ -397,7 +409,7 @@ fn serve_all<
 >(
     rt: &T,
     alloc: Global,
-    drive: &Mutex<SharedDrive<J>>,
+    drive: &Mutex<SharedDrive<J, Ticking>>,
     upkeep: bool,
     clients: Vec<Client<J, S, W>>,
 ) -> Vec<Client<J, S, W>>
@@ -409,7 +421,7 @@ fn serve_all<
     ensures count { vec_len result ≡ vec_len clients }
     // Each session was answered by steps of the shared drive, or the drive had no seat for it.
     ensures attended { (i : ℕ) (d : _) → i < vec_len clients
-        → IsAttendedClient S.remaining W.passed S.failures W.failures J.base J.clock
+        → IsAttendedClient S.remaining W.passed S.failures W.failures J.base J.moments
         (slice_index_or clients.items i d) (slice_index_or result.items i d) }
 {
     if upkeep {

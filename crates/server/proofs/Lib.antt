@@ -1,5 +1,6 @@
 pub mod Acknowledged
 pub mod Sequence
+pub mod Ticks
 pub mod Summing
 pub mod Sharing
 pub mod Rounding

@@ -1,9 +1,10 @@
 -- What a session was told after a plan, and after one that couldn't be fetched.
-use Rattle.std.proofs.Common.{◌≡◌, ◌≤◌, ℕ, false, List, [], Option, None, Result, Ok, Err, inl, inr, refl, sym, ap, subst, ◌∙◌}
+use Rattle.std.proofs.Common.{◌≡◌, ◌≤◌, ℕ, Bool, true, false, if◌then◌else◌, List, [], Option, None, Result, Ok, Err, inl, inr, refl, sym, ap, subst, ◌∙◌, arith}
 use Rattle.std.specs.Prelude.{IfOk}
 use Rattle.std.proofs.lemmas.Option.{none-some}
 use Rattle.atomic_table.specs.Seated.{TableId}
 use Rattle.s4_types.specs.History.{Base, History, accepted}
+use Rattle.s4_types.specs.Sizes.{ReplyFits}
 use Rattle.s4_types.specs.declared.requests.Role.{Role}
 use Rattle.s4_types.specs.declared.requests.Request.{Request}
 use Rattle.s4_types.specs.declared.requests.Request.TheVariants.{Query}
@@ -16,7 +17,7 @@ use Rattle.s4_model.specs.Sound.{IsSound}
 use Rattle.s4_model.specs.State.{State, grown}
 use Rattle.s4_model.specs.Refusals.{first_refusal}
 use Rattle.s4_model.specs.Step.{Step, Refuses, Serves, Alters, Reads, ForMemory, MayWantMemory, judged}
-use Rattle.segment_word.specs.AcceptViews.{Ledger, Told, caught_up}
+use Rattle.segment_word.specs.AcceptViews.{Ledger, Told, caught_up, credited}
 use Rattle.segment_table.specs.Rules.{HasFramesInOrder}
 use Rattle.version_store.specs.Store.{StoreFields, IsStore}
 use Rattle.time_read.specs.Plans.{PlanFields, bytes_planned}
@@ -24,8 +25,13 @@ use Rattle.drive.specs.Fields.{DriveFields, SessionFields, history_of, state_in,
 use Rattle.drive.specs.Keeping.{DecodesWhereVisible}
 use Rattle.drive.specs.Opened.{NoneFrom}
 use Rattle.drive.specs.Answering.{Leaves, told_after, owners_after, is_acceptance, reply_planned}
-use Rattle.server.specs.Drawing.{ClockFields, moment_at}
+use Rattle.server.specs.Attending.{IsSeated}
 use Rattle.server.specs.Sharing.{IsSharedDrive, SharedStep, SharedAnswer, IsFetched, IsFresh}
+
+-- whether a change of it was accepted or not, it has seen all
+seen_by : (b : Bool) (l : Ledger) (t : Told) → (if b then credited l t else caught_up l t).seen ≡ accepted l.history
+seen_by true l t = refl
+seen_by false l t = refl
 
 -- a plan accepts nothing
 pub planned_told : (planned : Result PlanFields Refusal) (l : Ledger) (t : Told) → told_after (reply_planned planned) l t ≡ caught_up l t
@@ -96,25 +102,59 @@ shared_unfetched base old new o off len now at bytes s = record {
   has_seen = s.has_seen;
 }
 
--- a plan that was fetched, or couldn't be
+-- a plan that was fetched, or couldn't be: the drive came to the same
 pub shared_fetched : (base : Base) (old new : SessionFields) (o off len now : ℕ) (at : Option ℕ) (planned : Result PlanFields Refusal) (reply : Reply)
-    → SharedStep base old (Query (Read o off len at)) now (reply_planned planned) new → IsFetched planned reply → SharedStep base old (Query (Read o off len at)) now reply new
-shared_fetched base old new o off len now at (Ok plan) reply s (inl is) = subst (λ (r : Reply). SharedStep base old (Query (Read o off len at)) now r new) (sym is) s
+    → (s : SharedStep base old (Query (Read o off len at)) now (reply_planned planned) new) → IsFetched planned reply → (t : SharedStep base old (Query (Read o off len at)) now reply new) × (t.after ≡ s.after)
+unfolding shared_unfetched
+shared_fetched base old new o off len now at (Ok plan) reply s (inl is) =
+    let Comes : Reply → Type 0 = λ r. (t : SharedStep base old (Query (Read o off len at)) now r new) × (t.after ≡ s.after) in
+    subst Comes (sym is) (s, refl)
 shared_fetched base old new o off len now at (Ok plan) reply s (inr is) =
-    subst (λ (r : Reply). SharedStep base old (Query (Read o off len at)) now r new) (sym is) (shared_unfetched base old new o off len now at (bytes_planned plan) s)
-shared_fetched base old new o off len now at (Err refusal) reply s is = subst (λ (r : Reply). SharedStep base old (Query (Read o off len at)) now r new) (sym is) s
+    let Comes : Reply → Type 0 = λ r. (t : SharedStep base old (Query (Read o off len at)) now r new) × (t.after ≡ s.after) in
+    subst Comes (sym is) (shared_unfetched base old new o off len now at (bytes_planned plan) s, refl)
+shared_fetched base old new o off len now at (Err refusal) reply s is =
+    let Comes : Reply → Type 0 = λ r. (t : SharedStep base old (Query (Read o off len at)) now r new) × (t.after ≡ s.after) in
+    subst Comes (sym is) (s, refl)
 
 -- a session that was just had of a drive with this base
-pub shared_fresh : (base : Base) (role : Role) (d : DriveFields) (had : Result SessionFields Refusal) → (history_of d).base ≡ base → IfOk had (λ s. s.told.seen ≡ accepted d.ledger.history) → IfOk had (λ s. s.told.mine ≡ [])
-    → IfOk had (λ s. s.role ≡ role) → IfOk had (IsFresh base role)
-shared_fresh base role d (Ok session) begins seen mine role_is = record { ledger = d.ledger; begins = begins; seen = seen; mine = mine; role_is = role_is }
-shared_fresh base role d (Err refusal) begins seen mine role_is = tt
+pub shared_seated : (base : Base) (role : Role) (d e : DriveFields) (had : Result SessionFields Refusal) → (history_of d).base ≡ base → e ≡ d → IfOk had (λ s. s.told.seen ≡ accepted d.ledger.history) → IfOk had (λ s. s.told.mine ≡ [])
+    → IfOk had (λ s. s.role ≡ role) → IfOk had (λ s. IsSeated base role (record { session = s; requests = 0; clock = (state_in e).clock }))
+shared_seated base role d e (Ok session) begins same seen mine role_is = record {
+  fresh = record { ledger = d.ledger; begins = begins; seen = seen; mine = mine; role_is = role_is };
+  clock = ap (λ (f : DriveFields). (state_in f).clock) same;
+  requests = refl;
+}
+shared_seated base role d e (Err refusal) begins same seen mine role_is = tt
+
+-- where it is asked nothing
+pub seated_fresh : {P : Type 0} (base : Base) (role : Role) (session_of : P → SessionFields) (clock_of : P → ℕ) (had : Result P Refusal) → IfOk had (λ s. IsSeated base role (record { session = session_of s; requests = 0; clock = clock_of s }))
+    → IfOk had (λ s. IsFresh base role (session_of s))
+seated_fresh base role session_of clock_of (Ok s) is = is.fresh
+seated_fresh base role session_of clock_of (Err refusal) is = tt
 
 -- the same of a session that draws its moment with the drive's lock
-pub answer_fetched : (base : Base) (clock : ClockFields) (own : ℕ) (old new : SessionFields) (o off len : ℕ) (at : Option ℕ) (planned : Result PlanFields Refusal) (reply : Reply)
-    → SharedAnswer base clock own old (Query (Read o off len at)) (reply_planned planned) new → IsFetched planned reply → SharedAnswer base clock own old (Query (Read o off len at)) reply new
-answer_fetched base clock own old new o off len at planned reply a is = record {
-  count = a.count;
-  late = a.late;
-  step = shared_fetched base old new o off len (moment_at clock a.count) at planned reply a.step is;
-}
+pub answer_fetched : (base : Base) (moments : List ℕ → Type 0) (own : ℕ) (old new : SessionFields) (o off len : ℕ) (at : Option ℕ) (planned : Result PlanFields Refusal) (reply : Reply) (clock : ℕ)
+    → SharedAnswer base moments own old (Query (Read o off len at)) (reply_planned planned) new clock → IsFetched planned reply → SharedAnswer base moments own old (Query (Read o off len at)) reply new clock
+answer_fetched base moments own old new o off len at planned reply clock a is =
+    let both = shared_fetched base old new o off len a.now at planned reply a.step is in
+    record {
+      before = a.before;
+      now = a.now;
+      drawn = a.drawn;
+      late = a.late;
+      step = both.0;
+      came_to = a.came_to ∙ ap (λ (d : DriveFields). (state_in d).clock) (sym both.1);
+    }
+
+-- what a session has seen after a reply
+pub seen_after : (reply : Reply) (l : Ledger) (old new : SessionFields) → new ≡ record old { told = told_after reply l old.told } → new.told.seen ≡ accepted l.history
+seen_after reply l old new told = ap (λ (s : SessionFields). s.told.seen) told ∙ seen_by (is_acceptance reply) l old.told
+
+memory_fits : ReplyFits (Refused NoMemory)
+memory_fits is = omega (arith, is)
+
+-- what is fetched of a plan fits a reply
+pub fetched_fits : (planned : Result PlanFields Refusal) (reply : Reply) → ReplyFits (reply_planned planned) → IsFetched planned reply → ReplyFits reply
+fetched_fits (Ok plan) reply fits (inl is) = subst ReplyFits (sym is) fits
+fetched_fits (Ok plan) reply fits (inr is) = subst ReplyFits (sym is) memory_fits
+fetched_fits (Err refusal) reply fits is = subst ReplyFits (sym is) fits

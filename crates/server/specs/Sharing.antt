@@ -1,5 +1,5 @@
 -- What a session is answered that shares its drive with others.
-use Rattle.std.specs.Prelude.{◌≡◌, ◌⊎◌, ℕ, ◌≤◌, ◌<◌, [], Result, Ok, Err}
+use Rattle.std.specs.Prelude.{◌≡◌, ◌⊎◌, ℕ, ◌≤◌, ◌-◌, ◌^◌, min, List, [], ◌∷◌, ◌++◌, length, Result, Ok, Err}
 use Rattle.s4_types.specs.History.{Base, accepted}
 use Rattle.s4_types.specs.declared.requests.Role.{Role}
 use Rattle.s4_types.specs.declared.requests.Request.{Request}
@@ -8,6 +8,7 @@ use Rattle.s4_types.specs.declared.replies.Reply.TheVariants.{Data, Refused}
 use Rattle.s4_types.specs.declared.refusals.Refusal.{Refusal}
 use Rattle.s4_types.specs.declared.refusals.Refusal.TheVariants.{NoMemory}
 use Rattle.s4_model.specs.Sound.{IsSound}
+use Rattle.s4_model.specs.State.{state_of}
 use Rattle.s4_model.specs.Step.{Step}
 use Rattle.segment_word.specs.AcceptViews.{Ledger, caught_up}
 use Rattle.segment_word.specs.AcceptRule.{FitsLedger}
@@ -19,7 +20,6 @@ use Rattle.drive.specs.Keeping.{DecodesWhereVisible}
 use Rattle.drive.specs.Opened.{NoneFrom}
 use Rattle.drive.specs.Refusing.{RefusesExactly, LacksMemoryInPlace}
 use Rattle.drive.specs.Answering.{Leaves, told_after, owners_after}
-use Rattle.server.specs.Drawing.{ClockFields, moment_at}
 
 -- A drive as others may have left it under the lock: its history has this base, and what always holds of a drive holds of it. So its
 -- blocks decode to the versions of its history at each moment that can be read, and its frames are in order.
@@ -49,20 +49,29 @@ pub record SharedStep (base : Base) (old : SessionFields) (request : Request) (n
   pub has_seen : FitsLedger after.ledger new.told
 
 -- So a request is answered to a session that was answered `own` requests before, at a moment of the clock that all sessions share: the drive's
--- lock is held while that is drawn. It comes after the moments of at least as many requests; how many more there are rests on the others.
-pub record SharedAnswer (base : Base) (clock : ClockFields) (own : ℕ) (old : SessionFields) (request : Request) (reply : Reply) (new : SessionFields) : Type 0 where
-  pub count : ℕ
-  pub late : own < count
-  pub step : SharedStep base old request (moment_at clock count) reply new
+-- lock is held while that is drawn. It is the last of moments that the run may draw, and comes after those of at least as many requests; how
+-- many more there are rests on the others. The drive's clock has come to this one then.
+pub record SharedAnswer (base : Base) (moments : List ℕ → Type 0) (own : ℕ) (old : SessionFields) (request : Request) (reply : Reply) (new : SessionFields) (clock : ℕ) : Type 0 where
+  pub before : List ℕ
+  pub now : ℕ
+  pub drawn : moments (before ++ now ∷ [])
+  pub late : own ≤ length before
+  pub step : SharedStep base old request now reply new
+  pub came_to : clock ≡ (state_in step.after).clock
+
+-- how many accepted changes a session has seen, by a count that stops at the last number
+abbrev pub number_seen : SessionFields → ℕ
+number_seen session = min (length session.told.seen) (2 ^ 64 - 1)
 
 -- The session met the drive: it has seen all that was accepted in some history with this base, which begins with all that it
--- had seen, and nothing else about it has changed.
-pub record HasMet (base : Base) (old new : SessionFields) : Type 0 where
+-- had seen, and nothing else about it has changed. That history's clock is here.
+pub record HasMet (base : Base) (old new : SessionFields) (clock : ℕ) : Type 0 where
   pub ledger : Ledger
   pub begins : ledger.history.base ≡ base
   pub had_seen : FitsLedger ledger old.told
   pub told : new ≡ record old { told = caught_up ledger old.told }
   pub has_seen : FitsLedger ledger new.told
+  pub came_to : clock ≡ (state_of ledger.history).clock
 
 -- A session of a role that was just had: it has seen all that was accepted in some history with this base, and nothing is its own.
 pub record IsFresh (base : Base) (role : Role) (session : SessionFields) : Type 0 where

@@ -12,15 +12,14 @@ use std::sync::ledger::{Blank, Book, Ledger, Share};
 /// Which run it is, and what its drive begins with. As a ledger it is that of the changes that were
 /// accepted. Each call that begins a run picks it, with `Brand`.
 pub trait Running: Naming + Ledger {
-    ghost use Rattle.std.specs.Prelude.{ℕ, Bool};
+    ghost use Rattle.std.specs.Prelude.{ℕ, Bool, List};
     ghost use Rattle.drive.specs.Fields.{DriveFields};
-    ghost use Rattle.server.specs.Drawing.{ClockFields};
 
     /// What holds of the drive before its sessions.
     ghost begins: { DriveFields → Type 0 };
 
-    /// The clock that gives each request its moment.
-    ghost clock: { ClockFields };
+    /// These moments, in this order, may be drawn for the requests that are answered.
+    ghost moments: { List ℕ → Type 0 };
 
     /// Whether cleaner and copier may be beside the sessions.
     ghost has_upkeep: { Bool };
@@ -34,7 +33,7 @@ impl Running for Brand {
 
     ghost begins = { λ _. ⊤ };
 
-    ghost clock = { record { start = 0; tick = 0 } };
+    ghost moments = { λ _. ⊤ };
 
     ghost has_upkeep = { false };
 

@@ -7,6 +7,7 @@ use crate::pace::Pace;
 use crate::shared::SharedDrive;
 use drive::Session;
 use s4_types::limits::{MOST_FRAMES, PAYLOAD_BLOCKS};
+use serving::Clock;
 use std::alloc::Global;
 use std::sync::{Mutex, Wait};
 
@@ -19,10 +20,10 @@ const MOST_STEPS: usize = MOST_FRAMES;
 /// Gathers where there is too little room for the copier, one object after another, if the cleaner
 /// has a seat for it. Frames that hold nothing are released before each step, so that it has their
 /// blocks.
-pub(crate) fn gather_all<J: Running>(
+pub(crate) fn gather_all<J: Running, C: Clock>(
     rt: &impl Wait,
     alloc: Global,
-    drive: &Mutex<SharedDrive<J>>,
+    drive: &Mutex<SharedDrive<J, C>>,
     pace: &Pace,
     seat: &mut Option<Session<J>>,
 )
@@ -43,10 +44,10 @@ pub(crate) fn gather_all<J: Running>(
 }
 
 /// The cleaner has taken this many turns of a round: after some of them it gathers.
-pub(crate) fn gather_between<J: Running>(
+pub(crate) fn gather_between<J: Running, C: Clock>(
     rt: &impl Wait,
     alloc: Global,
-    drive: &Mutex<SharedDrive<J>>,
+    drive: &Mutex<SharedDrive<J, C>>,
     pace: &Pace,
     seat: &mut Option<Session<J>>,
     turns: u64,

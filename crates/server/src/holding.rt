@@ -5,6 +5,7 @@ use crate::pace::Pace;
 use crate::shared::SharedDrive;
 use drive::Drive;
 use segment_word::Naming;
+use serving::Clock;
 use std::hint::spin_loop;
 use std::sync::{Mutex, MutexGuard, Wait};
 
@@ -22,10 +23,10 @@ fn is_wanted(pace: Option<&Pace>) -> bool {
 
 /// The drive, where its lock is had without a sleep. While cleaner or copier waits for it, it is
 /// left to that one.
-fn try_hold<'a, J: Running>(
-    drive: &'a Mutex<SharedDrive<J>>,
+fn try_hold<'a, J: Running, C: Clock>(
+    drive: &'a Mutex<SharedDrive<J, C>>,
     pace: Option<&Pace>,
-) -> Option<MutexGuard<'a, SharedDrive<J>>> {
+) -> Option<MutexGuard<'a, SharedDrive<J, C>>> {
     for _ in 0..LOOKS {
         if !is_wanted(pace) {
             if let Some(held) = drive.try_lock() {
@@ -38,11 +39,11 @@ fn try_hold<'a, J: Running>(
 }
 
 /// The drive for a session, once the lock is had.
-pub(crate) fn hold<'a, J: Running>(
+pub(crate) fn hold<'a, J: Running, C: Clock>(
     rt: &impl Wait,
-    drive: &'a Mutex<SharedDrive<J>>,
+    drive: &'a Mutex<SharedDrive<J, C>>,
     pace: Option<&Pace>,
-) -> MutexGuard<'a, SharedDrive<J>> {
+) -> MutexGuard<'a, SharedDrive<J, C>> {
     if let Some(held) = try_hold(drive, pace) {
         return held;
     }
@@ -56,11 +57,11 @@ pub(crate) fn hold<'a, J: Running>(
 }
 
 /// The drive for cleaner or copier, once the lock is had. A session that waits for it has it first.
-pub(crate) fn hold_next<'a, J: Running>(
+pub(crate) fn hold_next<'a, J: Running, C: Clock>(
     rt: &impl Wait,
-    drive: &'a Mutex<SharedDrive<J>>,
+    drive: &'a Mutex<SharedDrive<J, C>>,
     pace: &Pace,
-) -> MutexGuard<'a, SharedDrive<J>> {
+) -> MutexGuard<'a, SharedDrive<J, C>> {
     pace.want_drive(rt);
     let held = match try_hold(drive, None) {
         Some(held) => held,
@@ -80,12 +81,12 @@ fn is_pressed<J: Naming>(rt: &impl Wait, drive: &Drive<J>, pace: &Pace, effect: 
 
 /// The drive for a request, once the lock is had. A change for which there may be too little room,
 /// or whose object's chain is nearly full, lets the cleaner go a whole round first.
-pub(crate) fn hold_for<'a, J: Running>(
+pub(crate) fn hold_for<'a, J: Running, C: Clock>(
     rt: &impl Wait,
-    drive: &'a Mutex<SharedDrive<J>>,
+    drive: &'a Mutex<SharedDrive<J, C>>,
     pace: Option<&Pace>,
     effect: &Effect,
-) -> MutexGuard<'a, SharedDrive<J>> {
+) -> MutexGuard<'a, SharedDrive<J, C>> {
     let held = hold(rt, drive, pace);
     let Some(waits) = pace else {
         return held;

@@ -8,10 +8,13 @@
 //!
 //! The drive that all sessions leave is what their requests have made of the one before, and nobody
 //! else's: [`SharedDrive`] keeps books of them, whose parts the sessions have, and [`settle`] puts
-//! these together again. The k-th request that is answered has the moment `start + k * tick`.
-//! [`run_with_upkeep`] has the history cleaner and the segment copier beside the sessions; the
-//! history and every version that can be read stay, whatever the two do. Without upkeep neither
-//! takes a step. In which order sessions that told each other nothing come is not said here.
+//! these together again. Each request has the moment that was drawn for it under the lock, from the
+//! clock of the shared drive: a run says which moments these may be, in their order. After each the
+//! session knows where the drive's history has come to ([`Locked::place`]). [`run_with_upkeep`] has
+//! the history cleaner and the segment copier beside the sessions, and [`keep_up`] and
+//! [`keep_moving`] are these two for threads of a caller's own; the history and every version that
+//! can be read stay, whatever the two do. Without upkeep neither takes a step. [`show`] leaves the
+//! drive as it is. In which order sessions that told each other nothing come is not said here.
 #![tactic(auto)]
 
 mod accounts;
@@ -29,15 +32,18 @@ mod progress;
 mod running;
 mod settling;
 mod shared;
+mod showing;
 mod tending;
 mod upkeep;
 
 pub use accounts::{Asked, Blanks, Part, Running};
 pub use clocks::Undrawn;
 pub use gate::{Gate, Open, UpkeepStep};
-pub use locked::Locked;
-pub use moving::{MoveStep, Moves};
+pub use locked::{Locked, enter, show};
+pub use moving::{MoveStep, Moves, keep_moving};
+pub use pace::Pace;
 pub use running::{Client, MOST_SESSIONS, Outcome, give_parts, run_sessions};
 pub use settling::settle;
 pub use shared::SharedDrive;
-pub use upkeep::{Round, Upkeep, run_with_upkeep};
+pub use showing::Visit;
+pub use upkeep::{Round, Upkeep, keep_up, run_with_upkeep};

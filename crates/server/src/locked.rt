@@ -5,9 +5,10 @@ ghost use Rattle.s4_types.specs.Sizes.{ReplyFits};
 ghost use Rattle.s4_types.specs.declared.requests.Request.TheVariants.{Query};
 ghost use Rattle.s4_types.specs.declared.requests.Question.TheVariants.{Read};
 ghost use Rattle.drive.specs.Answering.{is_acceptance, reply_planned};
+ghost use Rattle.drive.specs.Fields.{DriveFields};
 ghost use Rattle.server.specs.Accounts.{counted, one_part};
-ghost use Rattle.server.specs.Sharing.{SharedAnswer, HasMet, IsFresh, IsFetched};
-ghost use Rattle.server.specs.Attending.{SeatAnswer};
+ghost use Rattle.server.specs.Sharing.{SharedAnswer, HasMet, IsFresh, IsFetched, number_seen};
+ghost use Rattle.server.specs.Attending.{IsSeated, SeatAnswer};
 ghost use Rattle.server.specs.Upkeep.{SharedTurn, SharedVisit, SharedSweep};
 ghost use Rattle.server.specs.Moving.{SharedPlan, SharedCommit};
 ghost use Rattle.server.specs.Gathering.{SharedGather};
@@ -17,49 +18,87 @@ use crate::effects::{Effect, effect_of};
 use crate::gate::Gate;
 use crate::holding::{hold, hold_for, hold_next};
 use crate::pace::Pace;
-use crate::shared::SharedDrive;
+use crate::shared::{Place, SharedDrive};
+use crate::showing::Visit;
 use drive::{Drive, Session};
 use history_cleaner::{Rounds, Turn};
 use s4_types::{Bytes, Moment, ObjectId, Question, Refusal, Reply, Request, Role};
 use segment_copier::{Candidate, MovePlan, Moved};
-use serving::Backend;
+use serving::{Backend, Clock};
 use std::alloc::Global;
 use std::marker::Model;
 use std::sync::{Mutex, Wait};
 use time_read::ReadPlan;
 
-/// A session of a role.
-pub(crate) fn enter<J: Running>(
+/// A session of a role that isn't served: upkeep has such ones, and whoever is shown the drive.
+pub fn enter<J: Running, C: Clock>(
     rt: &impl Wait,
-    drive: &Mutex<SharedDrive<J>>,
+    drive: &Mutex<SharedDrive<J, C>>,
     pace: Option<&Pace>,
     role: Role,
 ) -> Result<Session<J>, Refusal>
     ensures session { IfOk result (IsFresh J.base role) }
     ensures busy { IfErr result (λ e. e ≡ Busy) }
 {
-    hold(rt, drive, pace).session(role)
+    Ok(sit(rt, drive, pace, role)?.0)
+}
+
+/// A session of a role, and where the drive's history had come to then.
+pub(crate) fn sit<J: Running, C: Clock>(
+    rt: &impl Wait,
+    drive: &Mutex<SharedDrive<J, C>>,
+    pace: Option<&Pace>,
+    role: Role,
+) -> Result<(Session<J>, Place), Refusal>
+    ensures session { IfOk result (λ had. IsSeated J.base role
+        (record { session = had.0; requests = 0; clock = had.1.clock })) }
+    ensures number { IfOk result (λ had. had.1.number ≡ number_seen had.0) }
+    ensures busy { IfErr result (λ e. e ≡ Busy) }
+{
+    let mut shared = hold(rt, drive, pace);
+    let session = shared.session(role)?;
+    let place = shared.place();
+    Ok((session, place))
+}
+
+/// Shows the drive to a session while its lock is held, and leaves it as it is.
+pub fn show<J: Running, C: Clock, V: Visit<J>>(
+    rt: &impl Wait,
+    drive: &Mutex<SharedDrive<J, C>>,
+    pace: Option<&Pace>,
+    visit: &V,
+    session: &mut Session<J>,
+) -> V::Given
+    ensures { (shown : DriveFields) × V.gives visit.now shown session.old session.new result }
+{
+    hold(rt, drive, pace).show(visit, session)
 }
 
 /// A plan of a Read, made under the lock.
-fn resolve<J: Running>(
+fn resolve<J: Running, C: Clock>(
     rt: &impl Wait,
-    drive: &Mutex<SharedDrive<J>>,
+    drive: &Mutex<SharedDrive<J, C>>,
     pace: Option<&Pace>,
     session: &mut Session<J>,
     part: &mut Part<J>,
+    place: &mut Place,
     object: ObjectId,
     offset: u64,
     length: u32,
     at: Option<Moment>,
 ) -> Result<ReadPlan, Refusal>
     requires { 0 < part.old.parts }
-    ensures step { SharedAnswer J.base J.clock part.old.requests session.old
-        (Query (Read object offset length at)) (reply_planned result) session.new }
+    ensures step { SharedAnswer J.base J.moments part.old.requests session.old
+        (Query (Read object offset length at)) (reply_planned result) session.new
+        place.new.clock }
+    ensures number { place.new.number ≡ number_seen session.new }
     ensures part { part.new ≡ counted part.old false }
     ensures fits { ReplyFits (reply_planned result) }
 {
-    hold(rt, drive, pace).resolve(session, part, object, offset, length, at)
+    let mut shared = hold(rt, drive, pace);
+    let planned = shared.resolve(session, part, object, offset, length, at);
+    *place = shared.place();
+    planned
 }
 
 /// A request was answered, and the lock is still held.
@@ -76,44 +115,51 @@ fn note<J: Running>(
 }
 
 /// The reply to a request, all of it under the lock.
-fn ask<J: Running>(
+fn ask<J: Running, C: Clock>(
     rt: &impl Wait,
-    drive: &Mutex<SharedDrive<J>>,
+    drive: &Mutex<SharedDrive<J, C>>,
     pace: Option<&Pace>,
     session: &mut Session<J>,
     part: &mut Part<J>,
+    place: &mut Place,
     request: Request,
 ) -> Reply
     requires { 0 < part.old.parts }
-    ensures step { SharedAnswer J.base J.clock part.old.requests session.old request result
-        session.new }
+    ensures step { SharedAnswer J.base J.moments part.old.requests session.old request result
+        session.new place.new.clock }
+    ensures number { place.new.number ≡ number_seen session.new }
     ensures part { part.new ≡ counted part.old (is_acceptance result) }
     ensures fits { ReplyFits result }
 {
     let effect = effect_of(&request);
     let mut shared = hold_for(rt, drive, pace, &effect);
     let reply = shared.answer(session, part, request);
+    *place = shared.place();
     note(rt, &shared.drive, pace, &effect, &reply);
     reply
 }
 
 /// A meeting of a session and the drive, under the lock.
-fn meet<J: Running>(
+fn meet<J: Running, C: Clock>(
     rt: &impl Wait,
-    drive: &Mutex<SharedDrive<J>>,
+    drive: &Mutex<SharedDrive<J, C>>,
     pace: Option<&Pace>,
     session: &mut Session<J>,
+    place: &mut Place,
 )
-    ensures met { HasMet J.base session.old session.new }
+    ensures met { HasMet J.base session.old session.new place.new.clock }
+    ensures number { place.new.number ≡ number_seen session.new }
 {
-    hold(rt, drive, pace).meet(session);
+    let mut shared = hold(rt, drive, pace);
+    shared.meet(session);
+    *place = shared.place();
 }
 
 /// An object had its turn, and the lock is still held. One that could not be cleaned has another in
 /// the next round.
-fn settle<J: Running>(
+fn settle<J: Running, C: Clock>(
     rt: &impl Wait,
-    shared: &mut SharedDrive<J>,
+    shared: &mut SharedDrive<J, C>,
     pace: &Pace,
     object: ObjectId,
     is_cleaned: bool,
@@ -130,9 +176,9 @@ fn settle<J: Running>(
 
 /// A turn of a round over all objects was taken, and the lock is still held. After the last round
 /// nothing is visited any more.
-fn settle_turn<J: Running>(
+fn settle_turn<J: Running, C: Clock>(
     rt: &impl Wait,
-    shared: &mut SharedDrive<J>,
+    shared: &mut SharedDrive<J, C>,
     pace: &Pace,
     turn: &Turn,
     is_last: bool,
@@ -148,10 +194,10 @@ fn settle_turn<J: Running>(
 }
 
 /// One turn of a round of the cleaner over all objects, maybe its last round, under the lock.
-pub(crate) fn take_turn<J: Running>(
+pub(crate) fn take_turn<J: Running, C: Clock>(
     rt: &impl Wait,
     alloc: Global,
-    drive: &Mutex<SharedDrive<J>>,
+    drive: &Mutex<SharedDrive<J, C>>,
     pace: &Pace,
     rounds: &mut Rounds,
     is_last: bool,
@@ -166,10 +212,10 @@ pub(crate) fn take_turn<J: Running>(
 }
 
 /// The turn of one object, whichever it is, under the lock.
-pub(crate) fn take_visit<J: Running>(
+pub(crate) fn take_visit<J: Running, C: Clock>(
     rt: &impl Wait,
     alloc: Global,
-    drive: &Mutex<SharedDrive<J>>,
+    drive: &Mutex<SharedDrive<J, C>>,
     pace: &Pace,
     object: ObjectId,
 )
@@ -182,7 +228,11 @@ pub(crate) fn take_visit<J: Running>(
 }
 
 /// Frames are emptied, under the lock.
-pub(crate) fn take_sweep<J: Running>(rt: &impl Wait, drive: &Mutex<SharedDrive<J>>, pace: &Pace)
+pub(crate) fn take_sweep<J: Running, C: Clock>(
+    rt: &impl Wait,
+    drive: &Mutex<SharedDrive<J, C>>,
+    pace: &Pace,
+)
     requires { J.has_upkeep ≡ true }
     ensures { SharedSweep J.base }
 {
@@ -193,10 +243,10 @@ pub(crate) fn take_sweep<J: Running>(rt: &impl Wait, drive: &Mutex<SharedDrive<J
 
 /// What the copier is to move next, and a plan of that, made under the lock, where there is
 /// something to be moved. Its session has met the drive before.
-pub(crate) fn plan_next<J: Running>(
+pub(crate) fn plan_next<J: Running, C: Clock>(
     rt: &impl Wait,
     alloc: Global,
-    drive: &Mutex<SharedDrive<J>>,
+    drive: &Mutex<SharedDrive<J, C>>,
     pace: &Pace,
     session: &mut Session<J>,
 ) -> Result<Option<(Candidate, MovePlan<J>)>, Refusal>
@@ -206,10 +256,10 @@ pub(crate) fn plan_next<J: Running>(
 }
 
 /// Puts a copied move in place, under the lock. The copier's session has met the drive before.
-pub(crate) fn put_in_place<J: Running>(
+pub(crate) fn put_in_place<J: Running, C: Clock>(
     rt: &impl Wait,
     alloc: Global,
-    drive: &Mutex<SharedDrive<J>>,
+    drive: &Mutex<SharedDrive<J, C>>,
     pace: &Pace,
     session: &mut Session<J>,
     moved: Moved<J>,
@@ -221,10 +271,10 @@ pub(crate) fn put_in_place<J: Running>(
 }
 
 /// One step of gathering, all of it under the lock.
-pub(crate) fn gather_next<J: Running>(
+pub(crate) fn gather_next<J: Running, C: Clock>(
     rt: &impl Wait,
     alloc: Global,
-    drive: &Mutex<SharedDrive<J>>,
+    drive: &Mutex<SharedDrive<J, C>>,
     pace: &Pace,
     session: &mut Session<J>,
 ) -> Result<Option<Candidate>, Refusal>
@@ -238,7 +288,11 @@ pub(crate) fn gather_next<J: Running>(
 }
 
 /// The frames are emptied that can be, under the lock. How many frames are free then is noted.
-pub(crate) fn release_frames<J: Running>(rt: &impl Wait, drive: &Mutex<SharedDrive<J>>, pace: &Pace)
+pub(crate) fn release_frames<J: Running, C: Clock>(
+    rt: &impl Wait,
+    drive: &Mutex<SharedDrive<J, C>>,
+    pace: &Pace,
+)
     requires { J.has_upkeep ≡ true }
     ensures { SharedSweep J.base }
 {
@@ -263,70 +317,94 @@ fn fetched(alloc: Global, planned: Result<ReadPlan, Refusal>) -> Reply
     }
 }
 
-/// A session with a drive that others share, under a lock. Contracts see the session, and how many
-/// requests it was answered.
+/// A session with a drive that others share, under a lock. Contracts see the session, how many
+/// requests it was answered, and the clock of the history whose changes it has seen.
 #[derive(Drop)]
-pub struct Locked<'a, J: Running, R: Wait, G: Gate> {
+pub struct Locked<'a, J: Running, C: Clock, R: Wait, G: Gate> {
     rt: &'a R,
     alloc: Global,
-    drive: &'a Mutex<SharedDrive<J>>,
+    drive: &'a Mutex<SharedDrive<J, C>>,
     pace: Option<&'a Pace>,
     session: Session<J>,
     /// Its part of the books.
     part: Part<J>,
+    /// Where the drive's history had come to with its last step.
+    place: Place,
     gate: &'a G,
     number: usize,
     calls: u64,
 }
 
-impl<'a, J: Running, R: Wait, G: Gate> Model for Locked<'a, J, R, G> {
+impl<'a, J: Running, C: Clock, R: Wait, G: Gate> Model for Locked<'a, J, C, R, G> {
     ghost use Rattle.std.specs.Prelude.{◌≡◌, length};
     ghost use Rattle.server.specs.Attending.{SeatFields};
+    ghost use Rattle.server.specs.Sharing.{number_seen};
 
     ghost Value = { SeatFields };
 
-    ghost view = { λ l. record { session = l.session; requests = l.part.requests } };
+    ghost view = { λ l. record { session = l.session; requests = l.part.requests; clock = l.place.clock } };
 
-    ghost invariant = { λ l. (l.part.parts ≡ 1) × (l.part.changes ≡ length l.session.told.mine) };
+    ghost invariant = { λ l. (l.part.parts ≡ 1) × (l.part.changes ≡ length l.session.told.mine) × (l.place.number ≡ number_seen l.session) };
 }
 
-impl<'a, J: Running, R: Wait, G: Gate> Locked<'a, J, R, G> {
+impl<'a, J: Running, C: Clock, R: Wait, G: Gate> Locked<'a, J, C, R, G> {
     /// The session of that number, from 1 on, of a role, with a part of the books. It has seen what
     /// was accepted in a history of the drive, and nothing is its own yet. Busy where no seat is to
     /// be had: the part is lost then.
     pub fn new(
         rt: &'a R,
         alloc: Global,
-        drive: &'a Mutex<SharedDrive<J>>,
+        drive: &'a Mutex<SharedDrive<J, C>>,
         role: Role,
         part: Part<J>,
         gate: &'a G,
         number: usize,
     ) -> Result<Self, Refusal>
         requires { part ≡ one_part }
-        ensures session { IfOk result (λ l. IsFresh J.base role l.session) }
-        ensures requests { IfOk result (λ l. l.requests ≡ 0) }
+        ensures session { IfOk result (IsSeated J.base role) }
         ensures busy { IfErr result (λ e. e ≡ Busy) }
     {
-        let session = enter(rt, drive, None, role)?;
-        Ok(Locked::beside(rt, alloc, drive, None, session, part, gate, number))
+        let had = sit(rt, drive, None, role)?;
+        Ok(Locked::seated(rt, alloc, drive, None, had, part, gate, number))
+    }
+
+    /// The same with upkeep beside it: where room is short its changes wait for the cleaner.
+    pub fn beside(
+        rt: &'a R,
+        alloc: Global,
+        drive: &'a Mutex<SharedDrive<J, C>>,
+        pace: &'a Pace,
+        role: Role,
+        part: Part<J>,
+        gate: &'a G,
+        number: usize,
+    ) -> Result<Self, Refusal>
+        requires { part ≡ one_part }
+        ensures session { IfOk result (IsSeated J.base role) }
+        ensures busy { IfErr result (λ e. e ≡ Busy) }
+    {
+        let pace = Some(pace);
+        let had = sit(rt, drive, pace, role)?;
+        Ok(Locked::seated(rt, alloc, drive, pace, had, part, gate, number))
     }
 
     /// A session that was just had, with upkeep beside it where there is its pace.
-    pub(crate) fn beside(
+    pub(crate) fn seated(
         rt: &'a R,
         alloc: Global,
-        drive: &'a Mutex<SharedDrive<J>>,
+        drive: &'a Mutex<SharedDrive<J, C>>,
         pace: Option<&'a Pace>,
-        session: Session<J>,
+        had: (Session<J>, Place),
         part: Part<J>,
         gate: &'a G,
         number: usize,
     ) -> Self
         requires part { part ≡ one_part }
-        requires mine { session.told.mine ≡ [] }
-        ensures { result ≡ record { session = session; requests = 0 } }
+        requires mine { had.0.told.mine ≡ [] }
+        requires number { had.1.number ≡ number_seen had.0 }
+        ensures { result ≡ record { session = had.0; requests = 0; clock = had.1.clock } }
     {
+        let (session, place) = had;
         Locked {
             rt,
             alloc,
@@ -334,6 +412,7 @@ impl<'a, J: Running, R: Wait, G: Gate> Locked<'a, J, R, G> {
             pace,
             session,
             part,
+            place,
             gate,
             number,
             calls: 0,
@@ -343,10 +422,25 @@ impl<'a, J: Running, R: Wait, G: Gate> Locked<'a, J, R, G> {
     /// Without a request the session sees what was accepted in a history of the drive that begins
     /// with what it had seen before.
     pub fn meet(&mut self)
-        ensures session { HasMet J.base self.old.session self.new.session }
+        ensures session { HasMet J.base self.old.session self.new.session self.new.clock }
         ensures requests { self.new.requests ≡ self.old.requests }
     {
-        meet(self.rt, self.drive, self.pace, &mut self.session);
+        meet(
+            self.rt,
+            self.drive,
+            self.pace,
+            &mut self.session,
+            &mut self.place,
+        );
+    }
+
+    /// Where the drive's history had come to with the session's last step, or when the session was
+    /// had: how many changes were accepted in it, by a count that stops at 2^64 - 1, and its clock.
+    pub fn place(&self) -> (u64, u64)
+        ensures number { result.0 ≡ number_seen self.now.session }
+        ensures clock { result.1 ≡ self.now.clock }
+    {
+        (self.place.number, self.place.clock)
     }
 
     /// The session itself, which is asked nothing more, and its part of the books: each request
@@ -360,7 +454,7 @@ impl<'a, J: Running, R: Wait, G: Gate> Locked<'a, J, R, G> {
 
     /// The reply to a Read. The lock isn't held while its bytes are fetched.
     fn read(&mut self, object: ObjectId, offset: u64, length: u32, at: Option<Moment>) -> Reply
-        ensures step { SeatAnswer J.base J.clock self.old (Query (Read object offset length at)) result
+        ensures step { SeatAnswer J.base J.moments self.old (Query (Read object offset length at)) result
             self.new }
         ensures fits { ReplyFits result }
     {
@@ -370,6 +464,7 @@ impl<'a, J: Running, R: Wait, G: Gate> Locked<'a, J, R, G> {
             self.pace,
             &mut self.session,
             &mut self.part,
+            &mut self.place,
             object,
             offset,
             length,
@@ -381,7 +476,7 @@ impl<'a, J: Running, R: Wait, G: Gate> Locked<'a, J, R, G> {
 
     /// The reply to a question: a Read's bytes are fetched without the lock.
     fn answer(&mut self, question: Question) -> Reply
-        ensures step { SeatAnswer J.base J.clock self.old (Query question) result self.new }
+        ensures step { SeatAnswer J.base J.moments self.old (Query question) result self.new }
         ensures fits { ReplyFits result }
     {
         match &question {
@@ -399,7 +494,7 @@ impl<'a, J: Running, R: Wait, G: Gate> Locked<'a, J, R, G> {
 
     /// The reply to a request.
     fn reply(&mut self, request: Request) -> Reply
-        ensures step { SeatAnswer J.base J.clock self.old request result self.new }
+        ensures step { SeatAnswer J.base J.moments self.old request result self.new }
         ensures fits { ReplyFits result }
     {
         match request {
@@ -410,7 +505,7 @@ impl<'a, J: Running, R: Wait, G: Gate> Locked<'a, J, R, G> {
 
     /// The reply to another request, all of it under the lock.
     fn change(&mut self, request: Request) -> Reply
-        ensures step { SeatAnswer J.base J.clock self.old request result self.new }
+        ensures step { SeatAnswer J.base J.moments self.old request result self.new }
         ensures fits { ReplyFits result }
     {
         ask(
@@ -419,15 +514,16 @@ impl<'a, J: Running, R: Wait, G: Gate> Locked<'a, J, R, G> {
             self.pace,
             &mut self.session,
             &mut self.part,
+            &mut self.place,
             request,
         )
     }
 }
 
-impl<J: Running, R: Wait, G: Gate> Backend for Locked<'_, J, R, G> {
+impl<J: Running, C: Clock, R: Wait, G: Gate> Backend for Locked<'_, J, C, R, G> {
     ghost use Rattle.server.specs.Attending.{SeatSteps};
 
-    ghost steps = { SeatSteps J.base J.clock };
+    ghost steps = { SeatSteps J.base J.moments };
 
     fn request(&mut self, request: Request, _drawn: Moment) -> Reply {
         self.calls = self.calls.saturating_add(1);

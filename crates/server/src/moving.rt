@@ -12,6 +12,7 @@ use crate::shared::SharedDrive;
 use drive::Session;
 use s4_types::{Refusal, Role};
 use segment_copier::Candidate;
+use serving::Clock;
 use std::alloc::Global;
 use std::sync::{Mutex, Wait};
 
@@ -57,10 +58,10 @@ impl Moves {
 
 /// The move that is to be made next: planned under the lock, copied without it, which the plan's
 /// pin allows, and put in place under the lock. A refusal ends the step.
-fn move_next<J: Running>(
+fn move_next<J: Running, C: Clock>(
     rt: &impl Wait,
     alloc: Global,
-    drive: &Mutex<SharedDrive<J>>,
+    drive: &Mutex<SharedDrive<J, C>>,
     pace: &Pace,
     session: &mut Session<J>,
 ) -> MoveStep
@@ -86,10 +87,10 @@ fn move_next<J: Running>(
 /// ended. The step that is under way then is taken to its end. Busy where the drive has no seat for
 /// the copier's session: nothing is moved then.
 #[tactic(auto, using(crate::proofs::Stepping::moved_first, crate::proofs::Stepping::moved_more, crate::proofs::Stepping::moved_ends))]
-pub(crate) fn keep_moving<J: Running, R: Wait, G: Gate>(
+fn take_steps<J: Running, C: Clock, R: Wait, G: Gate>(
     rt: &R,
     alloc: Global,
-    drive: &Mutex<SharedDrive<J>>,
+    drive: &Mutex<SharedDrive<J, C>>,
     pace: &Pace,
     gate: &G,
 ) -> Result<Moves, Refusal>
@@ -113,4 +114,23 @@ pub(crate) fn keep_moving<J: Running, R: Wait, G: Gate>(
         }
     }
     unreachable!()
+}
+
+/// The copier beside sessions, on a thread of its own: it moves what is to be moved, while room is
+/// short, until all sessions have ended. Busy where the drive has no seat for its session.
+pub fn keep_moving<J: Running, C: Clock, R: Wait, G: Gate>(
+    rt: &R,
+    alloc: Global,
+    drive: &Mutex<SharedDrive<J, C>>,
+    pace: &Pace,
+    gate: &G,
+) -> Result<Moves, Refusal>
+    requires { J.has_upkeep ≡ true }
+    ensures { MatchResult result (IsMoving J.base) (λ e. e ≡ Busy) }
+{
+    let moves = take_steps(rt, alloc, drive, pace, gate);
+    gate.upkeep(UpkeepStep::CopierEnds);
+    pace.end_moves(rt);
+    gate.upkeep(UpkeepStep::CopierReturns);
+    moves
 }

@@ -8,18 +8,20 @@ use crate::shared::SharedDrive;
 use drive::Drive;
 use s4_types::{Moment, ObjectId, Reply};
 use segment_word::Naming;
+use serving::Clock;
 use std::alloc::Global;
 use std::sync::atomic::{AtomicU64, Ordering};
 use std::sync::{Condvar, CondvarTimeouts, Mutex, MutexGuard, Wait};
-use std::time::{Clock, Duration};
+use std::time;
 
 /// How long sessions wait for the cleaner before they begin, in milliseconds: it may have no
 /// thread.
 const START_MILLISECONDS: u64 = 100;
 
-/// How upkeep gets on and what it is needed for.
+/// How upkeep gets on and what it is needed for: sessions, cleaner and copier of one drive share
+/// it.
 #[derive(Drop)]
-pub(crate) struct Pace {
+pub struct Pace {
     progress: Mutex<Progress>,
     /// Whoever waits for progress is woken by this.
     news: Condvar,
@@ -29,11 +31,11 @@ pub(crate) struct Pace {
 }
 
 impl Pace {
-    /// Before the first round.
-    pub(crate) fn new<J: Running>(
+    /// Before the first round of that drive.
+    pub fn new<J: Running, C: Clock>(
         rt: &impl Wait,
         alloc: Global,
-        drive: &Mutex<SharedDrive<J>>,
+        drive: &Mutex<SharedDrive<J, C>>,
     ) -> Self {
         let shared = drive.lock(rt);
         Pace {
@@ -51,9 +53,9 @@ impl Pace {
     }
 
     /// Sessions wait until the cleaner is at work, and not for long.
-    pub(crate) fn await_start<R: Wait + Clock>(&self, rt: &R) {
+    pub(crate) fn await_start<R: Wait + time::Clock>(&self, rt: &R) {
         let progress = self.progress.lock(rt);
-        let most = Duration::from_millis(START_MILLISECONDS);
+        let most = time::Duration::from_millis(START_MILLISECONDS);
         let (_progress, _) = self
             .news
             .wait_timeout_while(rt, progress, most, |progress| !progress.is_going());
@@ -193,8 +195,8 @@ impl Pace {
             .wait_while(rt, progress, |progress| progress.is_idle());
     }
 
-    /// All sessions have ended.
-    pub(crate) fn end_sessions(&self, rt: &impl Wait) {
+    /// All sessions have ended, so cleaner and copier are to end too.
+    pub fn end_sessions(&self, rt: &impl Wait) {
         let mut progress = self.progress.lock(rt);
         progress.end_sessions();
         self.end_section(progress);

@@ -21,6 +21,10 @@ const ROUNDS_IN_A_WINDOW: u64 = 4;
 
 const REMOVALS_IN_A_WINDOW: u64 = 16;
 
+/// Moments after which another round is worth its cost, however long the window is: a minute where
+/// moments are microseconds.
+const MOST_AGEING: u64 = 60_000_000;
+
 /// Changes after which the copier looks again where it found nothing: as many blocks fill a frame.
 const CHANGES_BETWEEN: u64 = PAYLOAD_BLOCKS as u64;
 
@@ -171,14 +175,17 @@ impl Progress {
             && self.roomy.saturating_add(self.window) > self.clock
     }
 
-    /// Whether enough history may have aged since the last round for another one to gain something.
+    /// Whether enough history may have aged since the last round for another one to gain something:
+    /// a part of the window, or a minute of it. The clock moves with requests alone, so nothing ages
+    /// while none come; the first that comes after a pause has all of it, and finds a round ripe.
     fn is_ripe(&self) -> bool {
-        let part = if self.is_pinched() {
+        let rounds = if self.is_pinched() {
             REMOVALS_IN_A_WINDOW
         } else {
             ROUNDS_IN_A_WINDOW
         };
-        self.clock >= self.visited.saturating_add(self.window / part)
+        let ageing = (self.window / rounds).min(MOST_AGEING);
+        self.clock >= self.visited.saturating_add(ageing)
             && (!self.is_pinched() || self.agenda.has_removal(self.floor))
     }
 

@@ -7,14 +7,14 @@ ghost use Rattle.server.specs.Attending.{IsAttendedClient, with_part};
 use crate::accounts::{Part, Running};
 use crate::clocks::Undrawn;
 use crate::gate::Gate;
-use crate::locked::{Locked, enter};
+use crate::locked::{Locked, sit};
 use crate::pace::Pace;
 use crate::shared::SharedDrive;
 use drive::Session;
 use own_stacks::for_each_mut_with_stack;
 use s4_model::laws::histories_go_on_record_by_record;
 use s4_types::{Refusal, Role};
-use serving::{ServeEnd, Sink, Source, serve};
+use serving::{Clock, ServeEnd, Sink, Source, serve};
 use std::alloc::Global;
 use std::sync::{Mutex, Wait};
 use std::thread::Threads;
@@ -52,10 +52,10 @@ pub struct Client<J: Running, S: Source, W: Sink> {
 }
 
 /// Serves one session of that number, from 1 on.
-fn attend<J: Running, R: Wait, G: Gate, S: Source, W: Sink>(
+fn attend<J: Running, C: Clock, R: Wait, G: Gate, S: Source, W: Sink>(
     rt: &R,
     alloc: Global,
-    drive: &Mutex<SharedDrive<J>>,
+    drive: &Mutex<SharedDrive<J, C>>,
     pace: Option<&Pace>,
     gate: &G,
     number: usize,
@@ -64,12 +64,12 @@ fn attend<J: Running, R: Wait, G: Gate, S: Source, W: Sink>(
     requires part { client.old.part ≡ Some one_part }
     requires reader { S.failures client.old.reader + 1 < 2 ^ 64 }
     requires writer { W.failures client.old.writer + 1 < 2 ^ 64 }
-    ensures attended { IsAttendedClient S.remaining W.passed S.failures W.failures J.base J.clock
+    ensures attended { IsAttendedClient S.remaining W.passed S.failures W.failures J.base J.moments
         client.old client.new }
 {
     histories_go_on_record_by_record();
-    let session = match enter(rt, drive, pace, client.role) {
-        Ok(session) => session,
+    let had = match sit(rt, drive, pace, client.role) {
+        Ok(had) => had,
         Err(refusal) => {
             client.outcome = Outcome::Refused(refusal);
             client.session = None;
@@ -79,7 +79,7 @@ fn attend<J: Running, R: Wait, G: Gate, S: Source, W: Sink>(
     let Some(part) = client.part.take() else {
         unreachable!()
     };
-    let mut session = Locked::beside(rt, alloc, drive, pace, session, part, gate, number);
+    let mut session = Locked::seated(rt, alloc, drive, pace, had, part, gate, number);
     let end = serve(
         alloc,
         &mut client.reader,
@@ -113,17 +113,22 @@ pub fn give_parts<J: Running, S: Source, W: Sink>(
 /// from 1 on, by their order.
 ///
 /// A Read holds the lock while it is planned and not while it is fetched, and passes the gate
-/// between the two; each other request is one call under the lock. The k-th request that is
-/// answered under the lock, from 1 on, has the moment `start + k * tick`, and the last one, 2^64 -
-/// 1, where that is less. A session for which the drive has no seat is refused with Busy, and the
-/// others go on. Where the system gives no thread for a session, it is served after another one.
+/// between the two; each other request is one call under the lock, under which its moment is drawn.
+/// A session for which the drive has no seat is refused with Busy, and the others go on. Where the system gives no thread for a session, it is served after another one.
 pub fn run_sessions<
     J: Running + Send + Sync,
+    C: Clock + Send,
     R: Threads + Wait + Sync,
     G: Gate + Sync,
     S: Source + Send,
     W: Sink + Send,
->(rt: &R, alloc: Global, drive: &Mutex<SharedDrive<J>>, gate: &G, clients: &mut [Client<J, S, W>])
+>(
+    rt: &R,
+    alloc: Global,
+    drive: &Mutex<SharedDrive<J, C>>,
+    gate: &G,
+    clients: &mut [Client<J, S, W>],
+)
     requires count { length clients.old ≤ 16 }
     requires parts { All (λ c. c.part ≡ Some one_part) clients.old }
     requires readers { All (λ c. S.failures c.reader + 1 < 2 ^ 64) clients.old }
@@ -131,7 +136,7 @@ pub fn run_sessions<
     // Each session was answered by steps of histories that begin with the drive's base, each after
     // all that the session had seen; or the drive had no seat for it.
     ensures attended { (i : ℕ) (d : _) → i < length clients.old
-        → IsAttendedClient S.remaining W.passed S.failures W.failures J.base J.clock
+        → IsAttendedClient S.remaining W.passed S.failures W.failures J.base J.moments
         (slice_index_or clients.old i d) (slice_index_or clients.new i d) }
 {
     run_beside(rt, alloc, drive, None, gate, clients)
@@ -140,6 +145,7 @@ pub fn run_sessions<
 /// Serves clients that have their parts, with upkeep beside them where there is its pace.
 pub(crate) fn run_beside<
     J: Running + Send + Sync,
+    C: Clock + Send,
     R: Threads + Wait + Sync,
     G: Gate + Sync,
     S: Source + Send,
@@ -147,7 +153,7 @@ pub(crate) fn run_beside<
 >(
     rt: &R,
     alloc: Global,
-    drive: &Mutex<SharedDrive<J>>,
+    drive: &Mutex<SharedDrive<J, C>>,
     pace: Option<&Pace>,
     gate: &G,
     clients: &mut [Client<J, S, W>],
@@ -159,7 +165,7 @@ pub(crate) fn run_beside<
     // Each session was answered by steps of histories that begin with the drive's base, each after
     // all that the session had seen; or the drive had no seat for it.
     ensures attended { (i : ℕ) (d : _) → i < length clients.old
-        → IsAttendedClient S.remaining W.passed S.failures W.failures J.base J.clock
+        → IsAttendedClient S.remaining W.passed S.failures W.failures J.base J.moments
         (slice_index_or clients.old i d) (slice_index_or clients.new i d) }
 {
     let serve_one = |index: usize, client: &mut Client<J, S, W>|
@@ -167,7 +173,7 @@ pub(crate) fn run_beside<
             × (S.failures client.now.reader + 1 < 2 ^ 64)
             × (W.failures client.now.writer + 1 < 2 ^ 64) }
         ensures attended { IsAttendedClient S.remaining W.passed S.failures W.failures J.base
-            J.clock client.entry.now client.exit.now }
+            J.moments client.entry.now client.exit.now }
     {
         attend(
             rt,

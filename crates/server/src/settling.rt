@@ -8,7 +8,7 @@ use crate::accounts::{Part, Running};
 use crate::running::Client;
 use crate::shared::SharedDrive;
 use drive::Drive;
-use serving::{Sink, Source};
+use serving::{Clock, Sink, Source};
 
 /// One session that has ended, where there is one, meets the drive.
 fn settle_one<J: Running, S: Source, W: Sink>(drive: &mut Drive<J>, client: &mut Client<J, S, W>)
@@ -61,14 +61,14 @@ fn take_parts<J: Running, S: Source, W: Sink>(all: &mut Part<J>, clients: &mut [
 /// what their requests have made of it, and nobody else's. Then each meets the drive that they
 /// leave: its history begins with all that the session had seen, and has the session's own changes
 /// at their numbers.
-pub fn settle<J: Running, S: Source, W: Sink>(
-    shared: SharedDrive<J>,
+pub fn settle<J: Running, C: Clock + Drop, S: Source, W: Sink>(
+    shared: SharedDrive<J, C>,
     rest: Part<J>,
     clients: &mut [Client<J, S, W>],
 ) -> Drive<J>
     requires parts { rest.parts + sum_by (λ c. parts_in c.part) clients.old ≡ J.parts }
     ensures drive { result ≡ shared }
-    ensures come { HasCome J.begins J.clock J.has_upkeep
+    ensures come { HasCome J.begins J.moments J.has_upkeep
         (rest.requests + sum_by (λ c. requests_in c.part) clients.old)
         (rest.changes + sum_by (λ c. changes_in c.part) clients.old) result }
     ensures settled { (i : ℕ) (d : _) → i < length clients.old

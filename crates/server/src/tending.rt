@@ -13,9 +13,10 @@ use s4_types::{ObjectId, Refusal};
 use segment_copier::{
     Candidate, MovePlan, Moved, candidate, commit, free_frames, gather, plan_move,
 };
+use serving::Clock;
 use std::alloc::Global;
 
-impl<J: Running> SharedDrive<J> {
+impl<J: Running, C: Clock> SharedDrive<J, C> {
     /// One turn of a round of the cleaner over all objects.
     pub(crate) fn turn(&mut self, alloc: Global, rounds: &mut Rounds) -> Turn
         requires { J.has_upkeep ≡ true }

@@ -21,11 +21,11 @@ use drive::Session;
 use history_cleaner::{Rounds, Turn};
 use own_stacks::join_with_stack;
 use s4_types::{ObjectId, Refusal, Role};
-use serving::{Sink, Source};
+use serving::{Clock, Sink, Source};
 use std::alloc::Global;
 use std::sync::{Mutex, Wait};
 use std::thread::Threads;
-use std::time::Clock;
+use std::time;
 
 /// A whole round of the cleaner over all objects of a drive, by ascending number.
 #[derive(Clone, Copy)]
@@ -55,10 +55,10 @@ fn is_end(turn: Turn) -> bool
 /// One whole round. Between its turns sessions may have the lock. Where the cleaner has a seat, it
 /// gathers between some turns, and after the last.
 #[tactic(auto, using(crate::proofs::Rounding::underway_first, crate::proofs::Rounding::underway_more, crate::proofs::Rounding::underway_rises, crate::proofs::Rounding::underway_ends))]
-fn go_round<J: Running>(
+fn go_round<J: Running, C: Clock>(
     rt: &impl Wait,
     alloc: Global,
-    drive: &Mutex<SharedDrive<J>>,
+    drive: &Mutex<SharedDrive<J, C>>,
     pace: &Pace,
     seat: &mut Option<Session<J>>,
     is_last: bool,
@@ -78,10 +78,10 @@ fn go_round<J: Running>(
 }
 
 /// A round over these objects alone, in the same way.
-fn go_over<J: Running>(
+fn go_over<J: Running, C: Clock>(
     rt: &impl Wait,
     alloc: Global,
-    drive: &Mutex<SharedDrive<J>>,
+    drive: &Mutex<SharedDrive<J, C>>,
     pace: &Pace,
     seat: &mut Option<Session<J>>,
     objects: &[ObjectId],
@@ -101,12 +101,13 @@ fn go_over<J: Running>(
     gather_all(rt, alloc, drive, pace, seat);
 }
 
-/// Goes round again and again: over the objects of which a turn may free something where these are
-/// known, else over all. Ends with a whole round that began when all others had ended.
-fn keep_up<J: Running, R: Wait, G: Gate>(
+/// The cleaner beside sessions, on a thread of its own: it goes round again and again, over the
+/// objects of which a turn may free something where these are known, else over all. Ends with a
+/// whole round that began when all others had ended.
+pub fn keep_up<J: Running, C: Clock, R: Wait, G: Gate>(
     rt: &R,
     alloc: Global,
-    drive: &Mutex<SharedDrive<J>>,
+    drive: &Mutex<SharedDrive<J, C>>,
     pace: &Pace,
     gate: &G,
 ) -> Round
@@ -142,10 +143,10 @@ fn keep_up<J: Running, R: Wait, G: Gate>(
 
 /// The cleaner and the copier beside sessions. The copier ends once all sessions have ended, and
 /// the cleaner with a whole round after that.
-fn keep_beside<J: Running + Send + Sync, R: Threads + Wait + Sync, G: Gate + Sync>(
+fn keep_beside<J: Running + Send + Sync, C: Clock + Send, R: Threads + Wait + Sync, G: Gate + Sync>(
     rt: &R,
     alloc: Global,
-    drive: &Mutex<SharedDrive<J>>,
+    drive: &Mutex<SharedDrive<J, C>>,
     pace: &Pace,
     gate: &G,
 ) -> Upkeep
@@ -160,13 +161,7 @@ fn keep_beside<J: Running + Send + Sync, R: Threads + Wait + Sync, G: Gate + Syn
     let copy = || -> Result<Moves, Refusal>
         requires { J.has_upkeep ≡ true }
         ensures moves { MatchResult result (IsMoving J.base) (λ e. e ≡ Busy) }
-    {
-        let moves = keep_moving(rt, alloc, drive, pace, gate);
-        gate.upkeep(UpkeepStep::CopierEnds);
-        pace.end_moves(rt);
-        gate.upkeep(UpkeepStep::CopierReturns);
-        moves
-    };
+    { keep_moving(rt, alloc, drive, pace, gate) };
     // Where there is no thread for the first, it is called after the second.
     let (round, moves) = join_with_stack(rt, STACK_BYTES, clean, copy);
     Upkeep { round, moves }
@@ -190,14 +185,15 @@ fn keep_beside<J: Running + Send + Sync, R: Threads + Wait + Sync, G: Gate + Syn
 /// Answers the clients, the cleaner's last round, and what the copier did.
 pub fn run_with_upkeep<
     J: Running + Send + Sync,
-    R: Threads + Wait + Clock + Sync,
+    C: Clock + Send,
+    R: Threads + Wait + time::Clock + Sync,
     G: Gate + Sync,
     S: Source + Send + Drop,
     W: Sink + Send + Drop,
 >(
     rt: &R,
     alloc: Global,
-    drive: &Mutex<SharedDrive<J>>,
+    drive: &Mutex<SharedDrive<J, C>>,
     gate: &G,
     clients: Vec<Client<J, S, W>>,
 ) -> (Vec<Client<J, S, W>>, Upkeep)
@@ -212,7 +208,7 @@ pub fn run_with_upkeep<
     // Each session was answered by steps of histories that begin with the drive's base, each after
     // all that the session had seen; or the drive had no seat for it.
     ensures attended { (i : ℕ) (d : _) → i < vec_len clients
-        → IsAttendedClient S.remaining W.passed S.failures W.failures J.base J.clock
+        → IsAttendedClient S.remaining W.passed S.failures W.failures J.base J.moments
         (slice_index_or clients.items i d) (slice_index_or result.0.items i d) }
 {
     let pace = Pace::new(rt, alloc, drive);
@@ -228,7 +224,7 @@ pub fn run_with_upkeep<
         requires writers { All (λ c. W.failures c.writer + 1 < 2 ^ 64) clients.items }
         ensures count { vec_len result ≡ vec_len clients }
         ensures attended { (i : ℕ) (d : _) → i < vec_len clients
-            → IsAttendedClient S.remaining W.passed S.failures W.failures J.base J.clock
+            → IsAttendedClient S.remaining W.passed S.failures W.failures J.base J.moments
             (slice_index_or clients.items i d) (slice_index_or result.items i d) }
     {
         let mut clients = clients;

@@ -1,10 +1,10 @@
 //! The clock that sessions share.
 ghost use Rattle.std.specs.Prelude.{◌<◌};
 
-use crate::tests::{Scene, play};
+use crate::tests::{Scene, play, play_over};
 use s4_types::{AdminRequest, Moment, Reply, Request, Role};
 use server::{Locked, Open, Part, Running, SharedDrive};
-use serving::Backend;
+use serving::{Backend, Clock};
 use std::alloc::Global;
 use std::process::Abort;
 use std::sync::{Mutex, Wait};
@@ -21,28 +21,39 @@ fn moment_of<B: Backend>(session: &mut B) -> Option<Moment> {
     }
 }
 
-/// Two sessions draw from one count, which stops at the last moment: nothing is accepted after
-/// that.
-pub(super) fn tick<J: Running, R: Abort + Wait>(
+/// The moments of four changes of two sessions in turn.
+fn four_moments<J: Running, C: Clock, R: Abort + Wait>(
     rt: &R,
     alloc: Global,
-    drive: &Mutex<SharedDrive<J>>,
+    drive: &Mutex<SharedDrive<J, C>>,
+    rest: &mut Part<J>,
+) -> Result<[Option<Moment>; 4], Fail>
+    requires { 2 < rest.old.parts }
+{
+    let mut one = Locked::new(rt, alloc, drive, Role::Admin, rest.split(), &Open, 1)?;
+    let mut two = Locked::new(rt, alloc, drive, Role::Admin, rest.split(), &Open, 2)?;
+    Ok([
+        moment_of(&mut one),
+        moment_of(&mut two),
+        moment_of(&mut two),
+        moment_of(&mut one),
+    ])
+}
+
+/// Two sessions draw from one count, which stops at the last moment: nothing is accepted after
+/// that.
+pub(super) fn tick<J: Running, C: Clock, R: Abort + Wait>(
+    rt: &R,
+    alloc: Global,
+    drive: &Mutex<SharedDrive<J, C>>,
     rest: &mut Part<J>,
     start: u64,
     tick: u64,
 ) -> Result<(), Fail>
     requires { 2 < rest.old.parts }
 {
-    let mut one = Locked::new(rt, alloc, drive, Role::Admin, rest.split(), &Open, 1)?;
-    let mut two = Locked::new(rt, alloc, drive, Role::Admin, rest.split(), &Open, 2)?;
-    let moments = [
-        moment_of(&mut one),
-        moment_of(&mut two),
-        moment_of(&mut two),
-        moment_of(&mut one),
-    ];
     let mut last = start;
-    for moment in moments {
+    for moment in four_moments(rt, alloc, drive, rest)? {
         let next = last.saturating_add(tick);
         let wanted = if next == last {
             None
@@ -59,4 +70,46 @@ pub(super) fn tick<J: Running, R: Abort + Wait>(
 fn all_sessions_draw_from_one_count(rt: HostRuntime) -> Result<(), Fail> {
     play(&rt, rt.alloc(), Scene::Ticking(10, 5))?;
     play(&rt, rt.alloc(), Scene::Ticking(u64::MAX - 1, 1))
+}
+
+/// A clock that goes on by uneven steps, stays, and goes back.
+#[derive(Drop)]
+struct Uneven {
+    drawn: usize,
+}
+
+impl Clock for Uneven {
+    ghost use Rattle.std.specs.Prelude.{⊤};
+
+    ghost draws = { λ _ _ _. ⊤ };
+
+    fn draw(&mut self) -> Moment {
+        let moments = [10, 10, 3, 50];
+        let moment = moments[self.drawn % 4];
+        self.drawn = self.drawn.saturating_add(1);
+        Moment::new(moment)
+    }
+}
+
+/// Each change is accepted at the moment that was drawn for it, or at the one after the drive's
+/// clock where that is later.
+pub(super) fn draw_unevenly<J: Running, C: Clock, R: Abort + Wait>(
+    rt: &R,
+    alloc: Global,
+    drive: &Mutex<SharedDrive<J, C>>,
+    rest: &mut Part<J>,
+) -> Result<(), Fail>
+    requires { 2 < rest.old.parts }
+{
+    let moments = four_moments(rt, alloc, drive, rest)?;
+    assert!(rt; moments[0] == Some(Moment::new(10)), "as it was drawn");
+    assert!(rt; moments[1] == Some(Moment::new(11)), "drawn again");
+    assert!(rt; moments[2] == Some(Moment::new(12)), "drawn before");
+    assert!(rt; moments[3] == Some(Moment::new(50)), "drawn later");
+    Ok(())
+}
+
+#[test]
+fn each_change_has_the_moment_that_was_drawn(rt: HostRuntime) -> Result<(), Fail> {
+    play_over(&rt, rt.alloc(), Uneven { drawn: 0 }, 100, Scene::Uneven)
 }

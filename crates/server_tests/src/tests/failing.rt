@@ -4,7 +4,7 @@ ghost use Rattle.std.specs.Prelude.{◌≡◌, ◌+◌, ◌^◌, ◌<◌, ◌≤
 use crate::tests::{Scene, joined, play};
 use s4_types::{Moment, ObjectId, Question, Reply, Request, Role};
 use server::{Gate, Locked, Part, Running, SharedDrive, Undrawn, UpkeepStep};
-use serving::{Backend, MemorySource, ServeEnd, Sink, StreamFailed, WriteSink, serve};
+use serving::{Backend, Clock, MemorySource, ServeEnd, Sink, StreamFailed, WriteSink, serve};
 use std::alloc::Global;
 use std::io::{self, ErrorKind, Write};
 use std::process::Abort;
@@ -109,10 +109,10 @@ impl Gate for Asked {
 /// Serves the four requests to a writer that takes `room` bytes of the replies, fewer than there
 /// are. Of each request that was asked a byte was still to be written, and the Write stays once it
 /// was asked.
-fn serve_failing<J: Running, R: Abort + Wait, W: Sink>(
+fn serve_failing<J: Running, C: Clock, R: Abort + Wait, W: Sink>(
     rt: &R,
     alloc: Global,
-    drive: &Mutex<SharedDrive<J>>,
+    drive: &Mutex<SharedDrive<J, C>>,
     rest: &mut Part<J>,
     room: usize,
     writer: &mut W,
@@ -148,10 +148,10 @@ fn serve_failing<J: Running, R: Abort + Wait, W: Sink>(
 }
 
 /// The writer is a sink of its own.
-pub(super) fn fail_above<J: Running, R: Abort + Wait>(
+pub(super) fn fail_above<J: Running, C: Clock, R: Abort + Wait>(
     rt: &R,
     alloc: Global,
-    drive: &Mutex<SharedDrive<J>>,
+    drive: &Mutex<SharedDrive<J, C>>,
     rest: &mut Part<J>,
     room: usize,
 ) -> Result<(), Fail>
@@ -164,10 +164,10 @@ pub(super) fn fail_above<J: Running, R: Abort + Wait>(
 }
 
 /// The program's sink is over it.
-pub(super) fn fail_below<J: Running, R: Abort + Wait>(
+pub(super) fn fail_below<J: Running, C: Clock, R: Abort + Wait>(
     rt: &R,
     alloc: Global,
-    drive: &Mutex<SharedDrive<J>>,
+    drive: &Mutex<SharedDrive<J, C>>,
     rest: &mut Part<J>,
     room: usize,
 ) -> Result<(), Fail>

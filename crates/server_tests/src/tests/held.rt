@@ -8,7 +8,7 @@ use server::{
     Client, Gate, Locked, Open, Outcome, Part, Running, SharedDrive, UpkeepStep, give_parts,
     run_sessions,
 };
-use serving::{Backend, MemorySink, MemorySource, ServeEnd, Sink, Source};
+use serving::{Backend, Clock, MemorySink, MemorySource, ServeEnd, Sink, Source};
 use std::alloc::Global;
 use std::process::Abort;
 use std::sync::atomic::{AtomicBool, AtomicUsize, Ordering};
@@ -91,10 +91,10 @@ impl Gate for Crowd {
 }
 
 /// The sealed bytes are made, by a session at which nobody waits.
-fn fill<J: Running, R: Wait>(
+fn fill<J: Running, C: Clock, R: Wait>(
     rt: &R,
     alloc: Global,
-    drive: &Mutex<SharedDrive<J>>,
+    drive: &Mutex<SharedDrive<J, C>>,
     rest: &mut Part<J>,
 ) -> Result<(), Fail>
     requires { 1 < rest.old.parts }
@@ -118,6 +118,7 @@ fn fill<J: Running, R: Wait>(
 /// Serves sessions that have no part of the books yet.
 fn serve_all<
     J: Running + Send + Sync,
+    C: Clock + Send,
     R: Threads + Wait + Sync,
     G: Gate + Sync,
     S: Source + Send,
@@ -125,7 +126,7 @@ fn serve_all<
 >(
     rt: &R,
     alloc: Global,
-    drive: &Mutex<SharedDrive<J>>,
+    drive: &Mutex<SharedDrive<J, C>>,
     rest: &mut Part<J>,
     gate: &G,
     clients: &mut [Client<J, S, W>],
@@ -141,10 +142,10 @@ fn serve_all<
 }
 
 /// A read of sealed bytes is held until another session has changed them, and gives what was there.
-pub(super) fn hold<J: Running + Send + Sync, R: Abort + Threads + Wait + Sync>(
+pub(super) fn hold<J: Running + Send + Sync, C: Clock + Send, R: Abort + Threads + Wait + Sync>(
     rt: &R,
     alloc: Global,
-    drive: &Mutex<SharedDrive<J>>,
+    drive: &Mutex<SharedDrive<J, C>>,
     rest: &mut Part<J>,
 ) -> Result<(), Fail>
     requires { 90 < rest.old.parts }
@@ -175,10 +176,10 @@ fn a_read_is_fetched_after_its_bytes_were_changed(rt: HostRuntime) -> Result<(),
 }
 
 /// 16 sessions at once, each held in its first read until all are there. Each is asked once.
-pub(super) fn gather<J: Running + Send + Sync, R: Abort + Threads + Wait + Sync>(
+pub(super) fn gather<J: Running + Send + Sync, C: Clock + Send, R: Abort + Threads + Wait + Sync>(
     rt: &R,
     alloc: Global,
-    drive: &Mutex<SharedDrive<J>>,
+    drive: &Mutex<SharedDrive<J, C>>,
     rest: &mut Part<J>,
 ) -> Result<(), Fail>
     requires { 90 < rest.old.parts }
@@ -228,12 +229,12 @@ fn sixteen_sessions_are_held_at_once(rt: HostRuntime) -> Result<(), Fail> {
 }
 
 /// Sessions that keep all seats of a drive.
-fn all_seats<'a, J: Running, R: Wait>(
+fn all_seats<'a, J: Running, C: Clock, R: Wait>(
     rt: &'a R,
     alloc: Global,
-    drive: &'a Mutex<SharedDrive<J>>,
+    drive: &'a Mutex<SharedDrive<J, C>>,
     rest: &mut Part<J>,
-) -> Result<Vec<Locked<'a, J, R, Open>>, Fail>
+) -> Result<Vec<Locked<'a, J, C, R, Open>>, Fail>
     requires { 90 < rest.old.parts }
     ensures { OnOk result (rest.new.parts + 64 ≡ rest.old.parts) }
 {
@@ -246,10 +247,10 @@ fn all_seats<'a, J: Running, R: Wait>(
 }
 
 /// Two sessions that read all bytes, served at once.
-fn serve_two<J: Running + Send + Sync, R: Threads + Wait + Sync>(
+fn serve_two<J: Running + Send + Sync, C: Clock + Send, R: Threads + Wait + Sync>(
     rt: &R,
     alloc: Global,
-    drive: &Mutex<SharedDrive<J>>,
+    drive: &Mutex<SharedDrive<J, C>>,
     rest: &mut Part<J>,
 ) -> [Client<J, MemorySource<'static>, MemorySink>; 2]
     requires { 2 < rest.old.parts }
@@ -281,12 +282,11 @@ fn are_served<J: Running>(clients: &[Client<J, MemorySource<'_>, MemorySink>]) -
 }
 
 /// A session that the drive refuses is told so, and nothing of it is read or written.
-pub(super) fn crowd_out<J: Running + Send + Sync, R: Abort + Threads + Wait + Sync>(
-    rt: &R,
-    alloc: Global,
-    drive: &Mutex<SharedDrive<J>>,
-    rest: &mut Part<J>,
-) -> Result<(), Fail>
+pub(super) fn crowd_out<
+    J: Running + Send + Sync,
+    C: Clock + Send,
+    R: Abort + Threads + Wait + Sync,
+>(rt: &R, alloc: Global, drive: &Mutex<SharedDrive<J, C>>, rest: &mut Part<J>) -> Result<(), Fail>
     requires { 90 < rest.old.parts }
 {
     let seats = all_seats(rt, alloc, drive, rest)?;

@@ -7,13 +7,13 @@ use s4_types::Role;
 use server::{
     Client, Gate, Outcome, Part, Running, SharedDrive, UpkeepStep, give_parts, run_with_upkeep,
 };
-use serving::{MemorySink, MemorySource, ServeEnd};
+use serving::{Clock, MemorySink, MemorySource, ServeEnd};
 use std::alloc::Global;
 use std::process::Abort;
 use std::sync::{Condvar, CondvarTimeouts, Mutex, Wait};
 use std::test::Fail;
 use std::thread::Threads;
-use std::time::{Clock, Duration};
+use std::time;
 
 /// Steps of the cleaner, of the copier and of the sessions: those of one row are taken by one
 /// thread.
@@ -68,7 +68,7 @@ struct Seen {
 /// A gate at which whoever comes first to the one step is held until somebody has come to the
 /// other.
 #[derive(Drop)]
-struct Order<'a, R: Wait + Clock> {
+struct Order<'a, R: Wait + time::Clock> {
     rt: &'a R,
     held: UpkeepStep,
     until: UpkeepStep,
@@ -76,7 +76,7 @@ struct Order<'a, R: Wait + Clock> {
     news: Condvar,
 }
 
-impl<'a, R: Wait + Clock> Order<'a, R> {
+impl<'a, R: Wait + time::Clock> Order<'a, R> {
     fn new(rt: &'a R, held: UpkeepStep, until: UpkeepStep) -> Self {
         Order {
             rt,
@@ -93,13 +93,13 @@ impl<'a, R: Wait + Clock> Order<'a, R> {
     }
 
     /// How long the thread is held at most.
-    fn bound(&self) -> Duration {
+    fn bound(&self) -> time::Duration {
         let most = if is_forbidden(self.held, self.until) {
             FORBIDDEN_MILLISECONDS
         } else {
             MOST_MILLISECONDS
         };
-        Duration::from_millis(most)
+        time::Duration::from_millis(most)
     }
 
     /// Holds the thread that is here until the other one has come, or gives up.
@@ -122,7 +122,7 @@ impl<'a, R: Wait + Clock> Order<'a, R> {
             return;
         }
         let seen = self.seen.lock(self.rt);
-        let most = Duration::from_millis(MOST_MILLISECONDS);
+        let most = time::Duration::from_millis(MOST_MILLISECONDS);
         let (_seen, _) = self
             .news
             .wait_timeout_while(self.rt, seen, most, |seen| !seen.has_begun);
@@ -137,7 +137,7 @@ impl<'a, R: Wait + Clock> Order<'a, R> {
     }
 }
 
-impl<R: Wait + Clock> Gate for Order<'_, R> {
+impl<R: Wait + time::Clock> Gate for Order<'_, R> {
     fn between(&self, _session: usize, _call: u64) {}
 
     fn answered(&self, _session: usize, _call: u64) {}
@@ -155,10 +155,14 @@ impl<R: Wait + Clock> Gate for Order<'_, R> {
 
 /// One session beside upkeep in this order: it is served to its end, and the order came unless it
 /// can't.
-pub(super) fn run_ordered<J: Running + Send + Sync, R: Abort + Threads + Wait + Clock + Sync>(
+pub(super) fn run_ordered<
+    J: Running + Send + Sync,
+    C: Clock + Send,
+    R: Abort + Threads + Wait + time::Clock + Sync,
+>(
     rt: &R,
     alloc: Global,
-    drive: &Mutex<SharedDrive<J>>,
+    drive: &Mutex<SharedDrive<J, C>>,
     rest: &mut Part<J>,
     held: UpkeepStep,
     until: UpkeepStep,

@@ -1,6 +1,7 @@
 use Rattle.segment_table.specs.Room.{log_of}
 use Rattle.version_store.specs.Store.{fields_of}
 use Rattle.drive.specs.Opened.{base_of}
+use Rattle.server.specs.Drawing.{AreTicks}
 use Rattle.s4d.specs.Running.{IsUnasked}
 use Rattle.s4d.proofs.running.run_file.Given as goal
 
@@ -16,7 +17,7 @@ ghosts-run_begun-J-Ledger g a = record { name = a.begun.blanks.changes; parts = 
 abbrev pub ghosts-run_begun-J-Running : goal.ghosts-run_begun-J-Running
 ghosts-run_begun-J-Running g a = record {
   begins = IsUnasked (base_of (fields_of log_of a.begun.opened.store) a.begun.opened.timeline a.begun.opened.next a.begun.opened.audit);
-  clock = record { start = a.begun.manner.start; tick = a.begun.manner.tick };
+  moments = AreTicks (record { start = a.begun.manner.start; tick = a.begun.manner.tick });
   has_upkeep = a.begun.manner.upkeep;
   asked = a.begun.blanks.requests;
 }

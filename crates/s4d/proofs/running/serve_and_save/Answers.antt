@@ -44,6 +44,10 @@ serve_all-served-requires-clause-writers g c κs within =
     let Fits : A → Type 0 = λ x. g.W.Sink.failures x.writer + 1 < 2 ^ 64 in
     subst (λ (xs : List A). All Fits xs) (sym all) (given_all Fits (λ x fits. fits) clients given count each c.requires.writers)
 
+-- the moments that are drawn are those of the manner
+pub new-shared-requires-clause-moments : goal.new-shared-requires-clause-moments
+new-shared-requires-clause-moments g c moments later drawn = c.requires.ticks moments (c.new-clock.ensures.later moments later drawn)
+
 -- the rest and what the clients have are all parts
 pub settle-drive-requires : goal.settle-drive-requires
 settle-drive-requires g c =
@@ -58,9 +62,9 @@ settle-drive-requires g c =
     let given_count = c.give_parts.auto.clients in
     let served_count = c.serve_all-served.ensures.count in
     let size : length c.as_mut_slice-2.result.now ≡ length given = omega (arith, len, many, given_count, served_count) in
-    let Attend : List A → List A → Type 0 = λ xs ys. (i : ℕ) (d : A) → i < length given → IsAttendedClient g.S.Source.remaining g.W.Sink.passed g.S.Source.failures g.W.Sink.failures g.J.Naming.base g.J.Running.clock (get_or xs i d) (get_or ys i d) in
+    let Attend : List A → List A → Type 0 = λ xs ys. (i : ℕ) (d : A) → i < length given → IsAttendedClient g.S.Source.remaining g.W.Sink.passed g.S.Source.failures g.W.Sink.failures g.J.Naming.base g.J.Running.moments (get_or xs i d) (get_or ys i d) in
     let here : Attend (take c.args.clients.len (given ++ drop (length given) clients)) served = λ i d lt. c.serve_all-served.ensures.attended i d (omega (arith, lt, len, given_count)) in
-    let parts = parts_served _ _ _ _ g.J.Naming.base g.J.Running.begins g.J.Running.clock g.J.Running.has_upkeep given c.as_mut_slice-2.result.now size
+    let parts = parts_served _ _ _ _ g.J.Naming.base g.J.Running.begins g.J.Running.moments g.J.Running.has_upkeep given c.as_mut_slice-2.result.now size
     (subst (λ (ys : List A). Attend given ys) (sym same) (subst (λ (xs : List A). Attend xs served) all here)) in
     let rest = ap (λ (p : PartFields). p.parts) c.give_parts.ensures.rest in
     let first = ap (λ (p : PartFields). p.parts) c.new-shared.ensures.part in
@@ -86,15 +90,15 @@ returns-clause-served g c =
     let last = written_over c.serve_all-served.result.len after served (c.settle-drive.auto.clients ∙ many) in
     let each = subst (λ (xs : List A). (i : ℕ) (d : A) → i < length xs → get_or given i d ≡ with_part (get_or xs i d)) value c.give_parts.ensures.given in
     let size : length c.as_mut_slice-2.result.now ≡ length clients = omega (arith, len, many, served_count, lengths) in
-    let Attend : List A → List A → Type 0 = λ xs ys. (i : ℕ) (d : A) → i < length clients → IsAttendedClient g.S.Source.remaining g.W.Sink.passed g.S.Source.failures g.W.Sink.failures g.J.Naming.base g.J.Running.clock (get_or xs i d) (get_or ys i d) in
+    let Attend : List A → List A → Type 0 = λ xs ys. (i : ℕ) (d : A) → i < length clients → IsAttendedClient g.S.Source.remaining g.W.Sink.passed g.S.Source.failures g.W.Sink.failures g.J.Naming.base g.J.Running.moments (get_or xs i d) (get_or ys i d) in
     let here : Attend (take c.args.clients.len (given ++ drop (length given) clients)) served = λ i d lt. c.serve_all-served.ensures.attended i d (omega (arith, lt, len, lengths)) in
     let attended = subst (λ (ys : List A). Attend given ys) (sym same) (subst (λ (xs : List A). Attend xs served) all here) in
     let rest = c.give_parts.ensures.rest in
     let first = c.new-shared.ensures.part in
-    let are = are_served _ _ _ _ g.J.Naming.base g.J.Running.begins g.J.Running.clock g.J.Running.has_upkeep clients given c.as_mut_slice-2.result.now after c.give_parts.new.rest c.settle-drive.result
+    let are = are_served _ _ _ _ g.J.Naming.base g.J.Running.begins g.J.Running.moments g.J.Running.has_upkeep clients given c.as_mut_slice-2.result.now after c.give_parts.new.rest c.settle-drive.result
     (ap (λ (p : PartFields). p.requests) rest ∙ ap (λ (p : PartFields). p.requests) first) (ap (λ (p : PartFields). p.changes) rest ∙ ap (λ (p : PartFields). p.changes) first)
     size each attended (λ i d lt. c.settle-drive.ensures.settled i d (omega (arith, lt, size))) c.settle-drive.ensures.come in
-    let Are : List A → DriveFields → Type 0 = λ xs d. AreServed g.S.Source.remaining g.W.Sink.passed g.S.Source.failures g.W.Sink.failures g.J.Naming.base g.J.Running.begins g.J.Running.clock g.J.Running.has_upkeep clients xs d in
+    let Are : List A → DriveFields → Type 0 = λ xs d. AreServed g.S.Source.remaining g.W.Sink.passed g.S.Source.failures g.W.Sink.failures g.J.Naming.base g.J.Running.begins g.J.Running.moments g.J.Running.has_upkeep clients xs d in
     subst (λ (xs : List A). Are xs c.save-saved.new.drive) (sym last) (subst (λ (d : DriveFields). Are after d) (sym c.save-saved.ensures.same) are)
 
 pub returns-clause-saved : goal.returns-clause-saved

@@ -29,6 +29,15 @@ unreachable-requires g c =
     let here = YieldsList-turn road c.loop-session.yielded c.loop-session.session-iterator c.loop-session.yielded_by c.next.result c.next.new.self c.in-Some.session c.in-Some.is c.next.ensures.steps in
     omega (arith, here.0, c.in-Err.ensures.full, c.loop-session.invariant.count, c.loop-session.invariant.room)
 
+-- the output of the session that comes is open
+pub client_of-client-requires-clause-opened : goal.client_of-client-requires-clause-opened
+client_of-client-requires-clause-opened g c κs within =
+    let all = c.args.sessions.items in
+    let made = c.into_iter-session-iterator.ensures.into_iter_gives in
+    let road = YieldsList-from_vec {s = c.into_iter-session-iterator.result} all made.0 (made.1 ∙ c.args.sessions.ok.0) in
+    let here = YieldsList-turn road c.loop-session.yielded c.loop-session.session-iterator c.loop-session.yielded_by c.next.result c.next.new.self c.in-Some.session c.in-Some.is c.next.ensures.steps in
+    subst (λ o. g.F.Files.opens o.opened o.session.output.now) (sym here.1) (c.requires.opened (length c.loop-session.yielded) c.in-Some.session here.0)
+
 pub loop-session-preserved : goal.loop-session-preserved
 loop-session-preserved g c =
     let all = c.args.sessions.items in

@@ -11,23 +11,26 @@ pub returns : goal.returns
 returns g c =
     let law = c.histories_go_on_record_by_record.ensures in
     let base = g.J.Naming.base in
-    let clock = g.J.Running.clock in
+    let moments = g.J.Running.moments in
     let role = c.args.client.now.role in
     let input = g.S.Source.remaining c.args.client.now.reader in
     let output = g.W.Sink.passed c.args.client.now.writer in
     let unread = g.S.Source.remaining c.serve-end.new.reader in
     let written = g.W.Sink.passed c.serve-end.new.writer in
+    let first : SeatFields = record { session = c.in-Ok.had.0; requests = 0; clock = c.in-Ok.had.1.clock } in
     let last : SeatFields = c.serve-end.new.backend in
-    let IsLast : SessionFields → PartFields → Type 0 = λ session part. IsServed base clock role c.serve-end.result session part input output unread written in
-    let serves = subst (λ (first : SeatFields). Serves (SeatSteps base clock) DrawsNothing [] c.serve-end.result first _ input output last _ unread written) c.beside-session.ensures c.serve-end.ensures.session in
-    let own = all_own law.by_moments law.by_changes base clock role serves.finishes.items serves.finishes.answered.moments serves.finishes.replies c.in-Ok.session last c.in-Ok.ensures.session serves.finishes.answered.run in
+    let IsLast : SessionFields → PartFields → Type 0 = λ session part. IsServed base moments role c.serve-end.result session part input output unread written in
+    let serves = subst (λ (first : SeatFields). Serves (SeatSteps base moments) DrawsNothing [] c.serve-end.result first _ input output last _ unread written) c.seated-session.ensures c.serve-end.ensures.session in
+    let own = all_own law.by_moments law.by_changes base moments role serves.finishes.items serves.finishes.answered.moments serves.finishes.replies first last c.in-Ok.ensures.session serves.finishes.answered.run in
     let ended = c.into_parts-session.ensures in
     record {
       attended = record {
         role = refl;
         attended = subst (λ (session : SessionFields). IsLast session c.into_parts-session.result.1) (sym ended.session) (subst (λ (part : PartFields). IsLast last.session part) (sym ended.part) (record {
-          first = c.in-Ok.session;
-          fresh = c.in-Ok.ensures.session;
+          first = first.session;
+          opened = first.clock;
+          seated = c.in-Ok.ensures.session;
+          closed = last.clock;
           before = _;
           after = _;
           serves = serves;

@@ -1,12 +1,12 @@
-use Rattle.std.proofs.Common.{◌≡◌, ◌+◌, ◌^◌, ◌-◌, ◌<◌, ◌∙◌, ℕ, ap, arith, cond, min, refl, subst, sym}
-use Rattle.serving.specs.Drawing.{moment_of_tick}
-use Rattle.drive.specs.Answering.{is_acceptance}
+use Rattle.std.proofs.Common.{◌≡◌, ◌+◌, ℕ, Bool, [], ◌∷◌, arith, cond, refl, subst, sym}
+use Rattle.segment_word.specs.AcceptViews.{count_of}
+use Rattle.drive.specs.Fields.{history_of}
 use Rattle.server.specs.Accounts.{BookFields}
-use Rattle.server.specs.Drawing.{moment_at}
-use Rattle.server.specs.Sequence.{HasCome, IsAnswered}
-use Rattle.server.specs.Sharing.{SharedStep}
-use Rattle.server.proofs.Sequence.{come_answered, stopped_moment, next_count}
-use Rattle.server.proofs.Sharing.{shared_drive}
+use Rattle.server.specs.Drawing.{MayGoOn}
+use Rattle.server.specs.Sequence.{HasCome, moments_of}
+use Rattle.server.proofs.Sequence.{come_answered, drawn_more, moments_counted, next_count}
+use Rattle.server.proofs.Sharing.{seen_after, shared_drive}
+use Rattle.server.proofs.Summing.{accepted_more}
 use Rattle.server.proofs.shared.SharedDrive.answer.Goals as goal
 
 -- a request more was answered, and is on the books
@@ -15,18 +15,21 @@ invariant_of-self g c =
     let held = c.self.invariant in
     let inside = c.self.inside in
     let asked = c.request-reply in
-    let n = inside.books.requests in
-    let Comes : BookFields → Type 0 = λ b. HasCome g.J.Running.begins g.J.Running.clock g.J.Running.has_upkeep b.requests b.changes asked.new.self in
-    let now = stopped_moment g.J.Running.clock inside.start inside.tick n c.saturating_add-self-inside.result c.moment_after-now.result inside.answered held.1 held.2 held.3 c.saturating_add-self-inside.ensures c.moment_after-now.ensures in
-    let one : IsAnswered inside.drive c.args.session.now.told.seat c.args.session.now.role c.args.request (moment_at g.J.Running.clock (n + 1)) asked.result asked.new.self =
-    subst (λ (m : ℕ). IsAnswered inside.drive c.args.session.now.told.seat c.args.session.now.role c.args.request m asked.result asked.new.self) now
+    let draw = c.draw-now in
+    let law = c.histories_go_on_record_by_record.ensures in
+    let books = inside.books in
+    let May = MayGoOn g.C.Clock.draws g.J.Running.moments in
+    let Comes : BookFields → Type 0 = λ b. HasCome g.J.Running.begins (May draw.new.self) g.J.Running.has_upkeep b.requests b.changes asked.new.self in
+    let come = come_answered g.J.Running.begins (May inside.clock) (May draw.new.self) g.J.Running.has_upkeep books.requests books.changes inside.drive asked.new.self
+    c.args.session.now.told.seat c.args.session.now.role c.args.request draw.result asked.result (λ drawn. drawn_more g.C.Clock.draws g.J.Running.moments inside.clock draw.new.self draw.result drawn draw.ensures) held.0
     (record { step = asked.ensures.step; stored = asked.ensures.stored; owners = asked.ensures.owners }) in
-    let come = come_answered _ _ _ n inside.books.changes inside.drive asked.new.self _ _ _ asked.result held.0 one in
-    let come' = subst (λ b. HasCome g.J.Running.begins g.J.Running.clock g.J.Running.has_upkeep (n + 1) (inside.books.changes + cond b 1 0) asked.new.self) (sym c.accepts.ensures) come in (
+    let come' = subst (λ b. HasCome g.J.Running.begins (May draw.new.self) g.J.Running.has_upkeep (books.requests + 1) (books.changes + cond b 1 0) asked.new.self) (sym c.accepts-is_accepted.ensures) come in
+    let more = accepted_more law.by_moments law.by_changes (history_of inside.drive) (history_of asked.new.self) c.args.session.now.role c.args.request draw.result asked.result asked.ensures.step in
+    let more' : count_of asked.new.self.ledger ≡ count_of inside.drive.ledger + c.number_of-more.result =
+    subst (λ (n : ℕ). count_of asked.new.self.ledger ≡ count_of inside.drive.ledger + n) (sym c.number_of-more.ensures)
+    (subst (λ (b : Bool). count_of asked.new.self.ledger ≡ count_of inside.drive.ledger + cond b 1 0) (sym c.accepts-is_accepted.ensures) more) in (
       subst Comes (sym c.count.ensures.books) come',
-      held.1,
-      held.2,
-      next_count n inside.answered c.saturating_add-self-inside.result held.3 c.saturating_add-self-inside.ensures ∙ ap (λ (b : BookFields). min b.requests (2 ^ 64 - 1)) (sym c.count.ensures.books),
+      next_count (count_of inside.drive.ledger) (count_of asked.new.self.ledger) inside.accepted c.saturating_add-self-inside.result c.number_of-more.result held.1 more' c.saturating_add-self-inside.ensures,
     )
 
 pub returns-clause-step : goal.returns-clause-step
@@ -34,13 +37,17 @@ returns-clause-step g c =
     let held = c.self.invariant in
     let inside = c.self.inside in
     let asked = c.request-reply in
+    let draw = c.draw-now in
     let rules = c.rules.ensures in
-    let n = inside.books.requests in
-    let now = stopped_moment g.J.Running.clock inside.start inside.tick n c.saturating_add-self-inside.result c.moment_after-now.result inside.answered held.1 held.2 held.3 c.saturating_add-self-inside.ensures c.moment_after-now.ensures in
+    let before = moments_of held.0.events in
+    let all = moments_counted held.0.events in
+    let answered = held.0.answered in
     record {
-      count = n + 1;
-      late = omega (arith, c.count.ensures.bound);
-      step = subst (λ (m : ℕ). SharedStep g.J.Naming.base c.args.session.now c.args.request m asked.result asked.new.session) now (record {
+      before = before;
+      now = draw.result;
+      drawn = held.0.drawn (draw.result ∷ []) draw.new.self (draw.new.self, draw.ensures, refl);
+      late = omega (arith, c.count.ensures.bound, all, answered);
+      step = record {
         before = inside.drive;
         after = asked.new.self;
         there = shared_drive g.J.Naming.base g.J.Naming.frames inside.drive inside.drive refl rules.base rules.decodes rules.frames rules.sound rules.store rules.past rules.unborn;
@@ -52,5 +59,9 @@ returns-clause-step g c =
         owners = asked.ensures.owners;
         told = asked.ensures.session;
         has_seen = asked.ensures.after;
-      });
+      };
+      came_to = refl;
     }
+
+pub returns-clause-seen : goal.returns-clause-seen
+returns-clause-seen g c = seen_after c.request-reply.result c.request-reply.new.self.ledger c.args.session.now c.request-reply.new.session c.request-reply.ensures.session

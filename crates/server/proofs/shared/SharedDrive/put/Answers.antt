@@ -2,7 +2,7 @@ use Rattle.std.proofs.Common.{sym, ap, subst, ◌∙◌, rules}
 use Rattle.drive.specs.Fields.{DriveFields, history_of}
 use Rattle.segment_word.specs.AcceptRule.{FitsLedger}
 use Rattle.segment_word.specs.AcceptViews.{caught_up}
-use Rattle.server.proofs.Sequence.{come_tended}
+use Rattle.server.proofs.Sequence.{come_tended, same_count}
 use Rattle.server.proofs.shared.SharedDrive.put.Goals as goal
 
 -- a step of upkeep more
@@ -10,7 +10,7 @@ pub invariant_of-self : goal.invariant_of-self
 invariant_of-self g c =
     let held = c.self.invariant in
     let ledger = c.commit.ensures.ledger ∙ ap (λ (d : DriveFields). d.ledger) c.meet.ensures.same in
-    (come_tended _ _ _ _ _ _ _ held.0 c.requires ledger, held.1, held.2, held.3)
+    (come_tended _ _ _ _ _ _ _ held.0 c.requires ledger, same_count _ _ _ held.1 ledger)
 
 pub returns : goal.returns
 returns g c =

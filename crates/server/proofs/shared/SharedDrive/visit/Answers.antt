@@ -1,9 +1,9 @@
-use Rattle.server.proofs.Sequence.{come_tended}
+use Rattle.server.proofs.Sequence.{come_tended, same_count}
 use Rattle.server.proofs.shared.SharedDrive.visit.Goals as goal
 
 -- a step of upkeep more
 pub invariant_of-self : goal.invariant_of-self
-invariant_of-self g c = let held = c.self.invariant in (come_tended _ _ _ _ _ _ _ held.0 c.requires c.visit.ensures.ledger, held.1, held.2, held.3)
+invariant_of-self g c = let held = c.self.invariant in (come_tended _ _ _ _ _ _ _ held.0 c.requires c.visit.ensures.ledger, same_count _ _ _ held.1 c.visit.ensures.ledger)
 
 pub returns : goal.returns
 returns g c = record {

@@ -1,6 +1,6 @@
 use Rattle.std.proofs.Common.{◌+◌, ◌^◌, ◌<◌}
 use Rattle.server.proofs.Stepping.{HasMoved}
-use Rattle.server.proofs.moving.keep_moving.Given as goal
+use Rattle.server.proofs.moving.take_steps.Given as goal
 
 -- steps were taken and counted, and not more than the loop has come round
 abbrev pub invariant-loop-turn : goal.invariant-loop-turn

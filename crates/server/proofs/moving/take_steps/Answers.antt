@@ -1,5 +1,5 @@
 use Rattle.server.proofs.Stepping.{moved_ends}
-use Rattle.server.proofs.moving.keep_moving.Goals as goal
+use Rattle.server.proofs.moving.take_steps.Goals as goal
 
 -- the step that was taken last is counted too
 pub returns-then-await_step : goal.returns-then-await_step
