@@ -1,0 +1,59 @@
+//! FIFOs of this system, and what is none.
+use crate::fifos::Fifos;
+use crate::host_fifos::open_again;
+use std::alloc::{AllocError, Global};
+use std::fs::{self, OpenOptions};
+use std::io::{self, Read, Write};
+use std::os::fd::AsRawFd;
+use std::test::Fail;
+
+/// The path of a file of this program, which is a link to it.
+fn link_to<T: AsRawFd>(alloc: Global, file: &T) -> Result<String, AllocError> {
+    let number = file.as_raw_fd();
+    format!(in alloc; "/proc/self/fd/{number}")
+}
+
+/// Whether no FIFO is opened by this path, in any direction.
+fn is_refused(rt: &HostRuntime, path: &str) -> bool {
+    rt.open_endless(path).is_err() && rt.open_input(path).is_err() && rt.open_output(path).is_err()
+}
+
+/// Whether none is by a link to a file of this program.
+fn is_link_refused<T: AsRawFd>(rt: &HostRuntime, file: &T) -> Result<bool, AllocError> {
+    let link = link_to(rt.alloc(), file)?;
+    Ok(is_refused(rt, link.as_str()))
+}
+
+#[test]
+fn what_is_no_fifo_is_refused(rt: HostRuntime) -> Result<(), Fail> {
+    let file = "session.in";
+    fs::write(&rt, file, b"bytes")?;
+    let (reader, _writer) = io::pipe(&rt)?;
+    assert!(rt; is_refused(&rt, file));
+    assert!(rt; is_refused(&rt, "."));
+    assert!(rt; is_refused(&rt, "/dev/null"));
+    assert!(rt; is_refused(&rt, "none.in"));
+    assert!(rt; is_link_refused(&rt, &reader)?);
+    assert_eq!(rt; fs::read(&rt, file)?.as_slice(), b"bytes".as_slice());
+    fs::remove_file(&rt, file)?;
+    Ok(())
+}
+
+#[test]
+fn a_fifo_is_opened_again_for_each_direction(rt: HostRuntime) -> Result<(), Fail> {
+    let (reader, writer) = io::pipe(&rt)?;
+    let link = link_to(rt.alloc(), &reader)?;
+    let mut options = OpenOptions::new();
+    let both = options.read(true).write(true).open(&rt, link.as_str())?;
+    drop(reader);
+    drop(writer);
+    let mut input = open_again(&rt, &both, OpenOptions::new().read(true))?;
+    let mut output = open_again(&rt, &both, OpenOptions::new().write(true))?;
+    drop(both);
+    output.write_all(b"bytes")?;
+    drop(output);
+    let mut bytes = Vec::new(rt.alloc());
+    input.read_to_end(&mut bytes)?;
+    assert_eq!(rt; bytes.as_slice(), b"bytes".as_slice());
+    Ok(())
+}

@@ -1,0 +1,4 @@
+pub mod Holding
+pub mod Saying
+pub mod Cutting
+pub mod Going
