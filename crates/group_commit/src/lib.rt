@@ -1,0 +1,17 @@
+//! Group commit: whoever waits until its change is kept flushes for all that wait, or waits for
+//! the one who does.
+//!
+//! The layer above may rely on this: `await_kept` gives a receipt only where it covers the number
+//! of changes and the moment that were asked for, and a receipt is made by a flush that ended well,
+//! or is the one that the monitor began with. The receipt that is had by the monitor is replaced
+//! only by one that covers as much. A flush that failed ends the service: nothing is flushed after
+//! it. What a receipt shows is its type's to say. That a thread which waits goes on is no clause's;
+//! a model that is searched has it.
+#![tactic(auto)]
+
+mod flush;
+mod monitor;
+mod progress;
+
+pub use flush::{CommitStep, Flush, FlushError, NotKept, Open, Receipt, Steps};
+pub use monitor::Monitor;

@@ -1,0 +1,167 @@
+//! What sessions wait for: one struct, which one lock guards.
+ghost use Rattle.std.specs.Prelude.{◌≡◌, ◌+◌, ◌-◌, ◌^◌, ◌||◌, ◌&&◌, ◌==◌, true, false, not, min};
+ghost use Rattle.group_commit.specs.Commit.{covers, later_of, turn_of};
+
+use crate::flush::Receipt;
+
+/// What a session is to do that waits until its change is kept.
+#[derive(Clone, Copy, Debug, PartialEq, Eq)]
+pub(crate) enum Turn {
+    /// What is kept covers it: it goes on.
+    Covered,
+    /// A flush has failed.
+    Failed,
+    /// It flushes.
+    Flushes,
+    /// Somebody flushes.
+    Waits,
+}
+
+/// How far everything is kept, and who is to flush.
+///
+/// **The rule of every wait.** Whoever waits, waits for a predicate of this struct alone, in a loop
+/// over it under the struct's lock. Whoever changes the struct does so under that lock, and
+/// notifies the one condition variable after that, where the change may end a wait. Whoever holds
+/// the lock takes no other, and nobody asks for it with the drive's lock held.
+#[derive(Drop)]
+pub(crate) struct Progress<T> {
+    /// What shows how much is kept.
+    pub kept: T,
+    /// Somebody flushes.
+    pub is_flushing: bool,
+    /// A flush has failed.
+    pub has_failed: bool,
+    /// The last flush lacked memory or space.
+    pub is_short: bool,
+    /// Replies that are due: their requests were taken up.
+    pub due: u64,
+    /// No request is to be taken up any more.
+    pub is_stopping: bool,
+}
+
+impl<T: Receipt + Drop> Progress<T> {
+    /// Before the first request.
+    pub(crate) fn new(kept: T) -> Self
+        ensures { result
+            ≡ record { kept = kept; is_flushing = false; has_failed = false; is_short = false; due = 0; is_stopping = false } }
+    {
+        Progress {
+            kept,
+            is_flushing: false,
+            has_failed: false,
+            is_short: false,
+            due: 0,
+            is_stopping: false,
+        }
+    }
+
+    /// Whether a receipt covers this number of changes and this moment.
+    fn is_enough(receipt: &T, number: u64, clock: u64) -> bool
+        ensures { result ≡ covers T.number T.reach receipt.now number clock }
+    {
+        number <= receipt.number() && clock <= receipt.reach()
+    }
+
+    /// What a session is to do that has seen this number of changes, and has read the drive at this
+    /// clock.
+    pub(crate) fn turn(&self, number: u64, clock: u64) -> Turn
+        ensures { result ≡ turn_of (covers T.number T.reach self.now.kept number clock) self.now.has_failed self.now.is_flushing }
+    {
+        if Self::is_enough(&self.kept, number, clock) {
+            Turn::Covered
+        } else if self.has_failed {
+            Turn::Failed
+        } else if self.is_flushing {
+            Turn::Waits
+        } else {
+            Turn::Flushes
+        }
+    }
+
+    /// Somebody flushes from now on.
+    pub(crate) fn begin_flush(&mut self)
+        requires alone { self.old.is_flushing ≡ false }
+        requires well { self.old.has_failed ≡ false }
+        ensures { self.new ≡ record self.old { is_flushing = true } }
+    {
+        self.is_flushing = true;
+    }
+
+    /// The flush has ended well.
+    pub(crate) fn keep(&mut self, receipt: T)
+        ensures { self.new ≡ record self.old {
+          kept = later_of T.number T.reach self.old.kept receipt;
+          is_flushing = false;
+          is_short = false;
+        } }
+    {
+        if Self::is_enough(&receipt, self.kept.number(), self.kept.reach()) {
+            self.kept = receipt;
+        }
+        self.is_flushing = false;
+        self.is_short = false;
+    }
+
+    /// The flush lacked memory or space, and is tried again by the one who flushes. Answers whether
+    /// the one before did, too.
+    pub(crate) fn put_off(&mut self) -> bool
+        ensures was { result ≡ self.old.is_short }
+        ensures short { self.new ≡ record self.old { is_short = true } }
+    {
+        let was_short = self.is_short;
+        self.is_short = true;
+        was_short
+    }
+
+    /// The flush has failed.
+    pub(crate) fn fail(&mut self)
+        ensures { self.new ≡ record self.old { has_failed = true; is_flushing = false } }
+    {
+        self.has_failed = true;
+        self.is_flushing = false;
+    }
+
+    /// Whether another request may be taken up: not where the service is to stop, or a flush has
+    /// failed.
+    pub(crate) fn goes_on(&self) -> bool
+        ensures { result ≡ not (self.now.is_stopping || self.now.has_failed) }
+    {
+        !(self.is_stopping || self.has_failed)
+    }
+
+    /// Requests were taken up, and their replies are due.
+    pub(crate) fn begin_replies(&mut self)
+        ensures { self.new ≡ record self.old { due = min (self.old.due + 1) (2 ^ 64 - 1) } }
+    {
+        self.due = self.due.saturating_add(1);
+    }
+
+    /// Those replies are out, or never will be.
+    pub(crate) fn end_replies(&mut self)
+        ensures { self.new ≡ record self.old { due = self.old.due - 1 } }
+    {
+        self.due = self.due.saturating_sub(1);
+    }
+
+    /// No request is to be taken up from now on.
+    pub(crate) fn stop(&mut self)
+        ensures { self.new ≡ record self.old { is_stopping = true } }
+    {
+        self.is_stopping = true;
+    }
+
+    /// Whether the service has come to its end: a flush has failed; or it is to stop, no reply is
+    /// due, and nobody flushes.
+    pub(crate) fn is_over(&self) -> bool
+        ensures { result ≡ self.now.has_failed || (self.now.is_stopping && (self.now.due == 0) && not self.now.is_flushing) }
+    {
+        self.has_failed || (self.is_stopping && self.due == 0 && !self.is_flushing)
+    }
+
+    /// Whether somebody flushes, and none has failed.
+    pub(crate) fn is_to_end_a_flush(&self) -> bool
+        ensures { result ≡ self.now.is_flushing && not self.now.has_failed }
+    {
+        self.is_flushing && !self.has_failed
+    }
+}
