@@ -1,0 +1,135 @@
+//! The path of an image among files.
+ghost use Rattle.std.specs.Prelude.{◌≡◌, ◌↔◌, None, true, is_ok};
+ghost use Rattle.image_commands.specs.Crashes.{IsShort};
+
+use image_commands::{Files, NotExchanged, Obstacle};
+use image_keeping::{Folder, FolderError};
+use std::alloc::Global;
+
+/// The path of an image that is claimed, and the file beside it, over some files.
+#[derive(Drop)]
+pub struct FileFolder<F: Files + Drop> {
+    alloc: Global,
+    files: F,
+    /// Of the file that has the image's name, or of the name where no file has it.
+    claim: F::Claim,
+    /// The file beside it, which was filled.
+    beside: Option<F::Beside>,
+    /// Whether no sync failed.
+    is_usable: bool,
+}
+
+impl<F: Files + Drop> FileFolder<F> {
+    /// The folder of a claimed image.
+    pub fn new(alloc: Global, files: F, claim: F::Claim) -> Self
+        ensures files { result.files ≡ files }
+        ensures claim { result.claim ≡ claim }
+        ensures beside { result.beside ≡ None }
+        ensures usable { result.is_usable ≡ true }
+    {
+        FileFolder {
+            alloc,
+            files,
+            claim,
+            beside: None,
+            is_usable: true,
+        }
+    }
+}
+
+/// What an obstacle is for whoever keeps images: want of room, which may go, or something else.
+fn error_of(obstacle: Obstacle) -> FolderError
+    ensures { (result ≡ FolderError.NoRoom) ↔ IsShort obstacle }
+{
+    if obstacle.is_short() {
+        FolderError::NoRoom
+    } else {
+        FolderError::Failed
+    }
+}
+
+/// What a sync is answered by that ended well, or didn't.
+fn answer_of(has_ended_well: bool) -> Result<(), FolderError>
+    ensures { is_ok result ≡ has_ended_well }
+{
+    if has_ended_well {
+        Ok(())
+    } else {
+        Err(FolderError::Failed)
+    }
+}
+
+impl<F: Files + Drop> Folder for FileFolder<F> {
+    ghost use Rattle.std.specs.Prelude.{IfSome, false, is_some};
+
+    // No clause of the files says that a crash may leave something.
+    ghost is_known = { false };
+
+    ghost may_leave = { λ f. F.may_leave f.files f.claim };
+
+    ghost named = { λ f. F.placed_leaves f.files f.claim };
+
+    ghost beside = { λ f c. IfSome f.beside (λ b. F.beside_leaves b c) };
+
+    ghost written = { λ f bytes. IfSome f.beside (λ b. F.is_filled b bytes) };
+
+    // Each file beside an image is locked when it is made.
+    ghost is_locked = { λ f. is_some f.beside };
+
+    ghost is_usable = { λ f. f.is_usable };
+
+    fn write_beside(&mut self, bytes: &[u8]) -> Result<(), FolderError> {
+        // What an earlier try left is of no use.
+        if let Some(beside) = self.beside.take() {
+            self.files.remove_beside(beside);
+        }
+        // No room is taken before: the bytes take it at once.
+        let mut beside = match self.files.make_beside(self.alloc, &self.claim, 0) {
+            Ok(beside) => beside,
+            Err(obstacle) => return Err(error_of(obstacle)),
+        };
+        match self.files.fill(&mut beside, bytes) {
+            Ok(()) => {
+                self.beside = Some(beside);
+                Ok(())
+            }
+            Err(obstacle) => {
+                self.files.remove_beside(beside);
+                Err(error_of(obstacle))
+            }
+        }
+    }
+
+    fn sync_beside(&mut self) -> Result<(), FolderError> {
+        self.is_usable = match &mut self.beside {
+            Some(beside) => self.files.sync_beside(beside).is_ok(),
+            None => false,
+        };
+        answer_of(self.is_usable)
+    }
+
+    fn lock_beside(&mut self) -> Result<(), FolderError> {
+        match &self.beside {
+            Some(_) => Ok(()),
+            None => Err(FolderError::Failed),
+        }
+    }
+
+    fn rename(&mut self) -> Result<(), FolderError> {
+        let Some(beside) = self.beside.take() else {
+            return Err(FolderError::Failed);
+        };
+        match self.files.exchange(&mut self.claim, beside) {
+            Ok(()) => Ok(()),
+            Err(NotExchanged { obstacle, beside }) => {
+                self.beside = Some(beside);
+                Err(error_of(obstacle))
+            }
+        }
+    }
+
+    fn sync_folder(&mut self) -> Result<(), FolderError> {
+        self.is_usable = self.files.sync_folder(&self.claim).is_ok();
+        answer_of(self.is_usable)
+    }
+}

@@ -1,0 +1,15 @@
+//! Images that are kept in files.
+//!
+//! The layer above may rely on this: over files that say what a crash leaves of them, `FileFolder`
+//! is the folder that a keeper of whole images asks for. It holds the claim of the file that has
+//! the image's name, from before the name is that file's until the next one has it, so no other
+//! program claims the image in between. Want of memory or room leaves the file that was there, and
+//! the file beside it is removed at the next try. Nothing is said of the system's files, since no
+//! clause of the standard library says what a crash leaves of them.
+#![tactic(auto)]
+
+mod folder;
+#[cfg(test)]
+mod tests;
+
+pub use folder::FileFolder;
