@@ -1,0 +1,16 @@
+use Rattle.std.proofs.Common.{arith}
+use Rattle.batch_serving.proofs.BatchLemmas.{adds, adds_or_breaks, unsaid}
+use Rattle.batch_serving.proofs.batches.answer.Goals as goal
+
+pub returns-in_default-clause-answers : goal.returns-in_default-clause-answers
+returns-in_default-clause-answers g c =
+    unsaid g.B.Backend.steps g.C.Clock.draws g.K.Keeping.waits _ _ _ _ _ _ _ _ _ c.reply_to-reply.ensures.answered
+
+pub returns-then-len-lt-BATCH_BYTES-clause-answers : goal.returns-then-len-lt-BATCH_BYTES-clause-answers
+returns-then-len-lt-BATCH_BYTES-clause-answers g c =
+    adds g.B.Backend.steps g.C.Clock.draws g.K.Keeping.waits _ _ _ _ _ _ _ _ _ _ c.reply_to-reply.ensures.answered c.in-Ok.ensures.frame (grind arith)
+
+pub returns-clause-answers : goal.returns-clause-answers
+returns-clause-answers g c =
+    adds_or_breaks g.B.Backend.steps g.C.Clock.draws g.K.Keeping.waits c.write_out.result _ _ _ _ _ _ _ _ _ _ _ _ _ c.reply_to-reply.ensures.answered c.in-Ok.ensures.frame
+    c.write_out.ensures.empty c.write_out.ensures.written

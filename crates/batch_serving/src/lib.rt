@@ -1,0 +1,21 @@
+//! Serves one session whose replies go out in batches, each once what it shows is kept.
+//!
+//! The layer above may rely on this: what `serve_batch` writes is exactly the frames of the
+//! backend's replies, in order, to the items that the wire's grammar reads from the bytes that
+//! came, however they were cut. They go out in batches, each by one `put`, and only after a wait
+//! for the backend as it is once all of the batch was asked. Where writing fails, a wait ends
+//! without that, or memory is short, no reply is missing but those of the last batch, of which all
+//! but the last have less than `BATCH_BYTES` bytes. The backend is asked nothing else, and what was
+//! answered stays done. An end other than `NoMemory` comes only where its name says. What a wait
+//! shows is said by what waits. How many batches there are is in no clause.
+#![tactic(auto)]
+
+mod batches;
+mod ends;
+mod keeping;
+mod serving_batches;
+
+pub use batches::BATCH_BYTES;
+pub use ends::BatchEnd;
+pub use keeping::{AtMonitor, Keeping};
+pub use serving_batches::serve_batch;
