@@ -1,0 +1,76 @@
+//! What is collected of a drive while its lock is held.
+ghost use Rattle.std.specs.Prelude.{◌≡◌, ◌-◌, ◌^◌, IfErr, IfOk, min};
+ghost use Rattle.s4_types.specs.History.{History};
+ghost use Rattle.s4_types.specs.declared.refusals.Refusal.TheVariants.{NoMemory};
+ghost use Rattle.segment_word.specs.AcceptViews.{caught_up, count_of};
+ghost use Rattle.segment_word.specs.AcceptRule.{FitsLedger};
+ghost use Rattle.drive.specs.Fields.{history_of};
+ghost use Rattle.kept_drive.specs.Collecting.{HasSeenMore, IsCollected, IsCollectedOf};
+
+use drive::{Drive, Session};
+use s4_types::Refusal;
+use segment_word::Naming;
+use std::alloc::Global;
+use verifier::laws::what_has_no_fault_is_an_image;
+use verifier::save;
+
+/// What was collected of a drive.
+#[derive(Drop)]
+pub struct Collected {
+    /// How many changes were accepted.
+    pub number: u64,
+    pub clock: u64,
+    pub window: u64,
+    /// The drive's image, at its clock.
+    pub image: Vec<u8>,
+}
+
+/// A drive that sessions share, under its lock.
+pub trait DriveLock<J: Naming> {
+    // The drive had this history at a time when its lock was held.
+    ghost has_had: { Self → History → Type 0 };
+
+    /// Has the session meet the drive, and collects what is to be kept of it, all of it under the
+    /// lock.
+    fn collect(&self, alloc: Global, session: &mut Session<J>) -> Result<Collected, Refusal>
+        ensures collected { IfOk result
+            (IsCollected (has_had self.now) J.base session.new.told.seen) }
+        ensures refusal { IfErr result (λ e. e ≡ NoMemory) }
+        ensures grows { HasSeenMore session.old session.new };
+}
+
+/// The session meets the drive, and its image is saved, so that it has all that the session has
+/// seen and nothing else. The drive stays as it is. `number` is how many changes were accepted, by
+/// a count that stops at its last number.
+///
+/// NoMemory alone, where the memory for the image is refused.
+pub fn collect<J: Naming>(
+    alloc: Global,
+    drive: &mut Drive<J>,
+    session: &mut Session<J>,
+    number: u64,
+) -> Result<Collected, Refusal>
+    requires { number ≡ min (count_of drive.old.ledger) (2 ^ 64 - 1) }
+    ensures collected { IfOk result
+        (IsCollected (λ h. h ≡ history_of drive.old) J.base session.new.told.seen) }
+    ensures of_drive { IfOk result (IsCollectedOf (history_of drive.old)) }
+    ensures refusal { IfErr result (λ e. e ≡ NoMemory) }
+    ensures session { session.new
+        ≡ record session.old { told = caught_up drive.old.ledger session.old.told } }
+    ensures grows { HasSeenMore session.old session.new }
+    ensures before { FitsLedger drive.old.ledger session.old.told }
+    ensures same { drive.new ≡ drive.old }
+{
+    what_has_no_fault_is_an_image();
+    drive.rules();
+    drive.meet(session);
+    let clock = drive.clock().number();
+    let window = drive.window();
+    let image = save(alloc, drive)?;
+    Ok(Collected {
+        number,
+        clock,
+        window,
+        image,
+    })
+}

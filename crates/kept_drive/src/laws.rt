@@ -1,0 +1,88 @@
+//! Laws of what is kept: each function but the first does nothing, and its contract is the law.
+ghost use Rattle.std.specs.Prelude.{◌≡◌, ◌<◌, ◌≤◌, ◌-◌, ◌^◌, ℕ, length, List, min};
+ghost use mathlib.Core.List.{IsPrefix};
+ghost use mathlib.Core.Option.{some};
+ghost use lib.ListN.{get_elem?};
+ghost use Rattle.s4_types.specs.History.{Base, History, accepted};
+ghost use Rattle.s4_types.specs.declared.changes.Accepted.{Accepted};
+ghost use Rattle.s4_model.specs.Numbers.{clock_of};
+ghost use Rattle.s4_model.specs.Sound.{IsSound};
+ghost use Rattle.s4_model.specs.State.{state_of};
+ghost use Rattle.drive.specs.Fields.{history_of};
+ghost use Rattle.image_parts.specs.Image.{image_in};
+ghost use Rattle.verifier.specs.Grammar.{SpellsDrive};
+ghost use Rattle.verifier.specs.Opened.{TellsBase};
+ghost use Rattle.kept_drive.specs.Collecting.{HasSeenMore};
+ghost use Rattle.kept_drive.specs.Images.{GoesOnFrom, IsFlushedOf, Keeps, KeepsFrom};
+
+use drive::{Drive, Session};
+use segment_word::Naming;
+
+/// What two sessions of one drive have seen are beginnings of one list: of what was accepted. Both
+/// have met the drive afterwards.
+pub fn sessions_have_seen_one_list<J: Naming>(
+    drive: &mut Drive<J>,
+    one: &mut Session<J>,
+    other: &mut Session<J>,
+)
+    ensures one { IsPrefix one.old.told.seen (accepted (history_of drive.old)) }
+    ensures other { IsPrefix other.old.told.seen (accepted (history_of drive.old)) }
+    ensures met_one { HasSeenMore one.old one.new }
+    ensures met_other { HasSeenMore other.old other.new }
+    ensures same { drive.new ≡ drive.old }
+{
+    drive.meet(one);
+    drive.meet(other);
+}
+
+/// So a change that one of them has seen is among those that are kept by another, at the same
+/// place, where as many are kept.
+pub fn what_was_seen_is_kept()
+    ensures { (all seen kept : List Accepted) (place : ℕ) (change : Accepted)
+        → IsPrefix seen all → IsPrefix kept all → place < length kept
+        → get_elem? seen place ≡ some change → get_elem? kept place ≡ some change }
+{}
+
+/// A step of a session that has come to such a history is kept where a receipt covers it: where a
+/// flush has kept as many changes as were accepted in that, by a count that stops at its last
+/// number, at a clock that isn't below its own.
+pub fn what_is_covered_is_kept()
+    ensures { (answered flushed : History) (base : Base) (all kept : List Accepted)
+        (number last reach : ℕ) (bytes : List ℕ)
+        → IsSound (state_of answered) → clock_of answered < 2 ^ 64
+        → number ≡ min (length (accepted answered)) (2 ^ 64 - 1)
+        → number ≤ length kept → clock_of answered ≤ reach
+        → IsPrefix (accepted answered) all → IsPrefix kept all
+        → IsFlushedOf flushed base kept last reach bytes
+        → KeepsFrom base (accepted answered) (clock_of answered) bytes }
+{}
+
+/// What a flush keeps has all changes that its session has seen, at its reach, which isn't below
+/// the one before.
+pub fn what_is_flushed_is_kept()
+    ensures kept { (history : History) (base : Base) (seen : List Accepted) (last reach : ℕ)
+        (bytes : List ℕ)
+        → IsFlushedOf history base seen last reach bytes → Keeps base seen reach bytes }
+    ensures later { (history : History) (base : Base) (seen : List Accepted) (last reach : ℕ)
+        (bytes : List ℕ)
+        → IsFlushedOf history base seen last reach bytes → last ≤ reach }
+{}
+
+/// What a flush keeps has all that an earlier one kept, whose changes its session has seen too, and
+/// whose reach isn't above its own.
+pub fn what_is_kept_lasts()
+    ensures { (history : History) (base : Base) (kept seen : List Accepted) (clock last reach : ℕ)
+        (bytes : List ℕ)
+        → IsPrefix kept seen → clock ≤ last → IsFlushedOf history base seen last reach bytes
+        → KeepsFrom base kept clock bytes }
+{}
+
+/// What is kept is an image, so that `recover` refuses it for want of memory alone; and a drive
+/// that is opened from it goes on where the kept history ended.
+pub fn what_is_kept_is_recovered()
+    ensures whole { (base : Base) (changes : List Accepted) (clock : ℕ) (bytes : List ℕ)
+        → Keeps base changes clock bytes → SpellsDrive bytes (image_in bytes) }
+    ensures goes_on { (base : Base) (changes : List Accepted) (clock : ℕ) (bytes : List ℕ)
+        (begun : Base) → Keeps base changes clock bytes → TellsBase bytes begun
+        → GoesOnFrom base changes clock begun }
+{}
