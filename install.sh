@@ -1,9 +1,9 @@
 #!/usr/bin/env bash
-# Puts the built programs s4d and s4, their manuals, and what lets bash complete the words of s4 below a folder:
+# Puts the built programs s4d, s4serve and s4, their manuals, and what lets bash complete words below a folder:
 #     ./install.sh PREFIX      such as ~/.local or /usr/local: into PREFIX/bin, PREFIX/share/man/man1 and
 #                              PREFIX/share/bash-completion/completions
-# S4D and S4 in the environment name the programs; else they are those that rt left in crates/*/out. Nothing is built here. Status 1:
-# a program isn't built, and nothing is installed, or a file can't be written; 2: the call is wrong.
+# S4D, S4SERVE and S4 in the environment name the programs; else they are those that rt left in crates/*/out. Nothing is built here.
+# Status 1: a program isn't built, and nothing is installed, or a file can't be written; 2: the call is wrong.
 set -euo pipefail
 top=$(cd "$(dirname "${BASH_SOURCE[0]}")" && pwd)
 
@@ -18,6 +18,7 @@ if [ $# != 1 ] || [ -z "$1" ]; then
 fi
 prefix=$1
 s4d=${S4D:-$top/crates/s4d/out/s4d}
+s4serve=${S4SERVE:-$top/crates/s4serve/out/s4serve}
 s4=${S4:-$top/crates/s4/out/s4}
 
 # Says of a program that isn't there how it is built.
@@ -27,10 +28,11 @@ is_built() {
     return 1
 }
 
-both=yes
-is_built "$s4d" "(cd $top/crates/s4d && rt run -- pipe client < /dev/null) builds it" || both=
-is_built "$s4" "(cd $top/crates/s4 && rt run -- --version) builds it" || both=
-[ "$both" ] || exit 1
+all=yes
+is_built "$s4d" "(cd $top/crates/s4d && rt run -- pipe client < /dev/null) builds it" || all=
+is_built "$s4serve" "(cd $top/crates/s4serve && rt run -- --version) builds it" || all=
+is_built "$s4" "(cd $top/crates/s4 && rt run -- --version) builds it" || all=
+[ "$all" ] || exit 1
 
 # Installs a file, and says where.
 put() {
@@ -39,7 +41,10 @@ put() {
 }
 
 put 755 "$s4d" bin/s4d
+put 755 "$s4serve" bin/s4serve
 put 755 "$s4" bin/s4
 put 644 "$top/s4d.1" share/man/man1/s4d.1
+put 644 "$top/s4serve.1" share/man/man1/s4serve.1
 put 644 "$top/s4.1" share/man/man1/s4.1
+put 644 "$top/completions/s4serve.bash" share/bash-completion/completions/s4serve
 put 644 "$top/completions/s4.bash" share/bash-completion/completions/s4

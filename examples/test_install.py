@@ -8,9 +8,10 @@ import tempfile
 import unittest
 
 TOP = pathlib.Path(__file__).resolve().parents[1]
-BUILT = {name.upper(): os.environ.get(name.upper(), f"{TOP}/crates/{name}/out/{name}") for name in ("s4d", "s4")}
-PUT = {"bin/s4d": 0o755, "bin/s4": 0o755, "share/man/man1/s4d.1": 0o644, "share/man/man1/s4.1": 0o644,
-       "share/bash-completion/completions/s4": 0o644}
+BUILT = {name.upper(): os.environ.get(name.upper(), f"{TOP}/crates/{name}/out/{name}") for name in ("s4d", "s4serve", "s4")}
+PUT = {"bin/s4d": 0o755, "bin/s4serve": 0o755, "bin/s4": 0o755,
+       "share/man/man1/s4d.1": 0o644, "share/man/man1/s4serve.1": 0o644, "share/man/man1/s4.1": 0o644,
+       "share/bash-completion/completions/s4serve": 0o644, "share/bash-completion/completions/s4": 0o644}
 
 
 class Install(unittest.TestCase):
@@ -18,12 +19,12 @@ class Install(unittest.TestCase):
         folder = tempfile.TemporaryDirectory()
         self.addCleanup(folder.cleanup)
         self.folder = pathlib.Path(folder.name)
-        for name in ("s4d", "s4"):
+        for name in ("s4d", "s4serve", "s4"):
             (self.folder / name).write_text(f"#!/bin/sh\necho {name}\n", encoding="utf-8")
             (self.folder / name).chmod(0o755)
 
     def install(self, *words):
-        env = {**os.environ, "S4D": f"{self.folder}/s4d", "S4": f"{self.folder}/s4"}
+        env = {**os.environ, **{name.upper(): f"{self.folder}/{name}" for name in ("s4d", "s4serve", "s4")}}
         ran = subprocess.run([TOP / "install.sh", *words], env=env, cwd=self.folder, capture_output=True, text=True, check=False)
         return ran.returncode, ran.stdout, ran.stderr
 
@@ -38,14 +39,15 @@ class Install(unittest.TestCase):
             self.assertEqual(said.splitlines(), [f"a prefix/{name}" for name in PUT])
             self.assertEqual(self.files(prefix), set(PUT))
         self.assertEqual({name: (prefix / name).stat().st_mode & 0o777 for name in PUT}, PUT)
-        for name in ("s4d", "s4"):
+        for name in ("s4d", "s4serve", "s4"):
             self.assertEqual(subprocess.run([prefix / "bin" / name], capture_output=True, text=True, check=True).stdout, f"{name}\n")
-        for name, source in (("share/man/man1/s4.1", "s4.1"), ("share/man/man1/s4d.1", "s4d.1"),
+        for name, source in (("share/man/man1/s4.1", "s4.1"), ("share/man/man1/s4serve.1", "s4serve.1"), ("share/man/man1/s4d.1", "s4d.1"),
+                             ("share/bash-completion/completions/s4serve", "completions/s4serve.bash"),
                              ("share/bash-completion/completions/s4", "completions/s4.bash")):
             self.assertEqual((prefix / name).read_bytes(), (TOP / source).read_bytes())
 
     def test_a_program_that_is_not_built_is_named(self):
-        for missing in (["s4"], ["s4d"], ["s4d", "s4"]):
+        for missing in (["s4"], ["s4d"], ["s4serve"], ["s4d", "s4serve", "s4"]):
             for name in missing:
                 (self.folder / name).rename(self.folder / f"{name}.away")
             status, said, complaint = self.install("prefix")
@@ -88,7 +90,7 @@ class Readme(unittest.TestCase):
         steps = self.block()
         self.assertGreater(len(steps), 8)
         with tempfile.TemporaryDirectory() as folder:
-            for name in ("install.sh", "s4d.1", "s4.1"):
+            for name in ("install.sh", "s4d.1", "s4serve.1", "s4.1"):
                 shutil.copy(TOP / name, folder)
             for name in ("completions", "examples", "python"):
                 os.symlink(TOP / name, f"{folder}/{name}")

@@ -1,0 +1,75 @@
+//! Why a service doesn't begin, or ends without being stopped.
+use image_commands::{Fault, Obstacle};
+use service_time::StartFault;
+use std::alloc::AllocError;
+use std::io;
+use thiserror::Error;
+
+/// Why a door can't be opened. Each prints what is so, and what can be done.
+#[derive(Clone, Copy, Debug, PartialEq, Eq, Error)]
+pub enum DoorObstacle {
+    #[error("it is not there; make it with mkfifo")]
+    NotThere,
+    #[error("it is no FIFO; make one with mkfifo")]
+    NoFifo,
+    #[error("its mode or a folder's lets you not read and write it; change that")]
+    NotAllowed,
+    #[error("the system refuses it")]
+    Other,
+}
+
+impl DoorObstacle {
+    /// What an error of the system says of a door.
+    pub fn of(kind: io::ErrorKind) -> DoorObstacle {
+        match kind {
+            io::ErrorKind::NotFound | io::ErrorKind::NotADirectory => DoorObstacle::NotThere,
+            io::ErrorKind::InvalidInput => DoorObstacle::NoFifo,
+            io::ErrorKind::PermissionDenied => DoorObstacle::NotAllowed,
+            _ => DoorObstacle::Other,
+        }
+    }
+}
+
+/// Why a service doesn't begin, or ends without being stopped. Each prints its line.
+#[derive(Debug, Drop, PartialEq, Eq, Error)]
+pub enum ServeFault<'a> {
+    /// The image can't be made, claimed or read, or encodes no drive.
+    #[error("{0}")]
+    Image(Fault<'a>),
+    /// What is in the image's file is of an earlier version, or no image at all.
+    #[error("Damaged header; `s4d migrate` makes a new image of one of version 1 or 2")]
+    NoHeader,
+    /// The image that was made is there, and may not be where the machine fails.
+    #[error("cannot write {0}: {cause}", cause = Obstacle::NotLasting)]
+    Unlasting(&'a str),
+    /// No service begins over an image with this clock.
+    #[error("cannot serve {0}: {1}")]
+    Start(&'a str, StartFault),
+    /// The machine's clocks can't be read.
+    #[error("the time cannot be read; set the machine's clock")]
+    NoTime,
+    /// The door of this folder can't be opened.
+    #[error("cannot open {0}/door: {1}")]
+    Door(&'a str, DoorObstacle),
+    /// Before the first session, memory or room is short.
+    #[error("cannot write {0}: memory or room on its disk is short; make room")]
+    Short(&'a str),
+    /// What was accepted last can't be kept.
+    #[error("cannot write {0}: what was accepted last cannot be kept; see its disk and its path")]
+    NotKept(&'a str),
+    /// The system gives too few threads.
+    #[error("the system gives too few threads, or too little memory for them")]
+    NoThreads,
+    /// Standard output can't be written.
+    #[error("WriteFailed")]
+    WriteFailed,
+    /// A growth of memory was refused.
+    #[error("NoMemory")]
+    NoMemory,
+}
+
+impl From<AllocError> for ServeFault<'_> {
+    fn from(_error: AllocError) -> Self {
+        ServeFault::NoMemory
+    }
+}

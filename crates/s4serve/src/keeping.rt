@@ -1,0 +1,26 @@
+//! How an image is kept in files.
+ghost use Rattle.std.specs.Prelude.{IsTrue};
+
+use image_commands::Files;
+use image_keeping::{Keeper, WholeImage};
+use kept_files::FileFolder;
+use std::alloc::Global;
+use std::marker::Send;
+
+/// Files in which images are kept, one after another in the same place.
+pub trait KeptFiles: Files {
+    /// What keeps one. Any thread may.
+    type Kept: Keeper + Send + Drop + 'static;
+
+    /// What keeps the image that is claimed.
+    fn keeper(self, alloc: Global, claim: Self::Claim) -> Self::Kept
+        ensures { IsTrue (Self.Kept.is_usable result) };
+}
+
+impl KeptFiles for HostRuntime {
+    type Kept = WholeImage<FileFolder<HostRuntime>>;
+
+    fn keeper(self, alloc: Global, claim: Self::Claim) -> WholeImage<FileFolder<HostRuntime>> {
+        WholeImage::new(FileFolder::new(alloc, self, claim))
+    }
+}

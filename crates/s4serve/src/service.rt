@@ -1,0 +1,40 @@
+//! What all threads of a service share.
+use crate::parts::Parts;
+use crate::waiting::Lines;
+use group_commit::Monitor;
+use image_keeping::Keeper;
+use kept_drive::{KeptImage, KeptReceipt};
+use s4_types::Role;
+use server::{Pace, Running, SharedDrive};
+use serving::Clock;
+use std::sync::Mutex;
+
+/// A door of a service.
+#[derive(Drop)]
+pub struct Door {
+    /// What whoever comes by it may do.
+    pub role: Role,
+    pub folder: String,
+}
+
+/// What all threads of a service share.
+///
+/// No thread takes one of these locks while it holds another one, but for two: whoever flushes has
+/// the kept image's, and takes the drive's under it; and that of the pace may be taken under the
+/// drive's.
+#[derive(Drop)]
+pub struct Service<J: Running, C: Clock, K: Keeper> {
+    pub drive: Mutex<SharedDrive<J, C>>,
+    /// How the cleaner and the copier get on.
+    pub pace: Pace,
+    /// What sessions wait for that want their changes kept.
+    pub monitor: Monitor<KeptReceipt<J>>,
+    pub kept: Mutex<KeptImage<J, K>>,
+    /// The parts of the books that no session has had.
+    pub parts: Mutex<Parts<J>>,
+    /// The lines that no worker has taken.
+    pub lines: Lines,
+    pub doors: Vec<Door>,
+    /// The image's path.
+    pub image: String,
+}

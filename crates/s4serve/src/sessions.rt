@@ -1,0 +1,87 @@
+//! One session of a service.
+ghost use Rattle.std.specs.Prelude.{◌≡◌, ◌+◌, ◌^◌, ◌<◌, []};
+ghost use Rattle.batch_serving.specs.Batches.{Serves, reading_failures, writing_failures};
+ghost use Rattle.batch_serving.specs.Waiting.{HasWaited};
+ghost use Rattle.server.specs.Attending.{SeatSteps};
+ghost use Rattle.server.specs.Drawing.{DrawsNothing};
+ghost use Rattle.server.specs.declared.clocks.Undrawn.{Undrawn as Nothing};
+ghost use Rattle.s4serve.specs.Seats.{IsSeatAt};
+
+use batch_serving::{AtMonitor, BatchEnd, serve_batch};
+use group_commit::{Flush, Receipt, Steps};
+use kept_serving::Step;
+use s4_types::{Moment, Reply, Request};
+use server::{Gate, Locked, Running, Undrawn};
+use serving::{Backend, Clock, Sink, Source};
+use std::alloc::Global;
+use std::marker::Model;
+use std::sync::Wait;
+use std::time;
+
+/// A session with the drive of a service. Contracts see what they see of a session beside others.
+#[derive(Drop)]
+pub struct Seat<'a, J: Running, C: Clock, R: Wait, G: Gate> {
+    pub locked: Locked<'a, J, C, R, G>,
+}
+
+impl<'a, J: Running, C: Clock, R: Wait, G: Gate> Model for Seat<'a, J, C, R, G> {
+    ghost use Rattle.server.specs.Attending.{SeatFields};
+
+    ghost Value = { SeatFields };
+
+    ghost view = { λ s. s.locked };
+}
+
+impl<J: Running, C: Clock, R: Wait, G: Gate> Backend for Seat<'_, J, C, R, G> {
+    ghost use Rattle.server.specs.Attending.{SeatSteps};
+
+    ghost steps = { SeatSteps J.base J.moments };
+
+    fn request(&mut self, request: Request, drawn: Moment) -> Reply {
+        self.locked.request(request, drawn)
+    }
+}
+
+impl<J: Running, C: Clock, R: Wait, G: Gate> Step for Seat<'_, J, C, R, G> {
+    ghost use Rattle.s4serve.specs.Seats.{IsSeatAt};
+
+    ghost is_at = { IsSeatAt };
+
+    fn place(&self) -> (u64, u64) {
+        self.locked.place()
+    }
+}
+
+/// Serves a session until its input ends or something fails, and says how it ended.
+///
+/// Each reply that is written is one of a step of the shared drive: a request was answered at a
+/// history, the session has seen all changes that were accepted in it, and a receipt covers as many
+/// changes and that history's clock.
+pub fn serve_seat<
+    J: Running,
+    C: Clock,
+    R: Wait + time::Clock,
+    G: Gate,
+    T: Receipt + Drop,
+    F: Flush<T>,
+    P: Steps,
+    S: Source,
+    W: Sink,
+>(
+    alloc: Global,
+    reader: &mut S,
+    writer: &mut W,
+    seat: &mut Seat<'_, J, C, R, G>,
+    keeping: &mut AtMonitor<'_, T, R, F, P>,
+) -> BatchEnd
+    requires reader { S.failures reader.old + 1 < 2 ^ 64 }
+    requires writer { W.failures writer.old + 1 < 2 ^ 64 }
+    ensures session { (before after : Nothing) × Serves (SeatSteps J.base J.moments) DrawsNothing
+        (λ from seat is_kept to. HasWaited IsSeatAt T.number T.reach is_kept seat from.receipt to.receipt) [] result
+        seat.old before keeping.old (S.remaining reader.old) (W.passed writer.old)
+        seat.new after keeping.new (S.remaining reader.new) (W.passed writer.new) }
+    ensures reading { S.failures reader.new ≡ S.failures reader.old + reading_failures result }
+    ensures writing { W.failures writer.new ≡ W.failures writer.old + writing_failures result }
+{
+    serve_batch(alloc, reader, writer, seat, &mut Undrawn, keeping)
+}

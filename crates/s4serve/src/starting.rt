@@ -1,0 +1,285 @@
+//! How a service begins, and how it ends.
+ghost use Rattle.std.specs.Prelude.{◌≡◌, ℕ, List, IfSome, IsTrue, true};
+ghost use Rattle.s4_types.specs.Sizes.{IsFrameCount};
+ghost use Rattle.segment_table.specs.Room.{log_of};
+ghost use Rattle.version_store.specs.Store.{fields_of};
+ghost use Rattle.drive.specs.Fields.{DriveFields};
+ghost use Rattle.drive.specs.Opened.{base_of};
+ghost use Rattle.serving.specs.Drawing.{Drawn};
+
+use crate::collecting::UnderLock;
+use crate::faults::{DoorObstacle, ServeFault};
+use crate::keeping::KeptFiles;
+use crate::opening::{Opened, open_image};
+use crate::parts::{ALL_PARTS, Parts};
+use crate::service::{Door, Service};
+use crate::spawning::start_threads;
+use crate::telling::{News, Telling};
+use crate::waiting::Lines;
+use crate::workers::keep_all;
+use door_files::{Fifos, open_door};
+use drive::OpenedDrive;
+use group_commit::{FlushError, Monitor, NotKept};
+use image_commands::Fault;
+use image_keeping::Keeper;
+use kept_drive::{KeptImage, KeptReceipt};
+use s4_types::{Moment, Role};
+use s4serve_command::ServiceAsked;
+use server::{Blanks, Pace, Running, SharedDrive};
+use service_time::{Monotonic, ServiceClock};
+use std::alloc::{AllocError, Global};
+use std::io;
+use std::marker::{Brand, Send, Sync};
+use std::sync::{Arc, Mutex, Wait};
+use std::thread::Threads;
+use std::time::Clock;
+
+/// A service that is about to begin: its drive, just opened, and what is had before.
+#[derive(Drop)]
+struct Ready<'a, K, C> {
+    image: &'a str,
+    keeper: K,
+    drive: OpenedDrive,
+    /// When it begins, and the clock that draws moments from then on.
+    start: Moment,
+    clock: C,
+    blanks: Blanks,
+    doors: Vec<Door>,
+}
+
+/// Serves the drive in an image until the service is stopped.
+pub fn serve_image<
+    'a,
+    H: Threads + Wait + Clock + Copy + Send + Sync + Drop + 'static,
+    F: KeptFiles + Copy,
+    D: Fifos + Telling + Copy + Send + Sync + Drop + 'static,
+>(
+    rt: &H,
+    alloc: Global,
+    files: F,
+    outside: D,
+    asked: &ServiceAsked<'a>,
+) -> Result<(), ServeFault<'a>>
+    requires frames { IfSome asked.now.create (λ creation. IsFrameCount creation.frames) }
+{
+    let mut own = files;
+    let opened = open_image(rt, alloc, &mut own, asked)?;
+    let (doors, inputs) = open_doors(alloc, &outside, asked)?;
+    let Opened {
+        claim,
+        drive,
+        start,
+    } = opened;
+    let Some(clock) = ServiceClock::new(start, Monotonic::new(*rt)) else {
+        return Err(ServeFault::NoTime);
+    };
+    let ready = Ready {
+        image: asked.image,
+        keeper: own.keeper(alloc, claim),
+        drive,
+        start,
+        clock,
+        blanks: Blanks::new(ALL_PARTS),
+        doors,
+    };
+    serve_ready::<Brand, H, F::Kept, ServiceClock<Monotonic<H>>, D>(
+        rt, alloc, outside, ready, inputs,
+    )
+}
+
+/// Begins a service, and waits for its end.
+fn serve_ready<
+    'a,
+    J: Running + Send + Sync + 'static,
+    H: Threads + Wait + Clock + Copy + Send + Sync + Drop + 'static,
+    K: Keeper + Send + Drop + 'static,
+    C: serving::Clock + Send + Drop + 'static,
+    D: Fifos + Telling + Copy + Send + Sync + Drop + 'static,
+>(
+    rt: &H,
+    alloc: Global,
+    outside: D,
+    ready: Ready<'a, K, C>,
+    inputs: Vec<D::Input>,
+) -> Result<(), ServeFault<'a>>
+    requires accepts { ready.drive.accepts ≡ J.accepts }
+    requires frames { ready.drive.store.table.seat.table ≡ J.frames }
+    requires base { base_of (fields_of log_of ready.drive.store) ready.drive.timeline ready.drive.next
+        ready.drive.audit ≡ J.base }
+    requires begins { (d : DriveFields) → J.begins d }
+    requires moments { (moments : List ℕ) (later : _) → Drawn C.draws ready.clock moments later
+        → J.moments moments }
+    requires upkeep { J.has_upkeep ≡ true }
+    requires ledgers { (ready.blanks.requests ≡ J.asked) × (ready.blanks.changes ≡ J.name) }
+    requires parts { (ready.blanks.parts ≡ J.parts) × (J.parts ≡ ALL_PARTS) }
+    requires usable { IsTrue (K.is_usable ready.keeper) }
+{
+    let image = ready.image;
+    let service = begin::<J, H, K, C>(rt, alloc, ready)?;
+    if start_threads(rt, alloc, &service, outside, inputs).is_err() {
+        return Err(ServeFault::NoThreads);
+    }
+    outside.tell(News::Serves(image));
+    await_end(rt, alloc, &service, &outside, image)
+}
+
+/// Names the drive of a service, and keeps it a first time, before any session.
+fn begin<
+    'a,
+    J: Running + Send + Sync + 'static,
+    H: Threads + Wait + Clock + Copy + Send + Sync + Drop + 'static,
+    K: Keeper + Send + Drop + 'static,
+    C: serving::Clock + Send + Drop + 'static,
+>(
+    rt: &H,
+    alloc: Global,
+    ready: Ready<'a, K, C>,
+) -> Result<Arc<Service<J, C, K>, Global>, ServeFault<'a>>
+    requires accepts { ready.drive.accepts ≡ J.accepts }
+    requires frames { ready.drive.store.table.seat.table ≡ J.frames }
+    requires base { base_of (fields_of log_of ready.drive.store) ready.drive.timeline ready.drive.next
+        ready.drive.audit ≡ J.base }
+    requires begins { (d : DriveFields) → J.begins d }
+    requires moments { (moments : List ℕ) (later : _) → Drawn C.draws ready.clock moments later
+        → J.moments moments }
+    requires ledgers { (ready.blanks.requests ≡ J.asked) × (ready.blanks.changes ≡ J.name) }
+    requires parts { (ready.blanks.parts ≡ J.parts) × (J.parts ≡ ALL_PARTS) }
+    requires usable { IsTrue (K.is_usable ready.keeper) }
+{
+    let Ready {
+        image,
+        keeper,
+        drive,
+        start,
+        clock,
+        blanks,
+        doors,
+    } = ready;
+    let mut drive = drive.named::<J>();
+    let session = match drive.session(Role::Client) {
+        Ok(session) => session,
+        Err(refusal) => return Err(ServeFault::Image(Fault::Refused(refusal))),
+    };
+    // What is kept has seen the start: moments below are no times, as those of a new drive.
+    let mut kept = KeptImage::new(keeper, session, start);
+    let (shared, rest) = SharedDrive::new(drive, clock, blanks);
+    let drive = Mutex::new(shared);
+    let receipt = keep_first(rt, alloc, &drive, &mut kept, image)?;
+    let pace = Pace::new(rt, alloc, &drive);
+    let books = Parts::new(rest);
+    match shared_service(alloc, drive, pace, receipt, kept, books, doors, image) {
+        Ok(service) => Ok(service),
+        Err(_) => Err(ServeFault::NoMemory),
+    }
+}
+
+/// All that the threads of a service share.
+fn shared_service<J: Running, C: serving::Clock + Drop, K: Keeper + Drop>(
+    alloc: Global,
+    drive: Mutex<SharedDrive<J, C>>,
+    pace: Pace,
+    receipt: KeptReceipt<J>,
+    kept: KeptImage<J, K>,
+    parts: Parts<J>,
+    doors: Vec<Door>,
+    image: &str,
+) -> Result<Arc<Service<J, C, K>, Global>, AllocError> {
+    let lines = Lines::new(alloc)?;
+    let image = String::from_str(alloc, image)?;
+    let service = Service {
+        drive,
+        pace,
+        monitor: Monitor::new(receipt),
+        kept: Mutex::new(kept),
+        parts: Mutex::new(parts),
+        lines,
+        doors,
+        image,
+    };
+    let shared = Arc::new(alloc, service)?;
+    Ok(shared)
+}
+
+/// Keeps a drive a first time.
+fn keep_first<'a, 'b, J: Running, C: serving::Clock, K: Keeper, R: Threads + Wait>(
+    rt: &'b R,
+    alloc: Global,
+    drive: &'b Mutex<SharedDrive<J, C>>,
+    kept: &mut KeptImage<J, K>,
+    image: &'a str,
+) -> Result<KeptReceipt<J>, ServeFault<'a>> {
+    let lock = UnderLock {
+        rt,
+        drive,
+        pace: None,
+    };
+    match kept.flush(rt, alloc, &lock) {
+        Ok(receipt) => Ok(receipt),
+        Err(FlushError::Short) => Err(ServeFault::Short(image)),
+        Err(FlushError::Failed) => Err(ServeFault::NotKept(image)),
+    }
+}
+
+/// Waits until the service is to end. Then all that was accepted is kept.
+fn await_end<
+    'a,
+    J: Running,
+    C: serving::Clock,
+    K: Keeper + Drop,
+    R: Threads + Wait + Clock,
+    D: Telling,
+>(
+    rt: &R,
+    alloc: Global,
+    service: &Service<J, C, K>,
+    outside: &D,
+    image: &'a str,
+) -> Result<(), ServeFault<'a>> {
+    if service.monitor.await_end(rt).is_err() {
+        return Err(ServeFault::NotKept(image));
+    }
+    match keep_all(rt, alloc, service, outside) {
+        Ok(()) => Ok(()),
+        Err(NotKept) => Err(ServeFault::NotKept(image)),
+    }
+}
+
+/// Opens the doors that are asked for. Gives their inputs apart.
+fn open_doors<'a, D: Fifos>(
+    alloc: Global,
+    outside: &D,
+    asked: &ServiceAsked<'a>,
+) -> Result<(Vec<Door>, Vec<D::Input>), ServeFault<'a>> {
+    let mut doors = Vec::new(alloc);
+    let mut inputs = Vec::new(alloc);
+    for door in asked.doors.as_slice() {
+        let input = match open_door(outside, alloc, door.folder) {
+            Ok(input) => input,
+            Err(error) => return Err(unopened(error.kind(), door.folder)),
+        };
+        if inputs.push(input).is_err() || add_door(alloc, &mut doors, *door).is_err() {
+            return Err(ServeFault::NoMemory);
+        }
+    }
+    Ok((doors, inputs))
+}
+
+/// Adds a door to those of a service.
+fn add_door(
+    alloc: Global,
+    doors: &mut Vec<Door>,
+    asked: s4serve_command::Door<'_>,
+) -> Result<(), AllocError> {
+    let folder = String::from_str(alloc, asked.folder)?;
+    let role = asked.role;
+    doors.push(Door { role, folder })?;
+    Ok(())
+}
+
+/// Why a door isn't opened.
+fn unopened<'a>(kind: io::ErrorKind, folder: &'a str) -> ServeFault<'a> {
+    match kind {
+        io::ErrorKind::OutOfMemory => ServeFault::NoMemory,
+        _ => ServeFault::Door(folder, DoorObstacle::of(kind)),
+    }
+}

@@ -1,0 +1,4 @@
+mod CreationLemmas
+mod DoorLemmas
+mod Refusals
+mod Simple

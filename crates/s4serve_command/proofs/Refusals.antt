@@ -1,0 +1,41 @@
+-- What a refused line says of it.
+use Rattle.std.proofs.Common.{Result, Ok, Err, IfErr}
+use Rattle.clap.specs.Kinds.{Kinds}
+use Rattle.s4serve_command.specs.CommandLine.{IsAskedAmong, IsOwn, IsRefusedBy}
+use Rattle.s4serve_command.specs.declared.NoCommand.{NoCommand}
+use Rattle.s4serve_command.specs.declared.NoCommand.TheVariants as refusal
+
+-- what holds of a failure holds of it under one premise more
+pub under_premise : {A E : Type 0} (Q T : Type 0) → (r : Result A E) (P : E → Type 0) → IfErr r (λ e. P e → Q) → IfErr r (λ e. P e → T → Q)
+under_premise Q T (Ok a) P q = tt
+under_premise Q T (Err e) P q = λ p _. q p
+
+-- a refusal of the parser is one that was asked for only where that is among its kinds
+pub among_refused : (kinds : Kinds) (e : NoCommand) → IsRefusedBy kinds e → IsAskedAmong kinds e
+among_refused kinds (refusal.Asked error) h = h
+among_refused kinds (refusal.Refused error) h = tt
+among_refused kinds (refusal.NoFrames word) h = tt
+among_refused kinds (refusal.NoDuration name word) h = tt
+among_refused kinds refusal.NoWindow h = tt
+among_refused kinds refusal.KeepAlone h = tt
+among_refused kinds refusal.CreateAlone h = tt
+among_refused kinds (refusal.NoDoor word) h = tt
+among_refused kinds (refusal.DoorTwice folder) h = tt
+among_refused kinds refusal.TooManyDoors h = tt
+among_refused kinds refusal.Unspelled h = tt
+among_refused kinds refusal.NoMemory h = tt
+
+-- a refusal of the matches isn't one that was asked for
+pub among_own : (kinds : Kinds) (e : NoCommand) → IsOwn e → IsAskedAmong kinds e
+among_own kinds (refusal.Asked error) h = absurd h
+among_own kinds (refusal.Refused error) h = tt
+among_own kinds (refusal.NoFrames word) h = tt
+among_own kinds (refusal.NoDuration name word) h = tt
+among_own kinds refusal.NoWindow h = tt
+among_own kinds refusal.KeepAlone h = tt
+among_own kinds refusal.CreateAlone h = tt
+among_own kinds (refusal.NoDoor word) h = tt
+among_own kinds (refusal.DoorTwice folder) h = tt
+among_own kinds refusal.TooManyDoors h = tt
+among_own kinds refusal.Unspelled h = tt
+among_own kinds refusal.NoMemory h = tt

@@ -1,0 +1,39 @@
+use Rattle.std.proofs.Common.{◌≡◌, ◌≢◌, IfOk, IfErr, List, map, true, sym, subst}
+use Rattle.std.proofs.lemmas.Result.{IfErr-weaker}
+use Rattle.clap.specs.Simple.{App, matches_of}
+use Rattle.clap.specs.Takes.{takes}
+use Rattle.clap.specs.Walk.{Row}
+use Rattle.s4serve_command.specs.CommandLine.{line, Spells, SpellsNone}
+use Rattle.s4serve_command.specs.declared.NoCommand.TheVariants.{NoMemory}
+use Rattle.s4serve_command.proofs.Refusals.{among_own, among_refused, under_premise}
+use Rattle.s4serve_command.proofs.Simple.{no_fault, same_fault, same_matches}
+use Rattle.s4serve_command.proofs.service_of.Goals as goal
+
+pub returns-in-Ok-clause-spelled : goal.returns-in-Ok-clause-spelled
+returns-in-Ok-clause-spelled g c =
+    let same = same_matches _ (map g.S.AsStr.text c.args.words.now) c.in-Ok.matches c.in_ok-parser.ensures.0 c.in-Ok.ensures.matches in
+    subst (λ (rows : List Row). IfOk c.asked_in.result (Spells rows)) same c.asked_in.ensures.spelled
+
+pub returns-in-Ok-clause-usage : goal.returns-in-Ok-clause-usage
+returns-in-Ok-clause-usage g c =
+    let words = map g.S.AsStr.text c.args.words.now in
+    let same = same_matches _ words c.in-Ok.matches c.in_ok-parser.ensures.0 c.in-Ok.ensures.matches in
+    under_premise (SpellsNone (matches_of line words)) (takes line words ≡ true) c.asked_in.result (λ e. e ≢ NoMemory)
+    (subst (λ (rows : List Row). IfErr c.asked_in.result (λ e. e ≢ NoMemory → SpellsNone rows)) same c.asked_in.ensures.usage)
+
+pub returns-in-Err-clause-usage : goal.returns-in-Err-clause-usage
+returns-in-Err-clause-usage g c = λ apart taken.
+    let words = map g.S.AsStr.text c.args.words.now in
+    absurd (apart (c.refused.ensures.memory (c.in-Err.ensures.passes (subst (λ (a : App). takes a words ≡ true) (sym c.in_ok-parser.ensures.0) taken))))
+
+pub returns-in-Ok-clause-refused : goal.returns-in-Ok-clause-refused
+returns-in-Ok-clause-refused g c = λ faulty. absurd (faulty (no_fault _ (map g.S.AsStr.text c.args.words.now) c.in_ok-parser.ensures.0 c.in-Ok.ensures.kinds))
+
+pub returns-in-Err-clause-refused : goal.returns-in-Err-clause-refused
+returns-in-Err-clause-refused g c = λ _. c.refused.ensures.refused _ (same_fault _ (map g.S.AsStr.text c.args.words.now) c.in-Err.error c.in_ok-parser.ensures.0 c.in-Err.ensures.kinds)
+
+pub returns-in-Ok-clause-asked : goal.returns-in-Ok-clause-asked
+returns-in-Ok-clause-asked g c = IfErr-weaker c.asked_in.result _ _ (among_own _) c.asked_in.ensures.own
+
+pub returns-in-Err-clause-asked : goal.returns-in-Err-clause-asked
+returns-in-Err-clause-asked g c = among_refused _ _ (c.refused.ensures.refused _ (same_fault _ (map g.S.AsStr.text c.args.words.now) c.in-Err.error c.in_ok-parser.ensures.0 c.in-Err.ensures.kinds))
