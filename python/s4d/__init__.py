@@ -14,32 +14,38 @@
             replies = [batch.append(note, b"!") for _ in range(3)]
         replies[-1].result()
 
+A drive that is served over sockets is reached by `s4d.Drive.connect("unix:client.sock")`, or `tls:HOST:PORT`, and by
+`s4d.AsyncDrive` for the tasks of an event loop; `python3 -m s4d.bridge` serves it.
+
 A drive that lasts is a file: `s4d.Image(path).session()`. What it has of the past is in `Image.log`, `diff` and others.
 A refusal is raised as an exception of its own class (`NoObject`, `Expired`, ..), all of them `Refused`; it names the
 request, the object and the moment.
 """
+from .async_drive import AsyncDrive, AsyncPast
 from .connection import Peer, Reader, Writer
 from .drive import Drive, Past
 from .errors import (REFUSALS, BadAttr, BadFrame, BadReply, BadSpan, Busy, ChainFull, ClockEnd, Disconnected, Ended,
-                     Error, Expired, Flushed, Future, InUse, NoMemory, NoObject, NoRoom, NoSpace, NotAdmin,
-                     ProgramFailed, Refused, Stale, TooLarge, TooManySpans)
+                     Error, Expired, Flushed, Future, InUse, NoMemory, NoObject, NoRoom, NoSpace, NotAdmin, NotAsked,
+                     ProgramFailed, Refused, ReplyLost, Stale, TooLarge, TooManySpans)
 from .history import Kind, Span
 from .image import Facts, Image, Moment
 from .pipeline import Pipeline, Reply
 from .retry import NEVER, Retry
 from .rows import (Change, ChangeKind, Checked, Compacted, Difference, Flush, Hidden, HiddenCounts, HiddenVersions, Info,
                    Listed, Range, Restored, Stat, Times, Widened)
+from .tls import Tls
 from .wire import ATTRIBUTE_BYTES, AUDIT_ROWS, BODY_BYTES, LAST, OBJECT_BYTES, READ_BYTES, WRITE_BYTES
 from .wire import Attributes, AuditKind, AuditRow, Created
 
 __version__ = "0.1.0"
 
 __all__ = [
-    "ATTRIBUTE_BYTES", "AUDIT_ROWS", "Attributes", "AuditKind", "AuditRow", "BODY_BYTES", "BadAttr", "BadFrame", "BadReply", "BadSpan", "Busy",
-    "ChainFull", "Change", "ChangeKind", "Checked", "ClockEnd", "Compacted", "Created", "Difference",
-    "Disconnected", "Drive", "Ended", "Error", "Expired", "Facts", "Flush", "Flushed", "Future", "Hidden", "HiddenCounts",
-    "HiddenVersions", "Image", "InUse", "Info", "Kind", "LAST", "Listed", "Moment", "NEVER", "NoMemory", "NoObject",
-    "NoRoom", "NoSpace", "NotAdmin", "OBJECT_BYTES", "Past", "Peer", "Pipeline", "ProgramFailed", "READ_BYTES",
-    "REFUSALS", "Range", "Reader", "Refused", "Reply", "Restored", "Retry", "Span", "Stale", "Stat", "Times",
-    "TooLarge", "TooManySpans", "WRITE_BYTES", "Widened", "Writer",
+    "ATTRIBUTE_BYTES", "AUDIT_ROWS", "AsyncDrive", "AsyncPast", "Attributes", "AuditKind", "AuditRow", "BODY_BYTES",
+    "BadAttr", "BadFrame", "BadReply", "BadSpan", "Busy", "ChainFull", "Change", "ChangeKind", "Checked", "ClockEnd",
+    "Compacted", "Created", "Difference", "Disconnected", "Drive", "Ended", "Error", "Expired", "Facts", "Flush",
+    "Flushed", "Future", "Hidden", "HiddenCounts", "HiddenVersions", "Image", "InUse", "Info", "Kind", "LAST",
+    "Listed", "Moment", "NEVER", "NoMemory", "NoObject", "NoRoom", "NoSpace", "NotAdmin", "NotAsked", "OBJECT_BYTES",
+    "Past", "Peer", "Pipeline", "ProgramFailed", "READ_BYTES", "REFUSALS", "Range", "Reader", "Refused", "Reply", "ReplyLost",
+    "Restored", "Retry", "Span", "Stale", "Stat", "Times", "Tls", "TooLarge", "TooManySpans", "WRITE_BYTES",
+    "Widened", "Writer",
 ]

@@ -4,15 +4,18 @@ from __future__ import annotations
 import os
 import time
 from types import TracebackType
-from typing import Iterator, List, Optional, Type, TypeVar, Union
+from typing import Any, Iterator, List, Optional, Type, TypeVar, Union, cast
 
 from . import wire
-from .connection import Connection, Peer, Reader, SocketPeer, Writer, dialled
-from .errors import Ended, Expired, Flushed, ProgramFailed
-from .history import Span, history_of
+from .addresses import address_of
+from .connection import Connection, Peer, Reader, Writer, connected
+from .errors import Ended, ProgramFailed, Refused
+from .history import Search, Span, history_of
+from .pieces import Steps, read_all, starts
 from .pipeline import Pipeline, Reply
 from .program import Program
 from .retry import NEVER, Retry
+from .tls import Tls
 from .wire import AUDIT_ROWS, LAST, READ_BYTES, Attributes, AuditRow, Created, Request
 
 T = TypeVar("T")
@@ -54,9 +57,15 @@ class Drive:
         return cls(peer.reader, peer.writer, peer, retry)
 
     @classmethod
-    def connect(cls, address: str, timeout: Optional[float] = None, *, retry: Retry = NEVER) -> Drive:
-        """A session over a socket: `host:port`, or the path of a unix socket (with a `/`)."""
-        peer = SocketPeer(dialled(address, timeout))
+    def connect(cls, address: str, timeout: Optional[float] = None, *, tls: Optional[Tls] = None,
+                retry: Retry = NEVER) -> Drive:
+        """A session over a socket: `unix:PATH`, `tls:HOST:PORT`, or `HOST:PORT` without TLS. A path with a `/` needs no
+        `unix:`.
+
+        For TLS, `tls` has the files of this side's certificate and of the authority that the other side's is tested by.
+        OSError where nobody is there, or in time, or TLS doesn't come about.
+        """
+        peer = connected(address_of(address), timeout, tls)
         return cls(peer.reader, peer.writer, peer, retry)
 
     @property
@@ -87,9 +96,10 @@ class Drive:
     def history(self, object: int) -> List[Span]:
         """The versions of an object that can be read, oldest first, and what lies between them.
 
-        They are found by many requests, so ask it with a tick of 0: else old versions expire while it runs.
+        They are found by many requests, so ask it with a tick of 0: else old versions expire while it runs. Of more than
+        4,096 hidden moments in a row, and of an object that was deleted, not each version may be found: see `audit`.
         """
-        return history_of(self, object)
+        return self._search(history_of(object))
 
     def pipeline(self) -> Pipeline:
         """Collects requests and sends them together."""
@@ -105,9 +115,44 @@ class Drive:
 
     def _once(self, request: Request[T]) -> T:
         reply = Reply(request)
-        self._connection.send(request.frame())
+        reply.send(self._connection)
         reply.take(self._connection)
         return reply.result()
+
+    def _follow(self, steps: Steps[T]) -> T:
+        """What comes of requests of which each depends on the answers before it."""
+        try:
+            request = next(steps)
+            while True:
+                try:
+                    answer = self._ask(request)
+                except Refused as refusal:
+                    request = steps.throw(refusal)
+                else:
+                    request = steps.send(answer)
+        except StopIteration as end:
+            return cast(T, end.value)
+
+    def _search(self, search: Search[T]) -> T:
+        """What comes of requests of which several are sent together."""
+        try:
+            requests = next(search)
+            while True:
+                requests = search.send(self._together(requests))
+        except StopIteration as end:
+            return cast(T, end.value)
+
+    def _together(self, requests: List[Request[Any]]) -> List[Any]:
+        """What each request is answered, refusals among it."""
+        if len(requests) == 1:
+            try:
+                return [self._ask(requests[0])]
+            except Refused as refusal:
+                return [refusal]
+        batch = self.pipeline()
+        replies = [batch.add(request) for request in requests]
+        batch.run()
+        return [reply.refusal() or reply.result() for reply in replies]
 
     def create(self, attribute: bytes = b"") -> Created:
         """Makes an empty object: its number, and the moment."""
@@ -124,34 +169,7 @@ class Drive:
         """
         if length is not None:
             return self._ask(wire.read(object, offset, length, at))
-        if at is not None:
-            return self._read_on(object, offset, at)
-        data = self._ask(wire.read(object, offset, READ_BYTES, None))
-        return data if len(data) < READ_BYTES else self._read_version(object, offset)
-
-    def _read_on(self, object: int, offset: int, at: Optional[int]) -> bytes:
-        """All bytes from an offset on; where no moment is given each piece is of a moment of its own."""
-        pieces = [self._ask(wire.read(object, offset, READ_BYTES, at))]
-        while len(pieces[-1]) == READ_BYTES:
-            offset += READ_BYTES
-            pieces.append(self._ask(wire.read(object, offset, READ_BYTES, at)))
-        return b"".join(pieces)
-
-    def _read_version(self, object: int, offset: int) -> bytes:
-        """All bytes of the present version from an offset on.
-
-        The pieces are of one version where the last change is the same before and after them. Else another session
-        changed the object meanwhile: it is read at that change, or anew where that moment can't be read.
-        """
-        changed = self.attributes(object).changed
-        data = self._read_on(object, offset, None)
-        while (later := self.attributes(object).changed) != changed:
-            changed = later
-            try:
-                return self._read_on(object, offset, changed)
-            except (Expired, Flushed):
-                data = self._read_on(object, offset, None)
-        return data
+        return self._follow(read_all(object, offset, at))
 
     def write(self, object: int, offset: int, data: bytes) -> int:
         """Puts bytes at an offset, after zeros where the object is shorter. The moment of the change.
@@ -165,8 +183,7 @@ class Drive:
 
         Each change makes a version of its own, which others may read; where one is refused those before it stay.
         """
-        starts = range(0, max(len(data), 1), READ_BYTES)  # whole blocks each, if the offset is the start of one
-        return [self.write(object, offset + start, data[start:start + READ_BYTES]) for start in starts]
+        return [self.write(object, offset + start, data[start:start + READ_BYTES]) for start in starts(data)]
 
     def append(self, object: int, data: bytes) -> int:
         """Puts bytes at the object's end. The moment of the change."""

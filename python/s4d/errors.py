@@ -18,6 +18,12 @@ class Ended(NamedTuple):
         return f"{self.said or 'the program printed nothing'} (status {self.status}{advice})"
 
 
+def naming(request: str, object: Optional[int], at: Optional[int]) -> str:
+    """A request and what it names, as `read of object 7 at moment 5`."""
+    named = "" if object is None else f" of object {object}"
+    return request + named + ("" if at is None else f" at moment {at}")
+
+
 class Error(Exception):
     """The base of all that this package raises of its own."""
 
@@ -31,6 +37,26 @@ class Disconnected(Error):
     def __init__(self, why: str, ended: Optional[Ended] = None) -> None:
         super().__init__(f"{why}: {ended}" if ended else why)
         self.ended = ended
+
+
+class NotAsked(Disconnected):
+    """The other side had no session for this one, or refused its certificate. Nothing was passed on to the drive."""
+
+
+class ReplyLost(Disconnected):
+    """A request was sent, wholly or in part, and its reply didn't come: it may have been done. It isn't asked again.
+
+    `request` is the request's name, `object` the object and `at` the moment that it named, where it named one. Which
+    changes were accepted is said by the `audit` of an administrator's session.
+    """
+
+    request: str = ""
+    object: Optional[int] = None
+    at: Optional[int] = None
+
+    def __str__(self) -> str:
+        why = super().__str__()
+        return f"{naming(self.request, self.object, self.at)}: {why}" if self.request else why
 
 
 class BadReply(Error):
@@ -54,9 +80,8 @@ class Refused(Error):
     number: ClassVar[int] = 0
 
     def __init__(self, request: str = "", object: Optional[int] = None, at: Optional[int] = None) -> None:
-        named = "" if object is None else f" of object {object}"
-        when = "" if at is None else f" at moment {at}"
-        super().__init__(f"{type(self).__name__}: {request}{named}{when}" if request else type(self).__name__)
+        name = type(self).__name__
+        super().__init__(f"{name}: {naming(request, object, at)}" if request else name)
         self.request, self.object, self.at = request, object, at
 
 

@@ -1,22 +1,26 @@
-"""The versions of an object, found by GetAttr alone.
+"""The versions of an object, found by GetAttr, and by the audit where that may be asked.
 
 GetAttr now says the moment of the last change; GetAttr just before it says the one before, and so on, down to the
-creation or to what the window no longer keeps.
+creation or to what the window no longer keeps. Nothing here sends requests: sessions follow the steps.
 """
 from __future__ import annotations
 
 from enum import Enum
-from typing import TYPE_CHECKING, Iterator, List, NamedTuple, Optional, Tuple, Union
+from typing import Any, Callable, Generator, List, NamedTuple, Optional, Tuple, TypeVar, Union
 
+from . import wire
 from .errors import Expired, Flushed, Future, NoObject, Refused
-from .wire import LAST, Attributes
-
-if TYPE_CHECKING:
-    from .drive import Drive
+from .wire import AUDIT_ROWS, LAST, Attributes, AuditRow, Request
 
 BATCH = 256  # moments that are asked for together
+NEAR = 4_096  # moments that are looked at one by one; of those beyond, ever further ones
+TRIALS = 16_384  # moments at which a deleted object is looked for
 
+T = TypeVar("T")
 Found = Union[Attributes, Refused]
+
+# Yields requests that are sent together, and is sent what each was answered, refusals among it.
+Search = Generator[List[Request[Any]], List[Any], T]
 
 
 class Kind(Enum):
@@ -38,126 +42,194 @@ class Span(NamedTuple):
     attribute: bytes = b""
 
 
-def history_of(drive: Drive, object: int) -> List[Span]:
+def history_of(object: int) -> Search[List[Span]]:
     """The spans of an object, oldest first, up to the drive's clock; none where it never was, as far as can be read."""
-    clock = clock_of(drive)
-    last = last_readable(drive, object, clock, floor_of(drive, clock))
+    clock = yield from clock_now()
+    last = yield from last_readable(object, clock)
     if last is None:
         return []
-    spans = [] if last == clock else after_the_end(drive, object, last, clock)
+    spans = [] if last == clock else (yield from after_the_end(object, last, clock))
     while last is not None:
-        found = drive.attributes(object, at=last)
+        found = yield from readable(object, last)
         spans.append(Span(Kind.LIVE, found.changed, last, found.size, found.attribute))
-        last, between = before_version(drive, object, found)
+        last, between = yield from before_version(object, found)
         spans += between
     return without_overlaps(spans[::-1])
 
 
-def probe(drive: Drive, object: int, moment: int) -> Found:
+def asked(object: int, moments: range) -> Search[List[Found]]:
+    """What an object was at each of these moments, of which there are few."""
+    found: List[Found] = yield [wire.attributes(object, moment) for moment in moments]
+    for it in found:
+        if isinstance(it, Refused) and not isinstance(it, (Expired, Flushed, Future, NoObject)):
+            raise it  # it says nothing of the moment
+    return found
+
+
+def probe(object: int, moment: int) -> Search[Found]:
     """What an object was at a moment: its attributes, or the refusal."""
-    try:
-        return drive.attributes(object, at=moment)
-    except Refused as refusal:
-        return refusal
+    found = yield from asked(object, range(moment, moment + 1))
+    return found[0]
 
 
-def clock_of(drive: Drive) -> int:
+def readable(object: int, moment: int) -> Search[Attributes]:
+    """What an object was at a moment at which it can be read. The refusal is raised where that has just expired."""
+    found = yield from probe(object, moment)
+    if isinstance(found, Refused):
+        raise found
+    return found
+
+
+def clock_now() -> Search[int]:
     """The drive's clock, by bisection: a moment is refused as Future exactly where it is above the clock."""
     low, high = 0, LAST + 1
     while high - low > 1:
         middle = (low + high) // 2
-        low, high = (low, middle) if isinstance(probe(drive, 1, middle), Future) else (middle, high)
+        found = yield from probe(1, middle)
+        low, high = (low, middle) if isinstance(found, Future) else (middle, high)
     return low
 
 
-def floor_of(drive: Drive, clock: int) -> int:
+def floor_below(clock: int) -> Search[int]:
     """The least moment that can be read, by bisection: one is refused as Expired exactly where it is below."""
     low, high = -1, clock
     while high - low > 1:
         middle = (low + high) // 2
-        low, high = (middle, high) if isinstance(probe(drive, 1, middle), Expired) else (low, middle)
+        found = yield from probe(1, middle)
+        low, high = (middle, high) if isinstance(found, Expired) else (low, middle)
     return high
 
 
-def answers(drive: Drive, object: int, moments: range) -> Iterator[Tuple[int, Found]]:
-    """What an object was at each moment, asked for in batches."""
+def first_of(object: int, moments: range, is_wanted: Callable[[Found], bool]) -> Search[Optional[Tuple[int, Found]]]:
+    """The first of these moments whose answer is wanted, and that answer."""
     for start in range(0, len(moments), BATCH):
-        with drive.pipeline() as batch:
-            asked = [(moment, batch.attributes(object, at=moment)) for moment in moments[start:start + BATCH]]
-        for moment, reply in asked:
-            yield moment, reply.refusal() or reply.result()
+        batch = moments[start:start + BATCH]
+        for moment, found in zip(batch, (yield from asked(object, batch))):
+            if is_wanted(found):
+                return moment, found
+    return None
+
+
+def nearest(object: int, moments: range, is_wanted: Callable[[Found], bool]) -> Search[Optional[Tuple[int, Found]]]:
+    """The same, where the step is 1 or -1. Where it isn't among the nearest moments, that is an edge between two moments, of
+    which the first was the wanted one's neighbour: where several edges are close to each other, it may be a later one.
+    """
+    near = yield from first_of(object, moments[:NEAR], is_wanted)
+    if near is not None or len(moments) <= NEAR:
+        return near
+    before, after = NEAR - 1, NEAR
+    while True:
+        found = yield from probe(object, moments[after])
+        if is_wanted(found):
+            break
+        if after == len(moments) - 1:
+            return None
+        before, after = after, min(2 * after, len(moments) - 1)
+    while after - before > 1:
+        middle = (before + after) // 2
+        between = yield from probe(object, moments[middle])
+        before, after, found = (before, middle, between) if is_wanted(between) else (middle, after, found)
+    return moments[after], found
 
 
 def downwards(last: int, first: int) -> range:
     return range(last, first - 1, -1)
 
 
-def any_live(drive: Drive, object: int, first: int, last: int) -> Optional[int]:
-    """A moment at which an object can be read, or None: ever finer steps through the moments."""
+def is_live(found: Found) -> bool:
+    return not isinstance(found, Refused)
+
+
+def is_shown(found: Found) -> bool:
+    return not isinstance(found, Flushed)
+
+
+def is_gone(found: Found) -> bool:
+    return isinstance(found, NoObject)
+
+
+def changes_of(object: int, first: int) -> Search[List[int]]:
+    """The moments of an object's accepted changes from a moment on; none where the session may not ask for them."""
+    moments: List[int] = []
+    while True:
+        found: List[Union[List[AuditRow], Refused]] = yield [wire.audit(first, AUDIT_ROWS)]
+        rows = found[0]
+        if isinstance(rows, Refused):
+            return []
+        moments += (row.moment for row in rows if row.object == object)
+        if len(rows) < AUDIT_ROWS or rows[-1].moment == LAST:
+            return moments
+        first = rows[-1].moment + 1
+
+
+def any_live(object: int, first: int, last: int) -> Search[Optional[int]]:
+    """A moment at which an object can be read, or None: one of its changes, or ever finer steps through the moments."""
+    changes = yield from changes_of(object, first)
+    for moment in changes[::-1]:
+        found = yield from probe(object, moment)
+        if is_live(found):
+            return moment
     step = 1 << max(last - first, 1).bit_length()
-    while step:
+    while step and (last - first) // step < TRIALS:
         moments = range(first + step // 2, last + 1, step) if step > 1 else range(first, last + 1)
-        for moment, found in answers(drive, object, moments):
-            if not isinstance(found, Refused):
-                return moment
+        live = yield from first_of(object, moments, is_live)
+        if live is not None:
+            return live[0]
         step //= 2
     return None
 
 
-def last_live(drive: Drive, object: int, live: int, above: int) -> int:
+def last_live(object: int, live: int, above: int) -> Search[int]:
     """The last readable moment of a deleted object, which can be read at `live` and is gone at `above`.
 
-    Bisection: once deleted, an object stays away. A hidden moment says nothing, so the next lower one is asked.
+    Bisection: once deleted, an object stays away. A hidden moment says nothing, so a lower one is asked.
     """
     low = live
     while above - low > 1:
         middle = (low + above) // 2
-        for moment, found in answers(drive, object, downwards(middle, low + 1)):
-            if isinstance(found, NoObject):
-                above = moment
-                break
-            if not isinstance(found, Refused):
-                live, low = moment, middle
-                break
+        shown = yield from nearest(object, downwards(middle, low + 1), is_shown)
+        if shown is None:
+            low = middle  # all of these are hidden
+        elif isinstance(shown[1], NoObject):
+            above = shown[0]
+        elif isinstance(shown[1], Refused):
+            low = middle  # they have expired
         else:
-            low = middle  # all of these are hidden or expired
+            live, low = shown[0], middle
     return live
 
 
-def last_readable(drive: Drive, object: int, clock: int, floor: int) -> Optional[int]:
+def last_readable(object: int, clock: int) -> Search[Optional[int]]:
     """The last moment at which the object can be read, or None where there is none."""
-    if not isinstance(probe(drive, object, clock), Refused):
+    found = yield from probe(object, clock)
+    if is_live(found):
         return clock
-    live = any_live(drive, object, floor, clock)
-    return None if live is None else last_live(drive, object, live, clock + 1)
+    floor = yield from floor_below(clock)
+    live = yield from any_live(object, floor, clock)
+    return None if live is None else (yield from last_live(object, live, clock + 1))
 
 
-def after_the_end(drive: Drive, object: int, last: int, clock: int) -> List[Span]:
+def after_the_end(object: int, last: int, clock: int) -> Search[List[Span]]:
     """What follows the last readable moment of a deleted object, newest first."""
-    above = answers(drive, object, downwards(clock, last + 1))
-    gone = [moment for moment, found in above if isinstance(found, NoObject)]
-    first = min(gone, default=clock + 1)
-    spans = [Span(Kind.GONE, first, clock)] if gone else []
+    gone = yield from nearest(object, range(last + 1, clock + 1), is_gone)
+    first = clock + 1 if gone is None else gone[0]
+    spans = [Span(Kind.GONE, first, clock)] if gone is not None else []
     return spans + ([Span(Kind.HIDDEN, last + 1, first - 1)] if first > last + 1 else [])
 
 
-def before_version(drive: Drive, object: int, found: Attributes) -> Tuple[Optional[int], List[Span]]:
+def before_version(object: int, found: Attributes) -> Search[Tuple[Optional[int], List[Span]]]:
     """The last readable moment before a version's first, and what lies between, newest first."""
     if found.changed == found.created:
         return None, []
-    hidden = 0
-    for moment, before in answers(drive, object, downwards(found.changed - 1, found.created)):
-        if isinstance(before, Expired):
-            break
-        if isinstance(before, Flushed):
-            hidden += 1
-            continue
-        return moment, [Span(Kind.HIDDEN, moment + 1, moment + hidden)] if hidden else []
-    else:
-        return None, [Span(Kind.HIDDEN, found.created, found.changed - 1)]
     last = found.changed - 1
-    spans = [Span(Kind.HIDDEN, last - hidden + 1, last)] if hidden else []
-    return None, spans + [Span(Kind.EXPIRED, found.created, last - hidden)]
+    shown = yield from nearest(object, downwards(last, found.created), is_shown)
+    if shown is None:
+        return None, [Span(Kind.HIDDEN, found.created, last)]
+    moment, before = shown
+    spans = [Span(Kind.HIDDEN, moment + 1, last)] if moment < last else []
+    if isinstance(before, Expired):
+        return None, spans + [Span(Kind.EXPIRED, found.created, moment)]
+    return moment, spans
 
 
 def without_overlaps(spans: List[Span]) -> List[Span]:

@@ -1,13 +1,14 @@
 """Requests that are sent together."""
 from __future__ import annotations
 
+import contextlib
 import threading
 from types import TracebackType
-from typing import Any, Generic, List, Optional, Type, TypeVar, Union
+from typing import Any, Generic, Iterator, List, Optional, Type, TypeVar, Union
 
 from . import wire
 from .connection import Connection
-from .errors import BadReply, Disconnected, Refused
+from .errors import BadReply, Disconnected, NotAsked, Refused, ReplyLost
 from .wire import READ_BYTES, Attributes, Created, Request
 
 T = TypeVar("T")
@@ -19,15 +20,22 @@ class Reply(Generic[T]):
     def __init__(self, request: Request[T]) -> None:
         self._request = request
         self._answer: Union[T, Refused, None] = None
+        self.is_sent = False
 
     @property
     def done(self) -> bool:
         """Whether the reply has come."""
         return self._answer is not None
 
+    def send(self, connection: Connection) -> None:
+        """Sends the request alone."""
+        with naming(self._request):
+            connection.send_alone(self._request.frame())
+
     def take(self, connection: Connection) -> None:
         """Receives the reply, whose turn it is."""
-        body = connection.receive()
+        with naming(self._request):
+            body = connection.receive()
         try:
             self._answer = self._request.answer(body)
         except BadReply as error:
@@ -47,8 +55,21 @@ class Reply(Generic[T]):
 
     def _received(self) -> Union[T, Refused]:
         if self._answer is None:
-            raise Disconnected("no reply came, though the request may have been done")
+            if not self.is_sent:
+                raise Disconnected("the request was not sent")
+            with naming(self._request):
+                raise ReplyLost("no reply came, though the request may have been done")
         return self._answer
+
+
+@contextlib.contextmanager
+def naming(request: Request[Any]) -> Iterator[None]:
+    """A reply that is lost inside is that to this request."""
+    try:
+        yield
+    except ReplyLost as lost:
+        lost.request, lost.object, lost.at = request.name, request.object, request.at
+        raise
 
 
 class Pipeline:
@@ -79,8 +100,11 @@ class Pipeline:
 
     def run(self) -> List[Reply[Any]]:
         """Sends what was collected and gives all replies, refusals among them."""
+        self._connection.check()
         frames, replies = b"".join(self._frames), self._replies
         self._frames, self._replies = [], []
+        for reply in replies:
+            reply.is_sent = True
         failed: List[Disconnected] = []
 
         def send() -> None:
@@ -91,48 +115,54 @@ class Pipeline:
 
         sender = threading.Thread(target=send, daemon=True)
         sender.start()
-        for reply in replies:
-            reply.take(self._connection)
+        try:
+            for reply in replies:
+                reply.take(self._connection)
+        except NotAsked:
+            for reply in replies:
+                reply.is_sent = False  # to no drive
+            raise
         sender.join()
         if failed:
             raise failed[0]
         return replies
 
-    def _add(self, request: Request[T]) -> Reply[T]:
+    def add(self, request: Request[T]) -> Reply[T]:
+        """Takes a request, as the methods below make them."""
         reply = Reply(request)
         self._frames.append(request.frame())
         self._replies.append(reply)
         return reply
 
     def create(self, attribute: bytes = b"") -> Reply[Created]:
-        return self._add(wire.create(attribute))
+        return self.add(wire.create(attribute))
 
     def delete(self, object: int) -> Reply[int]:
-        return self._add(wire.delete(object))
+        return self.add(wire.delete(object))
 
     def read(self, object: int, offset: int = 0, length: int = READ_BYTES, at: Optional[int] = None) -> Reply[bytes]:
-        return self._add(wire.read(object, offset, length, at))
+        return self.add(wire.read(object, offset, length, at))
 
     def write(self, object: int, offset: int, data: bytes) -> Reply[int]:
-        return self._add(wire.write(object, offset, data))
+        return self.add(wire.write(object, offset, data))
 
     def append(self, object: int, data: bytes) -> Reply[int]:
-        return self._add(wire.append(object, data))
+        return self.add(wire.append(object, data))
 
     def truncate(self, object: int, size: int) -> Reply[int]:
-        return self._add(wire.truncate(object, size))
+        return self.add(wire.truncate(object, size))
 
     def attributes(self, object: int, at: Optional[int] = None) -> Reply[Attributes]:
-        return self._add(wire.attributes(object, at))
+        return self.add(wire.attributes(object, at))
 
     def set_attribute(self, object: int, attribute: bytes) -> Reply[int]:
-        return self._add(wire.set_attribute(object, attribute))
+        return self.add(wire.set_attribute(object, attribute))
 
     def set_window(self, moments: int) -> Reply[int]:
-        return self._add(wire.set_window(moments))
+        return self.add(wire.set_window(moments))
 
     def flush(self, first: int, last: int) -> Reply[int]:
-        return self._add(wire.flush(first, last))
+        return self.add(wire.flush(first, last))
 
     def flush_object(self, object: int, first: int, last: int) -> Reply[int]:
-        return self._add(wire.flush_object(object, first, last))
+        return self.add(wire.flush_object(object, first, last))

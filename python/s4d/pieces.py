@@ -1,0 +1,51 @@
+"""Objects that are larger than a request or a reply, in pieces. Nothing here sends requests: sessions follow the steps."""
+from __future__ import annotations
+
+from typing import Any, Generator, Optional, TypeVar
+
+from . import wire
+from .errors import Expired, Flushed
+from .wire import READ_BYTES, Request
+
+T = TypeVar("T")
+
+Steps = Generator[Request[Any], Any, T]  # yields requests, is sent their answers, or their refusals are thrown into it
+
+
+def starts(data: bytes) -> range:
+    """Where the pieces of a large write begin: they are whole blocks each, if the write begins at a block's start."""
+    return range(0, max(len(data), 1), READ_BYTES)
+
+
+def read_all(object: int, offset: int, at: Optional[int]) -> Steps[bytes]:
+    """All bytes from an offset on, of one version: that of a moment, or the present one."""
+    if at is not None:
+        return (yield from read_on(object, offset, at))
+    data: bytes = yield wire.read(object, offset, READ_BYTES, None)
+    return data if len(data) < READ_BYTES else (yield from read_version(object, offset))
+
+
+def read_on(object: int, offset: int, at: Optional[int]) -> Steps[bytes]:
+    """All bytes from an offset on; where no moment is given each piece is of a moment of its own."""
+    pieces = [(yield wire.read(object, offset, READ_BYTES, at))]
+    while len(pieces[-1]) == READ_BYTES:
+        offset += READ_BYTES
+        pieces.append((yield wire.read(object, offset, READ_BYTES, at)))
+    return b"".join(pieces)
+
+
+def read_version(object: int, offset: int) -> Steps[bytes]:
+    """All bytes of the present version from an offset on.
+
+    The pieces are of one version where the last change is the same before and after them. Else another session
+    changed the object meanwhile: it is read at that change, or anew where that moment can't be read.
+    """
+    changed = (yield wire.attributes(object, None)).changed
+    data = yield from read_on(object, offset, None)
+    while (later := (yield wire.attributes(object, None)).changed) != changed:
+        changed = later
+        try:
+            return (yield from read_on(object, offset, changed))
+        except (Expired, Flushed):
+            data = yield from read_on(object, offset, None)
+    return data
