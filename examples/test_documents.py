@@ -132,7 +132,7 @@ class Documents(unittest.TestCase):
     def test_one_version(self):
         """The file VERSION has it; what can't read that file says the same."""
         version = (TOP / "VERSION").read_text(encoding="utf-8").strip()
-        for name, said in (("python/pyproject.toml", f'version = "{version}"'), ("s4d.1", f".Os s4d {version}"), ("s4.1", f".Os s4d {version}"),
+        for name, said in (("python/pyproject.toml", f'version = "{version}"'), ("s4d.1", f".Os s4d {version}"), ("s4.1", f".Os s4d {version}"), ("s4serve.1", f".Os s4d {version}"),
                            ("CHANGELOG.md", f"## {version}")):
             with self.subTest(name):
                 lines = (TOP / name).read_text(encoding="utf-8").splitlines()
@@ -140,7 +140,7 @@ class Documents(unittest.TestCase):
 
     @unittest.skipUnless(shutil.which("groff"), "groff isn't installed")
     def test_the_man_pages(self):
-        for page in ("s4d.1", "s4.1"):
+        for page in ("s4d.1", "s4.1", "s4serve.1"):
             with self.subTest(page):
                 ran = subprocess.run(["groff", "-mandoc", "-ww", "-Tascii", TOP / page], capture_output=True, check=False)
                 self.assertEqual((ran.returncode, ran.stderr), (0, b""))
