@@ -1,10 +1,13 @@
-# Read by the scripts here, after `. program.sh`: their --help, and the words that run s4d.
-#     S4D in the environment names the program; else it is the proved one that `rt ci` or `rt run` left, or an unproved build
+# Read by the scripts here, after `. program.sh`: their --help, and the words that run s4d, or the program that `name` says.
+#     S4D in the environment, or S4SERVE, names the program; else it is the proved one that `rt ci` or `rt run` left, or an
+#     unproved build
 here=$(cd "$(dirname "${BASH_SOURCE[0]}")" && pwd)
 top=$(cd "$here/.." && pwd)
 me=$(basename "$0")
-proved=$top/crates/s4d/out/s4d
-unproved=$top/out/unproved/s4d # git passes over out/
+name=${name:-s4d}
+given=${name^^}
+proved=$top/crates/$name/out/$name
+unproved=$top/out/unproved/$name # git passes over out/
 
 # Ends the script with a line on standard error.
 fail() {
@@ -25,10 +28,10 @@ need_python() {
     command -v python3 > /dev/null || fail 2 "python3 is needed"
 }
 
-# Sets `program` to a built s4d, and `kind` to what it is; status 1 where none is here.
+# Sets `program` to a built one, and `kind` to what it is; status 1 where none is here.
 find_program() {
-    if [ -n "${S4D:-}" ]; then
-        program=$S4D kind="the program that S4D names"
+    if [ -n "${!given:-}" ]; then
+        program=${!given} kind="the program that $given names"
     elif [ -x "$proved" ]; then
         program=$proved kind="the proved program"
     elif [ -x "$unproved" ] && [ -z "$(find "$top/crates" -name '*.rt' -newer "$unproved" -print -quit)" ]; then
@@ -44,22 +47,24 @@ find_program() {
 find_or_build_program() {
     find_program && return
     command -v rt > /dev/null ||
-        fail 2 "no built s4d is here, and rt, which builds it, isn't on the PATH: it comes with the Rattle kit, as CONTRIBUTING.md says"
+        fail 2 "no built $name is here, and rt, which builds it, isn't on the PATH: it comes with the Rattle kit, as CONTRIBUTING.md says"
     build_unproved
     find_program
 }
 
-# Compiles s4d by `rt try`, which proves nothing, and keeps the program. `rt try` removes what it compiled once that has
-# ended, so the program is made to wait for the rest of its input, and is copied while it runs.
+# Compiles the program by `rt try`, which proves nothing, and keeps it. `rt try` removes what it compiled once that has
+# ended, so the program is made to wait, for the rest of its input or at a door, and is copied while it runs.
 build_unproved() {
-    local running seconds=0
+    local running seconds=0 words
     room=$(mktemp -d)
     mkdir -p "$(dirname "$unproved")" "$room/rt"
     rm -f "$unproved"
-    mkfifo "$room/held"
-    exec 3<> "$room/held"
-    echo "$me: no built s4d is here: compiling it by rt try, with no proof, once; about a minute" >&2
-    (cd "$top/crates/s4d" && TMPDIR=$room/rt exec rt try -- verify "$room/held") 3<&- < /dev/null > "$room/said" 2>&1 &
+    mkfifo "$room/door"
+    exec 3<> "$room/door"
+    words=(verify "$room/door")
+    [ "$name" = s4d ] || words=(--create 24 --keep 1d --door "admin=$room" "$room/image")
+    echo "$me: no built $name is here: compiling it by rt try, with no proof, once; a minute or two" >&2
+    (cd "$top/crates/$name" && TMPDIR=$room/rt exec rt try -- "${words[@]}") 3<&- < /dev/null > "$room/said" 2>&1 &
     building=$!
     trap 'kill "$building" 2> /dev/null || true; rm -rf "$room"' EXIT
     while kill -0 "$building" 2> /dev/null; do
@@ -80,5 +85,5 @@ build_unproved() {
     [ -x "$unproved" ] || { cat "$room/said" >&2; fail 1 "rt try compiled no program"; }
     trap - EXIT
     rm -rf "$room"
-    echo "$me: kept as out/unproved/s4d; it isn't proved. The proved program is built as CONTRIBUTING.md says" >&2
+    echo "$me: kept as out/unproved/$name; it isn't proved. The proved program is built as CONTRIBUTING.md says" >&2
 }

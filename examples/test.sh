@@ -1,6 +1,6 @@
 #!/usr/bin/env bash
-# Runs the tests of the Python package and of the examples over the built program, the story, one stream on two drives, and
-# the sweep of its limits, and ends with one line.
+# Runs the tests of the Python package and of the examples over the built programs, the story, a service, one stream on two
+# drives, and the sweep of limits, and ends with one line.
 #     test.sh        S4D names the program, else it is the one that `rt ci` or `rt run` left in crates/s4d/out
 set -uo pipefail
 . "$(dirname "$0")/program.sh"
@@ -19,6 +19,7 @@ tests() {
 }
 
 if (tests "$top/python" 1800 && tests "$here" 900 test_examples test_documents test_install test_report && timeout 300 ./story.sh 2>&1 | diff story.txt - &&
+    timeout 300 ./serve.sh 2>&1 | diff serve.txt - &&
     timeout 300 ./twice.sh && timeout 1800 python3 -B limits.py first_requests.hex "$program") > "$log" 2>&1; then
     echo "examples: $(awk '/^Ran / { ran += $2 } END { print ran }' "$log") tests, $(tail -n 1 "$log"), ok"
 else
