@@ -1,9 +1,9 @@
 #!/usr/bin/env python3
 """Kills a service at random moments while clients write and read, and looks that nothing is lost that it replied.
 
-    kills.py [COUNT [SEED]]      COUNT kills (1,000) of services over one image, one after another; S4SERVE, S4 name the programs
+    kills.py [COUNT [SEED]]      COUNT kills (1,000) of services, one after another; S4SERVE, S4 name the programs
 
-Each client writes to an object of its own, sizes and places at random, and reads at random what all have. After each kill the image is
+After 50 kills, or once it is full, another image is begun. Each client writes to an object of its own, sizes and places at random, and reads at random what all have. After each kill the image is
 opened by the next service, and its past is read, by a session and by `s4 cat`. Each change that was acknowledged is there at its moment, with
 the bytes that it had by a plain model; what was read stays so at its moment; and moments never go back. Prints the faults, and last how many
 kills and acknowledged changes there were. Status 0: no faults; 1: some."""
@@ -21,6 +21,7 @@ import s4d  # noqa: E402
 CLIENTS = 6
 LONGEST = 600  # bytes of a change
 SPAN = 6_000  # bytes of an object
+MOST_KILLS = 50  # over one image
 
 
 class Model:
@@ -40,8 +41,8 @@ def written(before, offset, data):
     return padded[:offset] + data + padded[offset + len(data):]
 
 
-def work(drive, model, models, draw, faults, ready):
-    """A client's requests, until the service is gone."""
+def work(drive, model, models, draw, faults, ready, full):
+    """A client's requests, until the service is gone or the drive is full."""
     try:
         for _ in range(1_000_000):
             if draw.random() < 0.3:
@@ -67,6 +68,11 @@ def work(drive, model, models, draw, faults, ready):
                 model.doubtful.clear()
                 model.shown.clear()
             ready.set()
+    except s4d.NoSpace:
+        with model.lock:
+            model.doubtful.pop()
+        full.set()
+        ready.set()
     except (s4d.Disconnected, s4d.BadReply, OSError, ValueError):
         pass
 
@@ -98,8 +104,33 @@ def past(drive, image, model, draw, faults, count):
                 faults.append(f"object {model.object} at {moment} by s4: status {ran.returncode}, {ran.stderr.decode().strip()}")
 
 
-def main(count, seed):
-    draw, faults, kills, changes = random.Random(seed), [], 0, 0
+def kill_once(it, models, draw, faults, full):
+    """Clients work until the service is killed; then it is begun again. Gives how many changes were acknowledged."""
+    ready = threading.Event()
+    sessions = [it.session() for _ in models]
+    threads = [threading.Thread(target=work, args=(drive, model, models, random.Random(draw.random()), faults, ready, full))
+               for drive, model in zip(sessions, models)]
+    before = sum(len(model.versions) for model in models)
+    for thread in threads:
+        thread.start()
+    ready.wait(service.PATIENCE)
+    time.sleep(draw.random() * 0.15)
+    it.kill()
+    for drive, thread in zip(sessions, threads):
+        thread.join()
+        drive.close()
+    changes = sum(len(model.versions) for model in models) - before
+    it.begin()
+    with it.session() as drive:
+        for model in models:
+            settle(drive, model, faults)
+        past(drive, it.image, draw.choice(models), draw, faults, 3)
+    return changes
+
+
+def over_one_image(count, draw, faults):
+    """At most COUNT kills of services over one image: how many, and how many changes were acknowledged."""
+    full, kills, changes = threading.Event(), 0, 0
     with service.Service(new=("--create", "256", "--keep", "30d")) as it:
         it.begin()
         models = []
@@ -107,33 +138,23 @@ def main(count, seed):
             for _ in range(CLIENTS):
                 made = drive.create()
                 models.append(Model(made.object, made.moment))
-        while kills < count:
-            ready = threading.Event()
-            sessions = [it.session() for _ in models]
-            threads = [threading.Thread(target=work, args=(drive, model, models, random.Random(draw.random()), faults, ready))
-                       for drive, model in zip(sessions, models)]
-            before = sum(len(model.versions) for model in models)
-            for thread in threads:
-                thread.start()
-            ready.wait(service.PATIENCE)
-            time.sleep(draw.random() * 0.15)
-            it.kill()
+        while kills < count and not full.is_set():
+            changes += kill_once(it, models, draw, faults, full)
             kills += 1
-            for drive, thread in zip(sessions, threads):
-                thread.join()
-                drive.close()
-            changes += sum(len(model.versions) for model in models) - before
-            it.begin()
-            with it.session() as drive:
-                for model in models:
-                    settle(drive, model, faults)
-                past(drive, it.image, draw.choice(models), draw, faults, 3)
         with it.session() as drive:
             for model in models:
                 past(drive, it.image, model, draw, faults, len(model.versions))
         status = it.stop()
         if status:
             faults.append(f"the service was stopped with status {status}: {it.said()}")
+    return kills, changes
+
+
+def main(count, seed):
+    draw, faults, kills, changes = random.Random(seed), [], 0, 0
+    while kills < count:
+        more, acknowledged = over_one_image(min(MOST_KILLS, count - kills), draw, faults)
+        kills, changes = kills + more, changes + acknowledged
     for fault in faults[:20]:
         print(fault)
     print(f"{kills} kills, {len(faults)} faults" + ("" if "--quiet" in sys.argv else f", {changes} changes were acknowledged"))
