@@ -2,10 +2,9 @@
 ghost use Rattle.std.specs.Prelude.{◌≡◌, ◌+◌, ◌^◌, ◌<◌, []};
 ghost use Rattle.batch_serving.specs.Batches.{Serves, reading_failures, writing_failures};
 ghost use Rattle.batch_serving.specs.Waiting.{HasWaited};
-ghost use Rattle.server.specs.Attending.{SeatSteps};
 ghost use Rattle.server.specs.Drawing.{DrawsNothing};
 ghost use Rattle.server.specs.declared.clocks.Undrawn.{Undrawn as Nothing};
-ghost use Rattle.s4serve.specs.Seats.{IsSeatAt};
+ghost use Rattle.s4serve.specs.Seats.{IsSeatAt, ServedSteps};
 
 use batch_serving::{AtMonitor, BatchEnd, serve_batch};
 use group_commit::{Flush, Receipt, Steps};
@@ -18,27 +17,43 @@ use std::marker::Model;
 use std::sync::Wait;
 use std::time;
 
-/// A session with the drive of a service. Contracts see what they see of a session beside others.
+/// A session with the drive of a service. Contracts see what they see of a session beside others,
+/// and the greatest clock that its drive had with one of its steps.
 #[derive(Drop)]
 pub struct Seat<'a, J: Running, C: Clock, R: Wait, G: Gate> {
-    pub locked: Locked<'a, J, C, R, G>,
+    locked: Locked<'a, J, C, R, G>,
+    reached: u64,
 }
 
 impl<'a, J: Running, C: Clock, R: Wait, G: Gate> Model for Seat<'a, J, C, R, G> {
-    ghost use Rattle.server.specs.Attending.{SeatFields};
+    ghost use Rattle.s4serve.specs.Seats.{ServedFields};
 
-    ghost Value = { SeatFields };
+    ghost Value = { ServedFields };
 
-    ghost view = { λ s. s.locked };
+    ghost view = { λ s. record { seat = s.locked; reached = s.reached } };
+}
+
+impl<'a, J: Running, C: Clock, R: Wait, G: Gate> Seat<'a, J, C, R, G> {
+    /// A session that was just had.
+    pub fn new(locked: Locked<'a, J, C, R, G>) -> Self
+        ensures seat { result.seat ≡ locked.entry }
+        ensures reached { result.reached ≡ locked.entry.clock }
+    {
+        let (_, reached) = locked.place();
+        Seat { locked, reached }
+    }
 }
 
 impl<J: Running, C: Clock, R: Wait, G: Gate> Backend for Seat<'_, J, C, R, G> {
-    ghost use Rattle.server.specs.Attending.{SeatSteps};
+    ghost use Rattle.s4serve.specs.Seats.{ServedSteps};
 
-    ghost steps = { SeatSteps J.base J.moments };
+    ghost steps = { ServedSteps J.base J.moments };
 
     fn request(&mut self, request: Request, drawn: Moment) -> Reply {
-        self.locked.request(request, drawn)
+        let reply = self.locked.request(request, drawn);
+        let (_, clock) = self.locked.place();
+        self.reached = self.reached.max(clock);
+        reply
     }
 }
 
@@ -48,7 +63,8 @@ impl<J: Running, C: Clock, R: Wait, G: Gate> Step for Seat<'_, J, C, R, G> {
     ghost is_at = { IsSeatAt };
 
     fn place(&self) -> (u64, u64) {
-        self.locked.place()
+        let (number, _) = self.locked.place();
+        (number, self.reached)
     }
 }
 
@@ -76,7 +92,7 @@ pub fn serve_seat<
 ) -> BatchEnd
     requires reader { S.failures reader.old + 1 < 2 ^ 64 }
     requires writer { W.failures writer.old + 1 < 2 ^ 64 }
-    ensures session { (before after : Nothing) × Serves (SeatSteps J.base J.moments) DrawsNothing
+    ensures session { (before after : Nothing) × Serves (ServedSteps J.base J.moments) DrawsNothing
         (λ from seat is_kept to. HasWaited IsSeatAt T.number T.reach is_kept seat from.receipt to.receipt) [] result
         seat.old before keeping.old (S.remaining reader.old) (W.passed writer.old)
         seat.new after keeping.new (S.remaining reader.new) (W.passed writer.new) }

@@ -98,7 +98,7 @@ fn seat_for<'a, J: Running, C: Clock, K: Keeper, R: Wait>(
     gate: &'a Open,
     role: Role,
 ) -> Option<Seat<'a, J, C, R, Open>>
-    ensures { IfSome result (IsSeated J.base role) }
+    ensures { IfSome result (λ s. IsSeated J.base role s.seat) }
 {
     let part = service.parts.lock(rt).one()?;
     let had = Locked::beside(
@@ -112,7 +112,7 @@ fn seat_for<'a, J: Running, C: Clock, K: Keeper, R: Wait>(
         1,
     );
     match had {
-        Ok(locked) => Some(Seat { locked }),
+        Ok(locked) => Some(Seat::new(locked)),
         Err(_) => None,
     }
 }
