@@ -15,6 +15,6 @@ LeavesNoMore before now = (c : List ℕ) → now c → before c
 abbrev pub LeavesMore : (others before now : List ℕ → Type 0) → Type 0
 LeavesMore others before now = (c : List ℕ) → now c → before c ⊎ others c
 
--- an obstacle is want of memory, or of room on the disk
+-- an obstacle is that memory, or room on the disk, is short
 abbrev pub IsShort : Obstacle → Type 0
 IsShort obstacle = (obstacle ≡ NoMemory) ⊎ (obstacle ≡ NoRoom)

@@ -79,7 +79,7 @@ impl Obstacle {
         }
     }
 
-    /// Whether it is want of memory, or of room on the disk: then it may go at another time.
+    /// Whether memory, or room on the disk, is short: then it may go at another time.
     pub fn is_short(self) -> bool
         ensures { IsTrue result ↔ IsShort self }
     {

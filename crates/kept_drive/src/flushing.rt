@@ -9,7 +9,7 @@ use std::alloc::Global;
 use std::sync::{Mutex, Wait};
 use std::thread::Threads;
 
-/// Whom the administrator hears of want of memory or space by.
+/// By whom the administrator hears that memory or space is short.
 pub trait Announce {
     /// Memory or space is short, and a flush is tried again each second from now on.
     fn announce_shortage(&mut self);

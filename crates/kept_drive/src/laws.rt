@@ -77,7 +77,7 @@ pub fn what_is_kept_lasts()
         → KeepsFrom base kept clock bytes }
 {}
 
-/// What is kept is an image, so that `recover` refuses it for want of memory alone; and a drive
+/// What is kept is an image, so that `recover` refuses it only where memory is short; and a drive
 /// that is opened from it goes on where the kept history ended.
 pub fn what_is_kept_is_recovered()
     ensures whole { (base : Base) (changes : List Accepted) (clock : ℕ) (bytes : List ℕ)

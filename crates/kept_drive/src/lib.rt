@@ -5,7 +5,7 @@
 //! seen the receipt's reach; the receipt's number is that of the changes that this session has
 //! seen. Whatever `flush` answers, each outcome of a crash was one before, or is such an image; so
 //! what a receipt shows stays kept, whatever becomes of later flushes. The running drive never sees
-//! the reach, and is left as it was. `recover` refuses nothing that is kept, want of memory aside,
+//! the reach, and is left as it was. `recover` refuses what is kept only where memory is short,
 //! and what it opens goes on where the kept history ended.
 //!
 //! What two sessions of one drive have seen are beginnings of one list, so all changes that a

@@ -17,7 +17,7 @@ use verifier::laws::what_has_a_fault_spells_nothing;
 use verifier::{open, verify};
 
 /// The drive whose image these bytes are. Where they are kept of a history, it goes on where that
-/// ended, and is refused for want of memory alone.
+/// ended, and is refused only where memory is short.
 ///
 /// Damaged with the cause of the first test that fails, where the bytes encode no image; NoMemory
 /// where memory was refused, Busy where a count of those that share a part of the drive was full.
@@ -29,7 +29,7 @@ pub fn recover<R: Threads>(rt: &R, alloc: Global, bytes: &[u8]) -> Result<Opened
     ensures refusal { IfErr result
         (λ e. (e ≡ NoMemory) ⊎ (e ≡ Busy)
         ⊎ ((cause : Found) × (e ≡ Damaged cause) × FirstFault bytes.now (Some cause))) }
-    // What is an image is refused for want of memory alone, and so is what is kept.
+    // What is an image is refused only where memory is short, and so is what is kept.
     ensures never { SpellsDrive bytes.now (image_in bytes.now)
         → IfErr result (λ e. (e ≡ NoMemory) ⊎ (e ≡ Busy)) }
 {

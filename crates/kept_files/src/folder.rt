@@ -37,7 +37,7 @@ impl<F: Files + Drop> FileFolder<F> {
     }
 }
 
-/// What an obstacle is for whoever keeps images: want of room, which may go, or something else.
+/// What an obstacle is for whoever keeps images: no room, which may come, or something else.
 fn error_of(obstacle: Obstacle) -> FolderError
     ensures { (result ≡ FolderError.NoRoom) ↔ IsShort obstacle }
 {

@@ -6,7 +6,7 @@
 //! they were cut. Each reply is written whole before the next item is taken up: where writing
 //! fails, a beginning of the last reply is written, and where memory is short, the replies to the
 //! items that were taken up, all or all but the last. The backend is asked nothing else, and what
-//! was answered stays done. An end other than for want of memory comes only where its name says.
+//! was answered stays done. An end comes only where its name says, or where memory is short.
 //! What the backend answers, and when reading or writing fails, is said elsewhere; where the bytes
 //! of a reader or a writer aren't known, as for a file, nothing is said of these bytes.
 #![tactic(auto)]
