@@ -5,6 +5,7 @@ use Rattle.std.proofs.KnownBytes.{Consumes-trans, Consumes-kept, starts_with_res
 use Rattle.std.proofs.Transfers.{starts_with_length}
 use Rattle.std.specs.Io.{StartsWith}
 use Rattle.std.specs.Io.KnownBytes.{Consumes, IsAtEnd, Keeps}
+use Rattle.s4_types.specs.declared.limits.TheConstants.{MOST_FRAMES}
 use Rattle.s4_types.specs.declared.refusals.Cause.{Cause}
 use Rattle.s4_types.specs.declared.refusals.Cause.TheVariants.{Chain, Audit, Header, Length}
 use Rattle.s4_types.specs.declared.refusals.Refusal.{Refusal}
@@ -13,7 +14,7 @@ use Rattle.image_parts.specs.declared.marks.ImageMark.{ImageMark}
 use Rattle.image_parts.specs.declared.marks.ImageMark.TheVariants.{Third, Earlier as OfEarlier}
 use Rattle.image_commands.specs.declared.verifying.Asked.{Asked}
 use Rattle.image_commands.specs.declared.verifying.Asked.TheVariants.{Present, Earlier}
-use Rattle.image_parts.specs.Causes.{FirstSplitCauseBy, Tested, TestedPartsBy}
+use Rattle.image_parts.specs.Causes.{FirstSplitCause, FirstSplitCauseBy, Tested, TestedPartsBy}
 use Rattle.image_parts.specs.Image.{image_in}
 use Rattle.verifier.specs.Grammar.{FirstFault}
 use Rattle.verifier.specs.Rows.{ChainsStand}
@@ -21,7 +22,7 @@ use Rattle.verifier.specs.Audit.{AuditStands}
 use Rattle.codec.specs.declared.versions.ImageVersion.TheVariants.{First, Second}
 use Rattle.image_commands.specs.Files.{AreKnown}
 use Rattle.image_commands.specs.Faults.{SaysDamaged}
-use Rattle.image_commands.specs.Verifying.{IsDamaged, IsUnsplit, mark_asked}
+use Rattle.image_commands.specs.Verifying.{IsDamaged, IsOverlong, IsUnsplit, longest_without_audit, mark_asked}
 
 -- a reader at its end gave all that is known of it
 pub all_read : (known left : Option (List ℕ)) (bytes : List ℕ) → Consumes known left bytes → IsAtEnd left → AreKnown known bytes
@@ -102,6 +103,20 @@ module _ (asked : Asked) where
       omega (arith, long, ap length is, length-append front more, length-append front (more ++ left), length-append more left) in
       subst (λ (xs : List ℕ). FirstSplitCauseBy (mark_asked asked xs) xs (Some Length)) (sym all)
       (subst (λ (m : ImageMark). FirstSplitCauseBy m (front ++ (more ++ left)) (Some Length)) (sym (mark_of_front asked front (more ++ left) wide)) (longer (more ++ left) size))
+
+-- more bytes than any image without audit rows has, and than one with their front can have
+pub overlong : (known left : Option (List ℕ)) (front bytes : List ℕ) (most : ℕ) → Consumes known left bytes → StartsWith bytes front → longest_without_audit MOST_FRAMES ≤ most
+    → ((rest : List ℕ) → most < length (front ++ rest) → ((cause : Cause) × FirstSplitCause (front ++ rest) (Some cause))) → most < length bytes → IsOverlong known
+overlong None left front bytes most read begins least longer long = tt
+overlong (Some whole) None front bytes most read begins least longer long = absurd read
+overlong (Some whole) (Some left) front bytes most read begins least longer long =
+    let more = drop (length front) bytes in
+    let is : bytes ≡ front ++ more = starts_with_rest bytes front begins in
+    let all : whole ≡ front ++ (more ++ left) = read ∙ ap (λ (xs : List ℕ). xs ++ left) is ∙ append_assoc front more left in
+    let size : most < length (front ++ (more ++ left)) =
+    omega (arith, long, ap length is, length-append front more, length-append front (more ++ left), length-append more left) in
+    let (cause, unsplit) = longer (more ++ left) size in
+    record { long = omega (arith, least, size, ap length all); cause = cause; unsplit = subst (λ (xs : List ℕ). FirstSplitCause xs (Some cause)) (sym all) unsplit }
 
 -- ---- what is read piece by piece
 

@@ -9,7 +9,7 @@ use Rattle.verifier.specs.Images.{ImageFields}
 use Rattle.verifier.specs.Opened.{IsToldBy}
 use Rattle.image_commands.specs.declared.faults.Fault.{Fault}
 use Rattle.image_commands.specs.declared.faults.Fault.TheVariants.{CannotRead, CannotWrite, HasBytes, KeptIn, Refused, WriteFailed}
-use Rattle.image_commands.specs.Faults.{KeepsMade, KeepsNew, SaysUnmade, SaysUnplaced, SaysDamaged, SaysUnread, SaysUnreadable, SaysUnsplit, SaysUnwritable, SaysUnwritten}
+use Rattle.image_commands.specs.Faults.{KeepsMade, KeepsNew, SaysOverlong, SaysUnmade, SaysUnplaced, SaysDamaged, SaysUnread, SaysUnreadable, SaysUnsplit, SaysUnwritable, SaysUnwritten}
 use Rattle.image_commands.specs.Making.{SpellsNew}
 use Rattle.image_commands.specs.ReadingPast.{RefusesObject, RefusesVersion, SaysRefused, SaysUngiven}
 use Rattle.image_commands.specs.Verifying.{IsVerified}
@@ -42,6 +42,15 @@ unread_unsplit known image (CannotWrite path obstacle) is = absurd is
 unread_unsplit known image (HasBytes path) is = absurd is
 unread_unsplit known image (KeptIn path obstacle kept) is = absurd is
 unread_unsplit known image WriteFailed is = absurd is
+
+-- nor were all bytes of a file
+pub unread_bytes : (known : Option (List ℕ)) (file : List ℕ) (fault : Fault) → SaysUnreadable file fault → SaysOverlong known file fault
+unread_bytes known file (Refused refusal) is = inl is
+unread_bytes known file (CannotRead path obstacle) is = is
+unread_bytes known file (CannotWrite path obstacle) is = absurd is
+unread_bytes known file (HasBytes path) is = absurd is
+unread_bytes known file (KeptIn path obstacle kept) is = absurd is
+unread_bytes known file WriteFailed is = absurd is
 
 -- an image that can't be written was not made
 pub unmade : (known : Option (List ℕ)) (image : List ℕ) (fault : Fault) → SaysUnwritable image fault → SaysUnmade known image fault

@@ -1,6 +1,7 @@
 -- What a fault says, and what it leaves.
 use Rattle.std.specs.Prelude.{◌≡◌, ◌⊎◌, ◌+◌, ℕ, List, Option, ⊤, string_bytes}
 use Rattle.s4_types.specs.declared.refusals.Cause.{Cause}
+use Rattle.s4_types.specs.declared.refusals.Cause.TheVariants.{Length}
 use Rattle.s4_types.specs.declared.refusals.Refusal.{Refusal}
 use Rattle.s4_types.specs.declared.refusals.Refusal.TheVariants.{Busy, Damaged, NoMemory}
 use Rattle.image_commands.specs.declared.verifying.Asked.{Asked}
@@ -8,7 +9,7 @@ use Rattle.image_commands.specs.declared.faults.Fault.{Fault}
 use Rattle.image_commands.specs.declared.faults.Fault.TheVariants.{CannotRead, CannotWrite, HasBytes, KeptIn, Refused, WriteFailed}
 use Rattle.image_commands.specs.Files.{AreKnown, HasSome}
 use Rattle.image_commands.specs.Making.{HasNew}
-use Rattle.image_commands.specs.Verifying.{IsDamaged, IsUnsplit}
+use Rattle.image_commands.specs.Verifying.{IsDamaged, IsOverlong, IsUnsplit}
 
 -- where a fault names the file that has the new image, that has these bytes
 abbrev pub KeepsNew : (List ℕ → Option (List ℕ)) → List ℕ → Fault → Type 0
@@ -56,6 +57,12 @@ abbrev pub SaysUnsplit : Asked → Option (List ℕ) → (image : List ℕ) → 
 SaysUnsplit asked known image (Refused refusal) = (refusal ≡ NoMemory) ⊎ ((cause : Cause) × (refusal ≡ Damaged cause) × IsUnsplit asked known cause)
 SaysUnsplit asked known image (CannotRead path obstacle) = path.now ≡ image
 SaysUnsplit asked known image _ = ⊥
+
+-- Why the bytes of a file aren't read, whatever they are: it can't be read; they are too many; or memory was short.
+abbrev pub SaysOverlong : Option (List ℕ) → (file : List ℕ) → Fault → Type 0
+SaysOverlong known file (Refused refusal) = (refusal ≡ NoMemory) ⊎ ((refusal ≡ Damaged Length) × IsOverlong known)
+SaysOverlong known file (CannotRead path obstacle) = path.now ≡ file
+SaysOverlong known file _ = ⊥
 
 -- Why an output has not all that it is to have: it failed once more.
 abbrev pub SaysUnwritten : (failures failures' : ℕ) → Fault → Type 0

@@ -4,12 +4,12 @@ ghost use Rattle.std.specs.Prelude.{OnErr, OnOk};
 ghost use Rattle.std.specs.Io.KnownBytes.{Keeps};
 ghost use Rattle.s4_types.specs.Sizes.{IsFrameCount};
 ghost use Rattle.s4_types.specs.declared.refusals.Refusal.TheVariants.{NoMemory};
-ghost use Rattle.s4_types.specs.declared.limits.TheConstants.{PAYLOAD_BLOCKS, RUNS_IN_ALL};
 ghost use Rattle.s4_model.specs.State.{new_base};
 ghost use Rattle.image_commands.specs.Files.{AreKnown};
 ghost use Rattle.image_commands.specs.Faults.{KeepsMade, KeepsNew, SaysUnmade, SaysUnplaced};
 ghost use Rattle.image_commands.specs.Faults.{SaysUnwritable};
 ghost use Rattle.image_commands.specs.Making.{HasNew, IsEmptyStore, SpellsNew};
+ghost use Rattle.image_commands.specs.Verifying.{longest_without_audit};
 
 use crate::faults::{Fault, writing};
 use crate::files::{Files, NotReplaced, Placed};
@@ -196,9 +196,7 @@ impl<'a, F: Files> Place<'a, F> {
 /// used, each block of payload is a row's own, and there are as many runs of hidden moments as a
 /// drive may have. An image with audit rows may be longer.
 pub fn longest_image(frames: u16) -> usize
-    ensures { result
-        ≡ 512 + 8 * frames + 8192 * frames + 40 * (frames * PAYLOAD_BLOCKS) + 24 * RUNS_IN_ALL
-        + 32 }
+    ensures { result ≡ longest_without_audit frames }
 {
     let rows = u32::from(frames) * PAYLOAD_BLOCKS as u32;
     image_length(frames, frames, rows, RUNS_IN_ALL as u32, 0)

@@ -1,14 +1,18 @@
 //! `verify`, and how each command reads an image.
-ghost use Rattle.std.specs.Prelude.{◌≡◌, ℕ, ◌+◌, ◌^◌, ◌<◌, ◌≤◌, List, Option, IfOk, IfSome, IfErr};
-ghost use Rattle.std.specs.Prelude.{IsTrue, OnOk, length, string_bytes};
+ghost use Rattle.std.specs.Prelude.{◌≡◌, ℕ, ◌+◌, ◌++◌, ◌^◌, ◌<◌, ◌≤◌, List, Option, Some};
+ghost use Rattle.std.specs.Prelude.{IfOk, IfSome, IfNone, IfErr, IsTrue, OnOk, length, string_bytes};
 ghost use Rattle.std.specs.Io.{StartsWith};
 ghost use Rattle.std.specs.Io.KnownBytes.{Appends, Consumes, IsAtEnd};
-ghost use Rattle.image_commands.specs.Faults.{SaysUnread, SaysUnsplit, SaysUnverified};
+ghost use Rattle.s4_types.specs.declared.limits.TheConstants.{MOST_FRAMES};
+ghost use Rattle.s4_types.specs.declared.refusals.Cause.{Cause as Found};
+ghost use Rattle.image_parts.specs.Causes.{FirstSplitCause};
+ghost use Rattle.image_commands.specs.Faults.{SaysOverlong, SaysUnread, SaysUnsplit, SaysUnverified};
 ghost use Rattle.image_commands.specs.Faults.{SaysUnwritten};
 ghost use Rattle.image_commands.specs.Files.{AreKnown};
 ghost use Rattle.image_commands.specs.Leaving.{IsNoImage};
 ghost use Rattle.image_commands.specs.Verifying.{number_line, image_line, IsUnsplit, IsVerified};
-ghost use Rattle.image_commands.specs.Verifying.{TellsImage, mark_asked};
+ghost use Rattle.image_commands.specs.Verifying.{IsOverlong, TellsImage};
+ghost use Rattle.image_commands.specs.Verifying.{longest_without_audit, mark_asked};
 
 use crate::faults::{Fault, reading};
 use crate::files::Files;
@@ -112,13 +116,14 @@ pub fn read_whole<'a, F: Files>(
 
 /// All bytes of a file, whatever they are. Damaged by its length where it has more than the longest
 /// image has that begins as it does, and more than any image without audit rows: it isn't read to
-/// its end then.
+/// its end then, and is no image.
 pub fn read_bytes<'a, F: Files>(
     alloc: Global,
     files: &F,
     path: &'a str,
 ) -> Result<Vec<u8>, Fault<'a>>
     ensures bytes { IfOk result (λ bytes. AreKnown (F.contents files.now path.now) bytes.items) }
+    ensures fault { IfErr result (SaysOverlong (F.contents files.now path.now) path.now) }
 {
     let mut reader = match files.open(path) {
         Ok(reader) => reader,
@@ -136,12 +141,20 @@ pub fn read_bytes<'a, F: Files>(
 fn read_shorter<R: Read>(alloc: Global, reader: &mut R) -> io::Result<Option<Vec<u8>>>
     ensures bytes { IfOk result
         (λ read. IfSome read (λ bytes. AreKnown (R.remaining reader.old) bytes.items)) }
+    ensures overlong { IfOk result (λ read. IfNone read (IsOverlong (R.remaining reader.old))) }
 {
     let mut bytes = Vec::new(alloc);
     read_until(reader, &mut bytes, FRONT_BYTES)?;
+    if bytes.len() < FRONT_BYTES {
+        return Ok(Some(bytes));
+    }
     let most = most_with(bytes.as_slice());
     read_until(reader, &mut bytes, most + 1)?;
     if bytes.len() > most {
+        // No memory has so many bytes; a length that is told is less.
+        if most == LONGEST_IMAGE {
+            return Err(io::Error::from(io::ErrorKind::OutOfMemory));
+        }
         return Ok(None);
     }
     Ok(Some(bytes))
@@ -150,12 +163,14 @@ fn read_shorter<R: Read>(alloc: Global, reader: &mut R) -> io::Result<Option<Vec
 // The most bytes that are read: as many as the longest image without audit rows has, or as one with
 // this header may have where that is more.
 fn most_with(front: &[u8]) -> usize
-    ensures below { result < 2 ^ 63 }
+    requires long { 544 ≤ length front.now }
+    ensures below { result ≤ 2 ^ 62 }
+    ensures least { longest_without_audit MOST_FRAMES ≤ result }
+    ensures longer { result < 2 ^ 62 → (rest : List ℕ)
+        → result < length (front.now ++ rest)
+        → ((cause : Found) × FirstSplitCause (front.now ++ rest) (Some cause)) }
 {
     let least = longest_image(MOST_FRAMES as u16);
-    if front.len() < FRONT_BYTES {
-        return least;
-    }
     match longest_with(front) {
         Some(longest) if longest > least => longest,
         _ => least,
