@@ -21,7 +21,7 @@
    BATCH         requests that may be done before one wait; one where it isn't given
    FALLS_SILENT  a client may ask no more though its input is open, or not read its reply: nothing
                  may wait for it then, but `main` for a moment
-   FAULT         1 .. 10, a fault: see there */
+   FAULT         1 .. 12, a fault: see there */
 #ifndef SESSIONS
 #define SESSIONS 2
 #endif
@@ -40,6 +40,7 @@ byte kept_number;                 /* the receipt: changes that are kept, */
 byte kept_reach = AHEAD;          /* and the clock of what is kept */
 bit is_flushing, has_failed, is_short, is_stopping;
 byte due;                         /* pieces whose replies are */
+byte waiting, expected;           /* sessions that wait for a flush, now and when the last one ended */
 bit is_asleep[WAITERS];           /* on the one condition variable */
 
 bit drive;                        /* the drive's mutex. What follows is under it */
@@ -91,6 +92,7 @@ inline sleep(me) {
 /* The sections of the monitor's lock. */
 
 #define COVERS(a_number, a_reach, me) (number[me] <= a_number && moment[me] <= a_reach)
+#define MUST_WAIT(me) (!COVERS(kept_number, kept_reach, me) && !has_failed && is_flushing)
 
 inline ask(me) {
   SECTION { LOCK(monitor);
@@ -102,13 +104,43 @@ inline ask(me) {
        is_flushing = 1;
 #endif
        given = TO_FLUSH; break
-    :: !COVERS(kept_number, kept_reach, me) && !has_failed && is_flushing ->
-#if FAULT == 2
-       UNLOCK(monitor); LOCK(monitor);
+    :: MUST_WAIT(me) ->
+       waiting++;
+#if FAULT != 11
+       if :: waiting == expected -> notify_all() :: else fi;
 #endif
-       sleep(me)
+       do
+       :: MUST_WAIT(me) ->
+#if FAULT == 2
+          UNLOCK(monitor); LOCK(monitor);
+#endif
+          sleep(me)
+       :: else -> break
+       od;
+       waiting--
     od;
     UNLOCK(monitor) }
+}
+
+/* Whoever is to flush waits until as many wait for it as are expected, or its time is over. */
+inline gather(me) {
+  gathers = 1;
+  do
+  :: gathers ->
+     SECTION { LOCK(monitor);
+       gathers = waiting < expected;
+       atomic { is_asleep[me] = gathers; UNLOCK(monitor) } };
+     if
+     :: is_asleep[me] == 0                                    /* woken, or it needn't wait */
+#if FAULT != 12
+     :: atomic {
+          is_asleep[me] == 1 -> assert(waiting < expected || monitor);
+          is_asleep[me] = 0; gathers = 0
+        }
+#endif
+     fi
+  :: else -> break
+  od
 }
 
 #define LOWER(a, b) a = (a > (b) -> a - (b) : 0)
@@ -135,7 +167,7 @@ inline keep(me) {
     :: else
     fi;
     new_number[me] = 0; new_reach[me] = 0;
-    is_flushing = 0; is_short = 0;
+    is_flushing = 0; is_short = 0; expected = waiting;
     assert(kept_number <= disk_number && kept_reach <= disk_reach);
     count_anew();
     UNLOCK(monitor) }
@@ -254,6 +286,7 @@ inline flush(me) {
 }
 
 inline flush_for_all(me) {
+  gather(me);
   do
   :: flush(me);
      if
@@ -286,7 +319,7 @@ mtype = { RECEIPT, NOT_KEPT, TO_FLUSH, WELL, SHORT, FAILED };
 proctype Session(byte me) {
   byte each;
   mtype given, came;
-  bit may_go_on, is_second;
+  bit may_go_on, is_second, gathers;
 #ifdef REQUESTS
   byte asked;
 #define ASKS asked < REQUESTS -> asked++;

@@ -2,11 +2,13 @@
 ghost use Rattle.std.specs.Prelude.{◌≡◌};
 
 mod batches;
+mod gathered;
 mod ordered;
 mod sinks;
 
-use group_commit::{Flush, FlushError, Receipt};
+use group_commit::{Flush, FlushError, Monitor, NotKept, Receipt, Steps};
 use std::sync::{Mutex, Wait};
+use std::time::Clock;
 
 /// How far the moment of what is kept is ahead.
 const AHEAD: u64 = 10;
@@ -97,5 +99,20 @@ impl<R: Wait> Flush<Kept> for Flusher<'_, R> {
     fn announce_shortage(&mut self) {
         let mut store = self.store.lock(self.rt);
         store.announced = store.announced.saturating_add(1);
+    }
+}
+
+/// A session accepts a change, and waits until it is kept. Answers whether its receipt covers it.
+fn is_kept<R: Wait + Clock, S: Steps>(
+    rt: &R,
+    monitor: &Monitor<Kept>,
+    store: &Mutex<Store>,
+    steps: &S,
+) -> bool {
+    let mut flusher = Flusher { rt, store };
+    let (number, clock) = accept(rt, store);
+    match monitor.await_kept(rt, &mut flusher, steps, number, clock) {
+        Ok(receipt) => receipt.number() >= number && receipt.reach() >= clock,
+        Err(NotKept) => false,
     }
 }

@@ -46,6 +46,8 @@ pub struct NotKept;
 pub enum CommitStep {
     /// It asks whether it may go on.
     Asks,
+    /// It is the one that flushes, and waits a moment for others.
+    Gathers,
     /// It flushes for all that wait.
     Flushes,
     /// Its flush has ended well, which nobody knows yet.

@@ -13,6 +13,10 @@ use std::time::{Clock, Duration};
 /// How long a flush is put off that lacked memory or space, in seconds.
 const PAUSE_SECONDS: u64 = 1;
 
+/// How long a flush waits at most for sessions that waited for the one before, in milliseconds:
+/// these were just answered, and would else come too late for it.
+const GATHERING_MILLISECONDS: u64 = 2;
+
 /// How long the end of the service waits for replies that are due, in seconds: a client may never
 /// read its own.
 const PATIENCE_SECONDS: u64 = 1;
@@ -84,19 +88,49 @@ impl<T: Receipt + Drop> Monitor<T> {
                     progress.begin_flush();
                     return Given::ToFlush;
                 }
-                Turn::Waits => progress = self.news.wait(rt, progress),
+                Turn::Waits => progress = self.await_turn(rt, progress, number, clock),
             }
         }
         unreachable!()
     }
 
-    /// Flushes until a flush ends well, or fails.
+    /// Waits, as one of those that whoever flushes may wait for, until it needn't any more.
+    fn await_turn<'a>(
+        &'a self,
+        rt: &impl Wait,
+        mut progress: MutexGuard<'a, Progress<T>>,
+        number: u64,
+        clock: u64,
+    ) -> MutexGuard<'a, Progress<T>> {
+        if progress.begin_wait() {
+            self.news.notify_all();
+        }
+        let mut progress = self.news.wait_while(rt, progress, |progress| {
+            progress.turn(number, clock) == Turn::Waits
+        });
+        progress.end_wait();
+        progress
+    }
+
+    /// Waits until as many sessions wait as did when the last flush ended, a moment at most. So
+    /// those that it answered share the next one, where two groups would else take turns.
+    fn gather<R: Wait + Clock>(&self, rt: &R) {
+        let progress = self.progress.lock(rt);
+        let most = Duration::from_millis(GATHERING_MILLISECONDS);
+        let _ = self
+            .news
+            .wait_timeout_while(rt, progress, most, |progress| !progress.is_gathered());
+    }
+
+    /// Gathers others, and flushes until a flush ends well, or fails.
     fn flush_for_all<R: Wait + Clock, F: Flush<T>, S: Steps>(
         &self,
         rt: &R,
         flusher: &mut F,
         steps: &S,
     ) {
+        steps.before(CommitStep::Gathers);
+        self.gather(rt);
         for _ in rt.forever() {
             steps.before(CommitStep::Flushes);
             match flusher.flush() {

@@ -1,5 +1,5 @@
 //! What sessions wait for: one struct, which one lock guards.
-ghost use Rattle.std.specs.Prelude.{◌≡◌, ◌+◌, ◌-◌, ◌^◌, ◌||◌, ◌&&◌, ◌==◌, true, false, not, min};
+ghost use Rattle.std.specs.Prelude.{◌≡◌, ◌+◌, ◌-◌, ◌^◌, ◌||◌, ◌&&◌, ◌==◌, true, false, not, min, nat_le};
 ghost use Rattle.group_commit.specs.Commit.{covers, later_of, turn_of};
 
 use crate::flush::Receipt;
@@ -21,8 +21,9 @@ pub(crate) enum Turn {
 ///
 /// **The rule of every wait.** Whoever waits, waits for a predicate of this struct alone, in a loop
 /// over it under the struct's lock. Whoever changes the struct does so under that lock, and
-/// notifies the one condition variable after that, where the change may end a wait. Whoever holds
-/// the lock takes no other, and nobody asks for it with the drive's lock held.
+/// notifies the one condition variable after that, where the change may end a wait. For sessions
+/// and clients that may never come, a wait has a limit. Whoever holds the lock takes no other, and
+/// nobody asks for it with the drive's lock held.
 #[derive(Drop)]
 pub(crate) struct Progress<T> {
     /// What shows how much is kept.
@@ -37,13 +38,17 @@ pub(crate) struct Progress<T> {
     pub due: u64,
     /// No request is to be taken up any more.
     pub is_stopping: bool,
+    /// Sessions that wait for the one that flushes.
+    pub waiting: u64,
+    /// How many did when the last flush ended. The next one waits a moment until there are as many.
+    pub expected: u64,
 }
 
 impl<T: Receipt + Drop> Progress<T> {
     /// Before the first request.
     pub(crate) fn new(kept: T) -> Self
         ensures { result
-            ≡ record { kept = kept; is_flushing = false; has_failed = false; is_short = false; due = 0; is_stopping = false } }
+            ≡ record { kept = kept; is_flushing = false; has_failed = false; is_short = false; due = 0; is_stopping = false; waiting = 0; expected = 0 } }
     {
         Progress {
             kept,
@@ -52,6 +57,8 @@ impl<T: Receipt + Drop> Progress<T> {
             is_short: false,
             due: 0,
             is_stopping: false,
+            waiting: 0,
+            expected: 0,
         }
     }
 
@@ -87,12 +94,37 @@ impl<T: Receipt + Drop> Progress<T> {
         self.is_flushing = true;
     }
 
+    /// A session waits from now on for the one that flushes. Answers whether it is the last one
+    /// that was expected.
+    pub(crate) fn begin_wait(&mut self) -> bool
+        ensures waits { self.new ≡ record self.old { waiting = min (self.old.waiting + 1) (2 ^ 64 - 1) } }
+        ensures last { result ≡ self.new.waiting == self.old.expected }
+    {
+        self.waiting = self.waiting.saturating_add(1);
+        self.waiting == self.expected
+    }
+
+    /// It goes on.
+    pub(crate) fn end_wait(&mut self)
+        ensures { self.new ≡ record self.old { waiting = self.old.waiting - 1 } }
+    {
+        self.waiting = self.waiting.saturating_sub(1);
+    }
+
+    /// Whether as many sessions wait as are expected.
+    pub(crate) fn is_gathered(&self) -> bool
+        ensures { result ≡ nat_le self.now.expected self.now.waiting }
+    {
+        self.expected <= self.waiting
+    }
+
     /// The flush has ended well.
     pub(crate) fn keep(&mut self, receipt: T)
         ensures { self.new ≡ record self.old {
           kept = later_of T.number T.reach self.old.kept receipt;
           is_flushing = false;
           is_short = false;
+          expected = self.old.waiting;
         } }
     {
         if Self::is_enough(&receipt, self.kept.number(), self.kept.reach()) {
@@ -100,6 +132,7 @@ impl<T: Receipt + Drop> Progress<T> {
         }
         self.is_flushing = false;
         self.is_short = false;
+        self.expected = self.waiting;
     }
 
     /// The flush lacked memory or space, and is tried again by the one who flushes. Answers whether

@@ -1,15 +1,16 @@
 //! Two sessions that wait, one of which is held before a step until the other has come to another:
 //! every run ends, in whichever order they come.
-use crate::tests::{Flusher, Kept, Store, accept};
-use group_commit::{CommitStep, Monitor, NotKept, Receipt, Steps};
+use crate::tests::{Kept, Store, is_kept};
+use group_commit::{CommitStep, Monitor, Steps};
 use std::process::Abort;
 use std::sync::{Condvar, CondvarTimeouts, Mutex, Wait};
 use std::thread::{Threads, join};
 use std::time::{Clock, Duration};
 
 /// The steps of a session whose flush ends well.
-static STEPS: [CommitStep; 4] = [
+static STEPS: [CommitStep; 5] = [
     CommitStep::Asks,
+    CommitStep::Gathers,
     CommitStep::Flushes,
     CommitStep::Keeps,
     CommitStep::GoesOn,
@@ -73,21 +74,6 @@ impl<R: Wait + Clock> Steps for Order<'_, R> {
         let (_seen, _) = self
             .news
             .wait_timeout_while(self.rt, seen, most, |seen| !seen.has_come);
-    }
-}
-
-/// A session accepts a change, and waits until it is kept. Answers whether its receipt covers it.
-fn is_kept<R: Wait + Clock, S: Steps>(
-    rt: &R,
-    monitor: &Monitor<Kept>,
-    store: &Mutex<Store>,
-    steps: &S,
-) -> bool {
-    let mut flusher = Flusher { rt, store };
-    let (number, clock) = accept(rt, store);
-    match monitor.await_kept(rt, &mut flusher, steps, number, clock) {
-        Ok(receipt) => receipt.number() >= number && receipt.reach() >= clock,
-        Err(NotKept) => false,
     }
 }
 
