@@ -84,7 +84,7 @@ class Bridge:
             self._take_door(role)
             self._listeners.append(UnixListener(role, path, mode, self._serve, self._turn_away))
         if settings.tls is not None:
-            self._tls = TlsListener(settings.tls, self._take_door, self._serve, self._turn_away)
+            self._tls = TlsListener(settings.tls, settings.wait, self._take_door, self._serve, self._turn_away)
             self._listeners.append(self._tls)
         if settings.port is not None:
             drive = DriveNumbers(settings.image, settings.s4) if settings.image is not None else None
@@ -134,6 +134,7 @@ class Bridge:
                 await self._relay(client, door)
             finally:
                 door.seats.leave()
+            await client.closed()  # so that the end of the bridge doesn't reset a connection with replies on their way
         except TurnedAway as turned:
             self._turn_away(client.role, client.peer, turned)
             client.dismiss()
@@ -307,7 +308,7 @@ def parser() -> Parser:
         help="sessions of a role at once (admin=4, other roles 16)")
     add("--queue", metavar="N", type=count, default=64, help="clients of a role that may wait for a session (64)")
     add("--wait", metavar="SECONDS", type=seconds, default=10.0,
-        help="how long a client waits for a session, and as long again for the service to open it (10)")
+        help="how long a handshake may take, how long a client waits for a session, and then for the service to open it (10)")
     add("--idle", metavar="SECONDS", type=seconds, default=60.0,
         help="how long a session may be idle while others wait (60)")
     add("--grace", metavar="SECONDS", type=seconds, default=10.0,

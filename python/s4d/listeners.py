@@ -15,10 +15,10 @@ from typing import Any, Awaitable, Callable, Dict, NamedTuple, Optional, Set, Tu
 from .access_log import say
 from .doors import TurnedAway
 from .relay import Client
+from .tls_server import TlsWriter, tls_streams
 from .wire import BODY_BYTES
 
 HANDSHAKES = 64  # of connections, of which it isn't known yet whether they are clients
-HANDSHAKE_SECONDS = 10.0
 PAUSE_SECONDS = 0.2  # after a connection that couldn't be accepted, as where no descriptor is free
 BACKLOG = 128
 
@@ -67,6 +67,7 @@ def context_of(tls: Tls) -> ssl.SSLContext:
     context = ssl.SSLContext(ssl.PROTOCOL_TLS_SERVER)
     context.minimum_version = ssl.TLSVersion.TLSv1_2
     context.verify_mode = ssl.CERT_REQUIRED
+    context.options |= ssl.OP_NO_RENEGOTIATION
     for path in (tls.cert, tls.key, tls.client_ca):
         with open(path, "rb"):  # so that the fault names its file
             pass
@@ -133,14 +134,12 @@ def listen_tcp(host: str, port: int) -> socket.socket:
     return listener
 
 
-async def client_of(link: socket.socket, role: str, peer: Peer, context: Optional[ssl.SSLContext] = None) -> Client:
-    """A client over a connected socket; OSError where no TLS comes about."""
-    reader = asyncio.StreamReader(limit=BODY_BYTES)
+async def plain_streams(link: socket.socket) -> Tuple[asyncio.StreamReader, asyncio.StreamWriter]:
+    """The streams of a connected socket."""
+    reader, loop = asyncio.StreamReader(limit=BODY_BYTES), asyncio.get_running_loop()
     protocol = asyncio.StreamReaderProtocol(reader)
-    loop = asyncio.get_running_loop()
-    transport, _ = await loop.connect_accepted_socket(
-        lambda: protocol, link, ssl=context, ssl_handshake_timeout=None if context is None else HANDSHAKE_SECONDS)
-    return Client(role, peer, reader, asyncio.StreamWriter(transport, protocol, reader, loop))
+    transport, _ = await loop.connect_accepted_socket(lambda: protocol, link)
+    return reader, asyncio.StreamWriter(transport, protocol, reader, loop)
 
 
 class Listener:
@@ -175,7 +174,9 @@ class Listener:
     async def _greet(self, link: socket.socket, address: Any) -> None:
         try:
             client = await self._client(link, address)
-        except (TurnedAway, OSError):
+        except TurnedAway:
+            return
+        except OSError:
             link.close()
             return
         finally:
@@ -185,7 +186,11 @@ class Listener:
         task.add_done_callback(self._serving.discard)
 
     async def _client(self, link: socket.socket, address: Any) -> Client:
-        """The client of a connection. TurnedAway, which was said already, where it is none."""
+        """The client of a connection. TurnedAway, which was said already, where it is none: then the connection is closed.
+
+        OSError where the socket gives nothing, and is still to be closed. Else it is its transport's, and nobody closes it
+        but by that: its number could be another connection's while the loop still watches it for this one.
+        """
         raise NotImplementedError
 
     async def close(self, seconds: float) -> None:
@@ -217,7 +222,7 @@ class UnixListener(Listener):
     async def _client(self, link: socket.socket, address: Any) -> Client:
         credentials = link.getsockopt(socket.SOL_SOCKET, socket.SO_PEERCRED, self.CREDENTIALS.size)
         pid, uid, gid = self.CREDENTIALS.unpack(credentials)
-        return await client_of(link, self._role, {"pid": pid, "uid": uid, "gid": gid})
+        return Client(self._role, {"pid": pid, "uid": uid, "gid": gid}, *await plain_streams(link))
 
     async def close(self, seconds: float) -> None:
         with contextlib.suppress(OSError):
@@ -228,10 +233,10 @@ class UnixListener(Listener):
 
 
 class TlsListener(Listener):
-    """A port for TLS. The common name of a client's certificate says its role."""
+    """A port for TLS. The common name of a client's certificate says its role. A handshake may take as many `seconds`."""
 
-    def __init__(self, tls: Tls, take_door: Callable[[str], None], serve: Serve, turn_away: TurnAway) -> None:
-        self._tls, self._take_door = tls, take_door
+    def __init__(self, tls: Tls, seconds: float, take_door: Callable[[str], None], serve: Serve, turn_away: TurnAway) -> None:
+        self._tls, self._seconds, self._take_door = tls, seconds, take_door
         self._context, self._roles = self._read()
         super().__init__(listen_tcp(tls.host, tls.port), serve, turn_away)
 
@@ -247,21 +252,30 @@ class TlsListener(Listener):
         self._context, self._roles = self._read()
 
     async def _client(self, link: socket.socket, address: Tuple[Any, ...]) -> Client:
-        peer: Peer = {"address": f"{address[0]}:{address[1]}"}
+        reader, writer = await tls_streams(link, self._context)
+        client = Client("", {"address": f"{address[0]}:{address[1]}"}, reader, writer)
         try:
-            client = await client_of(link, "", peer, self._context)
-        except OSError as error:
-            reason = getattr(error, "reason", None) or error.strerror or str(error) or type(error).__name__
-            raise self._turned_away(peer, TurnedAway("no tls", reason)) from None
-        certificate = client.writer.get_extra_info("peercert")
-        peer["name"] = name = common_name(certificate)
-        if name not in self._roles:
-            client.dismiss()
+            client.role = await self._role_of(client, writer)
+        except TurnedAway as turned:
+            self._turn_away(None, client.peer, turned)
             client.close()
-            raise self._turned_away(peer, TurnedAway("no role"))
-        client.role = self._roles[name]
+            await client.drop_requests()
+            client.abort()
+            raise
+        except asyncio.CancelledError:
+            client.abort()
+            raise
         return client
 
-    def _turned_away(self, peer: Peer, turned: TurnedAway) -> TurnedAway:
-        self._turn_away(None, peer, turned)
-        return turned
+    async def _role_of(self, client: Client, writer: TlsWriter) -> str:
+        """The role by the client's certificate, whose name the log has; TurnedAway where there is none."""
+        try:
+            certificate = await writer.handshake(self._seconds)
+        except OSError as error:
+            reason = getattr(error, "reason", None) or error.strerror or str(error)
+            raise TurnedAway("no tls", reason) from None
+        client.peer["name"] = name = common_name(certificate)
+        if name not in self._roles:
+            client.dismiss()
+            raise TurnedAway("no role")
+        return self._roles[name]

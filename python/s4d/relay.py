@@ -14,7 +14,7 @@ from .frames import BAD, BAD_FRAME, LENGTH_BYTES, Asked, Replies, Said
 from .wire import BODY_BYTES, TURNED_AWAY
 
 MOST_ASKED = 1_024  # requests of a session that may wait for replies; more aren't taken from its client meanwhile
-LINGER_SECONDS = 5.0  # that a client's end of TLS is waited for
+LINGER_SECONDS = 5.0  # that what was written may take to leave, and the end of a client of TLS to come
 DISMISS_SECONDS = 1.0  # that what a client still sends is taken once it is turned away
 
 # How a session ended.
@@ -46,8 +46,7 @@ class Client:
         """Says that it has no session, and that nothing was passed on. Nothing more is written."""
         if not self.writer.transport.is_closing():
             self.writer.write(len(TURNED_AWAY).to_bytes(LENGTH_BYTES, "big") + TURNED_AWAY)
-            if self.writer.can_write_eof():
-                self.writer.write_eof()
+            self.writer.write_eof()
 
     async def drop_requests(self) -> None:
         """Takes what it sends for a moment, until it has ended: to a closed connection it couldn't send it."""
@@ -63,6 +62,11 @@ class Client:
         if not self.writer.transport.is_closing():
             self.writer.close()
             asyncio.get_running_loop().call_later(LINGER_SECONDS, self.abort)
+
+    async def closed(self) -> None:
+        """Waits until it is closed."""
+        with contextlib.suppress(OSError):
+            await self.writer.wait_closed()
 
     def abort(self) -> None:
         """Ends the connection at once."""
@@ -87,8 +91,7 @@ class Relay:
         self._replies: Optional[asyncio.Future[None]] = None
         self.began = self.moved = time.monotonic()  # and when it last moved
         self._has_replied = False
-        # So that a reply counts as taken once it has left. With a high limit of 0 a transport of TLS stays paused.
-        client.writer.transport.set_write_buffer_limits(high=1, low=0)
+        client.writer.transport.set_write_buffer_limits(high=0)  # so that a reply counts as taken once it has left
 
     async def run(self) -> str:
         """Serves the session, and says how it ended. Its pipes and the connection are closed by then."""

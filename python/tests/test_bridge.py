@@ -2,11 +2,13 @@
 import asyncio
 import contextlib
 import io
+import itertools
 import json
 import os
 import random
 import signal
 import socket
+import ssl
 import subprocess
 import threading
 import time
@@ -469,9 +471,8 @@ class Certified(Bridged):
         forged = s4d.Tls(self.certificates.authority, other.cert, other.key)
         self.begin()
         for number, tls in enumerate((s4d.Tls(self.certificates.authority), forged), 1):
-            with self.assertRaises((s4d.Disconnected, OSError)):  # Python's event loops don't say why
-                with self.drive(tls) as it:
-                    it.create()
+            with self.assertRaisesRegex(s4d.NotAsked, "the certificate was refused"), self.drive(tls) as it:
+                it.create()
             self.wait_for_line(number, event="turned away", why="no tls")
         with self.assertRaises(OSError):
             self.drive(s4d.Tls())  # it doesn't know the bridge's authority
@@ -493,15 +494,53 @@ class Certified(Bridged):
             self.roles("nobody bob\n")
             self.process.send_signal(signal.SIGHUP)
             wait_until(lambda: any("nobody: No such file" in line for line in self.said), "a line on the role without a door")
-            wait_until(lambda: self.is_served(bob), "bob has his role still")
+            self.assertTrue(self.is_served(bob))
 
     def is_served(self, tls):
         try:
             with self.drive(tls) as it:
                 it.create()
                 return True
-        except (s4d.Disconnected, ConnectionError):
+        except s4d.NotAsked:
             return False
+
+    def test_a_client_that_ends_its_requests_first(self):
+        """Whether it says so by TLS, or just ends its side of the connection."""
+        alice, requests = self.certificates.make("alice"), wire.create(b"").frame() * 500
+        self.begin()
+        for number, (version, says_so) in enumerate(itertools.product((ssl.TLSVersion.TLSv1_2, ssl.TLSVersion.TLSv1_3), (True, False)), 1):
+            with self.subTest(version.name, says_so=says_so):
+                self.assertEqual(len(self.replies(alice, version, requests, says_so)), 500 * 21)
+                self.wait_for_line(number, event="session", end="client ended")
+
+    def replies(self, tls, version, requests, says_so):
+        """All that comes to a client that ends its side after its requests."""
+        context, incoming, outgoing = tls.context(), ssl.MemoryBIO(), ssl.MemoryBIO()
+        context.maximum_version = version
+        side = context.wrap_bio(incoming, outgoing, server_hostname="127.0.0.1")
+        link = socket.create_connection(("127.0.0.1", self.port), PATIENCE)
+        self.addCleanup(link.close)
+
+        def perform(step):
+            while True:
+                with contextlib.suppress(ssl.SSLWantReadError):
+                    return step()
+                if outgoing.pending:
+                    link.sendall(outgoing.read())
+                incoming.write(link.recv(65_536) or self.fail("the connection ended without an end of TLS"))
+
+        perform(side.do_handshake)
+        side.write(requests)
+        if says_so:
+            with contextlib.suppress(ssl.SSLWantReadError):
+                side.unwrap()
+        link.sendall(outgoing.read())
+        link.shutdown(socket.SHUT_WR)
+        found = b""
+        with contextlib.suppress(ssl.SSLZeroReturnError):
+            while more := perform(lambda: side.read(65_536)):
+                found += more
+        return found
 
 
 class Logs(Bridged):
