@@ -46,8 +46,10 @@ def roles_in(path: str) -> Dict[str, str]:
     Empty lines, and those that begin with `#`, are passed over.
     """
     roles: Dict[str, str] = {}
-    with open(path, encoding="utf-8") as file:
+    with open(path, encoding="utf-8", errors="replace") as file:
         for number, line in enumerate(file, 1):
+            if "\ufffd" in line:
+                raise ValueError(f"{path}:{number}: it is no text in UTF-8")
             words = line.split(maxsplit=1)
             if not words or words[0].startswith("#"):
                 continue
@@ -72,9 +74,9 @@ def context_of(tls: Tls) -> ssl.SSLContext:
         with open(path, "rb"):  # so that the fault names its file
             pass
     try:
-        context.load_cert_chain(tls.cert, tls.key)
+        context.load_cert_chain(tls.cert, tls.key, password="")  # so that nobody is asked for the password of a key that has one
     except ssl.SSLError as error:
-        raise OSError(errno.EINVAL, f"no certificate with this key ({error.reason or error})", tls.cert) from None
+        raise OSError(errno.EINVAL, f"no certificate with this key ({error.reason or 'no PEM, or the key has a password'})", tls.cert) from None
     try:
         context.load_verify_locations(tls.client_ca)
     except ssl.SSLError as error:
@@ -91,9 +93,9 @@ def common_name(certificate: Optional[Dict[str, Any]]) -> Optional[str]:
 
 def listen_unix(path: str, mode: int) -> socket.socket:
     """A Unix socket of this mode. What a killed program left at the path is removed; OSError where more is there."""
-    remove_dead_socket(path)
     listener = socket.socket(socket.AF_UNIX)
     try:
+        remove_dead_socket(path)
         listener.bind(path)  # nobody can connect before it listens
         os.chmod(path, mode)
         listener.listen(BACKLOG)

@@ -815,7 +815,12 @@ class Calls(Bridged):
                            ("Client a\n", "1: Client is no role: give lower-case letters, digits and -")):
             (self.folder / "roles").write_text(text, encoding="ascii")
             self.check(1, f"DIR/roles:{line}", *words)
+        (self.folder / "roles").write_bytes(b"client a\nclient \xff\n")
+        self.check(1, "DIR/roles:2: it is no text in UTF-8", *words)
         self.check(1, "DIR/none: No such file or directory", *words, "--cert", f"{self.folder}/none")
+        subprocess.run(["openssl", "ec", "-in", self.folder / "bridge.key", "-aes256", "-passout", "pass:word", "-out", self.folder / "locked.key"],
+                       check=True, capture_output=True)
+        self.check(1, "DIR/bridge.pem: no certificate with this key (no PEM, or the key has a password)", *words, "--key", f"{self.folder}/locked.key")
         self.check(1, "DIR/bridge.pem: no certificate with this key (KEY_VALUES_MISMATCH)", *words, "--key", f"{self.folder}/other.key")
         self.check(1, "DIR/roles: no certificate (NO_CERTIFICATE_OR_CRL_FOUND)", *words, "--client-ca", f"{self.folder}/roles")
 
