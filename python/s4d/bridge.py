@@ -136,18 +136,21 @@ class Bridge:
                 door.seats.leave()
             await client.closed()  # so that the end of the bridge doesn't reset a connection with replies on their way
         except TurnedAway as turned:
-            self._turn_away(client.role, client.peer, turned)
-            client.dismiss()
-            if self._dismissed < MOST_DISMISSED:
-                self._dismissed += 1
-                try:
-                    await client.drop_requests()
-                finally:
-                    self._dismissed -= 1
+            await self._dismiss(client, turned)
         except Exception as error:  # a fault of this program: the other sessions go on
             say(f"a session failed: {error!r}")
         finally:
             client.close()
+
+    async def _dismiss(self, client: Client, turned: TurnedAway) -> None:
+        self._turn_away(client.role, client.peer, turned)
+        client.dismiss()
+        if self._dismissed < MOST_DISMISSED:
+            self._dismissed += 1
+            try:
+                await client.drop_requests()
+            finally:
+                self._dismissed -= 1
 
     async def _relay(self, client: Client, door: Door) -> None:
         if self._is_stopping:

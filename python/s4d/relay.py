@@ -39,14 +39,15 @@ class Client:
     writer: asyncio.StreamWriter
 
     def is_gone(self) -> bool:
-        """Whether it has ended the connection, and left nothing to be answered."""
-        return self.reader.at_eof() or self.writer.transport.is_closing()
+        """Whether it has ended the connection, and left nothing to be answered, or can't be understood any more."""
+        return self.reader.at_eof() or self.reader.exception() is not None or self.writer.transport.is_closing()
 
     def dismiss(self) -> None:
         """Says that it has no session, and that nothing was passed on. Nothing more is written."""
         if not self.writer.transport.is_closing():
-            self.writer.write(len(TURNED_AWAY).to_bytes(LENGTH_BYTES, "big") + TURNED_AWAY)
-            self.writer.write_eof()
+            with contextlib.suppress(OSError):  # it can't be written to any more
+                self.writer.write(len(TURNED_AWAY).to_bytes(LENGTH_BYTES, "big") + TURNED_AWAY)
+                self.writer.write_eof()
 
     async def drop_requests(self) -> None:
         """Takes what it sends for a moment, until it has ended: to a closed connection it couldn't send it."""

@@ -437,8 +437,8 @@ class Certified(Bridged):
     def roles(self, text):
         (self.folder / "roles").write_text(text, encoding="utf-8")
 
-    def begin(self, **how):
-        self.start(*tls_words(self.folder, self.port), **how)
+    def begin(self, *more, **how):
+        self.start(*tls_words(self.folder, self.port), *more, **how)
 
     def drive(self, tls):
         return s4d.Drive.connect(f"tls:127.0.0.1:{self.port}", PATIENCE, tls=tls)
@@ -515,6 +515,21 @@ class Certified(Bridged):
 
     def replies(self, tls, version, requests, says_so):
         """All that comes to a client that ends its side after its requests."""
+        link, side, perform = self.greeted(tls, version)
+        perform(lambda: side.write(requests))
+        if says_so:
+            with contextlib.suppress(ssl.SSLWantReadError):
+                side.unwrap()
+        perform(lambda: None)
+        link.shutdown(socket.SHUT_WR)
+        found = b""
+        with contextlib.suppress(ssl.SSLZeroReturnError):
+            while more := perform(lambda: side.read(65_536)):
+                found += more
+        return found
+
+    def greeted(self, tls, version=ssl.TLSVersion.TLSv1_3):
+        """A socket and its TLS after the handshake, and what performs a step of that."""
         context, incoming, outgoing = tls.context(), ssl.MemoryBIO(), ssl.MemoryBIO()
         context.maximum_version = version
         side = context.wrap_bio(incoming, outgoing, server_hostname="127.0.0.1")
@@ -523,24 +538,40 @@ class Certified(Bridged):
 
         def perform(step):
             while True:
-                with contextlib.suppress(ssl.SSLWantReadError):
+                try:
                     return step()
-                if outgoing.pending:
-                    link.sendall(outgoing.read())
+                except ssl.SSLWantReadError:
+                    pass
+                finally:
+                    if outgoing.pending:
+                        link.sendall(outgoing.read())
                 incoming.write(link.recv(65_536) or self.fail("the connection ended without an end of TLS"))
 
         perform(side.do_handshake)
-        side.write(requests)
-        if says_so:
-            with contextlib.suppress(ssl.SSLWantReadError):
-                side.unwrap()
-        link.sendall(outgoing.read())
-        link.shutdown(socket.SHUT_WR)
-        found = b""
-        with contextlib.suppress(ssl.SSLZeroReturnError):
-            while more := perform(lambda: side.read(65_536)):
-                found += more
-        return found
+        return link, side, perform
+
+    def test_clients_whose_tls_breaks(self):
+        """One that has a session, one that waits, and strangers in their handshakes; others aren't disturbed."""
+        alice = self.certificates.make("alice")
+        self.begin("--sessions", "client=1")
+        first, side, perform = self.greeted(alice)
+        perform(lambda: side.write(wire.create(b"").frame()))
+        self.assertEqual(len(perform(lambda: side.read(21))), 21)
+        second, _, _ = self.greeted(alice)
+        waiting = self.drive(alice)
+        for link in (second, first):
+            link.sendall(b"no record of TLS")
+        self.wait_for_line(event="session", end="client gone")
+        self.wait_for_line(event="turned away", why="client gone")
+        for number, said in enumerate((b"no record of TLS", b"", b"\x16\x03\x01"), 1):
+            with socket.create_connection(("127.0.0.1", self.port), PATIENCE) as link:
+                link.sendall(said)
+                link.shutdown(socket.SHUT_WR)
+                rest_of(link)
+            self.wait_for_line(number, event="turned away", why="no tls")
+        with waiting as it:
+            self.assertEqual(it.create().object, 2)
+        self.assertEqual(self.said, ["s4d.bridge: ready"])
 
 
 class Logs(Bridged):
