@@ -550,6 +550,25 @@ class Certified(Bridged):
         perform(side.do_handshake)
         return link, side, perform
 
+    def test_an_end_in_order(self):
+        """A client that sends ever more requests gets the replies to those that were passed on, and then an end of TLS."""
+        alice = self.certificates.make("alice")
+        self.begin()
+        self.service.may_answer.clear()
+        _, side, perform = self.greeted(alice)
+        perform(lambda: side.write(wire.create(b"").frame() * 3))
+        wait_until(lambda: self.service.asked, "a request")
+        self.process.send_signal(signal.SIGTERM)
+        wait_until(lambda: not (self.folder / "client.sock").exists(), "the bridge is stopping")
+        perform(lambda: side.write(wire.create(b"").frame() * 100))
+        self.service.may_answer.set()
+        found = b""
+        while more := perform(lambda: side.read(65_536)):
+            found += more
+        self.assertEqual(len(found), 3 * 21)
+        perform(side.unwrap)
+        self.assertEqual(self.process.wait(PATIENCE), 0)
+
     def test_clients_whose_tls_breaks(self):
         """One that has a session, one that waits, and strangers in their handshakes; others aren't disturbed."""
         alice = self.certificates.make("alice")
