@@ -159,16 +159,20 @@ class Listener:
         self._accepting = asyncio.ensure_future(self._accept())
 
     async def _accept(self) -> None:
-        loop = asyncio.get_running_loop()
+        loop, said = asyncio.get_running_loop(), ""
         while True:
             await self._handshakes.acquire()
             try:
                 link, address = await loop.sock_accept(self._link)
             except OSError as error:
                 self._handshakes.release()
-                say(f"no connection could be accepted: {error.strerror or error}")
+                line = f"no connection could be accepted: {error.strerror or error}"
+                if line != said:  # once, not at each try
+                    say(line)
+                said = line
                 await asyncio.sleep(PAUSE_SECONDS)
                 continue
+            said = ""
             task = asyncio.ensure_future(self._greet(link, address))
             self._greeting.add(task)
             task.add_done_callback(self._greeting.discard)
