@@ -1,2 +1,4 @@
 pub mod Collected
 pub mod Created
+pub mod Growing
+pub mod Tracing

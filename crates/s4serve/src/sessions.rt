@@ -1,10 +1,11 @@
 //! One session of a service.
-ghost use Rattle.std.specs.Prelude.{◌≡◌, ◌+◌, ◌^◌, ◌<◌, []};
+ghost use Rattle.std.specs.Prelude.{◌≡◌, ◌+◌, ◌^◌, ◌<◌, List, []};
 ghost use Rattle.batch_serving.specs.Batches.{Serves, reading_failures, writing_failures};
 ghost use Rattle.batch_serving.specs.Waiting.{HasWaited};
 ghost use Rattle.server.specs.Drawing.{DrawsNothing};
 ghost use Rattle.server.specs.declared.clocks.Undrawn.{Undrawn as Nothing};
-ghost use Rattle.s4serve.specs.Seats.{IsSeatAt, ServedSteps};
+ghost use Rattle.s4serve.specs.Seats.{IsSeatAt, ServedFields, ServedSteps};
+ghost use Rattle.s4serve.specs.Traces.{HasWaitedForAll, TracedSteps, untraced};
 
 use batch_serving::{AtMonitor, BatchEnd, serve_batch};
 use group_commit::{Flush, Receipt, Steps};
@@ -72,7 +73,7 @@ impl<J: Running, C: Clock, R: Wait, G: Gate> Step for Seat<'_, J, C, R, G> {
 ///
 /// Each reply that is written is one of a step of the shared drive: a request was answered at a
 /// history, the session has seen all changes that were accepted in it, and a receipt covers as many
-/// changes and that history's clock.
+/// changes and that history's clock. So it is with each step that the session took before.
 pub fn serve_seat<
     J: Running,
     C: Clock,
@@ -96,6 +97,12 @@ pub fn serve_seat<
         (λ from seat is_kept to. HasWaited IsSeatAt T.number T.reach is_kept seat from.receipt to.receipt) [] result
         seat.old before keeping.old (S.remaining reader.old) (W.passed writer.old)
         seat.new after keeping.new (S.remaining reader.new) (W.passed writer.new) }
+    // Nothing was written before a receipt covered each step that the session had taken by then.
+    ensures covered { (before after : Nothing) × (steps : List ServedFields)
+        × Serves (TracedSteps J.base J.moments) DrawsNothing
+        (λ from seat is_kept to. HasWaitedForAll T.number T.reach is_kept seat from.receipt to.receipt) [] result
+        (untraced seat.old) before keeping.old (S.remaining reader.old) (W.passed writer.old)
+        (record { now = seat.new; steps = steps }) after keeping.new (S.remaining reader.new) (W.passed writer.new) }
     ensures reading { S.failures reader.new ≡ S.failures reader.old + reading_failures result }
     ensures writing { W.failures writer.new ≡ W.failures writer.old + writing_failures result }
 {
