@@ -1,7 +1,8 @@
 //! The path of an image among files.
-ghost use Rattle.std.specs.Prelude.{◌≡◌, ◌↔◌, None, true, is_ok};
+ghost use Rattle.std.specs.Prelude.{◌≡◌, ◌≢◌, ◌↔◌, IfErr, None, Some, true, is_ok};
 ghost use Rattle.image_commands.specs.Crashes.{IsShort};
 
+use crate::obstacles::KeepObstacle;
 use image_commands::{Files, NotExchanged, Obstacle};
 use image_keeping::{Folder, FolderError};
 use std::alloc::Global;
@@ -17,6 +18,8 @@ pub struct FileFolder<F: Files + Drop> {
     beside: Option<F::Beside>,
     /// Whether no sync failed.
     is_usable: bool,
+    /// What was in the way of the last call that failed.
+    obstacle: Option<KeepObstacle>,
 }
 
 impl<F: Files + Drop> FileFolder<F> {
@@ -26,6 +29,7 @@ impl<F: Files + Drop> FileFolder<F> {
         ensures claim { result.claim ≡ claim }
         ensures beside { result.beside ≡ None }
         ensures usable { result.is_usable ≡ true }
+        ensures obstacle { result.obstacle ≡ None }
     {
         FileFolder {
             alloc,
@@ -33,7 +37,15 @@ impl<F: Files + Drop> FileFolder<F> {
             claim,
             beside: None,
             is_usable: true,
+            obstacle: None,
         }
+    }
+
+    /// What was in the way of the last call that failed.
+    pub fn obstacle(&self) -> Option<KeepObstacle>
+        ensures { result ≡ self.now.obstacle }
+    {
+        self.obstacle
     }
 }
 
@@ -45,6 +57,29 @@ fn error_of(obstacle: Obstacle) -> FolderError
         FolderError::NoRoom
     } else {
         FolderError::Failed
+    }
+}
+
+/// The same. What was in the way is noted.
+fn refusal(obstacle: Obstacle, noted: &mut Option<KeepObstacle>) -> FolderError
+    ensures error { (result ≡ FolderError.NoRoom) ↔ IsShort obstacle }
+    ensures noted { noted.new ≡ Some (KeepObstacle.Refused obstacle) }
+{
+    *noted = Some(KeepObstacle::Refused(obstacle));
+    error_of(obstacle)
+}
+
+/// Whether a sync has ended well. Else it is noted what was in the way.
+fn has_lasted(synced: Result<(), Obstacle>, noted: &mut Option<KeepObstacle>) -> bool
+    ensures well { result ≡ is_ok synced }
+    ensures noted { IfErr synced (λ obstacle. noted.new ≢ None) }
+{
+    match synced {
+        Ok(()) => true,
+        Err(obstacle) => {
+            *noted = Some(KeepObstacle::of_sync(obstacle));
+            false
+        }
     }
 }
 
@@ -86,7 +121,7 @@ impl<F: Files + Drop> Folder for FileFolder<F> {
         // No room is taken before: the bytes take it at once.
         let mut beside = match self.files.make_beside(self.alloc, &self.claim, 0) {
             Ok(beside) => beside,
-            Err(obstacle) => return Err(error_of(obstacle)),
+            Err(obstacle) => return Err(refusal(obstacle, &mut self.obstacle)),
         };
         match self.files.fill(&mut beside, bytes) {
             Ok(()) => {
@@ -95,14 +130,14 @@ impl<F: Files + Drop> Folder for FileFolder<F> {
             }
             Err(obstacle) => {
                 self.files.remove_beside(beside);
-                Err(error_of(obstacle))
+                Err(refusal(obstacle, &mut self.obstacle))
             }
         }
     }
 
     fn sync_beside(&mut self) -> Result<(), FolderError> {
         self.is_usable = match &mut self.beside {
-            Some(beside) => self.files.sync_beside(beside).is_ok(),
+            Some(beside) => has_lasted(self.files.sync_beside(beside), &mut self.obstacle),
             None => false,
         };
         answer_of(self.is_usable)
@@ -123,13 +158,13 @@ impl<F: Files + Drop> Folder for FileFolder<F> {
             Ok(()) => Ok(()),
             Err(NotExchanged { obstacle, beside }) => {
                 self.beside = Some(beside);
-                Err(error_of(obstacle))
+                Err(refusal(obstacle, &mut self.obstacle))
             }
         }
     }
 
     fn sync_folder(&mut self) -> Result<(), FolderError> {
-        self.is_usable = self.files.sync_folder(&self.claim).is_ok();
+        self.is_usable = has_lasted(self.files.sync_folder(&self.claim), &mut self.obstacle);
         answer_of(self.is_usable)
     }
 }

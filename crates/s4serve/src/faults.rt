@@ -1,5 +1,6 @@
 //! Why a service doesn't begin, or ends without being stopped.
 use image_commands::{Fault, Obstacle};
+use kept_files::KeepObstacle;
 use service_time::StartFault;
 use std::alloc::AllocError;
 use std::io;
@@ -54,9 +55,12 @@ pub enum ServeFault<'a> {
     /// Before the first session, memory or room is short.
     #[error("cannot write {0}: memory or room on its disk is short; make room")]
     Short(&'a str),
+    /// Before the first session, the image can't be kept.
+    #[error("cannot write {0}: {1}")]
+    Unkept(&'a str, KeepObstacle),
     /// What was accepted last can't be kept.
-    #[error("cannot write {0}: what was accepted last cannot be kept; see its disk and its path")]
-    NotKept(&'a str),
+    #[error("{0} can't be kept: {1}; nothing more was acknowledged")]
+    NotKept(&'a str, KeepObstacle),
     /// The system gives too few threads.
     #[error("the system gives too few threads, or too little memory for them")]
     NoThreads,

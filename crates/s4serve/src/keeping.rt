@@ -1,16 +1,31 @@
 //! How an image is kept in files.
 ghost use Rattle.std.specs.Prelude.{IsTrue};
 
-use image_commands::Files;
+use image_commands::{Files, Obstacle};
 use image_keeping::{Keeper, WholeImage};
-use kept_files::FileFolder;
+use kept_files::{FileFolder, KeepObstacle};
 use std::alloc::Global;
 use std::marker::Send;
+
+/// What keeps an image, and says why it couldn't.
+pub trait Explaining {
+    /// What was in the way of the last image that it couldn't keep.
+    fn obstacle(&self) -> KeepObstacle;
+}
+
+impl Explaining for WholeImage<FileFolder<HostRuntime>> {
+    fn obstacle(&self) -> KeepObstacle {
+        match self.folder().obstacle() {
+            Some(obstacle) => obstacle,
+            None => KeepObstacle::Refused(Obstacle::Other),
+        }
+    }
+}
 
 /// Files in which images are kept, one after another in the same place.
 pub trait KeptFiles: Files {
     /// What keeps one. Any thread may.
-    type Kept: Keeper + Send + Drop + 'static;
+    type Kept: Keeper + Explaining + Send + Drop + 'static;
 
     /// What keeps the image that is claimed.
     fn keeper(self, alloc: Global, claim: Self::Claim) -> Self::Kept

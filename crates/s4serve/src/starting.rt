@@ -9,7 +9,7 @@ ghost use Rattle.serving.specs.Drawing.{Drawn};
 
 use crate::collecting::UnderLock;
 use crate::faults::{DoorObstacle, ServeFault};
-use crate::keeping::KeptFiles;
+use crate::keeping::{Explaining, KeptFiles};
 use crate::opening::{Opened, open_image};
 use crate::parts::{ALL_PARTS, Parts};
 use crate::service::{Door, Service};
@@ -23,6 +23,7 @@ use group_commit::{FlushError, Monitor, NotKept};
 use image_commands::Fault;
 use image_keeping::Keeper;
 use kept_drive::{KeptImage, KeptReceipt};
+use kept_files::KeepObstacle;
 use s4_types::{Moment, Role};
 use s4serve_command::ServiceAsked;
 use server::{Blanks, Pace, Running, SharedDrive};
@@ -92,7 +93,7 @@ fn serve_ready<
     'a,
     J: Running + Send + Sync + 'static,
     H: Threads + Wait + Clock + Copy + Send + Sync + Drop + 'static,
-    K: Keeper + Send + Drop + 'static,
+    K: Keeper + Explaining + Send + Drop + 'static,
     C: serving::Clock + Send + Drop + 'static,
     D: Fifos + Telling + Copy + Send + Sync + Drop + 'static,
 >(
@@ -128,7 +129,7 @@ fn begin<
     'a,
     J: Running + Send + Sync + 'static,
     H: Threads + Wait + Clock + Copy + Send + Sync + Drop + 'static,
-    K: Keeper + Send + Drop + 'static,
+    K: Keeper + Explaining + Send + Drop + 'static,
     C: serving::Clock + Send + Drop + 'static,
 >(
     rt: &H,
@@ -201,7 +202,7 @@ fn shared_service<J: Running, C: serving::Clock + Drop, K: Keeper + Drop>(
 }
 
 /// Keeps a drive a first time.
-fn keep_first<'a, 'b, J: Running, C: serving::Clock, K: Keeper, R: Threads + Wait>(
+fn keep_first<'a, 'b, J: Running, C: serving::Clock, K: Keeper + Explaining, R: Threads + Wait>(
     rt: &'b R,
     alloc: Global,
     drive: &'b Mutex<SharedDrive<J, C>>,
@@ -216,7 +217,7 @@ fn keep_first<'a, 'b, J: Running, C: serving::Clock, K: Keeper, R: Threads + Wai
     match kept.flush(rt, alloc, &lock) {
         Ok(receipt) => Ok(receipt),
         Err(FlushError::Short) => Err(ServeFault::Short(image)),
-        Err(FlushError::Failed) => Err(ServeFault::NotKept(image)),
+        Err(FlushError::Failed) => Err(ServeFault::Unkept(image, kept.keeper().obstacle())),
     }
 }
 
@@ -225,7 +226,7 @@ fn await_end<
     'a,
     J: Running,
     C: serving::Clock,
-    K: Keeper + Drop,
+    K: Keeper + Explaining + Drop,
     R: Threads + Wait + Clock,
     D: Telling,
 >(
@@ -236,12 +237,20 @@ fn await_end<
     image: &'a str,
 ) -> Result<(), ServeFault<'a>> {
     if service.monitor.await_end(rt).is_err() {
-        return Err(ServeFault::NotKept(image));
+        return Err(ServeFault::NotKept(image, obstacle_of(rt, service)));
     }
     match keep_all(rt, alloc, service, outside) {
         Ok(()) => Ok(()),
-        Err(NotKept) => Err(ServeFault::NotKept(image)),
+        Err(NotKept) => Err(ServeFault::NotKept(image, obstacle_of(rt, service))),
     }
+}
+
+/// What was in the way of the flush that failed. Nobody flushes any more.
+fn obstacle_of<J: Running, C: serving::Clock, K: Keeper + Explaining>(
+    rt: &impl Wait,
+    service: &Service<J, C, K>,
+) -> KeepObstacle {
+    service.kept.lock(rt).keeper().obstacle()
 }
 
 /// Opens the doors that are asked for. Gives their inputs apart.
