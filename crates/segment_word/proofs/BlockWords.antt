@@ -1,5 +1,9 @@
 -- Blocks as 64 words: what is in a frame after some of them were written, and bytes against words.
-use Rattle.std.proofs.Common.{◌≡◌, ℕ, zero, suc, ◌+◌, ◌*◌, ◌<◌, ◌≤◌, List, ◌++◌, set, length, take, drop, slice_index, flat_map, refl, sym, ap, ◌∙◌, arith, get_or-set_same, set-set, length-append, length-take, length-drop, length-take-le, drop-drop, get_or-take, get_or-drop, ext_get_or}
+use Rattle.std.proofs.Common.{◌≡◌, ℕ, zero, suc, ◌+◌, ◌*◌, ◌<◌, ◌≤◌, List, [], ◌∷◌, ◌++◌, set, length, take, drop, slice_index, flat_map, refl, sym, ap, ◌∙◌, arith, get_or-set_same, set-set, length-append, length-take, length-drop, length-take-le, drop-drop, get_or-take, get_or-drop, ext_get_or}
+use Rattle.std.proofs.lemmas.List.{take_more, take_all}
+use Rattle.std.proofs.lemmas.Grind.{flat_map-append}
+use Rattle.std.proofs.Math.Seq.{take-append-add}
+use borrow.Rule.Slice.PartMut.{mid_of, post_of, put_mid, same_len_mid}
 use lib.Seq.{paste, paste-zero, paste-suc, set-get_or}
 use Rattle.byteorder.specs.Endian.{big_bytes, big_number}
 use Rattle.segment_word.specs.Frames.{Frame, View, no_frame}
@@ -65,3 +69,39 @@ pub are_words : (words bytes : List ℕ) → length words ≡ 64 → ((i : ℕ) 
 unfolding block_words
 are_words words bytes full same = ext_get_or 0 words (first_words 64 bytes) (full ∙ sym (length-first_words 64 bytes))
     (λ i h. same i h ∙ sym (first_words-at 64 i bytes (omega arith)))
+
+-- the word that the eight bytes of a block from a place on encode
+pub word_at : (bytes : List ℕ) (i x n : ℕ) → i < 64 → length bytes ≡ 512 → n + 8 * i ≡ 512 → x ≡ big_number 8 (take n (drop (8 * i) bytes)) → x ≡ slice_index (block_words bytes) i
+unfolding block_words
+word_at bytes i x n h full size is =
+    is ∙ ap (big_number 8) (take_all n (drop (8 * i) bytes) (omega (arith, length-drop (8 * i) bytes, full, size))) ∙ sym (first_words-at 64 i bytes h)
+
+-- the bytes of one word more were written after those of the words in front of it
+pub word_placed : (contents bytes ys : List ℕ) (b i x n : ℕ) → length contents ≡ 1024 → b < 16 → i < 64 → length bytes ≡ 512 → n + 8 * i ≡ 512 → x ≡ slice_index contents (64 * b + i)
+    → ys ≡ big_bytes 8 x ++ drop 8 (mid_of (8 * i) n bytes)
+    → take (8 * i) bytes ≡ flat_map (big_bytes 8) (take i (drop (64 * b) contents))
+    → (length (put_mid (8 * i) n bytes ys) ≡ 512) × (take (8 * (i + 1)) (put_mid (8 * i) n bytes ys) ≡ flat_map (big_bytes 8) (take (i + 1) (drop (64 * b) contents)))
+word_placed contents bytes ys b i x n long low inside full size is written sofar =
+    let words : List ℕ = drop (64 * b) contents in
+    let old : List ℕ = mid_of (8 * i) n bytes in
+    let eight : length (big_bytes 8 x) ≡ 8 = refl in
+    let part : length (mid_of (8 * i) n bytes) ≡ n = length-take-le n (drop (8 * i) bytes) (omega (arith, length-drop (8 * i) bytes, full, size)) in
+    let same : length ys ≡ length (mid_of (8 * i) n bytes) =
+    ap length written ∙ length-append (big_bytes 8 x) (drop 8 old) ∙ omega (arith, length-drop 8 (mid_of (8 * i) n bytes), eight, part, size, inside) in
+    let front : length (take (8 * i) bytes) ≡ 8 * i = length-take-le (8 * i) bytes (omega (arith, full, inside)) in
+    let few : i < length (drop (64 * b) contents) = omega (arith, length-drop (64 * b) contents) in (
+      same_len_mid (8 * i) n bytes ys same ∙ full,
+      ap (λ (l : List ℕ). take (8 * (i + 1)) (put_mid (8 * i) n bytes l)) written
+          ∙ ap (λ (m : ℕ). take m (take (8 * i) bytes ++ ((big_bytes 8 x ++ drop 8 old) ++ post_of (8 * i) n bytes))) (let e : 8 * (i + 1) ≡ length (take (8 * i) bytes) + 8 = omega (arith, front) in e)
+          ∙ take-append-add (take (8 * i) bytes) ((big_bytes 8 x ++ drop 8 old) ++ post_of (8 * i) n bytes) 8
+          ∙ ap (λ (l : List ℕ). l ++ big_bytes 8 x) sofar
+          ∙ ap (λ (y : ℕ). flat_map (big_bytes 8) (take i words) ++ big_bytes 8 y) (is ∙ sym (get_or-drop (64 * b) contents i 0))
+          ∙ sym (flat_map-append (big_bytes 8) (take i words) (slice_index words i ∷ []))
+          ∙ ap (flat_map (big_bytes 8)) (sym (take_more words i 0 few)),
+    )
+
+-- once all were written the bytes are the block's
+pub all_placed : (contents bytes : List ℕ) (b i : ℕ) → i ≡ 64 → length bytes ≡ 512 → take (8 * i) bytes ≡ flat_map (big_bytes 8) (take i (drop (64 * b) contents)) → bytes ≡ block_bytes contents b
+unfolding block_bytes
+all_placed contents bytes b i all full placed =
+    sym (take_all (8 * i) bytes (omega arith)) ∙ placed ∙ ap (λ (k : ℕ). flat_map (big_bytes 8) (take k (drop (64 * b) contents))) all

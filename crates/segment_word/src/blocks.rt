@@ -36,6 +36,24 @@ pub fn words_of(bytes: &[u8; 512]) -> [u64; 64]
     words
 }
 
+/// These bytes become those of a block, as the drive's seat finds it.
+pub fn load_into(words: &Words, seat: &mut Place, frame: usize, block: usize, bytes: &mut [u8; 512])
+    requires table { seat.old.table_id ≡ words.now.table_id }
+    requires drive { seat.old.id ≡ 0 }
+    requires inside { (frame < length seat.old.me.0.frames) × (block < 16) }
+    requires sized { (words.now.table_id.words ≡ 1025 * length seat.old.me.0.frames)
+        × (length seat.old.me.0.frames ≤ 1024) }
+    ensures seat { IsSameSeat seat.old seat.new }
+    ensures view { seat.new.me.0 ≡ seat.old.me.0 }
+    ensures bytes { bytes.new ≡ block_bytes (frame_at seat.old.me.0.frames frame).contents block }
+{
+    let first = FRAME_WORDS * frame + 1 + BLOCK_WORDS * block;
+    for i in 0..BLOCK_WORDS {
+        let word = look(words, seat, first + i);
+        BigEndian::write_u64(&mut bytes[WORD_BYTES * i..], word);
+    }
+}
+
 /// A block, as the drive's seat finds it.
 pub fn load_block(words: &Words, seat: &mut Place, frame: usize, block: usize) -> [u8; 512]
     requires table { seat.old.table_id ≡ words.now.table_id }
@@ -47,12 +65,9 @@ pub fn load_block(words: &Words, seat: &mut Place, frame: usize, block: usize) -
     ensures view { seat.new.me.0 ≡ seat.old.me.0 }
     ensures bytes { result ≡ block_bytes (frame_at seat.old.me.0.frames frame).contents block }
 {
-    let first = FRAME_WORDS * frame + 1 + BLOCK_WORDS * block;
-    let mut found = [0; 64];
-    for i in 0..BLOCK_WORDS {
-        found[i] = look(words, seat, first + i);
-    }
-    bytes_of(&found)
+    let mut bytes = [0; 512];
+    load_into(words, seat, frame, block, &mut bytes);
+    bytes
 }
 
 /// A block of a frame that the seat of a pin counts on.
@@ -333,8 +348,8 @@ pub fn store_block(words: &Words, seat: &mut Place, frame: usize, block: usize, 
     ensures whole { length (frame_at seat.old.me.0.frames frame).contents ≡ 1024 }
     ensures back { flat_map (big_bytes 8) (block_words bytes.now) ≡ bytes.now }
 {
-    let values = words_of(bytes);
     for i in 0..BLOCK_WORDS {
-        store(words, seat, frame, BLOCK_WORDS * block + i, values[i]);
+        let value = BigEndian::read_u64(&bytes[WORD_BYTES * i..]);
+        store(words, seat, frame, BLOCK_WORDS * block + i, value);
     }
 }

@@ -9,7 +9,7 @@ ghost use Rattle.segment_word.specs.FrameRule.{AllRemembered};
 ghost use Rattle.segment_word.specs.Steps.{raised, IsStateOf};
 ghost use Rattle.segment_word.specs.Handles.{with_changed, with_released, HasMissed};
 
-use crate::blocks::{load_block, load_bytes, store_block};
+use crate::blocks::{load_block, load_bytes, load_into, store_block};
 use crate::board::Board;
 use crate::layout::{EMPTIED, FRAME_WORDS, GENERATION_SHIFT, ONE_READER, SEALED};
 use crate::lending::recall;
@@ -134,6 +134,16 @@ impl DriveSeat {
         ensures same { self.new ≡ self.old }
     {
         load_block(&self.board.table.shared, &mut self.seat, frame, block)
+    }
+
+    /// The 512 bytes of block `block`, from 0 to 15, of any frame become these.
+    pub fn load_into(&mut self, frame: usize, block: usize, bytes: &mut [u8; 512])
+        requires { (frame < length self.old.frames) × (block < 16) }
+        ensures bytes { bytes.new ≡ block_bytes (frame_at self.old.frames frame).contents block }
+        ensures same { self.new ≡ self.old }
+    {
+        let words = &self.board.table.shared;
+        load_into(words, &mut self.seat, frame, block, bytes);
     }
 
     /// Adds the bytes `from..to` of the 512 of block `block`, from 0 to 15, of any frame, as
