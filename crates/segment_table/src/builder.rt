@@ -27,7 +27,7 @@ use crate::slots::{Slots, no_slots};
 use block_log::Block;
 use codec::laws::a_summary_has_one_encoding;
 use codec::{BlockRole, Summary};
-use s4_types::limits::FRAME_BLOCKS;
+use s4_types::limits::{BLOCK_BYTES, FRAME_BLOCKS, PAYLOAD_BLOCKS};
 use s4_types::{Ptr, Refusal};
 use segment_word::{FrameState, FrameWords, Frames};
 use std::alloc::Global;
@@ -297,13 +297,14 @@ impl TableBuilder {
         ensures refusal { IfErr result (λ e. (e ≡ NoMemory) ⊎ (e ≡ Busy)) }
     {
         let free = self.vacant(alloc)?;
+        let payload = Box::new(alloc, [[0; BLOCK_BYTES]; PAYLOAD_BLOCKS])?;
         let TableBuilder {
             words,
             slots,
             current,
         } = self;
         let (frames, seat) = Frames::from_words(alloc, words)?;
-        let segments = Segments::of_parts(seat, slots, free, current);
+        let segments = Segments::of_parts(seat, slots, free, current, payload);
         Ok((frames, segments))
     }
 }

@@ -25,7 +25,7 @@ fn sealed_payload(seat: &mut DriveSeat, frame: usize, used: usize) -> [Block; PA
 {
     let mut blocks = [[0; BLOCK_BYTES]; PAYLOAD_BLOCKS];
     for i in 0..used {
-        blocks[i] = seat.load(frame, i + 1);
+        seat.load_into(frame, i + 1, &mut blocks[i]);
     }
     blocks
 }
@@ -73,6 +73,6 @@ pub fn save_all(seat: &mut DriveSeat, frame: usize, blocks: &mut [Block; FRAME_B
     ensures same { seat.new ≡ seat.old }
 {
     for i in 0..FRAME_BLOCKS {
-        blocks[i] = seat.load(frame, i);
+        seat.load_into(frame, i, &mut blocks[i]);
     }
 }

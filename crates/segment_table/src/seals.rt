@@ -24,22 +24,22 @@ fn clear_unused(seat: &mut DriveSeat, frame: usize, used: usize)
     }
 }
 
-// The payload blocks of a frame.
-fn payload(seat: &mut DriveSeat, frame: usize) -> [Block; PAYLOAD_BLOCKS]
+// These blocks become the payload blocks of a frame.
+fn read_payload(seat: &mut DriveSeat, frame: usize, payload: &mut [Block; PAYLOAD_BLOCKS])
     requires { frame < length seat.old.frames }
-    ensures payload { result ≡ payload_of (frame_at seat.old.frames frame).contents }
+    ensures payload { payload.new ≡ payload_of (frame_at seat.old.frames frame).contents }
     ensures same { seat.new ≡ seat.old }
 {
-    let mut blocks = [[0; BLOCK_BYTES]; PAYLOAD_BLOCKS];
     for i in 0..PAYLOAD_BLOCKS {
-        blocks[i] = seat.load(frame, i + 1);
+        seat.load_into(frame, i + 1, &mut payload[i]);
     }
-    blocks
 }
 
 /// Seals an open frame, of which these blocks are used. The others are zeros then, and block 0 is
 /// the summary.
-pub fn seal(seat: &mut DriveSeat, frame: u16, slots: &Slots)
+///
+/// `payload` is room for the payload blocks: a local of that size would be cleared first.
+pub fn seal(seat: &mut DriveSeat, frame: u16, slots: &Slots, payload: &mut [Block; PAYLOAD_BLOCKS])
     requires inside { frame < length seat.old.frames }
     requires open { (frame_at seat.old.frames frame).phase ≡ Open }
     requires used { (1 ≤ length slots.now) × (length slots.now ≤ 15) }
@@ -50,7 +50,7 @@ pub fn seal(seat: &mut DriveSeat, frame: u16, slots: &Slots)
     clear_unused(seat, number, slots.len());
     let generation = seat.generation(number);
     let summary = Summary::new(frame, generation, slots.roles()).unwrap();
-    let payload = payload(seat, number);
-    seat.store(number, 0, &encode_summary(&summary, &payload));
+    read_payload(seat, number, payload);
+    seat.store(number, 0, &encode_summary(&summary, payload));
     seat.seal(number);
 }

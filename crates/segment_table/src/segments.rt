@@ -37,6 +37,8 @@ pub struct Segments {
     pub free: Vec<u16>,
     /// The number of the open frame.
     pub current: Option<u16>,
+    // room for the payload blocks of a frame while it is sealed
+    payload: Box<[Block; PAYLOAD_BLOCKS]>,
 }
 
 impl Model for Segments {
@@ -69,6 +71,7 @@ impl Segments {
         slots: Vec<Slots>,
         free: Vec<u16>,
         current: Option<u16>,
+        payload: Box<[Block; PAYLOAD_BLOCKS]>,
     ) -> Self
         requires sound { IsSoundTable (record { seat = seat; slots = slots.items }) free.items current }
         requires room { length seat.frames ≤ vec_capacity free }
@@ -79,6 +82,7 @@ impl Segments {
             slots,
             free,
             current,
+            payload,
         }
     }
 
@@ -174,7 +178,7 @@ impl Segments {
         ensures ahead { rest_of self.old frame ++ places_ahead self.new ≡ places_ahead self.old }
         ensures spent { places_spent self.new ≡ places_spent self.old }
     {
-        seals::seal(&mut self.seat, frame, &self.slots[frame as usize]);
+        seals::seal(&mut self.seat, frame, &self.slots[frame as usize], &mut *self.payload);
         self.current = None;
     }
 

@@ -9,10 +9,10 @@ pub loop-i-preserved : goal.loop-i-preserved
 loop-i-preserved c =
     let contents = (frame_at c.args.seat.now.frames c.args.frame).contents in
     let inside : c.loop-i.i < length c.loop-i.blocks = omega arith in (
-      c.load.ensures.same ∙ c.loop-i.invariant.0,
-      length-set c.loop-i.blocks c.loop-i.i c.load.result ∙ c.loop-i.invariant.1,
-      saved_more contents c.loop-i.blocks c.loop-i.i c.load.result inside c.loop-i.invariant.2
-          (c.load.ensures.bytes ∙ ap (λ (d : Drive). block_bytes (frame_at d.frames c.args.frame).contents c.loop-i.i) c.loop-i.invariant.0),
+      c.load_into.ensures.same ∙ c.loop-i.invariant.0,
+      length-set c.loop-i.blocks c.loop-i.i c.load_into.new.bytes ∙ c.loop-i.invariant.1,
+      saved_more contents c.loop-i.blocks c.loop-i.i c.load_into.new.bytes inside c.loop-i.invariant.2
+          (c.load_into.ensures.bytes ∙ ap (λ (d : Drive). block_bytes (frame_at d.frames c.args.frame).contents c.loop-i.i) c.loop-i.invariant.0),
     )
 
 pub loop-i-init : goal.loop-i-init

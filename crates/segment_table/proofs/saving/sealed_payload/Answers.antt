@@ -11,4 +11,4 @@ loop-i-init c = record {
 }
 
 pub returns-clause-unused : goal.returns-clause-unused
-returns-clause-unused c = unused_after c.loop-i.blocks c.args.used c.loop-i.invariant.long (λ b low high. c.loop-i.invariant.blank b (omega arith) high)
+returns-clause-unused c = unused_after _ c.args.used c.loop-i.invariant.long (λ b low high. c.loop-i.invariant.blank b (omega arith) high)
