@@ -21,10 +21,17 @@ nothing, over 1,000 and 15,180 objects that were made, and a million Writes on 6
 how many times as many the first are, without that process and beside it. A run is ended after 300 seconds. And by `strace` the calls to the
 system of the run over 15,180 objects, with those of the same run without upkeep taken away.
 
+With `--worst` a client waits for the reply to each Write of 100 bytes before it asks the next, from the begin of the run on: 4,000 Writes to 16
+of 14,000 objects that were made, on 1,024 frames; and Writes to one object on 64 frames while another session asks 200,000 to 16 others.
+A line says how many milliseconds half of the Writes took at most, 99 of 100, and the longest one: by the clock, in which the client's own
+time and other work on the machine are; and what the program's threads took of the processors meanwhile, which other work doesn't make
+longer, and which is at least as long as the wait would be without it.
+
     pace.py [--count N] [PROGRAM]             N Writes and Reads in place of 1,000,000
     pace.py --many [--count N] [PROGRAM ..]   one line for each program
     pace.py --deleting [PROGRAM ..]           two lines for each program
     pace.py --busy [--count N] [PROGRAM]      N Writes in place of 1,000,000
+    pace.py --worst [--count N] [PROGRAM ..]  two lines for each program; N Writes in place of 200,000
 """
 import argparse
 import os
@@ -50,6 +57,7 @@ FILE_FRAMES, FILE_WINDOW = 64, 400
 FLUSHED = 20  # files between two flushes
 NOT_MOVED = (1_000, 15_180)  # objects of a run that is asked nothing
 LIMIT = 300  # seconds of a run beside a busy process
+UNMOVED, ASKED = 14_000, 4_000  # objects that were made, and Writes that wait for their replies
 NAMES = {1: "NoObject", 9: "NoSpace", 12: "ChainFull"}
 
 
@@ -246,11 +254,82 @@ def measure_busy(program, count):
     print_busy(f"{count:,} Writes", [program, "run", "image", "client:asked:/dev/null"])
 
 
+# ---- Writes that wait for their replies
+
+def replied(source):
+    size = int.from_bytes(source.read(4), "big")
+    return source.read(size)
+
+
+def used(process):
+    """The seconds that this process took of the processors so far."""
+    return time.clock_gettime((~process << 3) | 2)
+
+
+def waits(words, writes):
+    """The milliseconds of each of these Writes, in a session of a run that begins with it: by the clock, and of the processors. And their
+    replies."""
+    for path in ("asks", "says"):
+        if not os.path.exists(path):
+            os.mkfifo(path)
+    taken, spent, replies = [], [], []
+    with subprocess.Popen(words) as child, open("asks", "wb", 0) as sink, open("says", "rb") as source:
+        sink.write(wire.get_attr(1))
+        replied(source)
+        for write in writes:
+            before, began = used(child.pid), time.perf_counter()
+            sink.write(write)
+            replies.append(wire.frame(replied(source)))
+            taken.append(1000 * (time.perf_counter() - began))
+            spent.append(1000 * (used(child.pid) - before))
+        sink.close()
+    if child.returncode:
+        sys.exit(f"pace.py: {words}: status {child.returncode}")
+    return taken, spent, b"".join(replies)
+
+
+def told_waits(times):
+    times = sorted(times)
+    return ", ".join(f"{times[int(part * (len(times) - 1))]:.2f}" for part in (0.5, 0.99, 1))
+
+
+def print_waits(told, taken, spent, replies):
+    count = tallied(replies).get("taken", 0)
+    print(f"{told}: {told_waits(taken)} ms, {told_waits(spent)} of the processors; {count:,} of {len(taken):,} taken", flush=True)
+
+
+def until_read(write, path, data):
+    """This Write again and again, until the replies in a file end with these bytes."""
+    is_over = False
+    while not is_over:
+        yield from [write] * OBJECTS
+        with open(path, "rb") as replies:
+            replies.seek(max(0, os.path.getsize(path) - len(data)))
+            is_over = replies.read() == data
+
+
+def measure_worst(program, count):
+    new(program, 1_024)
+    put("made", wire.create() * UNMOVED)
+    subprocess.run([program, "run", "--no-upkeep", "image", "client:made:/dev/null"], check=True)
+    session = "client:asks:says"
+    to_some = [wire.write(o, 0, b"w" * SMALL) for o in range(1, OBJECTS + 1)] * (ASKED // OBJECTS)
+    print_waits(f"{program}: {UNMOVED:,} objects", *waits([program, "run", "image", session], to_some))
+    made(program, 64)
+    put("made", wire.create())
+    subprocess.run([program, "run", "--no-upkeep", "image", "client:made:/dev/null"], check=True)
+    put("asked", writes(count) + wire.read(1, 0, SMALL))
+    put("replies", b"")
+    to_one = until_read(wire.write(OBJECTS + 1, 0, b"w" * SMALL), "replies", b"w" * SMALL)
+    print_waits(f"{program}: beside {count:,} Writes", *waits([program, "run", "image", session, "client:asked:replies"], to_one))
+
+
 def main():
     words = argparse.ArgumentParser(description=__doc__, formatter_class=argparse.RawDescriptionHelpFormatter)
     words.add_argument("--many", action="store_true")
     words.add_argument("--deleting", action="store_true")
     words.add_argument("--busy", action="store_true")
+    words.add_argument("--worst", action="store_true")
     words.add_argument("--count", type=int)
     words.add_argument("program", nargs="*")
     line = words.parse_args()
@@ -264,6 +343,9 @@ def main():
                 measure_deleting(program)
         elif line.busy:
             measure_busy(programs[0], line.count or 1_000_000)
+        elif line.worst:
+            for program in programs:
+                measure_worst(program, line.count or 200_000)
         else:
             measure(programs[0], line.count or 1_000_000)
 
