@@ -28,7 +28,7 @@
    OLD_ORDER     an order that loses a call: the cleaner reads whether all others have ended before
                  its round begins, the begin of a round clears what is wanted, and the cleaner
                  rests where nothing is wanted, whoever has ended meanwhile
-   FAULT         1 .. 10, another fault: see there */
+   FAULT         1 .. 11, another fault: see there */
 #ifndef SESSIONS
 #define SESSIONS 1
 #endif
@@ -49,7 +49,7 @@ bit is_going, is_served, is_moved;
 byte begun, ended, wanted, frees; /* numbers of rounds */
 byte target[SESSIONS];            /* local in await_round: it is here to be counted anew */
 bit is_hidden;                    /* the agenda: what was hidden waits for a round */
-bit has_gaps = 1;                 /* the agenda doesn't know all objects */
+byte walk = 3;                    /* rounds that the walk over all objects takes still, at most */
 bit is_scarce;                    /* the room, as it was last looked at */
 byte stirred;                     /* since the copier's step began, and no further than QUANTUM */
 byte asking, wanting;             /* in the drive's lock call: sessions; cleaner and copier */
@@ -235,10 +235,12 @@ inline await_round(me) {
     want(target[me]);
 #endif
     do
-    :: is_going && ended < target[me] -> sleep(me)
-    :: else -> break
+    :: is_going && (ended < target[me] || walk > 0) -> sleep(me)   /* the walk: room is tight */
+    :: is_going && ended < target[me] -> break                     /* room isn't short any more */
+    :: !is_going || ended >= target[me] -> break
     od;
-    assert(!is_going || !was_unseen[me] && !was_held[me]);    /* what was hidden before is freed */
+    /* what was hidden before is freed, or there is room without that */
+    assert(!is_going || ended < target[me] || !was_unseen[me] && !was_held[me]);
     d_step { is_waiting[me] = 0; target[me] = 0; was_unseen[me] = 0; was_held[me] = 0 };
     UNLOCK(monitor) }
 }
@@ -282,8 +284,9 @@ inline begin_round() {
     wanted = begun;
 #endif
     is_owed = 0;
-    is_covered = is_hidden || has_gaps || is_last;
-    is_hidden = 0; has_gaps = 0;
+    is_covered = is_hidden || is_last;
+    is_whole = is_covered;
+    is_hidden = 0;
     notify_all();
     UNLOCK(monitor) }
 }
@@ -302,6 +305,15 @@ inline look() {
     UNLOCK(monitor) }
 }
 
+inline end_walk() {
+  SECTION { LOCK(monitor);
+    if :: is_scarce = 0 :: is_scarce = 1 fi;
+    walk = 0;
+    call_copier();
+    notify_all();
+    UNLOCK(monitor) }
+}
+
 /* From here on rounds are counted from the one that has ended. */
 inline count_anew() {
   d_step {
@@ -315,6 +327,9 @@ inline count_anew() {
 
 inline end_round() {
   SECTION { LOCK(monitor);
+#if FAULT != 11
+    if :: walk > 0 && !is_last -> want(begun + 1) :: else fi;
+#endif
     ended = begun;
     is_going = !is_last;
     stirred = QUANTUM;
@@ -426,7 +441,7 @@ proctype Server() {
 
 proctype Cleaner() {
   byte each;
-  bit is_last, is_covered;
+  bit is_last, is_covered, is_whole;
   is_keep_called && (is_clean_threaded || has_copied);
   hold(CLEANER); UNLOCK(drive);                               /* it takes its seat */
   do
@@ -449,6 +464,11 @@ proctype Cleaner() {
      if
      :: hold_next(CLEANER); TOGETHER { look(); UNLOCK(drive) }     /* another turn, or it gathers */
      :: skip
+     fi;
+     if
+     :: walk > 0 && !is_last -> hold_next(CLEANER); TOGETHER { end_walk(); UNLOCK(drive) }
+     :: walk > 1 && !is_whole -> walk--                       /* the next round goes on with it */
+     :: walk == 0 || is_last -> skip
      fi;
      TOGETHER {
        d_step {

@@ -41,8 +41,11 @@ pub(crate) struct Agenda {
     floors: BTreeMap<u64, u64>,
     /// The deleted ones, by the moments of their Deletes.
     deleted: BTreeMap<u64, u64>,
-    /// Some may be missing: nothing is known yet, or memory was refused.
+    /// Some may be missing: nothing is known yet, or memory was refused. A walk over all objects is
+    /// to find them.
     has_gaps: bool,
+    /// Such a walk has begun, and not ended: each round goes on with it.
+    is_walking: bool,
     /// Moments of all objects were hidden since the last round began.
     is_hidden: bool,
 }
@@ -55,6 +58,7 @@ impl Agenda {
             floors: BTreeMap::new(alloc),
             deleted: BTreeMap::new(alloc),
             has_gaps: true,
+            is_walking: false,
             is_hidden: false,
         }
     }
@@ -134,11 +138,24 @@ impl Agenda {
         }
     }
 
-    /// A round begins at this floor: the objects that it is to visit, by ascending number. None
-    /// where it is to visit all.
+    /// Whether rounds go on with a walk over all objects.
+    pub(crate) fn is_walking(&self) -> bool {
+        self.is_walking
+    }
+
+    /// All objects were visited.
+    pub(crate) fn end_walk(&mut self) {
+        self.is_walking = false;
+    }
+
+    /// A round begins at this floor: the objects that it is to visit, by ascending number, beside
+    /// some more of a walk. None where it is to visit all: what is hidden is freed in one round.
     pub(crate) fn begin_round(&mut self, floor: Moment) -> Option<Vec<ObjectId>> {
         let is_hidden = replace(&mut self.is_hidden, false);
-        if replace(&mut self.has_gaps, false) {
+        if !self.is_walking {
+            self.is_walking = replace(&mut self.has_gaps, false);
+        }
+        if self.is_walking && is_hidden {
             return None;
         }
         let last = if is_hidden { u64::MAX } else { floor.number() };

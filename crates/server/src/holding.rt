@@ -2,6 +2,7 @@
 use crate::accounts::Running;
 use crate::effects::Effect;
 use crate::pace::Pace;
+use crate::progress::Lack;
 use crate::shared::SharedDrive;
 use drive::Drive;
 use segment_word::Naming;
@@ -71,16 +72,21 @@ pub(crate) fn hold_next<'a, J: Running, C: Clock>(
     held
 }
 
-/// A request is asked: whether it is a change that is to wait for the cleaner.
-fn is_pressed<J: Naming>(rt: &impl Wait, drive: &Drive<J>, pace: &Pace, effect: &Effect) -> bool {
+/// A request is asked: what it lacks, where it is a change that is to wait for the cleaner.
+fn lack_of<J: Naming>(
+    rt: &impl Wait,
+    drive: &Drive<J>,
+    pace: &Pace,
+    effect: &Effect,
+) -> Option<Lack> {
     match effect {
         Effect::Changes(object) | Effect::Deletes(object) => pace.count(rt, drive, *object),
-        Effect::Hides(..) | Effect::Reads => false,
+        Effect::Hides(..) | Effect::Reads => None,
     }
 }
 
 /// The drive for a request, once the lock is had. A change for which there may be too little room,
-/// or whose object's chain is nearly full, lets the cleaner go a whole round first.
+/// or whose object's chain is nearly full, lets the cleaner go a round first.
 pub(crate) fn hold_for<'a, J: Running, C: Clock>(
     rt: &impl Wait,
     drive: &'a Mutex<SharedDrive<J, C>>,
@@ -91,10 +97,10 @@ pub(crate) fn hold_for<'a, J: Running, C: Clock>(
     let Some(waits) = pace else {
         return held;
     };
-    if !is_pressed(rt, &held.drive, waits, effect) {
+    let Some(lack) = lack_of(rt, &held.drive, waits, effect) else {
         return held;
-    }
+    };
     drop(held);
-    waits.await_round(rt);
+    waits.await_round(rt, lack);
     hold(rt, drive, pace)
 }

@@ -189,7 +189,7 @@ fn settle_turn<J: Running, C: Clock>(
         _ if is_last => pace.look(rt, &shared.drive),
         Turn::Cleaned(object) => settle(rt, shared, pace, *object, true),
         Turn::PassedOver(object, _) => settle(rt, shared, pace, *object, false),
-        Turn::Ended => pace.look(rt, &shared.drive),
+        Turn::Ended => pace.end_walk(rt, &shared.drive),
     }
 }
 

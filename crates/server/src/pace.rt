@@ -3,7 +3,7 @@
 use crate::accounts::Running;
 use crate::agenda::{History, is_short};
 use crate::effects::{Effect, is_nearly_full};
-use crate::progress::{Begun, Progress};
+use crate::progress::{Begun, Lack, Progress};
 use crate::shared::SharedDrive;
 use drive::Drive;
 use s4_types::{Moment, ObjectId, Reply};
@@ -61,25 +61,26 @@ impl Pace {
             .wait_timeout_while(rt, progress, most, |progress| !progress.is_going());
     }
 
-    /// A change of an object is asked, and the drive's lock is held. Answers whether it is to wait
-    /// for a round.
+    /// A change of an object is asked, and the drive's lock is held. Answers what it lacks, where it
+    /// is to wait for a round.
     pub(crate) fn count<J: Naming>(
         &self,
         rt: &impl Wait,
         drive: &Drive<J>,
         object: ObjectId,
-    ) -> bool {
+    ) -> Option<Lack> {
         let is_nearly_full = is_nearly_full(drive, object);
         let mut progress = self.progress.lock(rt);
         progress.look(drive);
-        let is_pressed = progress.count(is_nearly_full);
+        let lack = progress.count(is_nearly_full);
         self.end_section(progress);
-        is_pressed
+        lack
     }
 
-    /// A change waits until the cleaner has gone a whole round from now on, or the one that frees
-    /// what was hidden last. Not where no cleaner is at work.
-    pub(crate) fn await_round(&self, rt: &impl Wait) {
+    /// A change that lacks this waits until the cleaner has gone a whole round from now on, or the
+    /// one that frees what was hidden last; for room no longer than while there is little. Not where
+    /// no cleaner is at work.
+    pub(crate) fn await_round(&self, rt: &impl Wait, lack: Lack) {
         let mut progress = self.progress.lock(rt);
         let round = progress.want_round();
         if progress.take_news() {
@@ -87,7 +88,7 @@ impl Pace {
         }
         let _progress = self
             .news
-            .wait_while(rt, progress, |progress| progress.is_to_come(round));
+            .wait_while(rt, progress, |progress| progress.is_to_come(round, lack));
     }
 
     /// A request was answered, and the drive's lock is held. What it has changed is to be visited;
@@ -177,6 +178,14 @@ impl Pace {
         let mut progress = self.progress.lock(rt);
         progress.look(drive);
         progress.count_free(frames);
+        self.end_section(progress);
+    }
+
+    /// A walk over all objects has come to its end, and the drive's lock is held.
+    pub(crate) fn end_walk<J: Naming>(&self, rt: &impl Wait, drive: &Drive<J>) {
+        let mut progress = self.progress.lock(rt);
+        progress.look(drive);
+        progress.end_walk();
         self.end_section(progress);
     }
 

@@ -35,6 +35,17 @@ pub(crate) struct Begun {
     pub is_last: bool,
     /// The objects that it is to visit, by ascending number; None where it is to visit all.
     pub objects: Option<Vec<ObjectId>>,
+    /// It is to go on with a walk over all objects.
+    pub walks: bool,
+}
+
+/// What a change lacks that waits for the cleaner.
+#[derive(Clone, Copy, PartialEq, Eq)]
+pub(crate) enum Lack {
+    /// Blocks: it waits for a round, and no longer than there is little room.
+    Room,
+    /// Bytes of its object's chain: it waits for a round.
+    Chain,
 }
 
 /// How sessions, cleaner and copier get on.
@@ -141,7 +152,9 @@ impl Progress {
 
     /// The drive was looked at, under its lock.
     pub(crate) fn look<J: Naming>(&mut self, drive: &Drive<J>) {
+        let was_little = self.is_little();
         self.room = drive.room() as u64;
+        self.is_news |= was_little && !self.is_little();
         self.clock = drive.clock().number();
         self.window = drive.window();
         self.floor = drive.floor().number();
@@ -193,8 +206,8 @@ impl Progress {
     /// room is below a quarter or the chain is nearly full, and twice as many changes were asked
     /// since its last round as that had turns, and another is worth its cost.
     ///
-    /// Answers whether the change is to wait for a round first.
-    pub(crate) fn count(&mut self, is_nearly_full: bool) -> bool {
+    /// Answers what the change lacks, where it is to wait for a round first.
+    pub(crate) fn count(&mut self, is_nearly_full: bool) -> Option<Lack> {
         self.asked = self.asked.saturating_add(1);
         self.stir(1);
         let is_ripe = self.is_ripe();
@@ -203,8 +216,38 @@ impl Progress {
             self.due = u64::MAX;
             self.want(self.begun.saturating_add(1));
         }
-        let is_short = self.room < self.blocks / 8 || is_nearly_full;
-        is_short && (is_ripe || self.ended < self.frees)
+        let may_gain = is_ripe || self.ended < self.frees || self.needs_walk();
+        if may_gain && is_nearly_full {
+            Some(Lack::Chain)
+        } else if may_gain && self.is_short() {
+            Some(Lack::Room)
+        } else {
+            None
+        }
+    }
+
+    /// Whether so little room is left that a change begins to wait for the cleaner.
+    fn is_short(&self) -> bool {
+        self.room < self.blocks / 8
+    }
+
+    /// Whether so little room is left that a change waits on which does so for room: less than that,
+    /// or too little for a move, so that the largest change finds enough.
+    fn is_little(&self) -> bool {
+        self.is_short() || self.is_tight()
+    }
+
+    /// Whether so little room is left that a walk over all objects is to end first, which may make
+    /// some: what it writes takes room, too.
+    fn needs_walk(&self) -> bool {
+        let is_scant = self.room < self.blocks / 16 || self.is_tight();
+        self.agenda.is_walking() && is_scant
+    }
+
+    /// All objects were visited.
+    pub(crate) fn end_walk(&mut self) {
+        self.agenda.end_walk();
+        self.is_news = true;
     }
 
     /// An object was changed at this moment.
@@ -247,9 +290,12 @@ impl Progress {
         round
     }
 
-    /// Whether that round is still to come: a cleaner is at work, and hasn't ended it.
-    pub(crate) fn is_to_come(&self, round: u64) -> bool {
-        self.is_going && self.ended < round
+    /// Whether that round is still to come, or the end of a walk that is needed, for a change that
+    /// lacks this still: a cleaner is at work, and hasn't come to it.
+    pub(crate) fn is_to_come(&self, round: u64, lack: Lack) -> bool {
+        self.is_going
+            && (self.ended < round || self.needs_walk())
+            && (self.is_little() || lack == Lack::Chain)
     }
 
     /// Sessions and copier have ended.
@@ -267,21 +313,26 @@ impl Progress {
         Begun {
             is_last,
             objects: if is_last { None } else { self.objects() },
+            walks: self.agenda.is_walking(),
         }
     }
 
     /// The objects of a round that begins now, by ascending number; None where it is to visit all.
     fn objects(&mut self) -> Option<Vec<ObjectId>> {
         let floor = Moment::new(self.floor);
-        if self.is_pinched() && self.ended >= self.frees {
+        if self.is_pinched() && self.ended >= self.frees && !self.agenda.is_walking() {
             self.agenda.begin_removals(floor)
         } else {
             self.agenda.begin_round(floor)
         }
     }
 
-    /// A round of this many turns has ended, and there is none after the last.
+    /// A round of this many turns has ended, and there is none after the last. Another one is needed
+    /// where a walk is to go on.
     pub(crate) fn end_round(&mut self, turns: u64, is_last: bool) {
+        if self.agenda.is_walking() && !is_last {
+            self.want(self.begun.saturating_add(1));
+        }
         self.due = self.asked.saturating_add(turns.saturating_mul(2));
         self.ended = self.begun;
         self.is_going = !is_last;

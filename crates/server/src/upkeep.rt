@@ -45,6 +45,10 @@ pub struct Upkeep {
     pub moves: Result<Moves, Refusal>,
 }
 
+/// Turns of a walk over all objects that one round takes: a change that waits for a round waits for
+/// no more of them.
+const WALK_TURNS: u64 = 64;
+
 /// Whether a turn ended its round.
 fn is_end(turn: Turn) -> bool
     ensures { result ≡ ends_round turn }
@@ -77,6 +81,25 @@ fn go_round<J: Running, C: Clock>(
     Round { is_last, turns }
 }
 
+/// Some turns more of a walk over all objects, in the same way.
+fn go_on<J: Running, C: Clock>(
+    rt: &impl Wait,
+    alloc: Global,
+    drive: &Mutex<SharedDrive<J, C>>,
+    pace: &Pace,
+    seat: &mut Option<Session<J>>,
+    walk: &mut Rounds,
+)
+    requires { J.has_upkeep ≡ true }
+{
+    for turn in 0..WALK_TURNS {
+        if is_end(take_turn(rt, alloc, drive, pace, walk, false)) {
+            return;
+        }
+        gather_between(rt, alloc, drive, pace, seat, turn + 1);
+    }
+}
+
 /// A round over these objects alone, in the same way.
 fn go_over<J: Running, C: Clock>(
     rt: &impl Wait,
@@ -102,8 +125,9 @@ fn go_over<J: Running, C: Clock>(
 }
 
 /// The cleaner beside sessions, on a thread of its own: it goes round again and again, over the
-/// objects of which a turn may free something where these are known, else over all. Ends with a
-/// whole round that began when all others had ended.
+/// objects of which a turn may free something. While some of these are unknown, each round takes
+/// some turns more of a walk over all objects. Ends with a whole round that began when all others
+/// had ended.
 pub fn keep_up<J: Running, C: Clock, R: Wait, G: Gate>(
     rt: &R,
     alloc: Global,
@@ -116,17 +140,26 @@ pub fn keep_up<J: Running, C: Clock, R: Wait, G: Gate>(
 {
     // Without a seat it cleans all the same.
     let mut seat = enter(rt, drive, Some(pace), Role::Client).ok();
+    let mut walk = Rounds::new();
     for _ in rt.forever() {
         gate.upkeep(UpkeepStep::RoundBegins);
-        let Begun { is_last, objects } = pace.begin_round(rt);
+        let Begun {
+            is_last,
+            objects,
+            walks,
+        } = pace.begin_round(rt);
         gate.upkeep(UpkeepStep::FirstTurn);
         match objects {
             Some(objects) => {
+                if walks {
+                    go_on(rt, alloc, drive, pace, &mut seat, &mut walk);
+                }
                 go_over(rt, alloc, drive, pace, &mut seat, objects.as_slice());
                 gate.upkeep(UpkeepStep::RoundEnds);
                 pace.end_round(rt, objects.len() as u64, false);
             }
             None => {
+                walk = Rounds::new();
                 let round = go_round(rt, alloc, drive, pace, &mut seat, is_last);
                 gate.upkeep(UpkeepStep::RoundEnds);
                 pace.end_round(rt, round.turns, is_last);
@@ -172,10 +205,12 @@ fn keep_beside<J: Running + Send + Sync, C: Clock + Send, R: Threads + Wait + Sy
 ///
 /// The cleaner has the lock for one object at a time, by ascending number and round again. It frees
 /// the frames that hold nothing after each round, and after each turn while little room is left.
-/// Its first and its last round are over all objects, those between over the ones that have history
-/// to free, as far as that is known. It rests until a flush or another window hides moments, or
-/// until room is short or a chain nearly full, and enough has aged since its last round. Where that
-/// is so, a change waits for a round before it is asked, a Read never, and no request where no
+/// Its last round is over all objects, those before over the ones that have history to free. At
+/// first these are unknown: each round takes some turns more of a walk over all objects then, which
+/// a change waits for only where too little room is left for a move. It rests until a flush or
+/// another window hides moments, or until room is short or a chain nearly full, and enough has aged
+/// since its last round. Where that is so, a change waits for a round before it is asked, or until
+/// there is room for a move and room isn't short; a Read never waits, and no request where no
 /// cleaner is at work. The copier takes step after step while room is short: it has the lock while
 /// it plans the next move and while it puts it in place, and copies without it. It takes one step
 /// at least, and ends once all sessions have ended. Then the cleaner goes round a last time. Where
