@@ -1,6 +1,7 @@
 pub mod Counting
 pub mod FlushedLemmas
 pub mod Fronts
+pub mod ImageReading
 pub mod KeepingLemmas
 pub mod RefusalLemmas
 pub mod Results

@@ -11,7 +11,6 @@ use drive::{Drive, Session};
 use s4_types::Refusal;
 use segment_word::Naming;
 use std::alloc::Global;
-use verifier::laws::what_has_no_fault_is_an_image;
 use verifier::save;
 
 /// What was collected of a drive.
@@ -61,7 +60,6 @@ pub fn collect<J: Naming>(
     ensures before { FitsLedger drive.old.ledger session.old.told }
     ensures same { drive.new ≡ drive.old }
 {
-    what_has_no_fault_is_an_image();
     drive.rules();
     drive.meet(session);
     let clock = drive.clock().number();

@@ -13,7 +13,6 @@ use drive::OpenedDrive;
 use s4_types::Refusal;
 use std::alloc::Global;
 use std::thread::Threads;
-use verifier::laws::what_has_a_fault_spells_nothing;
 use verifier::{open, verify};
 
 /// The drive whose image these bytes are. Where they are kept of a history, it goes on where that
@@ -33,7 +32,6 @@ pub fn recover<R: Threads>(rt: &R, alloc: Global, bytes: &[u8]) -> Result<Opened
     ensures never { SpellsDrive bytes.now (image_in bytes.now)
         → IfErr result (λ e. (e ≡ NoMemory) ⊎ (e ≡ Busy)) }
 {
-    what_has_a_fault_spells_nothing();
     let image = match verify(rt, alloc, bytes) {
         Ok(image) => image,
         Err(refusal) => return Err(refusal),

@@ -19,7 +19,6 @@ use segment_word::Naming;
 use std::alloc::Global;
 use std::marker::Brand;
 use std::thread::Threads;
-use verifier::laws::what_has_no_fault_is_an_image;
 use verifier::save;
 
 /// The image of the drive that these bytes are the image of, once it has seen a moment. It is made
@@ -60,7 +59,6 @@ fn see_and_save<J: Naming>(
         (λ image. IsImageOf (grown (beginning J.base) (Seen moment)) image.items) }
     ensures refusal { IfErr result (λ e. (e ≡ NoMemory) ⊎ (e ≡ Busy)) }
 {
-    what_has_no_fault_is_an_image();
     let mut drive = opened.named::<J>();
     let mut session = drive.session(Role::Client)?;
     // A question changes nothing, but the drive sees its moment.

@@ -5,6 +5,7 @@ use Rattle.image_parts.specs.Image.{Image}
 use Rattle.drive.specs.Fields.{DriveFields, SessionFields, history_of, state_in}
 use Rattle.verifier.specs.Grammar.{SpellsDrive}
 use Rattle.kept_drive.proofs.Counting.{counted}
+use Rattle.kept_drive.proofs.ImageReading.{read_again}
 use Rattle.kept_drive.proofs.SeeingMore.{caught_up_more}
 use Rattle.kept_drive.proofs.collecting.collect.Goals as goal
 
@@ -20,7 +21,7 @@ returns-clause-of_drive g c =
       window = search rules;
       sound = c.rules.ensures.sound;
       image = record {
-        whole = subst (λ (parts : Image). SpellsDrive c.in_ok-image.image.items parts) (sym (c.what_has_no_fault_is_an_image.ensures.read c.in_ok-image.image.items saved.image saved.spelled)) saved.spelled;
+        whole = subst (λ (parts : Image). SpellsDrive c.in_ok-image.image.items parts) (sym (read_again c.in_ok-image.image.items saved.image saved.spelled)) saved.spelled;
         goes_on = λ base told. subst (λ (d : DriveFields). GoesOn (history_of d) (beginning base)) c.meet.ensures.same (c.in_ok-image.ensures.promise base told);
       };
     }

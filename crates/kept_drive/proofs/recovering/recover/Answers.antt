@@ -1,6 +1,7 @@
 use Rattle.std.proofs.lemmas.Result.{IfErr-weaker, IfOk-weaker}
 use Rattle.image_parts.specs.Image.{image_in}
 use Rattle.verifier.specs.Opened.{begins_with}
+use Rattle.kept_drive.proofs.ImageReading.{faultless}
 use Rattle.kept_drive.proofs.RefusalLemmas.{or_busy, or_damaged, want_alone}
 use Rattle.kept_drive.proofs.recovering.recover.Goals as goal
 
@@ -23,5 +24,5 @@ returns-in-Err-clause-refusal g c = or_busy c.args.bytes.now c.in-Err.refusal c.
 pub returns-in-Err-clause-never : goal.returns-in-Err-clause-never
 returns-in-Err-clause-never g c = λ whole.
     want_alone c.args.bytes.now c.in-Err.refusal
-    (λ cause first. c.what_has_a_fault_spells_nothing.ensures c.args.bytes.now cause (image_in c.args.bytes.now) first whole)
+    (λ cause first. faultless c.args.bytes.now cause (image_in c.args.bytes.now) first whole)
     c.in-Err.ensures.damaged

@@ -7,6 +7,7 @@ use Rattle.segment_word.specs.AcceptViews.{Ledger}
 use Rattle.drive.specs.Fields.{history_of}
 use Rattle.image_parts.specs.Image.{Image}
 use Rattle.verifier.specs.Grammar.{SpellsDrive}
+use Rattle.kept_drive.proofs.ImageReading.{read_again}
 use Rattle.kept_drive.proofs.Results.{both_ok}
 use Rattle.kept_drive.proofs.SeenLemmas.{question_sees}
 use Rattle.kept_drive.proofs.seeing.see_and_save.Goals as goal
@@ -19,7 +20,7 @@ returns-clause-seen g c =
     let saw : history_of c.request.new.self ≡ grown begun (Seen c.args.moment) = question_sees _ _ _ _ _ _ c.request.ensures.step ∙ ap (λ (h : History). grown h (Seen c.args.moment)) same in
     both_ok c.save.result _ _ _
     (λ image saved goes_on. record {
-      whole = subst (λ (parts : Image). SpellsDrive image.items parts) (sym (c.what_has_no_fault_is_an_image.ensures.read image.items saved.image saved.spelled)) saved.spelled;
+      whole = subst (λ (parts : Image). SpellsDrive image.items parts) (sym (read_again image.items saved.image saved.spelled)) saved.spelled;
       goes_on = λ base told. subst (λ (h : History). GoesOn h (beginning base)) saw (goes_on base told);
     })
     c.save.ensures.saved c.save.ensures.promise
