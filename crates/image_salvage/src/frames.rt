@@ -13,7 +13,6 @@ ghost use Rattle.image_salvage.specs.Frames.{ChangesAlone, NotesLost};
 
 use block_log::Block;
 use codec::Summary;
-use codec::laws::a_summary_has_one_encoding;
 use image_parts::{FramePart, FrameRead, ImageParts, read_frame};
 use s4_types::Refusal;
 use s4_types::limits::FRAME_BLOCKS;
@@ -72,7 +71,6 @@ fn set_whole(table: &mut TableBuilder, number: u16, frame: &FramePart<'_>, summa
     ensures slots { table.new.slots
         ≡ slice_set table.old.slots number (slots_at table.new.slots number) }
 {
-    a_summary_has_one_encoding();
     let blocks = frame.blocks();
     let Ok(whole) = <&[Block; FRAME_BLOCKS]>::try_from(blocks) else {
         unreachable!()

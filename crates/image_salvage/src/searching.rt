@@ -15,7 +15,6 @@ ghost use Rattle.image_salvage.specs.Searching.{Finds, FindsTo, HasBlocksAt, Has
 ghost use Rattle.image_salvage.specs.Searching.{IsFrameAt, blocks_from};
 
 use block_log::Block;
-use codec::laws::a_summary_has_one_encoding;
 use codec::{Summary, decode_summary};
 use s4_types::Refusal;
 use s4_types::limits::{BLOCK_BYTES, FRAME_BLOCKS, MOST_FRAMES, PAYLOAD_BLOCKS};
@@ -119,7 +118,6 @@ fn look_at(
     ensures finds { FindsTo bytes.now (place + 1) result table.new seen.new.items }
     ensures generations { HasGenerations table.new generations.new.items }
 {
-    a_summary_has_one_encoding();
     if place < next {
         return next;
     }

@@ -1,4 +1,5 @@
 use Rattle.std.proofs.Common.{◌≡◌, List, [], ℕ, get_or, ap, ◌∙◌, arith}
+use Rattle.codec.proofs.SummaryLaws.{one_summary}
 use Rattle.image_parts.specs.Frames.{blocks_of}
 use Rattle.segment_table.specs.Slots.{unheld}
 use Rattle.verifier.proofs.Frames.{slots_there}
@@ -6,7 +7,7 @@ use Rattle.image_salvage.proofs.Seeing.{summary_number}
 use Rattle.image_salvage.proofs.frames.set_whole.Goals as goal
 
 pub set_used-requires-clause-number : goal.set_used-requires-clause-number
-set_used-requires-clause-number c = summary_number c.a_summary_has_one_encoding.ensures.one c.args.number c.args.frame.now c.args.summary.now c.requires.whole c.requires.spelled
+set_used-requires-clause-number c = summary_number one_summary c.args.number c.args.frame.now c.args.summary.now c.requires.whole c.requires.spelled
 
 pub returns-clause-frame : goal.returns-clause-frame
 returns-clause-frame c =
@@ -14,7 +15,7 @@ returns-clause-frame c =
     record {
       summary = c.args.summary.now;
       spelled = c.requires.spelled;
-      numbered = summary_number c.a_summary_has_one_encoding.ensures.one c.args.number c.args.frame.now c.args.summary.now c.requires.whole c.requires.spelled;
+      numbered = summary_number one_summary c.args.number c.args.frame.now c.args.summary.now c.requires.whole c.requires.spelled;
       phase = c.set_used.ensures.state;
       generation = c.set_used.ensures.generation;
       roles = slots_there c.args.table.now.slots c.set_used.new.self.slots c.args.number (unheld c.args.summary.now.roles) (omega (arith, c.requires.counted)) c.set_used.ensures.slots;
