@@ -1,6 +1,6 @@
 //! The threads of a service.
 ghost use denote.Param.Send.{IsSend};
-ghost use Rattle.std.specs.Prelude.{◌≡◌, ◌+◌, ◌^◌, ◌<◌, true};
+ghost use Rattle.std.specs.Prelude.{◌≡◌, true};
 
 use crate::doors::watch_input;
 use crate::service::Service;
@@ -11,7 +11,7 @@ use image_keeping::Keeper;
 use own_stacks::spawn_with_stack;
 use s4_types::Role;
 use server::{Open, Running, keep_moving, keep_up};
-use serving::{Clock, ReadSource};
+use serving::Clock;
 use std::alloc::{AllocError, Global};
 use std::marker::{Send, Sync};
 use std::sync::{Arc, Wait};
@@ -26,10 +26,23 @@ const ADMIN_WORKERS: usize = 4;
 /// How many bytes of stack each thread of a service has.
 const STACK_BYTES: usize = 512 << 10;
 
+/// What a thread of a service does.
+#[derive(Drop)]
+enum Duty<I> {
+    /// Cleans.
+    Clean,
+    /// Copies.
+    Move,
+    /// Serves sessions of a role.
+    Serve(Role),
+    /// Reads the door of this number.
+    Watch { number: usize, input: I },
+}
+
 /// Starts the threads of a service, which go on until the program ends: cleaner and copier, the
 /// workers, and those that read the doors, which come last. Sessions are served only from then on.
 ///
-/// AllocError where the system gives too few threads.
+/// AllocError where memory, or the system's threads, are too few.
 pub fn start_threads<
     J: Running + Send + Sync + 'static,
     C: Clock + Send + Drop + 'static,
@@ -45,113 +58,57 @@ pub fn start_threads<
 ) -> Result<(), AllocError>
     requires upkeep { J.has_upkeep ≡ true }
 {
-    start_cleaner(rt, alloc, service)?;
-    start_copier(rt, alloc, service)?;
-    for _ in 0..CLIENT_WORKERS {
-        start_worker(rt, alloc, service, outside, Role::Client)?;
-    }
-    for _ in 0..ADMIN_WORKERS {
-        start_worker(rt, alloc, service, outside, Role::Admin)?;
-    }
-    for (number, input) in inputs.into_iter().enumerate() {
-        start_watch(rt, alloc, service, outside, number, input)?;
+    for duty in duties(alloc, inputs)? {
+        let own = *rt;
+        let theirs = Arc::try_clone(service)?;
+        spawn_with_stack(
+            rt,
+            STACK_BYTES,
+            move ||
+                requires upkeep { J.has_upkeep ≡ true }
+                requires input { IsSend D.Input.row }
+                requires output { IsSend D.Output.row }
+            { perform(&own, alloc, &*theirs, &outside, duty) },
+        )?;
     }
     Ok(())
 }
 
-/// Starts the cleaner.
-fn start_cleaner<
-    J: Running + Send + Sync + 'static,
-    C: Clock + Send + Drop + 'static,
-    K: Keeper + Send + Drop + 'static,
-    R: Threads + Wait + time::Clock + Copy + Send + Sync + Drop + 'static,
->(rt: &R, alloc: Global, service: &Arc<Service<J, C, K>, Global>) -> Result<(), AllocError>
+/// The duties of all threads, in the order in which they are started.
+fn duties<I: Drop>(alloc: Global, inputs: Vec<I>) -> Result<Vec<Duty<I>>, AllocError> {
+    let mut duties = Vec::new(alloc);
+    duties.push(Duty::Clean)?;
+    duties.push(Duty::Move)?;
+    for _ in 0..CLIENT_WORKERS {
+        duties.push(Duty::Serve(Role::Client))?;
+    }
+    for _ in 0..ADMIN_WORKERS {
+        duties.push(Duty::Serve(Role::Admin))?;
+    }
+    for (number, input) in inputs.into_iter().enumerate() {
+        duties.push(Duty::Watch { number, input })?;
+    }
+    Ok(duties)
+}
+
+/// Does what a duty says, for as long as that goes on.
+fn perform<
+    J: Running,
+    C: Clock,
+    K: Keeper + Drop,
+    R: Threads + Wait + time::Clock,
+    D: Fifos + Telling,
+>(rt: &R, alloc: Global, service: &Service<J, C, K>, outside: &D, duty: Duty<D::Input>)
     requires upkeep { J.has_upkeep ≡ true }
 {
-    let own = *rt;
-    let theirs = Arc::try_clone(service)?;
-    spawn_with_stack(
-        rt,
-        STACK_BYTES,
-        move ||
-            requires { J.has_upkeep ≡ true }
-        {
-            let _ = keep_up(&own, alloc, &theirs.drive, &theirs.pace, &Open);
-        },
-    )
-}
-
-/// Starts the copier.
-fn start_copier<
-    J: Running + Send + Sync + 'static,
-    C: Clock + Send + Drop + 'static,
-    K: Keeper + Send + Drop + 'static,
-    R: Threads + Wait + time::Clock + Copy + Send + Sync + Drop + 'static,
->(rt: &R, alloc: Global, service: &Arc<Service<J, C, K>, Global>) -> Result<(), AllocError>
-    requires upkeep { J.has_upkeep ≡ true }
-{
-    let own = *rt;
-    let theirs = Arc::try_clone(service)?;
-    spawn_with_stack(
-        rt,
-        STACK_BYTES,
-        move ||
-            requires { J.has_upkeep ≡ true }
-        {
-            let _ = keep_moving(&own, alloc, &theirs.drive, &theirs.pace, &Open);
-        },
-    )
-}
-
-/// Starts a worker that serves sessions of a role.
-fn start_worker<
-    J: Running + Send + Sync + 'static,
-    C: Clock + Send + Drop + 'static,
-    K: Keeper + Send + Drop + 'static,
-    R: Threads + Wait + time::Clock + Copy + Send + Sync + Drop + 'static,
-    D: Fifos + Telling + Copy + Send + Sync + Drop + 'static,
->(
-    rt: &R,
-    alloc: Global,
-    service: &Arc<Service<J, C, K>, Global>,
-    outside: D,
-    role: Role,
-) -> Result<(), AllocError> {
-    let own = *rt;
-    let theirs = Arc::try_clone(service)?;
-    spawn_with_stack(
-        rt,
-        STACK_BYTES,
-        move ||
-            requires input { IsSend D.Input.row }
-            requires output { IsSend D.Output.row }
-        { work(&own, alloc, &*theirs, &outside, role) },
-    )
-}
-
-/// Starts who reads the door of this number.
-fn start_watch<
-    J: Running + Send + Sync + 'static,
-    C: Clock + Send + Drop + 'static,
-    K: Keeper + Send + Drop + 'static,
-    R: Threads + Wait + time::Clock + Copy + Send + Sync + Drop + 'static,
-    D: Fifos + Telling + Copy + Send + Sync + Drop + 'static,
->(
-    rt: &R,
-    alloc: Global,
-    service: &Arc<Service<J, C, K>, Global>,
-    outside: D,
-    number: usize,
-    input: D::Input,
-) -> Result<(), AllocError> {
-    let own = *rt;
-    let theirs = Arc::try_clone(service)?;
-    spawn_with_stack(
-        rt,
-        STACK_BYTES,
-        move ||
-            requires input { IsSend D.Input.row }
-            requires output { IsSend D.Output.row }
-        { watch_input(&own, alloc, &*theirs, &outside, number, input) },
-    )
+    match duty {
+        Duty::Clean => {
+            let _ = keep_up(rt, alloc, &service.drive, &service.pace, &Open);
+        }
+        Duty::Move => {
+            let _ = keep_moving(rt, alloc, &service.drive, &service.pace, &Open);
+        }
+        Duty::Serve(role) => work(rt, alloc, service, outside, role),
+        Duty::Watch { number, input } => watch_input(rt, alloc, service, outside, number, input),
+    }
 }

@@ -2,7 +2,7 @@
 ghost use Rattle.std.specs.Prelude.{◌+◌, ◌^◌, ◌<◌, IfSome};
 ghost use Rattle.server.specs.Attending.{IsSeated};
 
-use crate::collecting::flusher;
+use crate::collecting::{ServiceFlush, flusher};
 use crate::service::Service;
 use crate::sessions::{Seat, serve_seat};
 use crate::telling::Telling;
@@ -11,6 +11,7 @@ use batch_serving::{AtMonitor, Keeping};
 use door_files::{Fifos, open_session};
 use group_commit::{NotKept, Open as AnyStep};
 use image_keeping::Keeper;
+use kept_drive::KeptReceipt;
 use kept_serving::DueSource;
 use s4_types::Role;
 use server::{Locked, Open, Running};
@@ -78,15 +79,9 @@ fn serve_one<
     let Some(mut seat) = seat_for(rt, alloc, service, &gate, role) else {
         return;
     };
-    let mut keeping = AtMonitor {
-        rt,
-        monitor: &service.monitor,
-        flusher: flusher(rt, alloc, service, outside),
-        steps: &AnyStep,
-        receipt: None,
-    };
+    let mut at_monitor = keeping(rt, alloc, service, outside, &AnyStep);
     let mut reader = DueSource::new(source, rt, &service.monitor);
-    let _ = serve_seat(alloc, &mut reader, writer, &mut seat, &mut keeping);
+    let _ = serve_seat(alloc, &mut reader, writer, &mut seat, &mut at_monitor);
     reader.end_replies();
 }
 
@@ -117,6 +112,23 @@ fn seat_for<'a, J: Running, C: Clock, K: Keeper, R: Wait>(
     }
 }
 
+/// What a session waits with until what it did is kept.
+fn keeping<'a, J: Running, C: Clock, K: Keeper, R: Wait, D: Telling>(
+    rt: &'a R,
+    alloc: Global,
+    service: &'a Service<J, C, K>,
+    outside: &'a D,
+    steps: &'a AnyStep,
+) -> AtMonitor<'a, KeptReceipt<J>, R, ServiceFlush<'a, J, C, K, R, D>, AnyStep> {
+    AtMonitor {
+        rt,
+        monitor: &service.monitor,
+        flusher: flusher(rt, alloc, service, outside),
+        steps,
+        receipt: None,
+    }
+}
+
 /// Waits until all that was accepted before is kept.
 pub fn keep_all<
     J: Running,
@@ -129,12 +141,6 @@ pub fn keep_all<
     let Some(seat) = seat_for(rt, alloc, service, &gate, Role::Admin) else {
         return Ok(());
     };
-    let mut keeping = AtMonitor {
-        rt,
-        monitor: &service.monitor,
-        flusher: flusher(rt, alloc, service, outside),
-        steps: &AnyStep,
-        receipt: None,
-    };
-    keeping.await_kept(&seat)
+    let mut at_monitor = keeping(rt, alloc, service, outside, &AnyStep);
+    at_monitor.await_kept(&seat)
 }
