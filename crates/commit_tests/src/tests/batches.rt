@@ -6,6 +6,7 @@ use group_commit::NotKept;
 use rpc::push_request;
 use s4_types::{AdminRequest, Moment, Refusal, Reply, Request};
 use serving::{Backend, MemorySink, MemorySource, Ticking};
+use std::alloc::Global;
 use std::test::Fail;
 
 /// A backend that refuses all, and counts it.
@@ -52,6 +53,32 @@ impl Keeping<Refusing> for Counting {
     }
 }
 
+/// What came of a session.
+#[derive(Drop)]
+struct Came {
+    end: BatchEnd,
+    keeping: Counting,
+    sink: MemorySink,
+}
+
+/// Serves a session whose input comes in pieces of at most this many bytes, or 1.
+fn serve_counted(alloc: Global, frames: &[u8], piece: usize, fails: bool) -> Came {
+    let mut source = MemorySource::new(frames, piece.max(1));
+    let mut sink = MemorySink::new(alloc);
+    let mut backend = Refusing { asked: 0 };
+    let mut clock = Ticking::new(Moment::new(0), 1);
+    let mut keeping = Counting::new(fails);
+    let end = serve_batch(
+        alloc,
+        &mut source,
+        &mut sink,
+        &mut backend,
+        &mut clock,
+        &mut keeping,
+    );
+    Came { end, keeping, sink }
+}
+
 /// The bytes of a refusal: its length, 0 for refused, and its number.
 const REFUSED_BYTES: usize = 6;
 
@@ -63,23 +90,11 @@ fn a_piece_is_waited_for_once(rt: HostRuntime) -> Result<(), Fail> {
         assert!(rt; push_request(&mut frames, &request).is_ok());
     }
     for (piece, waits) in [(frames.len(), 1), (1, 3)] {
-        let mut source = MemorySource::new(frames.as_slice(), piece.max(1));
-        let mut sink = MemorySink::new(rt.alloc());
-        let mut backend = Refusing { asked: 0 };
-        let mut clock = Ticking::new(Moment::new(0), 1);
-        let mut keeping = Counting::new(false);
-        let end = serve_batch(
-            rt.alloc(),
-            &mut source,
-            &mut sink,
-            &mut backend,
-            &mut clock,
-            &mut keeping,
-        );
-        assert_eq!(rt; end, BatchEnd::Ended);
-        assert_eq!(rt; keeping.waits, waits);
-        assert_eq!(rt; keeping.asked, 3);
-        assert_eq!(rt; sink.as_slice().len(), 3 * REFUSED_BYTES);
+        let came = serve_counted(rt.alloc(), frames.as_slice(), piece, false);
+        assert_eq!(rt; came.end, BatchEnd::Ended);
+        assert_eq!(rt; came.keeping.waits, waits);
+        assert_eq!(rt; came.keeping.asked, 3);
+        assert_eq!(rt; came.sink.as_slice().len(), 3 * REFUSED_BYTES);
     }
     Ok(())
 }
@@ -89,21 +104,9 @@ fn nothing_goes_out_that_is_not_kept(rt: HostRuntime) -> Result<(), Fail> {
     let mut frames = Vec::new(rt.alloc());
     let request = Request::Control(AdminRequest::SetWindow { window: 7 });
     assert!(rt; push_request(&mut frames, &request).is_ok());
-    let mut source = MemorySource::new(frames.as_slice(), 64);
-    let mut sink = MemorySink::new(rt.alloc());
-    let mut backend = Refusing { asked: 0 };
-    let mut clock = Ticking::new(Moment::new(0), 1);
-    let mut keeping = Counting::new(true);
-    let end = serve_batch(
-        rt.alloc(),
-        &mut source,
-        &mut sink,
-        &mut backend,
-        &mut clock,
-        &mut keeping,
-    );
-    assert_eq!(rt; end, BatchEnd::NotKept);
-    assert_eq!(rt; keeping.asked, 1);
-    assert!(rt; sink.as_slice().is_empty());
+    let came = serve_counted(rt.alloc(), frames.as_slice(), 64, true);
+    assert_eq!(rt; came.end, BatchEnd::NotKept);
+    assert_eq!(rt; came.keeping.asked, 1);
+    assert!(rt; came.sink.as_slice().is_empty());
     Ok(())
 }
