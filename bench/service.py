@@ -36,9 +36,13 @@ class Replies(io.RawIOBase):
     def read(self, count=-1):
         found = select.poll()
         found.register(self.file, select.POLLIN)
-        if not found.poll(PATIENCE * 1000):
-            raise TimeoutError("no reply")
-        return os.read(self.file, 65_536 if count < 0 else count)
+        latest = time.monotonic() + PATIENCE
+        while found.poll(max(0, latest - time.monotonic()) * 1000):
+            try:
+                return os.read(self.file, 65_536 if count < 0 else count)
+            except BlockingIOError:
+                continue  # A poll may report what a read then finds to be nothing yet.
+        raise TimeoutError("no reply")
 
     def waits(self, seconds):
         """Whether nothing comes for so long, not even an end."""

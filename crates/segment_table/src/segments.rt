@@ -178,7 +178,12 @@ impl Segments {
         ensures ahead { rest_of self.old frame ++ places_ahead self.new ≡ places_ahead self.old }
         ensures spent { places_spent self.new ≡ places_spent self.old }
     {
-        seals::seal(&mut self.seat, frame, &self.slots[frame as usize], &mut *self.payload);
+        seals::seal(
+            &mut self.seat,
+            frame,
+            &self.slots[frame as usize],
+            &mut *self.payload,
+        );
         self.current = None;
     }
 
