@@ -1,5 +1,5 @@
 //! The path of an image among files.
-ghost use Rattle.std.specs.Prelude.{◌≡◌, ◌≢◌, ◌↔◌, IfErr, None, Some, true, is_ok};
+ghost use Rattle.std.specs.Prelude.{◌≡◌, ◌≢◌, ◌↔◌, IfErr, IfOk, None, Some, true, is_ok};
 ghost use Rattle.image_commands.specs.Crashes.{IsShort};
 
 use crate::obstacles::KeepObstacle;
@@ -69,10 +69,14 @@ fn refusal(obstacle: Obstacle, noted: &mut Option<KeepObstacle>) -> FolderError
     error_of(obstacle)
 }
 
-/// Whether a sync has ended well. Else it is noted what was in the way.
+/// Whether a sync has ended well. Else what was in the way is noted, and only then.
 fn has_lasted(synced: Result<(), Obstacle>, noted: &mut Option<KeepObstacle>) -> bool
     ensures well { result ≡ is_ok synced }
-    ensures noted { IfErr synced (λ obstacle. noted.new ≢ None) }
+    ensures unchanged { IfOk synced (λ done. noted.new ≡ noted.old) }
+    ensures failed { IfErr synced (λ obstacle. obstacle ≡ Obstacle.Other
+        → noted.new ≡ Some KeepObstacle.DiskFailed) }
+    ensures refused { IfErr synced (λ obstacle. obstacle ≢ Obstacle.Other
+        → noted.new ≡ Some (KeepObstacle.Refused obstacle)) }
 {
     match synced {
         Ok(()) => true,
