@@ -5,7 +5,6 @@ ghost use Rattle.verifier.specs.SavedFrame.{AddsFrame};
 ghost use Rattle.verifier.specs.Saved.{AddsFrames};
 
 use block_log::Block;
-use codec::laws::a_summary_has_one_encoding;
 use image_parts::push_frame;
 use s4_types::Refusal;
 use s4_types::limits::{BLOCK_BYTES, FRAME_BLOCKS};
@@ -29,7 +28,6 @@ fn push_saved<F: OverFrames>(
     ensures same { frames.new ≡ frames.old }
 {
     frames.frame_rules();
-    a_summary_has_one_encoding();
     let word = frames.saved_word(frame);
     if word % STATES == 0 {
         return push_frame(out, word, &[]);

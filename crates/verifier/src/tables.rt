@@ -16,7 +16,6 @@ ghost use Rattle.verifier.specs.Tables.{IsFrameOf, IsTableOf};
 
 use block_log::Block;
 use codec::Summary;
-use codec::laws::a_summary_has_one_encoding;
 use image_parts::{FramePart, FrameRead, ImageParts, read_frame};
 use s4_types::Refusal;
 use s4_types::limits::FRAME_BLOCKS;
@@ -67,7 +66,6 @@ fn set_used(table: &mut TableBuilder, number: u16, frame: &FramePart<'_>, summar
         ≡ slice_set table.old.slots number (slots_at table.new.slots number) }
     ensures held { (p : Place) → held_at table.new p ≡ held_at table.old p }
 {
-    a_summary_has_one_encoding();
     let blocks = frame.blocks();
     let Ok(whole) = <&[Block; FRAME_BLOCKS]>::try_from(blocks) else {
         unreachable!()

@@ -23,7 +23,6 @@ use crate::images::Image;
 use crate::objects::{Read, read_objects};
 use crate::tables::read_frames;
 use audit_log::AuditLog;
-use codec::laws::a_summary_has_one_encoding;
 use image_objects::laws::rows_that_stand_make_a_store;
 use image_parts::laws::{a_list_has_few_spans, what_no_test_refuses_is_an_image};
 use image_parts::{ImageParts, has_digest, rows_keep_rules, spans_keep_rules, split_parts};
@@ -62,7 +61,6 @@ fn read_chains(
     ensures none { IfOk result (λ found. IfNone found (ChainsStand parts.now → ⊥)) }
     ensures refusal { IfErr result (λ e. e ≡ NoMemory) }
 {
-    a_summary_has_one_encoding();
     let Some(read) = read_objects(alloc, table, parts, parts.header().clock)? else {
         return Ok(None);
     };

@@ -1,5 +1,6 @@
 use Rattle.std.proofs.Common.{subst}
 use Rattle.std.proofs.lemmas.Result.{on_ok_weaker}
+use Rattle.codec.proofs.SummaryLaws.{kept_by, block_length}
 use Rattle.segment_word.specs.Layout.{frame_at}
 use Rattle.segment_table.specs.Table.{Table, slots_at}
 use Rattle.segment_table.specs.Sealing.{IsFit, summary_of}
@@ -21,8 +22,8 @@ returns-clause-frame g c =
     let blocks = c.save_blocks.new.blocks in
     let summary = summary_of n (frame_at table.seat.frames n) (slots_at table.slots n) in
     let of : AreBlocksOf table n blocks = subst (λ (f : _). AreBlocksOf (g.F.OverFrames.table f) n blocks) c.saved_word-word.ensures.same (record { spelled = c.save_blocks.ensures.spelled; kept = c.save_blocks.ensures.kept }) in
-    let keeps = (c.a_summary_has_one_encoding.ensures.rules summary).0 of.spelled.0.0 in
+    let keeps = kept_by summary of.spelled.0.0 in
     on_ok_weaker c.push_frame-2.result
     (used_added table n c.saved_word-word.result blocks c.args.out.now.items c.push_frame-2.new.out.items fit (λ e. (c.frame_rules.ensures.part_filled n c.requires e).1) c.saved_word-word.ensures.word c.if-word-eq0.false
-    c.save_blocks.array_long (c.a_summary_has_one_encoding.ensures.bytes summary _ keeps.room) c.type_inv.out keeps of)
+    c.save_blocks.array_long (block_length summary _ keeps.room) c.type_inv.out keeps of)
     c.push_frame-2.ensures.items

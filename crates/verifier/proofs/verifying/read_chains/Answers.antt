@@ -1,4 +1,5 @@
 use Rattle.std.proofs.Common.{List, subst}
+use Rattle.codec.proofs.SummaryLaws.{one_summary}
 use Rattle.image_parts.specs.declared.headers.Header.{Header}
 use Rattle.segment_table.specs.Used.{used_at}
 use Rattle.image_objects.specs.declared.rows.ImageRow.{ImageRow}
@@ -13,7 +14,7 @@ pub returns-in_default-clause-none : goal.returns-in_default-clause-none
 returns-in_default-clause-none c =
     let parts = c.args.parts.now in
     let N : Header → Type 0 = λ h. (rows : List ImageRow) → SpellRows parts.rows rows → RowsStand (used_at c.args.table) rows h.clock → ⊥ in
-    chains_fall c.a_summary_has_one_encoding.ensures.one parts c.args.table c.requires.table (subst N c.header.ensures (rw c.in_default.is at c.in_ok-read.ensures.none))
+    chains_fall one_summary parts c.args.table c.requires.table (subst N c.header.ensures (rw c.in_default.is at c.in_ok-read.ensures.none))
 
 pub returns-clause-frames : goal.returns-clause-frames
 returns-clause-frames c =
