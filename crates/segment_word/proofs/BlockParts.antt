@@ -1,6 +1,6 @@
 -- Parts of a block's bytes: those of one word, and one part after another.
-use Rattle.std.proofs.Common.{◌≡◌, ℕ, zero, suc, ◌+◌, ◌-◌, ◌*◌, ◌/◌, ◌%◌, ◌<◌, ◌≤◌, List, [], ◌∷◌, ◌++◌, length, take, drop, slice_index, flat_map, refl, sym, ap, ◌∙◌, arith, length-take-le, length-drop, take-add, get_or-take, get_or-drop, ext_get_or}
-use Rattle.std.proofs.lemmas.List.{take-append-le, drop-append-le, drop-drop, append_assoc}
+use Rattle.std.proofs.Common.{◌≡◌, ℕ, zero, suc, ◌+◌, ◌-◌, ◌*◌, ◌/◌, ◌%◌, ◌<◌, ◌≤◌, List, [], ◌∷◌, ◌++◌, length, take, drop, slice_index, replicate, flat_map, refl, sym, ap, ◌∙◌, arith, length-take-le, length-drop, take-add, get_or-take, get_or-drop, ext_get_or}
+use Rattle.std.proofs.lemmas.List.{take-append-le, drop-append-le, drop-drop, append_assoc, take_all, take_at}
 use Rattle.std.proofs.Math.Seq.{drop-append-add, take-append-add}
 use Rattle.byteorder.specs.Endian.{big_bytes}
 use Rattle.segment_word.specs.Layout.{block_bytes}
@@ -97,3 +97,30 @@ more_added block old new all from at next behind le is_new is_all =
     ∙ append_assoc old (take (at - from) (drop from block)) (take (next - at) (drop (at - from) (drop from block)))
     ∙ ap (λ (l : List ℕ). old ++ l) (sym (take-add (at - from) (next - at) (drop from block)))
     ∙ ap (λ (m : ℕ). old ++ take m (drop from block)) (omega (arith, behind, le))
+
+-- 512 bytes were made room for, and written where the zeros were
+pub filled : (old zeroed out post rest : List ℕ) (start size all count : ℕ) → start ≡ length old → size ≡ start + 512 → all ≡ size → zeroed ≡ take size old ++ replicate count 0 → length out ≡ 512
+    → take all ((take start zeroed ++ (out ++ post)) ++ rest) ≡ old ++ out
+filled old zeroed out post rest start size all count is_start is_size is_all is_zeroed full =
+    let front : take start zeroed ≡ old =
+    ap (take start) is_zeroed
+    ∙ ap (λ (l : List ℕ). take start (l ++ replicate count 0)) (take_all size old (omega (arith, is_start, is_size)))
+    ∙ take_at old (replicate count 0) start (sym is_start) in
+    ap (λ (l : List ℕ). take all ((l ++ (out ++ post)) ++ rest)) front
+    ∙ ap (take all) (append_assoc old (out ++ post) rest)
+    ∙ ap (λ (n : ℕ). take n (old ++ ((out ++ post) ++ rest))) (let e : all ≡ length old + 512 = omega (arith, is_start, is_size, is_all) in e)
+    ∙ take-append-add old ((out ++ post) ++ rest) 512
+    ∙ ap (λ (l : List ℕ). old ++ take 512 l) (append_assoc out post rest)
+    ∙ ap (λ (l : List ℕ). old ++ l) (take_at out (post ++ rest) 512 full)
+
+-- all 512 bytes of a block were added
+pub all_added : (block old new : List ℕ) → length block ≡ 512 → new ≡ old ++ block → new ≡ old ++ take (512 - 0) (drop 0 block)
+all_added block old new full is_new = is_new ∙ ap (λ (l : List ℕ). old ++ l) (sym (take_all 512 block (omega (arith, full))))
+
+-- a range of 512 bytes of a block is all of it
+pub whole_range : (block old new : List ℕ) (from to : ℕ) → to ≤ 512 → to - from ≡ 512 → new ≡ old ++ take (512 - 0) (drop 0 block) → new ≡ old ++ take (to - from) (drop from block)
+whole_range block old new from to high all is_new =
+    let none : from ≡ 0 = omega (arith, high, all) in
+    is_new
+    ∙ ap (λ (n : ℕ). old ++ take n (drop 0 block)) (sym all)
+    ∙ ap (λ (n : ℕ). old ++ take (to - from) (drop n block)) (sym none)

@@ -1,6 +1,6 @@
 -- Blocks as 64 words: what is in a frame after some of them were written, and bytes against words.
-use Rattle.std.proofs.Common.{◌≡◌, ℕ, zero, suc, ◌+◌, ◌*◌, ◌<◌, ◌≤◌, List, [], ◌∷◌, ◌++◌, set, length, take, drop, slice_index, flat_map, refl, sym, ap, ◌∙◌, arith, get_or-set_same, set-set, length-append, length-take, length-drop, length-take-le, drop-drop, get_or-take, get_or-drop, ext_get_or}
-use Rattle.std.proofs.lemmas.List.{take_more, take_all}
+use Rattle.std.proofs.Common.{◌≡◌, ℕ, zero, suc, ◌+◌, ◌*◌, ◌<◌, ◌≤◌, List, [], ◌∷◌, ◌++◌, set, length, take, drop, slice_index, flat_map, refl, sym, ap, ◌∙◌, arith, get_or-set_same, set-set, length-append, length-take, length-drop, length-take-le, take-add, drop-drop, get_or-take, get_or-drop, ext_get_or}
+use Rattle.std.proofs.lemmas.List.{take_all, take_at}
 use Rattle.std.proofs.lemmas.Grind.{flat_map-append}
 use Rattle.std.proofs.Math.Seq.{take-append-add}
 use borrow.Rule.Slice.PartMut.{mid_of, post_of, put_mid, same_len_mid}
@@ -9,6 +9,7 @@ use Rattle.byteorder.specs.Endian.{big_bytes, big_number}
 use Rattle.segment_word.specs.Frames.{Frame, View, no_frame}
 use Rattle.segment_word.specs.Layout.{frame_at, block_bytes, first_words, block_words, with_words}
 use Rattle.segment_word.specs.Steps.{with_frame, with_word}
+use Rattle.segment_word.specs.private.Pins.{HasWords}
 
 -- nothing was written yet
 pub none_written : (v : View) (f at : ℕ) (words : List ℕ) → v ≡ with_frame v f (with_words (frame_at v.frames f) at words 0)
@@ -76,32 +77,52 @@ unfolding block_words
 word_at bytes i x n h full size is =
     is ∙ ap (big_number 8) (take_all n (drop (8 * i) bytes) (omega (arith, length-drop (8 * i) bytes, full, size))) ∙ sym (first_words-at 64 i bytes h)
 
--- the bytes of one word more were written after those of the words in front of it
-pub word_placed : (contents bytes ys : List ℕ) (b i x n : ℕ) → length contents ≡ 1024 → b < 16 → i < 64 → length bytes ≡ 512 → n + 8 * i ≡ 512 → x ≡ slice_index contents (64 * b + i)
-    → ys ≡ big_bytes 8 x ++ drop 8 (mid_of (8 * i) n bytes)
-    → take (8 * i) bytes ≡ flat_map (big_bytes 8) (take i (drop (64 * b) contents))
-    → (length (put_mid (8 * i) n bytes ys) ≡ 512) × (take (8 * (i + 1)) (put_mid (8 * i) n bytes ys) ≡ flat_map (big_bytes 8) (take (i + 1) (drop (64 * b) contents)))
-word_placed contents bytes ys b i x n long low inside full size is written sofar =
-    let words : List ℕ = drop (64 * b) contents in
-    let old : List ℕ = mid_of (8 * i) n bytes in
+length-words : (words : List ℕ) → length (flat_map (big_bytes 8) words) ≡ 8 * length words
+length-words [] = refl
+length-words (x ∷ words) =
     let eight : length (big_bytes 8 x) ≡ 8 = refl in
-    let part : length (mid_of (8 * i) n bytes) ≡ n = length-take-le n (drop (8 * i) bytes) (omega (arith, length-drop (8 * i) bytes, full, size)) in
-    let same : length ys ≡ length (mid_of (8 * i) n bytes) =
-    ap length written ∙ length-append (big_bytes 8 x) (drop 8 old) ∙ omega (arith, length-drop 8 (mid_of (8 * i) n bytes), eight, part, size, inside) in
-    let front : length (take (8 * i) bytes) ≡ 8 * i = length-take-le (8 * i) bytes (omega (arith, full, inside)) in
-    let few : i < length (drop (64 * b) contents) = omega (arith, length-drop (64 * b) contents) in (
-      same_len_mid (8 * i) n bytes ys same ∙ full,
-      ap (λ (l : List ℕ). take (8 * (i + 1)) (put_mid (8 * i) n bytes l)) written
-          ∙ ap (λ (m : ℕ). take m (take (8 * i) bytes ++ ((big_bytes 8 x ++ drop 8 old) ++ post_of (8 * i) n bytes))) (let e : 8 * (i + 1) ≡ length (take (8 * i) bytes) + 8 = omega (arith, front) in e)
-          ∙ take-append-add (take (8 * i) bytes) ((big_bytes 8 x ++ drop 8 old) ++ post_of (8 * i) n bytes) 8
-          ∙ ap (λ (l : List ℕ). l ++ big_bytes 8 x) sofar
-          ∙ ap (λ (y : ℕ). flat_map (big_bytes 8) (take i words) ++ big_bytes 8 y) (is ∙ sym (get_or-drop (64 * b) contents i 0))
-          ∙ sym (flat_map-append (big_bytes 8) (take i words) (slice_index words i ∷ []))
-          ∙ ap (flat_map (big_bytes 8)) (sym (take_more words i 0 few)),
-    )
+    length-append (big_bytes 8 x) (flat_map (big_bytes 8) words) ∙ omega (arith, eight, length-words words)
+
+-- eight words of a block, found one by one
+words_found : (contents found : List ℕ) (b index : ℕ) → b < 16 → index ≤ 56 → length found ≡ 8 → HasWords contents b index found → found ≡ take 8 (drop index (drop (64 * b) contents))
+words_found contents found b index low inside full has =
+    let left : 8 ≤ length (drop index (drop (64 * b) contents)) = omega (arith, length-drop index (drop (64 * b) contents), length-drop (64 * b) contents, has.0, low, inside) in
+    ext_get_or 0 found (take 8 (drop index (drop (64 * b) contents))) (full ∙ sym (length-take-le 8 (drop index (drop (64 * b) contents)) left)) (λ k h.
+    let few : k < 8 = omega (arith, h, full) in
+    has.1 k few
+    ∙ ap (λ (j : ℕ). slice_index contents j) (let e : 64 * b + index + k ≡ 64 * b + (index + k) = omega arith in e)
+    ∙ sym (get_or-drop (64 * b) contents (index + k) 0)
+    ∙ sym (get_or-drop index (drop (64 * b) contents) k 0)
+    ∙ sym (get_or-take 8 (drop index (drop (64 * b) contents)) k 0 few))
+
+-- the bytes of eight words that were written among 512 leave as many
+pub run_fits : (bytes ys found : List ℕ) (i n : ℕ) → i < 8 → length bytes ≡ 512 → n ≡ 64 → length found ≡ 8 → ys ≡ flat_map (big_bytes 8) found → length (put_mid (64 * i) n bytes ys) ≡ 512
+run_fits bytes ys found i n inside full size eight written =
+    let part : length (mid_of (64 * i) n bytes) ≡ n = length-take-le n (drop (64 * i) bytes) (omega (arith, length-drop (64 * i) bytes, full, size, inside)) in
+    let same : length ys ≡ length (mid_of (64 * i) n bytes) = ap length written ∙ omega (arith, length-words found, eight, part, size) in
+    same_len_mid (64 * i) n bytes ys same ∙ full
+
+-- the bytes of eight words more were written after those of the words in front of them
+pub run_placed : (contents bytes ys found : List ℕ) (b i n : ℕ) → b < 16 → i < 8 → length bytes ≡ 512 → length found ≡ 8 → HasWords contents b (8 * i) found → ys ≡ flat_map (big_bytes 8) found
+    → take (64 * i) bytes ≡ flat_map (big_bytes 8) (take (8 * i) (drop (64 * b) contents))
+    → take (64 * (i + 1)) (put_mid (64 * i) n bytes ys) ≡ flat_map (big_bytes 8) (take (8 * (i + 1)) (drop (64 * b) contents))
+run_placed contents bytes ys found b i n low inside full eight has written sofar =
+    let words : List ℕ = drop (64 * b) contents in
+    let post : List ℕ = post_of (64 * i) n bytes in
+    let front : length (take (64 * i) bytes) ≡ 64 * i = length-take-le (64 * i) bytes (omega (arith, full, inside)) in
+    let many : length (flat_map (big_bytes 8) found) ≡ 64 = omega (arith, length-words found, eight) in
+    ap (λ (l : List ℕ). take (64 * (i + 1)) (take (64 * i) bytes ++ (l ++ post))) written
+    ∙ ap (λ (m : ℕ). take m (take (64 * i) bytes ++ (flat_map (big_bytes 8) found ++ post))) (let e : 64 * (i + 1) ≡ length (take (64 * i) bytes) + 64 = omega (arith, front) in e)
+    ∙ take-append-add (take (64 * i) bytes) (flat_map (big_bytes 8) found ++ post) 64
+    ∙ ap (λ (l : List ℕ). take (64 * i) bytes ++ l) (take_at (flat_map (big_bytes 8) found) post 64 many)
+    ∙ ap (λ (l : List ℕ). l ++ flat_map (big_bytes 8) found) sofar
+    ∙ ap (λ (l : List ℕ). flat_map (big_bytes 8) (take (8 * i) words) ++ flat_map (big_bytes 8) l) (words_found contents found b (8 * i) low (omega arith) eight has)
+    ∙ sym (flat_map-append (big_bytes 8) (take (8 * i) words) (take 8 (drop (8 * i) words)))
+    ∙ ap (flat_map (big_bytes 8)) (sym (take-add (8 * i) 8 words))
+    ∙ ap (λ (m : ℕ). flat_map (big_bytes 8) (take m words)) (let e : 8 * i + 8 ≡ 8 * (i + 1) = omega arith in e)
 
 -- once all were written the bytes are the block's
-pub all_placed : (contents bytes : List ℕ) (b i : ℕ) → i ≡ 64 → length bytes ≡ 512 → take (8 * i) bytes ≡ flat_map (big_bytes 8) (take i (drop (64 * b) contents)) → bytes ≡ block_bytes contents b
+pub all_placed : (contents bytes : List ℕ) (b i : ℕ) → i ≡ 8 → length bytes ≡ 512 → take (64 * i) bytes ≡ flat_map (big_bytes 8) (take (8 * i) (drop (64 * b) contents)) → bytes ≡ block_bytes contents b
 unfolding block_bytes
 all_placed contents bytes b i all full placed =
-    sym (take_all (8 * i) bytes (omega arith)) ∙ placed ∙ ap (λ (k : ℕ). flat_map (big_bytes 8) (take k (drop (64 * b) contents))) all
+    sym (take_all (64 * i) bytes (omega (arith, all, full))) ∙ placed ∙ ap (λ (k : ℕ). flat_map (big_bytes 8) (take (8 * k) (drop (64 * b) contents))) all

@@ -10,12 +10,13 @@ ghost use Rattle.segment_word.specs.Frames.Phase.{Open};
 ghost use Rattle.segment_word.specs.Layout.{frame_at, block_bytes, block_words, with_block};
 ghost use Rattle.segment_word.specs.Counting.{pins_in};
 ghost use Rattle.segment_word.specs.Steps.{with_frame, IsSameSeat};
-ghost use Rattle.segment_word.specs.private.Pins.{GrowsByBlock, GrowsByPinned};
+ghost use Rattle.segment_word.specs.private.Pins.{GrowsByBlock, GrowsByPinned, HasWords};
 
 use crate::layout::{BLOCK_WORDS, FRAME_WORDS, WORD_BYTES};
 use crate::steps::{Place, Words, look, read, store};
 use byteorder::{BigEndian, ByteOrder};
 use s4_types::Refusal;
+use s4_types::limits::BLOCK_BYTES;
 
 /// The bytes that words give.
 pub fn bytes_of(words: &[u64; 64]) -> [u8; 512]
@@ -36,21 +37,59 @@ pub fn words_of(bytes: &[u8; 512]) -> [u64; 64]
     words
 }
 
-/// These bytes become those of a block, as the drive's seat finds it.
-pub fn load_into(words: &Words, seat: &mut Place, frame: usize, block: usize, bytes: &mut [u8; 512])
+/// Words that are moved at once where this many are whole: they stay in registers until then.
+const RUN_WORDS: usize = 8;
+
+/// Bytes of this many words.
+const RUN_BYTES: usize = 64;
+
+/// How often a block has this many words.
+const BLOCK_RUNS: usize = 8;
+
+/// Eight words of a block from that of an index on, as the drive's seat finds them.
+fn load_words(
+    words: &Words,
+    seat: &mut Place,
+    frame: usize,
+    block: usize,
+    index: usize,
+) -> [u64; RUN_WORDS]
     requires table { seat.old.table_id ≡ words.now.table_id }
     requires drive { seat.old.id ≡ 0 }
     requires inside { (frame < length seat.old.me.0.frames) × (block < 16) }
     requires sized { (words.now.table_id.words ≡ 1025 * length seat.old.me.0.frames)
         × (length seat.old.me.0.frames ≤ 1024) }
+    requires index { index ≤ 56 }
     ensures seat { IsSameSeat seat.old seat.new }
     ensures view { seat.new.me.0 ≡ seat.old.me.0 }
+    ensures words { HasWords (frame_at seat.old.me.0.frames frame).contents block index result }
+{
+    let first = FRAME_WORDS * frame + 1 + BLOCK_WORDS * block + index;
+    let mut found = [0; RUN_WORDS];
+    for i in 0..RUN_WORDS {
+        found[i] = look(words, seat, first + i);
+    }
+    found
+}
+
+/// These bytes become those of a block, as the drive's seat finds it. Eight words at a time go to
+/// their place among them.
+pub fn load_into(words: &Words, seat: &mut Place, frame: usize, block: usize, bytes: &mut [u8])
+    requires table { seat.old.table_id ≡ words.now.table_id }
+    requires drive { seat.old.id ≡ 0 }
+    requires inside { (frame < length seat.old.me.0.frames) × (block < 16) }
+    requires sized { (words.now.table_id.words ≡ 1025 * length seat.old.me.0.frames)
+        × (length seat.old.me.0.frames ≤ 1024) }
+    requires room { length bytes.old ≡ 512 }
+    ensures seat { IsSameSeat seat.old seat.new }
+    ensures view { seat.new.me.0 ≡ seat.old.me.0 }
+    ensures full { length bytes.new ≡ 512 }
     ensures bytes { bytes.new ≡ block_bytes (frame_at seat.old.me.0.frames frame).contents block }
 {
-    let first = FRAME_WORDS * frame + 1 + BLOCK_WORDS * block;
-    for i in 0..BLOCK_WORDS {
-        let word = look(words, seat, first + i);
-        BigEndian::write_u64(&mut bytes[WORD_BYTES * i..], word);
+    for i in 0..BLOCK_RUNS {
+        let found = load_words(words, seat, frame, block, RUN_WORDS * i);
+        let start = RUN_BYTES * i;
+        BigEndian::write_u64_into(&found, &mut bytes[start..start + RUN_BYTES]);
     }
 }
 
@@ -70,6 +109,53 @@ pub fn load_block(words: &Words, seat: &mut Place, frame: usize, block: usize) -
     bytes
 }
 
+/// Eight words of a block from that of an index on, of a frame that the seat of a pin counts on.
+fn read_words(
+    words: &Words,
+    seat: &mut Place,
+    frame: usize,
+    block: usize,
+    index: usize,
+) -> [u64; RUN_WORDS]
+    requires table { seat.old.table_id ≡ words.now.table_id }
+    requires inside { (1025 * frame + 1024 < words.now.table_id.words)
+        × (words.now.table_id.words ≤ 1049600) × (block < 16) }
+    requires index { index ≤ 56 }
+    ensures seat { IsSameSeat seat.old seat.new }
+    ensures view { seat.new.me.0 ≡ seat.old.me.0 }
+    ensures words { (i : ℕ) (p : Pinned)
+        → get_elem? seat.old.me.0.pins i ≡ some p → p.number ≡ frame
+        → HasWords p.contents block index result }
+{
+    let first = FRAME_WORDS * frame + 1 + BLOCK_WORDS * block + index;
+    let mut found = [0; RUN_WORDS];
+    for i in 0..RUN_WORDS {
+        found[i] = read(words, seat, first + i);
+    }
+    found
+}
+
+/// These bytes become those of a block of a frame that the seat of a pin counts on, as `load_into`
+/// does it.
+fn read_into(words: &Words, seat: &mut Place, frame: usize, block: usize, bytes: &mut [u8])
+    requires table { seat.old.table_id ≡ words.now.table_id }
+    requires inside { (1025 * frame + 1024 < words.now.table_id.words)
+        × (words.now.table_id.words ≤ 1049600) × (block < 16) }
+    requires room { length bytes.old ≡ 512 }
+    ensures seat { IsSameSeat seat.old seat.new }
+    ensures view { seat.new.me.0 ≡ seat.old.me.0 }
+    ensures full { length bytes.new ≡ 512 }
+    ensures bytes { (i : ℕ) (p : Pinned)
+        → get_elem? seat.old.me.0.pins i ≡ some p → p.number ≡ frame
+        → bytes.new ≡ block_bytes p.contents block }
+{
+    for i in 0..BLOCK_RUNS {
+        let found = read_words(words, seat, frame, block, RUN_WORDS * i);
+        let start = RUN_BYTES * i;
+        BigEndian::write_u64_into(&found, &mut bytes[start..start + RUN_BYTES]);
+    }
+}
+
 /// A block of a frame that the seat of a pin counts on.
 pub fn read_block(words: &Words, seat: &mut Place, frame: usize, block: usize) -> [u8; 512]
     requires table { seat.old.table_id ≡ words.now.table_id }
@@ -81,12 +167,9 @@ pub fn read_block(words: &Words, seat: &mut Place, frame: usize, block: usize) -
         → get_elem? seat.old.me.0.pins i ≡ some p → p.number ≡ frame
         → result ≡ block_bytes p.contents block }
 {
-    let first = FRAME_WORDS * frame + 1 + BLOCK_WORDS * block;
-    let mut found = [0; 64];
-    for i in 0..BLOCK_WORDS {
-        found[i] = read(words, seat, first + i);
-    }
-    bytes_of(&found)
+    let mut bytes = [0; 512];
+    read_into(words, seat, frame, block, &mut bytes);
+    bytes
 }
 
 /// Adds the bytes of a word from one place on and up to another. A whole word is the common case.
@@ -106,13 +189,6 @@ fn append_word(word: u64, from: usize, to: usize, into: &mut Vec<u8>) -> Result<
     }
     Ok(())
 }
-
-/// Words that are added at once where this many are whole: their bytes stay in registers until
-/// then.
-const RUN_WORDS: usize = 8;
-
-/// Bytes of this many words.
-const RUN_BYTES: usize = 64;
 
 /// Adds the bytes of eight words.
 fn append_words(words: &[u64; RUN_WORDS], into: &mut Vec<u8>) -> Result<(), Refusal>
@@ -149,11 +225,7 @@ fn append_run(
     ensures added { OnOk result (length into.new.items ≡ length into.old.items + 64) }
     ensures refusal { IfErr result (λ e. e ≡ NoMemory) }
 {
-    let first = FRAME_WORDS * frame + 1 + BLOCK_WORDS * block + index;
-    let mut found = [0; RUN_WORDS];
-    for i in 0..RUN_WORDS {
-        found[i] = read(words, seat, first + i);
-    }
+    let found = read_words(words, seat, frame, block, index);
     append_words(&found, into)?;
     Ok(())
 }
@@ -198,6 +270,31 @@ fn append_next(
     Ok(at + (end - start))
 }
 
+/// Adds all bytes of a block of a frame that the seat of a pin counts on. They are written where
+/// they are to be.
+fn append_block(
+    words: &Words,
+    seat: &mut Place,
+    frame: usize,
+    block: usize,
+    into: &mut Vec<u8>,
+) -> Result<(), Refusal>
+    requires table { seat.old.table_id ≡ words.now.table_id }
+    requires inside { (1025 * frame + 1024 < words.now.table_id.words)
+        × (words.now.table_id.words ≤ 1049600) × (block < 16) }
+    ensures seat { IsSameSeat seat.old seat.new }
+    ensures view { seat.new.me.0 ≡ seat.old.me.0 }
+    ensures bytes { OnOk result
+        (GrowsByPinned seat.old.me.0.pins frame block 0 512 into.old.items into.new.items) }
+    ensures added { OnOk result (length into.new.items ≡ length into.old.items + 512) }
+    ensures refusal { IfErr result (λ e. e ≡ NoMemory) }
+{
+    let start = into.len();
+    into.resize(start + BLOCK_BYTES, 0)?;
+    read_into(words, seat, frame, block, &mut into[start..]);
+    Ok(())
+}
+
 /// Adds the bytes of a block from one place on and up to another, of a frame that the seat of a pin
 /// counts on.
 pub fn append_bytes(
@@ -220,6 +317,9 @@ pub fn append_bytes(
     ensures added { OnOk result (length into.new.items ≡ length into.old.items + (to - from)) }
     ensures refusal { IfErr result (λ e. e ≡ NoMemory) }
 {
+    if to - from == BLOCK_BYTES {
+        return append_block(words, seat, frame, block, into);
+    }
     let mut at = from;
     while at < to {
         at = append_next(words, seat, frame, block, at, to, into)?;
@@ -251,11 +351,7 @@ fn load_run(
     ensures added { OnOk result (length into.new.items ≡ length into.old.items + 64) }
     ensures refusal { IfErr result (λ e. e ≡ NoMemory) }
 {
-    let first = FRAME_WORDS * frame + 1 + BLOCK_WORDS * block + index;
-    let mut found = [0; RUN_WORDS];
-    for i in 0..RUN_WORDS {
-        found[i] = look(words, seat, first + i);
-    }
+    let found = load_words(words, seat, frame, block, index);
     append_words(&found, into)?;
     Ok(())
 }
@@ -302,6 +398,34 @@ fn load_next(
     Ok(at + (end - start))
 }
 
+/// Adds all bytes of a block, as the drive's seat finds them. They are written where they are to
+/// be.
+fn load_whole(
+    words: &Words,
+    seat: &mut Place,
+    frame: usize,
+    block: usize,
+    into: &mut Vec<u8>,
+) -> Result<(), Refusal>
+    requires table { seat.old.table_id ≡ words.now.table_id }
+    requires drive { seat.old.id ≡ 0 }
+    requires inside { (frame < length seat.old.me.0.frames) × (block < 16) }
+    requires sized { (words.now.table_id.words ≡ 1025 * length seat.old.me.0.frames)
+        × (length seat.old.me.0.frames ≤ 1024) }
+    ensures seat { IsSameSeat seat.old seat.new }
+    ensures view { seat.new.me.0 ≡ seat.old.me.0 }
+    ensures bytes { OnOk result
+        (GrowsByBlock (frame_at seat.old.me.0.frames frame).contents block 0 512 into.old.items
+        into.new.items) }
+    ensures added { OnOk result (length into.new.items ≡ length into.old.items + 512) }
+    ensures refusal { IfErr result (λ e. e ≡ NoMemory) }
+{
+    let start = into.len();
+    into.resize(start + BLOCK_BYTES, 0)?;
+    load_into(words, seat, frame, block, &mut into[start..]);
+    Ok(())
+}
+
 /// Adds the bytes of a block from one place on and up to another, as the drive's seat finds them.
 pub fn load_bytes(
     words: &Words,
@@ -326,6 +450,9 @@ pub fn load_bytes(
     ensures added { OnOk result (length into.new.items ≡ length into.old.items + (to - from)) }
     ensures refusal { IfErr result (λ e. e ≡ NoMemory) }
 {
+    if to - from == BLOCK_BYTES {
+        return load_whole(words, seat, frame, block, into);
+    }
     let mut next = from;
     while next < to {
         next = load_next(words, seat, frame, block, next, to, into)?;

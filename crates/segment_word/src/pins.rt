@@ -135,8 +135,8 @@ impl Pin {
     }
 
     /// Adds the bytes `from..to` of the 512 of block `block`, from 0 to 15, of a frame that it
-    /// counts on, as they were when the frame was pinned. Eight words at a time are added where
-    /// this many are whole, and else one.
+    /// counts on, as they were when the frame was pinned. A whole block is added at once; of a part
+    /// eight words at a time where this many are whole, and else one.
     ///
     /// NoMemory alone, where `into` has no room and more is refused; it may have some of the bytes
     /// then. Where it has room, nothing is asked for.

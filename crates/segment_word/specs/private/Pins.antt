@@ -1,5 +1,5 @@
 -- What holds of a pin between calls, and what reading adds. No public clause cites this file.
-use Rattle.std.specs.Prelude.{◌≡◌, ℕ, ◌-◌, ◌<◌, List, ◌++◌, take, drop}
+use Rattle.std.specs.Prelude.{◌≡◌, ℕ, ◌+◌, ◌-◌, ◌*◌, ◌<◌, List, ◌++◌, length, slice_index, take, drop}
 use mathlib.Core.Option.{some}
 use lib.ListN.{get_elem?}
 use Rattle.atomic_table.specs.Seated.{TableId}
@@ -23,3 +23,7 @@ GrowsByBlock contents block from to old new = new ≡ old ++ take (to - from) (d
 abbrev pub GrowsByPinned : List Pinned → ℕ → ℕ → ℕ → ℕ → List ℕ → List ℕ → Type 0
 GrowsByPinned pins frame block from to old new = (i : ℕ) (p : Pinned) → get_elem? pins i ≡ some p → p.number ≡ frame
     → GrowsByBlock p.contents block from to old new
+
+-- Eight words are those of a block of these contents from that of an index on.
+abbrev pub HasWords : List ℕ → ℕ → ℕ → List ℕ → Type 0
+HasWords contents block index found = (length contents ≡ 1024) × ((k : ℕ) → k < 8 → slice_index found k ≡ slice_index contents (64 * block + index + k))

@@ -1,8 +1,14 @@
-use Rattle.std.proofs.Common.{◌∙◌, ◌-◌, ◌++◌, take, drop, arith, rules, ap}
+use Rattle.std.proofs.Common.{List, ℕ, ◌∙◌, ◌-◌, ◌++◌, take, drop, arith, rules, ap}
+use Rattle.std.proofs.lemmas.Result.{on_ok_weaker}
 use Rattle.segment_word.specs.Frames.{View}
 use Rattle.segment_word.specs.Layout.{frame_at, block_bytes}
-use Rattle.segment_word.proofs.BlockParts.{more_added}
+use Rattle.segment_word.proofs.BlockParts.{more_added, whole_range}
 use Rattle.segment_word.proofs.blocks.load_bytes.Goals as goal
+
+pub returns-then-to-from-eq-BLOCK_BYTES-clause-bytes : goal.returns-then-to-from-eq-BLOCK_BYTES-clause-bytes
+returns-then-to-from-eq-BLOCK_BYTES-clause-bytes c =
+    let contents : List ℕ = (frame_at c.args.seat.now.me.0.frames c.args.frame).contents in
+    on_ok_weaker c.load_whole.result (whole_range (block_bytes contents c.args.block) c.args.into.now.items _ c.args.from c.args.to c.requires.range.1 (omega (arith, c.if-to-from-eq-BLOCK_BYTES.true))) c.load_whole.ensures.bytes
 
 pub loop-next-preserved : goal.loop-next-preserved
 loop-next-preserved c =

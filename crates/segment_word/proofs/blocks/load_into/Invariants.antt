@@ -1,4 +1,4 @@
-use Rattle.std.proofs.Common.{◌≡◌, ℕ, ◌*◌, ◌<◌, length, take, drop, flat_map}
+use Rattle.std.proofs.Common.{◌≡◌, ◌*◌, length, take, drop, flat_map}
 use Rattle.byteorder.specs.Endian.{big_bytes}
 use Rattle.segment_word.specs.Layout.{frame_at}
 use Rattle.segment_word.specs.Steps.{IsSameSeat}
@@ -9,5 +9,5 @@ invariant-loop-i l = record {
   seat : IsSameSeat l.initial.seat l.seat;
   view : l.seat.me.0 ≡ l.initial.seat.me.0;
   full : length l.bytes ≡ 512;
-  done : take (8 * l.i) l.bytes ≡ flat_map (big_bytes 8) (take l.i (drop (64 * l.block) (frame_at l.initial.seat.me.0.frames l.frame).contents));
+  done : take (64 * l.i) l.bytes ≡ flat_map (big_bytes 8) (take (8 * l.i) (drop (64 * l.block) (frame_at l.initial.seat.me.0.frames l.frame).contents));
 }

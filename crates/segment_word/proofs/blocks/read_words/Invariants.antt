@@ -3,7 +3,7 @@ use mathlib.Core.Option.{some}
 use lib.ListN.{get_elem?}
 use Rattle.segment_word.specs.Frames.{Pinned}
 use Rattle.segment_word.specs.Steps.{IsSameSeat}
-use Rattle.segment_word.proofs.blocks.append_run.Given as goal
+use Rattle.segment_word.proofs.blocks.read_words.Given as goal
 
 abbrev pub invariant-loop-i : goal.invariant-loop-i
 invariant-loop-i l = record {

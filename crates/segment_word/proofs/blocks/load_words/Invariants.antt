@@ -1,7 +1,7 @@
 use Rattle.std.proofs.Common.{◌≡◌, ℕ, ◌+◌, ◌*◌, ◌<◌, length, slice_index}
 use Rattle.segment_word.specs.Layout.{frame_at}
 use Rattle.segment_word.specs.Steps.{IsSameSeat}
-use Rattle.segment_word.proofs.blocks.load_run.Given as goal
+use Rattle.segment_word.proofs.blocks.load_words.Given as goal
 
 abbrev pub invariant-loop-i : goal.invariant-loop-i
 invariant-loop-i l = record {
