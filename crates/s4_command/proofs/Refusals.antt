@@ -1,14 +1,8 @@
 -- What a refused line says of it.
-use Rattle.std.proofs.Common.{Result, Ok, Err, IfErr}
 use Rattle.clap.specs.Kinds.{Kinds}
 use Rattle.s4_command.specs.CommandLine.{IsAskedAmong, IsOwn, IsRefusedBy}
 use Rattle.s4_command.specs.declared.NoCommand.{NoCommand}
 use Rattle.s4_command.specs.declared.NoCommand.TheVariants as refusal
-
--- what holds of a failure holds of it under one premise more
-pub under_premise : {A E : Type 0} (Q T : Type 0) → (r : Result A E) (P : E → Type 0) → IfErr r (λ e. P e → Q) → IfErr r (λ e. P e → T → Q)
-under_premise Q T (Ok a) P q = tt
-under_premise Q T (Err e) P q = λ p _. q p
 
 -- a refusal of the parser is one that was asked for only where that is among its kinds
 pub among_refused : (kinds : Kinds) (e : NoCommand) → IsRefusedBy kinds e → IsAskedAmong kinds e

@@ -13,7 +13,7 @@ use Rattle.s4_types.specs.declared.audit_rows.AuditKind.{AuditKind}
 use Rattle.s4_types.specs.declared.audit_rows.AuditKind.TheVariants.{Create, Delete, Write, Truncate, SetAttr, SetWindow, Flush, FlushO}
 use Rattle.moment_words.specs.Words.{IsMomentWord}
 use Rattle.moment_words.specs.declared.words.MomentWord.{MomentWord}
-use Rattle.s4d_command.specs.CommandLine.{flag_rule, IsGiven, IsNumber}
+use Rattle.s4d_command.specs.CommandLine.{flag_rule, needed_rule, value_rule, IsGiven, IsNumber}
 use Rattle.s4_command.specs.declared.Command.{Command}
 use Rattle.s4_command.specs.declared.Command.TheVariants as command
 use Rattle.s4_command.specs.declared.NoCommand.{NoCommand}
@@ -33,10 +33,6 @@ use Rattle.s4_command.specs.declared.whole.CompactAsked.{CompactAsked}
 use Rattle.s4_command.specs.declared.whole.SalvageAsked.{SalvageAsked}
 use Rattle.s4_command.specs.declared.restoring.RestoreAsked.{RestoreAsked}
 
--- `--name VALUE`, which is given or not
-abbrev pub value_rule : Text → Rule
-value_rule name = record (new_rule name) { long = Some name; action = Some Set; value_names = 1 }
-
 -- `--name VALUE`, which has to be given
 abbrev pub needed_value_rule : Text → Rule
 needed_value_rule name =
@@ -45,10 +41,6 @@ needed_value_rule name =
 -- `--name VALUE`, as often as it is given
 abbrev pub values_rule : Text → Rule
 values_rule name = record (new_rule name) { long = Some name; action = Some Append; value_names = 1 }
-
--- a word that represents itself, and has to be given
-abbrev pub needed_rule : Text → Rule
-needed_rule name = record (new_rule name) { action = Some Set; value_names = 1; required = true }
 
 -- a word that represents itself, which is given or not
 abbrev pub optional_rule : Text → Rule

@@ -1,25 +1,13 @@
-//! Options, flags and operands, as `clap` builds them, and commands that are made of them one by
-//! one.
+//! Arguments that only this program has, as `clap` builds them, and commands that are made of them
+//! one by one.
 ghost use Rattle.std.specs.Prelude.{◌≡◌, false};
 ghost use Rattle.clap.specs.Walk.{rule_of};
 ghost use Rattle.clap.specs.Simple.{App, new_app, with_rule};
 ghost use Rattle.s4d_command.specs.CommandLine.{flag_rule, IsLine};
-ghost use Rattle.s4_command.specs.CommandLine.{value_rule, needed_value_rule, values_rule};
-ghost use Rattle.s4_command.specs.CommandLine.{needed_rule, optional_rule};
+ghost use Rattle.s4_command.specs.CommandLine.{needed_value_rule, optional_rule, values_rule};
 
 use clap::{Arg, ArgAction, Command};
 use std::alloc::{AllocError, Global};
-
-fn value_of<'a>(alloc: Global, name: &'a str, value: &'a str, help: &'a str) -> Arg<'a>
-    ensures rule { rule_of result ≡ value_rule name.entry.now }
-    ensures own { result.global ≡ false }
-{
-    Arg::new(alloc, name)
-        .long(name)
-        .action(ArgAction::Set)
-        .value_name(value)
-        .help(help)
-}
 
 fn needed_value_of<'a>(alloc: Global, name: &'a str, value: &'a str, help: &'a str) -> Arg<'a>
     ensures rule { rule_of result ≡ needed_value_rule name.entry.now }
@@ -41,17 +29,6 @@ fn values_of<'a>(alloc: Global, name: &'a str, value: &'a str, help: &'a str) ->
         .long(name)
         .action(ArgAction::Append)
         .value_name(value)
-        .help(help)
-}
-
-fn operand_of<'a>(alloc: Global, name: &'a str, value: &'a str, help: &'a str) -> Arg<'a>
-    ensures rule { rule_of result ≡ needed_rule name.entry.now }
-    ensures own { result.global ≡ false }
-{
-    Arg::new(alloc, name)
-        .action(ArgAction::Set)
-        .value_name(value)
-        .required(true)
         .help(help)
 }
 
@@ -86,22 +63,8 @@ pub(crate) fn named<'a>(
     Ok(Command::new(alloc, name).about(about))
 }
 
-/// A command that is being made, with an option for a value more. The first refusal of memory
-/// stays.
-pub(crate) fn with_value<'a>(
-    alloc: Global,
-    command: Result<Command<'a>, AllocError>,
-    name: &'a str,
-    value: &'a str,
-    help: &'a str,
-) -> Result<Command<'a>, AllocError>
-    ensures { (app : App) → IsLine command.entry app
-        → IsLine result (with_rule app (value_rule name.entry.now)) }
-{
-    command?.arg(value_of(alloc, name, value, help))
-}
-
-/// It, with an option for a value more that has to be given.
+/// A command that is being made, with an option for a value more that has to be given. The first
+/// refusal of memory stays.
 pub(crate) fn with_needed_value<'a>(
     alloc: Global,
     command: Result<Command<'a>, AllocError>,
@@ -127,20 +90,6 @@ pub(crate) fn with_values<'a>(
         → IsLine result (with_rule app (values_rule name.entry.now)) }
 {
     command?.arg(values_of(alloc, name, value, help))
-}
-
-/// It, with an operand more.
-pub(crate) fn with_operand<'a>(
-    alloc: Global,
-    command: Result<Command<'a>, AllocError>,
-    name: &'a str,
-    value: &'a str,
-    help: &'a str,
-) -> Result<Command<'a>, AllocError>
-    ensures { (app : App) → IsLine command.entry app
-        → IsLine result (with_rule app (needed_rule name.entry.now)) }
-{
-    command?.arg(operand_of(alloc, name, value, help))
 }
 
 /// It, with an operand more that need not be there.

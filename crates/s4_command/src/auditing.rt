@@ -5,11 +5,12 @@ ghost use Rattle.clap.specs.Matches.{found_of};
 ghost use Rattle.s4_command.specs.CommandLine.{IsAcceptedAsked, Spells, SpellsAudit, SpellsNone};
 ghost use Rattle.s4_command.specs.CommandLine.{accepted_word};
 
-use crate::reading::{is_given, moment_in, number_in, text_in};
+use crate::reading::{moment_in, number_in};
 use crate::{Command, NoCommand};
 use clap::ArgMatches;
 use moment_words::MomentWord;
 use s4_types::AuditKind;
+use s4d_command::reading::{is_given, text_in};
 
 /// What `audit` asks for.
 #[derive(Clone, Copy)]

@@ -6,10 +6,11 @@ ghost use Rattle.s4_command.specs.CommandLine.{Spells, SpellsNone, SpellsLog, Sp
 ghost use Rattle.s4_command.specs.CommandLine.{SpellsReport};
 
 use crate::choosing::{flags_apart, kind_in, one_at_most};
-use crate::reading::{is_given, moment_in, needed_moment_in, number_in, text_in};
+use crate::reading::{moment_in, needed_moment_in, number_in};
 use crate::{Command, NoCommand};
 use clap::ArgMatches;
 use moment_words::MomentWord;
+use s4d_command::reading::{is_given, text_in};
 
 /// The kinds of change that `log` prints.
 #[derive(Clone, Copy, Debug, PartialEq, Eq)]

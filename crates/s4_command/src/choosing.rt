@@ -6,9 +6,9 @@ ghost use Rattle.clap.specs.Matches.{found_of};
 ghost use Rattle.s4_command.specs.CommandLine.{AreApart, AreFlagsApart, IsKindAsked, IsOneGiven};
 ghost use Rattle.s4_command.specs.CommandLine.{kind_word};
 
-use crate::reading::{is_given, text_in};
 use crate::{ChangeKind, NoCommand};
 use clap::ArgMatches;
+use s4d_command::reading::{is_given, text_in};
 
 /// Refuses the line where both are given.
 pub(crate) fn one_at_most<'a>(

@@ -6,10 +6,11 @@ ghost use Rattle.s4_command.specs.CommandLine.{Spells, SpellsNone, SpellsList, S
 ghost use Rattle.s4_command.specs.CommandLine.{SpellsExport};
 
 use crate::choosing::{one_at_least, one_at_most};
-use crate::reading::{is_given, moment_in, number_in, text_in};
+use crate::reading::{moment_in, number_in};
 use crate::{Command, NoCommand};
 use clap::ArgMatches;
 use moment_words::MomentWord;
+use s4d_command::reading::{is_given, text_in};
 
 /// What `list` asks for.
 #[derive(Clone, Copy)]

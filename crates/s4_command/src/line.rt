@@ -1,6 +1,6 @@
 //! The program's command line, as `clap` builds it.
 ghost use Rattle.std.specs.Prelude.{◌≡◌, IfOk};
-ghost use Rattle.clap.specs.Simple.{App, app_of, with_subcommand};
+ghost use Rattle.clap.specs.Simple.{App, app_of};
 ghost use Rattle.s4d_command.specs.CommandLine.{IsLine};
 ghost use Rattle.s4_command.specs.CommandLine.{line, program, list_line, log_line, audit_line};
 ghost use Rattle.s4_command.specs.CommandLine.{cat_line};
@@ -8,10 +8,9 @@ ghost use Rattle.s4_command.specs.CommandLine.{info_line, diff_line, export_line
 ghost use Rattle.s4_command.specs.CommandLine.{with_restore_rules};
 ghost use Rattle.s4_command.specs.CommandLine.{check_line, compact_line, salvage_line, report_line};
 
-use crate::arguments::{
-    named, with_flag, with_needed_value, with_operand, with_optional, with_value, with_values,
-};
+use crate::arguments::{named, with_flag, with_needed_value, with_optional, with_values};
 use clap::Command;
+use s4d_command::arguments::{with_command, with_needed_word, with_value};
 use std::alloc::{AllocError, Global};
 
 /// The version of the program, as the file VERSION has it.
@@ -50,7 +49,7 @@ fn list_command<'a>(alloc: Global) -> Result<Command<'a>, AllocError>
     let deleted = with_flag(alloc, at, "deleted", "Also those that were deleted before");
     let moments = with_flag(alloc, deleted, "moments", MOMENTS);
     let json = with_flag(alloc, moments, "json", JSON);
-    with_operand(alloc, json, "image", IMAGE.0, IMAGE.1)
+    with_needed_word(alloc, json, "image", IMAGE.0, IMAGE.1)
 }
 
 fn log_command<'a>(alloc: Global) -> Result<Command<'a>, AllocError>
@@ -84,7 +83,7 @@ fn log_command<'a>(alloc: Global) -> Result<Command<'a>, AllocError>
     );
     let moments = with_flag(alloc, stat, "moments", MOMENTS);
     let json = with_flag(alloc, moments, "json", JSON);
-    with_operand(alloc, json, "image", IMAGE.0, IMAGE.1)
+    with_needed_word(alloc, json, "image", IMAGE.0, IMAGE.1)
 }
 
 fn audit_command<'a>(alloc: Global) -> Result<Command<'a>, AllocError>
@@ -108,7 +107,7 @@ fn audit_command<'a>(alloc: Global) -> Result<Command<'a>, AllocError>
     let limit = with_value(alloc, kind, "limit", "N", "At most N changes");
     let moments = with_flag(alloc, limit, "moments", MOMENTS);
     let json = with_flag(alloc, moments, "json", JSON);
-    with_operand(alloc, json, "image", IMAGE.0, IMAGE.1)
+    with_needed_word(alloc, json, "image", IMAGE.0, IMAGE.1)
 }
 
 fn cat_command<'a>(alloc: Global) -> Result<Command<'a>, AllocError>
@@ -123,7 +122,7 @@ fn cat_command<'a>(alloc: Global) -> Result<Command<'a>, AllocError>
         "TEXT",
         "The one object whose attribute is this text, in place of OBJECT",
     );
-    let image = with_operand(alloc, name, "image", IMAGE.0, IMAGE.1);
+    let image = with_needed_word(alloc, name, "image", IMAGE.0, IMAGE.1);
     with_optional(alloc, image, "object", "OBJECT", "The number of an object")
 }
 
@@ -133,7 +132,7 @@ fn info_command<'a>(alloc: Global) -> Result<Command<'a>, AllocError>
     let info = named(alloc, "info", "Prints the numbers of an image");
     let moments = with_flag(alloc, info, "moments", MOMENTS);
     let json = with_flag(alloc, moments, "json", ONE_JSON);
-    with_operand(alloc, json, "image", IMAGE.0, IMAGE.1)
+    with_needed_word(alloc, json, "image", IMAGE.0, IMAGE.1)
 }
 
 fn diff_command<'a>(alloc: Global) -> Result<Command<'a>, AllocError>
@@ -151,8 +150,8 @@ fn diff_command<'a>(alloc: Global) -> Result<Command<'a>, AllocError>
     );
     let moments = with_flag(alloc, text, "moments", MOMENTS);
     let json = with_flag(alloc, moments, "json", JSON);
-    let image = with_operand(alloc, json, "image", IMAGE.0, IMAGE.1);
-    let from = with_operand(alloc, image, "from", "FROM", "The first moment");
+    let image = with_needed_word(alloc, json, "image", IMAGE.0, IMAGE.1);
+    let from = with_needed_word(alloc, image, "from", "FROM", "The first moment");
     with_optional(
         alloc,
         from,
@@ -171,8 +170,8 @@ fn export_command<'a>(alloc: Global) -> Result<Command<'a>, AllocError>
         "Writes the bytes of each object into a folder, with a manifest",
     );
     let at = with_value(alloc, export, "at", "M", AT);
-    let image = with_operand(alloc, at, "image", IMAGE.0, IMAGE.1);
-    with_operand(alloc, image, "folder", "DIR", "The folder")
+    let image = with_needed_word(alloc, at, "image", IMAGE.0, IMAGE.1);
+    with_needed_word(alloc, image, "folder", "DIR", "The folder")
 }
 
 fn restore_command<'a>(alloc: Global) -> Result<Command<'a>, AllocError>
@@ -231,7 +230,7 @@ fn with_restore_settings<'a>(
         "Keeps objects that were made since the moment",
     );
     let json = with_flag(alloc, keep_newer, "json", JSON);
-    with_operand(alloc, json, "image", IMAGE.0, IMAGE.1)
+    with_needed_word(alloc, json, "image", IMAGE.0, IMAGE.1)
 }
 
 fn check_command<'a>(alloc: Global) -> Result<Command<'a>, AllocError>
@@ -239,7 +238,7 @@ fn check_command<'a>(alloc: Global) -> Result<Command<'a>, AllocError>
 {
     let check = named(alloc, "check", "Reads every version that can be read");
     let json = with_flag(alloc, check, "json", ONE_JSON);
-    with_operand(alloc, json, "image", IMAGE.0, IMAGE.1)
+    with_needed_word(alloc, json, "image", IMAGE.0, IMAGE.1)
 }
 
 fn compact_command<'a>(alloc: Global) -> Result<Command<'a>, AllocError>
@@ -251,7 +250,7 @@ fn compact_command<'a>(alloc: Global) -> Result<Command<'a>, AllocError>
         "Cleans a drive, and gathers what is scattered",
     );
     let json = with_flag(alloc, compact, "json", ONE_JSON);
-    with_operand(alloc, json, "image", IMAGE.0, IMAGE.1)
+    with_needed_word(alloc, json, "image", IMAGE.0, IMAGE.1)
 }
 
 fn salvage_command<'a>(alloc: Global) -> Result<Command<'a>, AllocError>
@@ -263,8 +262,8 @@ fn salvage_command<'a>(alloc: Global) -> Result<Command<'a>, AllocError>
         "Writes what a damaged image still has of each object into a folder",
     );
     let json = with_flag(alloc, salvage, "json", ONE_JSON);
-    let image = with_operand(alloc, json, "image", IMAGE.0, IMAGE.1);
-    with_operand(alloc, image, "folder", "DIR", "The folder")
+    let image = with_needed_word(alloc, json, "image", IMAGE.0, IMAGE.1);
+    with_needed_word(alloc, image, "folder", "DIR", "The folder")
 }
 
 fn report_command<'a>(alloc: Global) -> Result<Command<'a>, AllocError>
@@ -282,19 +281,7 @@ fn report_command<'a>(alloc: Global) -> Result<Command<'a>, AllocError>
         "M",
         "Differences since this moment, in place of the first that can be read",
     );
-    with_operand(alloc, since, "image", IMAGE.0, IMAGE.1)
-}
-
-// The program with one command more. The first refusal of memory stays.
-fn with_command<'a>(
-    program: Result<Command<'a>, AllocError>,
-    command: Result<Command<'a>, AllocError>,
-) -> Result<Command<'a>, AllocError>
-    ensures { (app added : App) → IfOk program.entry (λ c. app_of c ≡ app)
-        → IsLine command.entry added
-        → IfOk result (λ c. app_of c ≡ with_subcommand app added.top) }
-{
-    program?.subcommand(command?)
+    with_needed_word(alloc, since, "image", IMAGE.0, IMAGE.1)
 }
 
 // The program with no command but `help`.

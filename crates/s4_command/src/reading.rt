@@ -1,32 +1,14 @@
-//! What the readers of the commands take from the matches: texts, numbers, moments and flags.
-ghost use Rattle.std.specs.Prelude.{◌≡◌, ◌≢◌, ◌↔◌, ℕ, IfOk, IfErr, OnErr, IfSome, IfNone, IsTrue};
-ghost use Rattle.std.specs.Prelude.{Some, option_map};
-ghost use Rattle.clap.specs.Walk.{all_of, first_of, one_of, rows_of, texts};
+//! What the readers of the commands take from the matches: numbers and moments.
+ghost use Rattle.std.specs.Prelude.{◌≢◌, IfOk, IfErr, OnErr, Some};
+ghost use Rattle.clap.specs.Walk.{rows_of, texts};
 ghost use Rattle.clap.specs.Matches.{found_of};
-ghost use Rattle.s4d_command.specs.CommandLine.{IsGiven, IsNumber};
 ghost use Rattle.s4_command.specs.CommandLine.{AreNumbers, IsAsked, IsMomentAsked, texts_of};
 
 use crate::NoCommand;
 use clap::ArgMatches;
 use moment_words::{MomentWord, read};
+use s4d_command::reading::{number, number_of, text_in, texts_in};
 use std::alloc::Global;
-
-pub(crate) fn text_in<'a>(matches: &ArgMatches<'a>, id: &str) -> Option<&'a str>
-    ensures same { option_map (λ text. text.now) result ≡ first_of id.now
-        (rows_of (found_of matches.now)) }
-    ensures none { IfNone result ((text : _)
-        → first_of id.now (rows_of (found_of matches.now)) ≡ Some text → ⊥) }
-    ensures some { IfSome result (λ text. first_of id.now
-        (rows_of (found_of matches.now)) ≡ Some text.now) }
-{
-    matches.get_str(id)
-}
-
-pub(crate) fn is_given(matches: &ArgMatches<'_>, id: &str) -> bool
-    ensures { IsTrue result ↔ IsGiven id.now (rows_of (found_of matches.now)) }
-{
-    matches!(text_in(matches, id), Some("true"))
-}
 
 /// The number that is given, and none where none is. A text that is no number is refused.
 pub(crate) fn number_in<'a>(
@@ -81,14 +63,6 @@ pub(crate) fn needed_moment_in<'a>(
     }
 }
 
-fn number(matches: &ArgMatches<'_>, id: &str) -> Option<u64>
-    ensures none { IfNone result ((n : ℕ) →
-        IsNumber (one_of id.now (rows_of (found_of matches.now))) n → ⊥) }
-    ensures some { IfSome result (IsNumber (one_of id.now (rows_of (found_of matches.now)))) }
-{
-    matches.get_one::<u64>(id)
-}
-
 /// All numbers that are given, in the order of the words.
 pub(crate) fn numbers_in<'a>(
     alloc: Global,
@@ -104,13 +78,6 @@ pub(crate) fn numbers_in<'a>(
         Some(words) => numbers_of(alloc, id, words),
         None => Ok(Vec::new(alloc)),
     }
-}
-
-fn texts_in<'b, 'a>(matches: &'b ArgMatches<'a>, id: &str) -> Option<&'b [&'a str]>
-    ensures { option_map (λ words. texts words.now) result ≡ all_of id.now
-        (rows_of (found_of matches.entry.now)) }
-{
-    matches.get_strs(id)
 }
 
 fn numbers_of<'a>(
@@ -132,11 +99,4 @@ fn numbers_of<'a>(
         }
     }
     Ok(numbers)
-}
-
-fn number_of(word: &str) -> Option<u64>
-    ensures none { IfNone result ((n : ℕ) → IsNumber (Some word.now) n → ⊥) }
-    ensures some { IfSome result (IsNumber (Some word.now)) }
-{
-    word.parse::<u64>().ok()
 }

@@ -5,10 +5,11 @@ ghost use Rattle.clap.specs.Matches.{found_of};
 ghost use Rattle.s4_command.specs.CommandLine.{Spells, SpellsNone, SpellsRestore};
 
 use crate::choosing::one_at_most;
-use crate::reading::{is_given, needed_moment_in, numbers_in, text_in};
+use crate::reading::{needed_moment_in, numbers_in};
 use crate::{Command, NoCommand};
 use clap::ArgMatches;
 use moment_words::MomentWord;
+use s4d_command::reading::{is_given, text_in};
 use std::alloc::Global;
 
 /// What `restore` asks for. Objects and a name aren't given together.

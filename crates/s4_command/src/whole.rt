@@ -5,9 +5,9 @@ ghost use Rattle.clap.specs.Matches.{found_of};
 ghost use Rattle.s4_command.specs.CommandLine.{Spells, SpellsNone, SpellsInfo, SpellsCheck};
 ghost use Rattle.s4_command.specs.CommandLine.{SpellsCompact, SpellsSalvage};
 
-use crate::reading::{is_given, text_in};
 use crate::{Command, NoCommand};
 use clap::ArgMatches;
+use s4d_command::reading::{is_given, text_in};
 
 /// What `info` asks for.
 #[derive(Clone, Copy)]

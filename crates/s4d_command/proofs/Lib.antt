@@ -1,3 +1,4 @@
 pub mod CommandLineLemmas
 pub mod LineLemmas
+pub mod Parsed
 pub mod SessionLemmas

@@ -35,6 +35,14 @@ operand_rule name = record (new_rule name) { action = Some Set }
 abbrev pub flag_rule : Text → Rule
 flag_rule name = record (new_rule name) { long = Some name; action = Some SetTrue }
 
+-- `--name VALUE`, which is given or not, where help names the value
+abbrev pub value_rule : Text → Rule
+value_rule name = record (new_rule name) { long = Some name; action = Some Set; value_names = 1 }
+
+-- a word that represents itself, and has to be given
+abbrev pub needed_rule : Text → Rule
+needed_rule name = record (new_rule name) { action = Some Set; value_names = 1; required = true }
+
 -- words that represent themselves, as many as come
 abbrev pub list_rule : Text → Rule
 list_rule name = record (new_rule name) { action = Some Append }

@@ -6,23 +6,26 @@
 //! told apart. What a command does is said elsewhere.
 #![tactic(auto)]
 
-ghost use Rattle.std.specs.Prelude.{◌≡◌, ◌≤◌, ◌↔◌, ℕ, IfOk, IfSome, IfNone, IsErrOf, IsTrue, Some};
+ghost use Rattle.std.specs.Prelude.{◌≡◌, ◌≤◌, ℕ, IfOk, IfSome, IfNone, IsErrOf, Some};
 ghost use Rattle.std.specs.Prelude.{codes, map, true};
-ghost use Rattle.clap.specs.Walk.{all_of, first_of, one_of, rows_of, texts};
+ghost use Rattle.clap.specs.Walk.{first_of, one_of, rows_of};
 ghost use Rattle.clap.specs.Takes.{takes};
 ghost use Rattle.clap.specs.Values.{kind_of};
 ghost use Rattle.clap.specs.Matches.{found_of};
 ghost use Rattle.clap.specs.Simple.{subcommand_of, subcommand_rows_of};
-ghost use Rattle.s4d_command.specs.CommandLine.{line, IsGiven, IsNumber, role_word};
+ghost use Rattle.s4d_command.specs.CommandLine.{line, IsNumber, role_word};
 ghost use Rattle.s4d_command.specs.CommandLine.{Spells, SpellsNone, SpellsPipe, SpellsNew};
 ghost use Rattle.s4d_command.specs.CommandLine.{SpellsVerify, SpellsRun, SpellsAt, SpellsMigrate};
 
+pub mod arguments;
 mod line;
+pub mod reading;
 mod sessions;
 
 use clap::ArgMatches;
 use clap::error::ErrorKind;
 use line::command_line;
+use reading::{is_given, number, text_in, texts_in};
 use s4_types::Role;
 use s4_types::limits::{FEWEST_FRAMES, MOST_FRAMES};
 use sessions::sessions_in;
@@ -339,38 +342,6 @@ fn frame_count(matches: &ArgMatches<'_>) -> Option<u64>
         return None;
     }
     Some(frames)
-}
-
-fn text_in<'a>(matches: &ArgMatches<'a>, id: &str) -> Option<&'a str>
-    ensures none { IfNone result
-        ((text : _) → first_of id.now (rows_of (found_of matches.now)) ≡ Some text → ⊥) }
-    ensures some { IfSome result
-        (λ text. first_of id.now (rows_of (found_of matches.now)) ≡ Some text.now) }
-{
-    matches.get_str(id)
-}
-
-fn texts_in<'b, 'a>(matches: &'b ArgMatches<'a>, id: &str) -> Option<&'b [&'a str]>
-    ensures none { IfNone result
-        ((words : _) → all_of id.now (rows_of (found_of matches.entry.now)) ≡ Some words → ⊥) }
-    ensures some { IfSome result
-        (λ words. all_of id.now (rows_of (found_of matches.entry.now)) ≡ Some (texts words.now)) }
-{
-    matches.get_strs(id)
-}
-
-fn is_given(matches: &ArgMatches<'_>, id: &str) -> bool
-    ensures { IsTrue result ↔ IsGiven id.now (rows_of (found_of matches.now)) }
-{
-    matches!(text_in(matches, id), Some("true"))
-}
-
-fn number(matches: &ArgMatches<'_>, id: &str) -> Option<u64>
-    ensures none { IfNone result ((n : ℕ) →
-        IsNumber (one_of id.now (rows_of (found_of matches.now))) n → ⊥) }
-    ensures some { IfSome result (IsNumber (one_of id.now (rows_of (found_of matches.now)))) }
-{
-    matches.get_one::<u64>(id)
 }
 
 fn role_in(matches: &ArgMatches<'_>) -> Option<Role>

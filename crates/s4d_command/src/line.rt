@@ -4,11 +4,12 @@ ghost use Rattle.std.specs.Fmt.{decimal};
 ghost use Rattle.s4_types.specs.declared.limits.TheConstants.{DEFAULT_FRAMES};
 ghost use Rattle.clap.specs.declared.builder.command.Command.TheViews.{out-Command as fields_of};
 ghost use Rattle.clap.specs.Walk.{rule_of};
-ghost use Rattle.clap.specs.Simple.{App, app_of, new_app, with_rule, with_subcommand};
+ghost use Rattle.clap.specs.Simple.{App, app_of, new_app, with_rule};
 ghost use Rattle.s4d_command.specs.CommandLine.{line, program, pipe_line, new_line, verify_line};
 ghost use Rattle.s4d_command.specs.CommandLine.{run_line, at_line, migrate_line, IsLine};
 ghost use Rattle.s4d_command.specs.CommandLine.{option_rule, flag_rule, operand_rule, list_rule};
 
+use crate::arguments::with_command;
 use clap::{Arg, ArgAction, Command};
 use std::alloc::{AllocError, Global};
 
@@ -151,17 +152,6 @@ fn migrate_command<'a>(alloc: Global) -> Result<Command<'a>, AllocError>
 {
     let earlier = with_operand(alloc, named(alloc, "migrate"), "earlier");
     with_operand(alloc, earlier, "image")
-}
-
-// The program with one command more. The first refusal of memory stays.
-fn with_command<'a>(
-    program: Result<Command<'a>, AllocError>,
-    command: Result<Command<'a>, AllocError>,
-) -> Result<Command<'a>, AllocError>
-    ensures { (app added : App) → IfOk program.entry (λ c. app_of c ≡ app) → IsLine command.entry added
-        → IfOk result (λ c. app_of c ≡ with_subcommand app added.top) }
-{
-    program?.subcommand(command?)
 }
 
 // The program with no command.

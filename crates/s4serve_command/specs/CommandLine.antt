@@ -7,11 +7,11 @@ use Rattle.clap.specs.Kinds.{Kinds, IsAmong}
 use Rattle.clap.specs.Values.{kind_of}
 use Rattle.clap.specs.declared.error.kind.ErrorKind.{ErrorKind}
 use Rattle.clap.specs.declared.error.kind.ErrorKind.TheVariants as kind
-use Rattle.clap.specs.declared.builder.action.ArgAction.TheVariants.{Set, Append}
+use Rattle.clap.specs.declared.builder.action.ArgAction.TheVariants.{Append}
 use Rattle.s4_types.specs.declared.requests.Role.{Role}
 use Rattle.s4_types.specs.declared.requests.Role.TheVariants.{Client, Admin}
 use Rattle.s4_types.specs.declared.limits.TheConstants.{FEWEST_FRAMES, MOST_FRAMES}
-use Rattle.s4d_command.specs.CommandLine.{IsNumber}
+use Rattle.s4d_command.specs.CommandLine.{needed_rule, value_rule, IsNumber}
 use Rattle.service_time.specs.Durations.{IsDuration}
 use Rattle.s4serve_command.specs.declared.ServiceAsked.{ServiceAsked}
 use Rattle.s4serve_command.specs.declared.NoCommand.{NoCommand}
@@ -20,18 +20,10 @@ use Rattle.s4serve_command.specs.declared.creating.Creation.{Creation}
 use Rattle.s4serve_command.specs.declared.doors.Door.{Door}
 use Rattle.s4serve_command.specs.declared.doors.TheConstants.{MOST_DOORS}
 
--- `--name VALUE`, which is given or not
-abbrev pub value_rule : Text → Rule
-value_rule name = record (new_rule name) { long = Some name; action = Some Set; value_names = 1 }
-
 -- `--name VALUE`, which has to be given, as often as it is
 abbrev pub needed_values_rule : Text → Rule
 needed_values_rule name =
     record (new_rule name) { long = Some name; action = Some Append; value_names = 1; required = true }
-
--- a word that represents itself, and has to be given
-abbrev pub needed_rule : Text → Rule
-needed_rule name = record (new_rule name) { action = Some Set; value_names = 1; required = true }
 
 -- the program with no argument but those for help and its version
 abbrev pub program : App

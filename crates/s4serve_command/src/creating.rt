@@ -6,9 +6,9 @@ ghost use Rattle.s4d_command.specs.CommandLine.{IsNumber};
 ghost use Rattle.s4serve_command.specs.CommandLine.{IsCreatedAt, IsCreation};
 
 use crate::NoCommand;
-use crate::reading::{number_of, text_in};
 use clap::ArgMatches;
 use s4_types::limits::{FEWEST_FRAMES, MOST_FRAMES};
+use s4d_command::reading::{number_of, text_in};
 use service_time::duration_of;
 
 /// A drive that is made.

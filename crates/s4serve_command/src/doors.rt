@@ -5,9 +5,9 @@ ghost use Rattle.clap.specs.Matches.{found_of};
 ghost use Rattle.s4serve_command.specs.CommandLine.{AreDoors, IsDoor, IsNoneOf, folders_of, texts_of};
 
 use crate::NoCommand;
-use crate::reading::texts_in;
 use clap::ArgMatches;
 use s4_types::Role;
+use s4d_command::reading::texts_in;
 use std::alloc::Global;
 
 /// Doors that a service has at most: each is read by a thread of its own.

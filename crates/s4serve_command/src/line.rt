@@ -3,25 +3,14 @@ ghost use Rattle.std.specs.Prelude.{◌≡◌, false};
 ghost use Rattle.clap.specs.Walk.{rule_of};
 ghost use Rattle.clap.specs.Simple.{App, with_rule};
 ghost use Rattle.s4d_command.specs.CommandLine.{IsLine};
-ghost use Rattle.s4serve_command.specs.CommandLine.{line, program, needed_rule, needed_values_rule};
-ghost use Rattle.s4serve_command.specs.CommandLine.{value_rule};
+ghost use Rattle.s4serve_command.specs.CommandLine.{line, program, needed_values_rule};
 
 use clap::{Arg, ArgAction, Command};
+use s4d_command::arguments::{with_needed_word, with_value};
 use std::alloc::{AllocError, Global};
 
 /// The version of the program, as the file VERSION has it.
 const VERSION: &str = "0.1.0";
-
-fn value_of<'a>(alloc: Global, name: &'a str, value: &'a str, help: &'a str) -> Arg<'a>
-    ensures rule { rule_of result ≡ value_rule name.entry.now }
-    ensures own { result.global ≡ false }
-{
-    Arg::new(alloc, name)
-        .long(name)
-        .action(ArgAction::Set)
-        .value_name(value)
-        .help(help)
-}
 
 fn values_of<'a>(alloc: Global, name: &'a str, value: &'a str, help: &'a str) -> Arg<'a>
     ensures rule { rule_of result ≡ needed_values_rule name.entry.now }
@@ -35,32 +24,8 @@ fn values_of<'a>(alloc: Global, name: &'a str, value: &'a str, help: &'a str) ->
         .help(help)
 }
 
-fn operand_of<'a>(alloc: Global, name: &'a str, value: &'a str, help: &'a str) -> Arg<'a>
-    ensures rule { rule_of result ≡ needed_rule name.entry.now }
-    ensures own { result.global ≡ false }
-{
-    Arg::new(alloc, name)
-        .action(ArgAction::Set)
-        .value_name(value)
-        .required(true)
-        .help(help)
-}
-
-// A command that is being made, with an option for a value more. The first refusal of memory stays.
-fn with_value<'a>(
-    alloc: Global,
-    command: Result<Command<'a>, AllocError>,
-    name: &'a str,
-    value: &'a str,
-    help: &'a str,
-) -> Result<Command<'a>, AllocError>
-    ensures { (app : App) → IsLine command.entry app
-        → IsLine result (with_rule app (value_rule name.entry.now)) }
-{
-    command?.arg(value_of(alloc, name, value, help))
-}
-
-// It, with an option more that has to be given, for a value each time.
+// A command that is being made, with an option more that has to be given, for a value each time.
+// The first refusal of memory stays.
 fn with_values<'a>(
     alloc: Global,
     command: Result<Command<'a>, AllocError>,
@@ -72,20 +37,6 @@ fn with_values<'a>(
         → IsLine result (with_rule app (needed_values_rule name.entry.now)) }
 {
     command?.arg(values_of(alloc, name, value, help))
-}
-
-// It, with an operand more.
-fn with_operand<'a>(
-    alloc: Global,
-    command: Result<Command<'a>, AllocError>,
-    name: &'a str,
-    value: &'a str,
-    help: &'a str,
-) -> Result<Command<'a>, AllocError>
-    ensures { (app : App) → IsLine command.entry app
-        → IsLine result (with_rule app (needed_rule name.entry.now)) }
-{
-    command?.arg(operand_of(alloc, name, value, help))
 }
 
 // The program with no argument but those for help and its version.
@@ -131,5 +82,5 @@ pub(crate) fn command_line<'a>(alloc: Global) -> Result<Command<'a>, AllocError>
         "ROLE=DIR",
         "A folder at whose FIFO `door` clients or administrators come: client=DIR or admin=DIR; 4 at most",
     );
-    with_operand(alloc, door, "image", "IMAGE", "The file of a drive")
+    with_needed_word(alloc, door, "image", "IMAGE", "The file of a drive")
 }

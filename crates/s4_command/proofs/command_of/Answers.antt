@@ -3,10 +3,11 @@ use Rattle.std.proofs.lemmas.Result.{IfErr-weaker}
 use Rattle.clap.specs.Simple.{App, subcommand_of}
 use Rattle.clap.specs.Takes.{takes}
 use Rattle.clap.specs.Walk.{Row, Text}
+use Rattle.s4d_command.proofs.Parsed.{no_fault, same_fault, under_premise}
 use Rattle.s4_command.specs.CommandLine.{line, Spells, SpellsNone}
 use Rattle.s4_command.specs.declared.NoCommand.TheVariants.{NoMemory}
-use Rattle.s4_command.proofs.Refusals.{among_own, among_refused, under_premise}
-use Rattle.s4_command.proofs.Simple.{no_fault, same_fault, same_subcommand}
+use Rattle.s4_command.proofs.Refusals.{among_own, among_refused}
+use Rattle.s4_command.proofs.Simple.{is_simple_and_free_line, same_subcommand}
 use Rattle.s4_command.proofs.command_of.Goals as goal
 
 pub returns-in-Ok-clause-spelled : goal.returns-in-Ok-clause-spelled
@@ -27,13 +28,13 @@ returns-in-Err-clause-usage g c = λ apart taken.
     absurd (apart (c.refused.ensures.memory (c.in-Err.ensures.passes (subst (λ (a : App). takes a words ≡ true) (sym c.in_ok-parser.ensures) taken))))
 
 pub returns-in-Ok-clause-refused : goal.returns-in-Ok-clause-refused
-returns-in-Ok-clause-refused g c = λ faulty. absurd (faulty (no_fault _ (map g.S.AsStr.text c.args.words.now) c.in_ok-parser.ensures c.in-Ok.ensures.kinds))
+returns-in-Ok-clause-refused g c = λ faulty. absurd (faulty (no_fault line _ (map g.S.AsStr.text c.args.words.now) is_simple_and_free_line c.in_ok-parser.ensures c.in-Ok.ensures.kinds))
 
 pub returns-in-Err-clause-refused : goal.returns-in-Err-clause-refused
-returns-in-Err-clause-refused g c = λ _. c.refused.ensures.refused _ (same_fault _ (map g.S.AsStr.text c.args.words.now) c.in-Err.error c.in_ok-parser.ensures c.in-Err.ensures.kinds)
+returns-in-Err-clause-refused g c = λ _. c.refused.ensures.refused _ (same_fault line _ (map g.S.AsStr.text c.args.words.now) c.in-Err.error is_simple_and_free_line c.in_ok-parser.ensures c.in-Err.ensures.kinds)
 
 pub returns-in-Ok-clause-asked : goal.returns-in-Ok-clause-asked
 returns-in-Ok-clause-asked g c = IfErr-weaker c.command_in.result _ _ (among_own _) c.command_in.ensures.own
 
 pub returns-in-Err-clause-asked : goal.returns-in-Err-clause-asked
-returns-in-Err-clause-asked g c = among_refused _ _ (c.refused.ensures.refused _ (same_fault _ (map g.S.AsStr.text c.args.words.now) c.in-Err.error c.in_ok-parser.ensures c.in-Err.ensures.kinds))
+returns-in-Err-clause-asked g c = among_refused _ _ (c.refused.ensures.refused _ (same_fault line _ (map g.S.AsStr.text c.args.words.now) c.in-Err.error is_simple_and_free_line c.in_ok-parser.ensures c.in-Err.ensures.kinds))

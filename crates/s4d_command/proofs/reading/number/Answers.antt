@@ -6,7 +6,7 @@ use Rattle.clap.specs.Walk.{Text}
 use Rattle.clap.proofs.WalkLemmas.{one_text-rows}
 use Rattle.s4d_command.specs.CommandLine.{IsNumber}
 use Rattle.s4d_command.proofs.CommandLineLemmas.{number_some, number_none}
-use Rattle.s4d_command.proofs.number.Goals as goal
+use Rattle.s4d_command.proofs.reading.number.Goals as goal
 
 pub returns : goal.returns
 returns c =

@@ -1,5 +1,5 @@
 use Rattle.s4d_command.proofs.LineLemmas.{one_command_more}
-use Rattle.s4d_command.proofs.line.with_command.Goals as goal
+use Rattle.s4d_command.proofs.arguments.with_command.Goals as goal
 
 pub returns : goal.returns
 returns c =
