@@ -21,7 +21,7 @@
    BATCH         requests that may be done before one wait; one where it isn't given
    FALLS_SILENT  a client may ask no more though its input is open, or not read its reply: nothing
                  may wait for it then, but `main` for a moment
-   FAULT         1 .. 12, a fault: see there */
+   FAULT         1 .. 13, a fault: see there */
 #ifndef SESSIONS
 #define SESSIONS 2
 #endif
@@ -41,6 +41,7 @@ byte kept_reach = AHEAD;          /* and the clock of what is kept */
 bit is_flushing, has_failed, is_short, is_stopping;
 byte due;                         /* pieces whose replies are */
 byte waiting, expected;           /* sessions that wait for a flush, now and when the last one ended */
+bit is_counted[SESSIONS];         /* those of `waiting` */
 bit is_asleep[WAITERS];           /* on the one condition variable */
 
 bit drive;                        /* the drive's mutex. What follows is under it */
@@ -105,19 +106,23 @@ inline ask(me) {
 #endif
        given = TO_FLUSH; break
     :: MUST_WAIT(me) ->
-       waiting++;
-#if FAULT != 11
-       if :: waiting == expected -> notify_all() :: else fi;
-#endif
        do
        :: MUST_WAIT(me) ->
+          if
+          :: !is_counted[me] ->
+             is_counted[me] = 1; waiting++;
+#if FAULT != 11
+             if :: waiting == expected -> notify_all() :: else fi
+#endif
+          :: else
+          fi;
 #if FAULT == 2
           UNLOCK(monitor); LOCK(monitor);
 #endif
           sleep(me)
        :: else -> break
        od;
-       waiting--
+       if :: is_counted[me] -> is_counted[me] = 0; waiting-- :: else fi
     od;
     UNLOCK(monitor) }
 }
@@ -129,6 +134,8 @@ inline gather(me) {
   :: gathers ->
      SECTION { LOCK(monitor);
        gathers = waiting < expected;
+       for (each : 0 .. SESSIONS - 1) { assert(!is_counted[each] || MUST_WAIT(each)) }
+       each = 0;
        atomic { is_asleep[me] = gathers; UNLOCK(monitor) } };
      if
      :: is_asleep[me] == 0                                    /* woken, or it needn't wait */
@@ -168,6 +175,11 @@ inline keep(me) {
     fi;
     new_number[me] = 0; new_reach[me] = 0;
     is_flushing = 0; is_short = 0; expected = waiting;
+#if FAULT != 13
+    waiting = 0;
+    for (each : 0 .. SESSIONS - 1) { is_counted[each] = 0 }
+    each = 0;
+#endif
     assert(kept_number <= disk_number && kept_reach <= disk_reach);
     count_anew();
     UNLOCK(monitor) }

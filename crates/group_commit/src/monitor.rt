@@ -98,17 +98,19 @@ impl<T: Receipt + Drop> Monitor<T> {
     fn await_turn<'a>(
         &'a self,
         rt: &impl Wait,
-        mut progress: MutexGuard<'a, Progress<T>>,
+        progress: MutexGuard<'a, Progress<T>>,
         number: u64,
         clock: u64,
     ) -> MutexGuard<'a, Progress<T>> {
-        if progress.begin_wait() {
-            self.news.notify_all();
-        }
+        let mut counted = None;
         let mut progress = self.news.wait_while(rt, progress, |progress| {
-            progress.turn(number, clock) == Turn::Waits
+            let waits = progress.turn(number, clock) == Turn::Waits;
+            if waits && progress.count_wait(&mut counted) {
+                self.news.notify_all();
+            }
+            waits
         });
-        progress.end_wait();
+        progress.end_wait(counted);
         progress
     }
 
@@ -178,6 +180,11 @@ impl<T: Receipt + Drop> Monitor<T> {
     /// failed.
     pub fn goes_on(&self, rt: &impl Wait) -> bool {
         self.progress.lock(rt).goes_on()
+    }
+
+    /// How many sessions wait for the one that flushes.
+    pub fn waiting(&self, rt: &impl Wait) -> u64 {
+        self.progress.lock(rt).waiting
     }
 
     /// Requests were taken up, and their replies are due.

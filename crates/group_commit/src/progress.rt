@@ -1,5 +1,6 @@
 //! What sessions wait for: one struct, which one lock guards.
-ghost use Rattle.std.specs.Prelude.{◌≡◌, ◌+◌, ◌-◌, ◌^◌, ◌||◌, ◌&&◌, ◌==◌, true, false, not, min, nat_le};
+ghost use Rattle.std.specs.Prelude.{◌≡◌, ◌≢◌, ◌+◌, ◌-◌, ◌^◌, ◌||◌, ◌&&◌, ◌==◌, true, false, not, min};
+ghost use Rattle.std.specs.Prelude.{nat_le, Some};
 ghost use Rattle.group_commit.specs.Commit.{covers, later_of, turn_of};
 
 use crate::flush::Receipt;
@@ -38,7 +39,9 @@ pub(crate) struct Progress<T> {
     pub due: u64,
     /// No request is to be taken up any more.
     pub is_stopping: bool,
-    /// Sessions that wait for the one that flushes.
+    /// Flushes that have ended well.
+    pub round: u64,
+    /// Sessions that wait for the one that flushes, and have looked since the last flush ended.
     pub waiting: u64,
     /// How many did when the last flush ended. The next one waits a moment until there are as many.
     pub expected: u64,
@@ -48,7 +51,7 @@ impl<T: Receipt + Drop> Progress<T> {
     /// Before the first request.
     pub(crate) fn new(kept: T) -> Self
         ensures { result
-            ≡ record { kept = kept; is_flushing = false; has_failed = false; is_short = false; due = 0; is_stopping = false; waiting = 0; expected = 0 } }
+            ≡ record { kept = kept; is_flushing = false; has_failed = false; is_short = false; due = 0; is_stopping = false; round = 0; waiting = 0; expected = 0 } }
     {
         Progress {
             kept,
@@ -57,6 +60,7 @@ impl<T: Receipt + Drop> Progress<T> {
             is_short: false,
             due: 0,
             is_stopping: false,
+            round: 0,
             waiting: 0,
             expected: 0,
         }
@@ -94,21 +98,34 @@ impl<T: Receipt + Drop> Progress<T> {
         self.is_flushing = true;
     }
 
-    /// A session waits from now on for the one that flushes. Answers whether it is the last one
-    /// that was expected.
-    pub(crate) fn begin_wait(&mut self) -> bool
-        ensures waits { self.new ≡ record self.old { waiting = min (self.old.waiting + 1) (2 ^ 64 - 1) } }
-        ensures last { result ≡ self.new.waiting == self.old.expected }
+    /// A session waits for the one that flushes. `counted` is the round in which it was counted
+    /// last, and it is once in each. Answers whether it is the last one that was expected.
+    pub(crate) fn count_wait(&mut self, counted: &mut Option<u64>) -> bool
+        ensures counted { counted.new ≡ Some self.old.round }
+        ensures again { counted.old ≡ Some self.old.round
+            → (self.new ≡ self.old) × (result ≡ false) }
+        ensures first { counted.old ≢ Some self.old.round
+            → (self.new ≡ record self.old { waiting = min (self.old.waiting + 1) (2 ^ 64 - 1) })
+            × (result ≡ self.new.waiting == self.old.expected) }
     {
+        if *counted == Some(self.round) {
+            return false;
+        }
+        *counted = Some(self.round);
         self.waiting = self.waiting.saturating_add(1);
         self.waiting == self.expected
     }
 
-    /// It goes on.
-    pub(crate) fn end_wait(&mut self)
-        ensures { self.new ≡ record self.old { waiting = self.old.waiting - 1 } }
+    /// It goes on, and isn't counted any more. Where a flush has ended since it was, nobody is who
+    /// waited for that one.
+    pub(crate) fn end_wait(&mut self, counted: Option<u64>)
+        ensures now { counted ≡ Some self.old.round
+            → self.new ≡ record self.old { waiting = self.old.waiting - 1 } }
+        ensures before { counted ≢ Some self.old.round → self.new ≡ self.old }
     {
-        self.waiting = self.waiting.saturating_sub(1);
+        if counted == Some(self.round) {
+            self.waiting = self.waiting.saturating_sub(1);
+        }
     }
 
     /// Whether as many sessions wait as are expected.
@@ -118,12 +135,15 @@ impl<T: Receipt + Drop> Progress<T> {
         self.expected <= self.waiting
     }
 
-    /// The flush has ended well.
+    /// The flush has ended well. Whoever waited for it is expected at the next one, and isn't
+    /// counted before it waits for that.
     pub(crate) fn keep(&mut self, receipt: T)
         ensures { self.new ≡ record self.old {
           kept = later_of T.number T.reach self.old.kept receipt;
           is_flushing = false;
           is_short = false;
+          round = min (self.old.round + 1) (2 ^ 64 - 1);
+          waiting = 0;
           expected = self.old.waiting;
         } }
     {
@@ -132,7 +152,9 @@ impl<T: Receipt + Drop> Progress<T> {
         }
         self.is_flushing = false;
         self.is_short = false;
+        self.round = self.round.saturating_add(1);
         self.expected = self.waiting;
+        self.waiting = 0;
     }
 
     /// The flush lacked memory or space, and is tried again by the one who flushes. Answers whether

@@ -14,11 +14,8 @@ use std::time::{Clock, Duration};
 /// The changes of each session, each of which waits until the one before is kept.
 const CHANGES: u64 = 20;
 
-/// As many flushes may cover the change of one session alone, until one ends while the other waits.
-const ALONE: u64 = 10;
-
-/// Nobody sees whether a session that has asked waits already: it has these turns to come to that.
-const TURNS: u64 = 1_000;
+/// One flush may cover the first change of one session alone, and another the last of the other.
+const FLUSHES: u64 = CHANGES + 1;
 
 /// What a session waits by, and a clock that stops until a session has ended, and then is a second
 /// ahead at each look.
@@ -53,23 +50,19 @@ impl<'a, R: Wait> Stopped<'a, R> {
     }
 }
 
-/// The steps of one of two sessions. Whoever has flushed is held until the other one has asked, or
-/// has ended.
+/// The steps of one of two sessions. Whoever has flushed is held until the other one waits, or has
+/// ended.
 #[derive(Drop)]
 struct Beside<'a, R: Wait> {
     rt: &'a R,
-    asks: &'a AtomicBool,
-    other_asks: &'a AtomicBool,
+    monitor: &'a Monitor<Kept>,
     has_ended: &'a AtomicBool,
 }
 
 impl<R: Wait> Steps for Beside<'_, R> {
     fn before(&self, step: CommitStep) {
-        match step {
-            CommitStep::Asks => self.asks.store(true, Ordering::SeqCst),
-            CommitStep::GoesOn => self.asks.store(false, Ordering::SeqCst),
-            CommitStep::Keeps => self.await_other(),
-            _ => {}
+        if step == CommitStep::Keeps {
+            self.await_other();
         }
     }
 }
@@ -77,13 +70,10 @@ impl<R: Wait> Steps for Beside<'_, R> {
 impl<R: Wait> Beside<'_, R> {
     fn await_other(&self) {
         for _ in self.rt.forever() {
-            let has_asked = self.other_asks.load(Ordering::SeqCst);
-            if has_asked || self.has_ended.load(Ordering::SeqCst) {
+            let waits = self.monitor.waiting(self.rt) > 0;
+            if waits || self.has_ended.load(Ordering::SeqCst) {
                 break;
             }
-            yield_now();
-        }
-        for _ in 0..TURNS {
             yield_now();
         }
     }
@@ -110,8 +100,6 @@ fn are_kept<R: Wait + Clock, S: Steps>(
 struct Pair {
     monitor: Monitor<Kept>,
     store: Mutex<Store>,
-    first_asks: AtomicBool,
-    second_asks: AtomicBool,
     has_ended: AtomicBool,
 }
 
@@ -123,20 +111,17 @@ impl Pair {
                 reach: 0,
             }),
             store: Mutex::new(Store::new(0, false)),
-            first_asks: AtomicBool::new(false),
-            second_asks: AtomicBool::new(false),
             has_ended: AtomicBool::new(false),
         }
     }
 
     /// One of the two, beside the other.
-    fn play<R: Wait>(&self, rt: &R, asks: &AtomicBool, other_asks: &AtomicBool) -> bool {
+    fn play<R: Wait>(&self, rt: &R) -> bool {
         let has_ended = &self.has_ended;
         let timed = Stopped::new(rt, has_ended);
         let steps = Beside {
             rt,
-            asks,
-            other_asks,
+            monitor: &self.monitor,
             has_ended,
         };
         are_kept(&timed, &self.monitor, &self.store, &steps, has_ended)
@@ -146,11 +131,7 @@ impl Pair {
 /// Two sessions beside each other. Answers whether each change is kept, and by how many flushes.
 fn play_two<R: Threads + Wait + Sync>(rt: &R) -> (bool, u64) {
     let pair = Pair::new();
-    let (first, second) = join(
-        rt,
-        || pair.play(rt, &pair.first_asks, &pair.second_asks),
-        || pair.play(rt, &pair.second_asks, &pair.first_asks),
-    );
+    let (first, second) = join(rt, || pair.play(rt), || pair.play(rt));
     let flushes = pair.store.lock(rt).flushes;
     (first && second, flushes)
 }
@@ -159,7 +140,7 @@ fn play_two<R: Threads + Wait + Sync>(rt: &R) -> (bool, u64) {
 fn whoever_comes_again_shares_the_next_flush(rt: HostRuntime) {
     let (are_kept, flushes) = play_two(&rt);
     assert!(rt; are_kept);
-    assert!(rt; flushes <= CHANGES + ALONE, "{flushes} flushes");
+    assert!(rt; flushes <= FLUSHES, "{flushes} flushes");
 }
 
 #[test]
