@@ -33,6 +33,7 @@ OBJECTS = range(1, 36)
 SMALL_WRITES, LONG_WRITES = 200, 8  # of each object: its journal and the drive have room for them
 STEP, PLACES = 128, 192  # how far small Writes of an object are apart, so that each stays in one block
 SHORT, LONG = 10, 300  # changes of an object whose past is read
+FEW_WRITES, MANY_WRITES = 1, 200  # real Writes later than a moment that is read
 RUNS = 50  # of hidden moments
 LATER = 400  # by how many moments each run is made longer
 MANY, HIDDEN = 1_000, 60  # objects, and moments that are hidden of each: a list may have 64 runs
@@ -116,6 +117,14 @@ def of_the_past(changes):
     return [Load(f"Reads of {size:,} bytes {past}", made(size), [("read", 1, 0, size, at) for at in moments], passes, DATA)
             for size, passes in ((SMALL, often), (PIECE, often // 10))] \
         + [Load(f"GetAttr {past}", made(SMALL), [("get_attr", 1, at) for at in moments], often, ATTRIBUTE)]
+
+
+def before_writes(count):
+    """The past of an object from before small Writes to it: each of them changes a pointer, unlike those of `of_the_past`."""
+    made = [("create",), ("write", 1, 0, BYTES)] + [("write", 1, k % PLACES * STEP, BYTES[:SMALL]) for k in range(count)]
+    of = f"of before {count} Writes"
+    return [Load(f"Reads of {size:,} bytes, {of}", made, [("read", 1, 0, size, 2)] * 100, passes, DATA)
+            for size, passes in ((SMALL, 3_000), (PIECE, 300))]
 
 
 def flushes():
@@ -263,7 +272,8 @@ def main():
     if len(words) > 2 or any(it.startswith("-") for it in words):
         sys.exit(__doc__)
     programs = wire.programs(words)
-    loads = [*writes(), *reads(), *of_the_past(SHORT), *of_the_past(LONG), *flushes()]
+    loads = [*writes(), *reads(), *of_the_past(SHORT), *of_the_past(LONG),
+             *before_writes(FEW_WRITES), *before_writes(MANY_WRITES), *flushes()]
     for program in programs:
         for load in loads:
             look(program, load)
