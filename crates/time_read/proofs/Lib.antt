@@ -1,3 +1,4 @@
+pub mod Before
 pub mod Cached
 pub mod Counting
 pub mod Fetching
@@ -6,10 +7,12 @@ pub mod Locating
 pub mod Ordering
 pub mod Pins
 pub mod Planning
+pub mod PutBack
 pub mod Found
 pub mod Reading
 pub mod Starting
 pub mod Staying
 pub mod Undoing
 pub mod Undone
+pub mod Within
 pub mod Worked

@@ -49,3 +49,11 @@ pub undone_by_index : ((i j : Inode) (entries : List EntryFields) → Run i entr
     → ((first : Inode) (entries : List EntryFields) → map undoing_of entries ≡ undoings → grouped entries ≡ true → Run first entries present → inode ≡ inode_after first entries at) → inode ≡ inode_of held o row at
 undone_by_index end held o row at undoings present inode r last told undone =
     undone_is end held o row (entries_of held o row) at present inode r refl last (λ first run. undone first (entries_of held o row) (sym told) r.groups run)
+
+-- what holds of the inode that an index leads back to holds of the one at the moment
+pub made_by_index : ((i j : Inode) (entries : List EntryFields) → Run i entries j → j ≡ redone_all entries i) → (held : Place → Option Stored) (o : ℕ) (row : Row) (at : ℕ) (undoings : List Undoing) (present : Inode) (Holds : Inode → Type 0) → IsRow held o row
+    → present ≡ last_inode held o row → undoings ≡ map undoing_of (entries_of held o row)
+    → ((first : Inode) (entries : List EntryFields) → map undoing_of entries ≡ undoings → grouped entries ≡ true → Run first entries present → Holds (inode_after first entries at)) → Holds (inode_of held o row at)
+made_by_index end held o row at undoings present Holds r last told holds =
+    let run : Run (first_of held o row) (entries_of held o row) present = subst (λ (j : Inode). Run (first_of held o row) (entries_of held o row) j) (sym last) (leads end held o row r) in
+    subst Holds (sym (inode_of_first held o row at)) (holds (first_of held o row) (entries_of held o row) (sym told) r.groups run)

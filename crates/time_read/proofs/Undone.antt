@@ -19,6 +19,7 @@ use Rattle.undo_redo.specs.Runs.{Run, inode_after, moments_ascend_from}
 use Rattle.undo_redo.specs.Groups.{grouped}
 use Rattle.undo_redo.specs.Laws.{ALaterEntryIsUndone, ThePresentInodeIsLast}
 use Rattle.time_read.specs.Earlier.{Earlier}
+use Rattle.time_read.proofs.PutBack.{put_back_append}
 use Rattle.time_read.specs.Undoings.{Undoing, earlier_of, undoing_of, put_back, undone_by, undone_from, attribute_in, attribute_end, undoing_in, Spans, Tile, Tells, Extends}
 use Rattle.time_read.specs.declared.undo_records.UndoRecord.{UndoRecord}
 
@@ -347,10 +348,6 @@ later_undone laws ps xs rs at k first entries inode parts told groups run =
     walk_end laws.ascend laws.stays ps xs at first entries (take k rs) (undone_list (map of (drop k rs)) inode) (earlier_ones at rs k point.0) back
 
 -- ---- all of them at once
-
-put_back_append : (qs ps : List Earlier) (pointers : List (Option Place)) → put_back (qs ++ ps) pointers ≡ put_back ps (put_back qs pointers)
-put_back_append [] ps pointers = refl
-put_back_append (q ∷ qs) ps pointers = put_back_append qs ps _
 
 pointers_from : (ps : List Earlier) (xs : List (List ℕ)) (p a b : ℕ) (rs : List UndoRecord) (j : Inode) → Tile p a rs (length ps) b → (undone_list (map (undoing_in ps xs) rs) j).pointers ≡ put_back (reverse (drop p ps)) j.pointers
 unfolding undone_by

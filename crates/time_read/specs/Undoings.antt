@@ -67,6 +67,10 @@ pub record Tells (records : List UndoRecord) (pointers : List Earlier) (attribut
 unfoldable pub undone_from : List Earlier → List (List ℕ) → UndoRecord → Inode → Inode
 undone_from pointers attributes r j = record { alive = r.before.alive; size = r.before.size; created = j.created; changed = r.before.changed; attribute = slice_index_or attributes r.attribute j.attribute; pointers = put_back (reverse (drop r.first pointers)) j.pointers }
 
+-- the inode with all of that but the pointers
+abbrev pub fields_undone : List (List ℕ) → UndoRecord → Inode → Inode
+fields_undone attributes r j = record { alive = r.before.alive; size = r.before.size; created = j.created; changed = r.before.changed; attribute = slice_index_or attributes r.attribute j.attribute; pointers = j.pointers }
+
 -- a list begins with another
 abbrev pub Extends : {X : Type 0} → List X → List X → Type 0
 Extends {X} xs ys = (more : List X) × (ys ≡ xs ++ more)

@@ -1,3 +1,4 @@
+pub mod EarlierPointers
 pub mod Nearest
 pub mod Planning
 pub mod Sources

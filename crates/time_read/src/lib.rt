@@ -13,6 +13,8 @@
 //! let go, and the journal says the same.
 #![tactic(auto)]
 
+mod block_ranges;
+mod earlier_pointers;
 mod inodes;
 mod journals;
 pub mod laws;
@@ -23,6 +25,7 @@ mod undo_index;
 pub mod undo_laws;
 mod undo_records;
 
+pub use block_ranges::BlockRange;
 pub use inodes::{entries, inode_before};
 pub use journals::ObjectJournal;
 pub use plans::{ReadPlan, plan};

@@ -1,56 +1,24 @@
 //! What is kept of one entry.
 ghost use Rattle.std.specs.Prelude.{◌≡◌, ◌<◌, ◌≤◌, ◌++◌, true, false, nat_le, length, map, reverse};
-ghost use Rattle.std.specs.Prelude.{slice_set, IfOk, IfErr, OnOk, option_map, option_to_list};
+ghost use Rattle.std.specs.Prelude.{IfOk, IfErr, OnOk, option_map, option_to_list};
 ghost use Rattle.std.specs.List.{All};
 ghost use Rattle.std.specs.List.Sorted.{IsNonDecreasingBy, IsPartitionPoint};
 ghost use Rattle.s4_types.specs.declared.limits.TheConstants.{OBJECT_BLOCKS};
 ghost use Rattle.s4_types.specs.declared.refusals.Refusal.TheVariants.{NoMemory};
-ghost use Rattle.time_read.specs.Undoings.{Extends, Spans, earlier_of, undoing_of, put_back};
-ghost use Rattle.time_read.specs.Undoings.{undone_from, undoing_in};
+ghost use Rattle.time_read.specs.Undoings.{Extends, Spans, earlier_of, undoing_of};
+ghost use Rattle.time_read.specs.Undoings.{fields_undone, undone_from, undoing_in};
+ghost use Rattle.time_read.specs.Within.{IsLedWithin};
 
-use codec::{Attribute, Entry, Inode, Pair, PointerIndex, Status, Triple};
-use s4_types::limits::OBJECT_BLOCKS;
-use s4_types::{Moment, Ptr, Refusal};
-use std::marker::Model;
+use crate::block_ranges::BlockRange;
+use crate::earlier_pointers::EarlierPointers;
+use codec::{Attribute, Entry, Inode, Pair, Status, Triple};
+use s4_types::{Moment, Refusal};
 
-/// A pointer's index and what was there before an entry.
-#[derive(Clone, Copy)]
-pub(crate) struct EarlierPointer {
-    index: PointerIndex,
-    before: Option<Ptr>,
-}
+/// More pointers than these aren't searched for one by one.
+const MOST_SEARCHED: usize = 8;
 
-impl Model for EarlierPointer {
-    ghost use Rattle.std.specs.Prelude.{◌<◌};
-    ghost use Rattle.s4_types.specs.declared.limits.TheConstants.{OBJECT_BLOCKS};
-    ghost use Rattle.time_read.specs.Earlier.{Earlier};
-
-    ghost Value = { Earlier };
-
-    ghost view = { λ p. record { index = p.index; before = p.before } };
-
-    ghost invariant = { λ p. p.index < OBJECT_BLOCKS };
-
-    ghost inverse = { λ p. record { index = p.index; before = p.before } };
-}
-
-impl EarlierPointer {
-    fn of(triple: &Triple) -> Self
-        requires { triple.now.index < OBJECT_BLOCKS }
-        ensures { result ≡ earlier_of triple.now }
-    {
-        EarlierPointer {
-            index: triple.index,
-            before: triple.before,
-        }
-    }
-
-    fn put(self, pointers: &mut [Option<Ptr>; OBJECT_BLOCKS])
-        ensures { pointers.new ≡ slice_set pointers.old self.index self.before }
-    {
-        pointers[self.index as usize] = self.before;
-    }
-}
+/// A search for a pointer takes less than to put back more than these.
+const SEARCH_COST: usize = 8;
 
 /// What undoes an entry, but for its attribute and its pointers, which are in lists of their own.
 /// The pointers are those from a first place up to an end, in reverse order. The attribute is the
@@ -78,15 +46,15 @@ fn place(index: usize) -> Result<u16, Refusal>
 }
 
 /// Keeps the earlier pointers of an entry, the last one first.
-fn keep_pointers(pointers: &mut Vec<EarlierPointer>, triples: &[Triple]) -> Result<(), Refusal>
+fn keep_pointers(pointers: &mut EarlierPointers, triples: &[Triple]) -> Result<(), Refusal>
     requires { All (λ t. t.index < OBJECT_BLOCKS) triples.now }
     ensures kept { OnOk result
-        (pointers.new.items ≡ pointers.old.items ++ reverse (map earlier_of triples.now)) }
-    ensures extends { Extends pointers.old.items pointers.new.items }
+        (pointers.new ≡ pointers.old ++ reverse (map earlier_of triples.now)) }
+    ensures extends { Extends pointers.old pointers.new }
     ensures refusal { IfErr result (λ e. e ≡ NoMemory) }
 {
     for triple in triples.iter().rev() {
-        pointers.push(EarlierPointer::of(triple))?;
+        pointers.push(triple)?;
     }
     Ok(())
 }
@@ -110,16 +78,16 @@ fn keep_attribute(attributes: &mut Vec<Attribute>, pair: Option<Pair>) -> Result
 /// it stays at their ends.
 #[tactic(auto, using(undo_redo::proofs::Indices::are_low, crate::proofs::Undone::extends_none, crate::proofs::Undone::undoing_is, crate::proofs::Undone::spans_made))]
 pub(crate) fn keep(
-    pointers: &mut Vec<EarlierPointer>,
+    pointers: &mut EarlierPointers,
     attributes: &mut Vec<Attribute>,
     entry: &Entry,
 ) -> Result<UndoRecord, Refusal>
     ensures spans { IfOk result
-        (λ r. Spans (length pointers.old.items) (length attributes.old.items)
-        (length pointers.new.items) (length attributes.new.items) r) }
+        (λ r. Spans (length pointers.old) (length attributes.old.items)
+        (length pointers.new) (length attributes.new.items) r) }
     ensures told { IfOk result
-        (λ r. undoing_in pointers.new.items attributes.new.items r ≡ undoing_of entry.now) }
-    ensures pointers { Extends pointers.old.items pointers.new.items }
+        (λ r. undoing_in pointers.new attributes.new.items r ≡ undoing_of entry.now) }
+    ensures pointers { Extends pointers.old pointers.new }
     ensures attributes { Extends attributes.old.items attributes.new.items }
     ensures refusal { IfErr result (λ e. e ≡ NoMemory) }
 {
@@ -139,12 +107,16 @@ pub(crate) fn keep(
     })
 }
 
-/// Puts earlier pointers in their places, the last one first.
-fn put_all_back(earlier: &[EarlierPointer], pointers: &mut [Option<Ptr>; OBJECT_BLOCKS])
-    ensures { pointers.new ≡ put_back (reverse earlier.now) pointers.old }
+/// Makes of an inode what it was before the entry of a record, but for its pointers, where all after
+/// that are undone with it.
+fn undo_fields(oldest: &UndoRecord, attributes: &[Attribute], inode: &mut Inode)
+    ensures { inode.new ≡ fields_undone attributes.now oldest.now inode.old }
 {
-    for pointer in earlier.iter().rev() {
-        pointer.put(pointers);
+    inode.alive = oldest.before.alive;
+    inode.size = oldest.before.size;
+    inode.changed = oldest.before.changed;
+    if let Some(attribute) = attributes.get(oldest.attribute as usize) {
+        inode.attribute = *attribute;
     }
 }
 
@@ -153,20 +125,44 @@ fn put_all_back(earlier: &[EarlierPointer], pointers: &mut [Option<Ptr>; OBJECT_
 #[tactic(auto, unfolding(crate::specs::Undoings::undone_from))]
 pub(crate) fn undo_from(
     oldest: &UndoRecord,
-    pointers: &[EarlierPointer],
+    pointers: &EarlierPointers,
     attributes: &[Attribute],
     inode: &mut Inode,
 )
     requires { oldest.now.first ≤ length pointers.now }
     ensures { inode.new ≡ undone_from pointers.now attributes.now oldest.now inode.old }
 {
-    inode.alive = oldest.before.alive;
-    inode.size = oldest.before.size;
-    inode.changed = oldest.before.changed;
-    if let Some(attribute) = attributes.get(oldest.attribute as usize) {
-        inode.attribute = *attribute;
+    undo_fields(oldest, attributes, inode);
+    pointers.put_all_back(oldest.first as usize, &mut inode.pointers);
+}
+
+/// Whether a search for each pointer of a range takes less than to put back as many as there are
+/// after a place.
+fn is_searched(needed: BlockRange, later: usize) -> bool {
+    let count = needed.end.saturating_sub(needed.first);
+    count <= MOST_SEARCHED && count * SEARCH_COST < later
+}
+
+/// The same, but no other pointers need be made what they were than those of a range.
+#[tactic(auto, using(crate::proofs::Within::led_whole, crate::proofs::Within::led_within))]
+pub(crate) fn undo_within(
+    oldest: &UndoRecord,
+    pointers: &EarlierPointers,
+    attributes: &[Attribute],
+    needed: BlockRange,
+    inode: &mut Inode,
+)
+    requires { oldest.now.first ≤ length pointers.now }
+    ensures { IsLedWithin needed inode.old
+        (undone_from pointers.now attributes.now oldest.now inode.old) inode.new }
+{
+    let first = oldest.first as usize;
+    if !is_searched(needed, pointers.len() - first) {
+        undo_from(oldest, pointers, attributes, inode);
+        return;
     }
-    put_all_back(&pointers[oldest.first as usize..], &mut inode.pointers);
+    undo_fields(oldest, attributes, inode);
+    pointers.put_some_back(first, needed, &mut inode.pointers);
 }
 
 /// How many records are before those that are later than a moment, where moments don't descend.

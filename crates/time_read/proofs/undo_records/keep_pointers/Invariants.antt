@@ -8,6 +8,6 @@ use Rattle.time_read.proofs.undo_records.keep_pointers.Given as goal
 abbrev pub invariant-loop-triple : goal.invariant-loop-triple
 invariant-loop-triple l = record {
   low : All (λ t. t.index < OBJECT_BLOCKS) l.triple-iterator.iter.rest.now;
-  kept : l.pointers.items ++ reverse (map earlier_of l.triple-iterator.iter.rest.now) ≡ l.initial.pointers.items ++ reverse (map earlier_of l.triples);
-  extends : Extends l.initial.pointers.items l.pointers.items;
+  kept : l.pointers ++ reverse (map earlier_of l.triple-iterator.iter.rest.now) ≡ l.initial.pointers ++ reverse (map earlier_of l.triples);
+  extends : Extends l.initial.pointers l.pointers;
 }
