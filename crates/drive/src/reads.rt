@@ -24,7 +24,7 @@ use s4_model::laws::the_audit_goes_on_row_by_row;
 use s4_types::{Bytes, Moment, ObjectId, Question, Refusal, Reply, Role};
 use segment_word::Naming;
 use std::alloc::Global;
-use time_read::ReadPlan;
+use time_read::{BlockRange, ReadPlan};
 use version_store::{BytesAtOnce, BytesPlanned, NamedTable, Reader};
 
 /// Reads what an inode tells of its object: size, moments and attribute. No block is read.
@@ -40,6 +40,10 @@ impl<B: Blocks> Reader<B> for Attributes {
         (reply ≡ Attr inode.size inode.created inode.changed inode.attribute) × ReplyFits reply };
 
     ghost refuses = { λ reader table inode e. e ≡ NoMemory };
+
+    fn needed(&self) -> BlockRange {
+        BlockRange::none()
+    }
 
     fn read(self, alloc: Global, _table: &mut B, inode: &Inode) -> Result<Reply, Refusal> {
         let attribute = Bytes::from_slice(alloc, inode.attribute.as_slice())?;

@@ -21,6 +21,7 @@ pub mod Subjects
 pub mod Kind
 pub mod Present
 pub mod ReadByInode
+pub mod Needed
 pub mod Cached
 pub mod Beside
 pub mod Costing

@@ -1,9 +1,12 @@
 -- What is read of an object of a store, and why it isn't.
-use Rattle.std.specs.Prelude.{◌≡◌, ◌⊎◌, ℕ, true, false, Some}
+use Rattle.std.specs.Prelude.{◌≡◌, ◌≤◌, ◌⊎◌, ℕ, true, false, Some}
+use Rattle.s4_types.specs.declared.limits.TheConstants.{OBJECT_BYTES}
 use Rattle.s4_types.specs.declared.refusals.Refusal.{Refusal}
 use Rattle.s4_types.specs.declared.refusals.Refusal.TheVariants.{NoObject}
 use Rattle.s4_types.specs.declared.versions.Version.TheVariants.{Absent}
 use Rattle.codec.specs.declared.inodes.Inode.{Inode}
+use Rattle.time_read.specs.Within.{AgreesWithin}
+use Rattle.time_read.specs.declared.block_ranges.BlockRange.{BlockRange}
 use Rattle.version_store.specs.Store.{StoreFields}
 use Rattle.version_store.specs.Versions.{inode_in, version_in}
 
@@ -21,3 +24,7 @@ IsUnread s o t Refuses e = ((e ≡ NoObject) × (version_in s o t ≡ Absent)) �
 -- by an inode an object isn't read: it is dead, or it is alive and refused
 abbrev pub IsUnreadBy : Inode → (Inode → Type 0) → Refusal → Type 0
 IsUnreadBy i Refuses e = ((e ≡ NoObject) × (i.alive ≡ false)) ⊎ ((i.alive ≡ true) × Refuses i)
+
+-- What holds of an inode holds of each one that agrees with it within a range of blocks.
+abbrev pub RestsOn : BlockRange → (Inode → Type 0) → Type 0
+RestsOn range Holds = (i j : Inode) → i.size ≤ OBJECT_BYTES → AgreesWithin range i j → Holds i → Holds j

@@ -3,6 +3,7 @@ ghost use Rattle.std.specs.Prelude.{◌≡◌, IsTrue, IsFalse};
 ghost use Rattle.time_read.specs.Caches.{IsTrueOf, AddsTrue};
 ghost use Rattle.time_read.specs.Presents.{IsIndexOf};
 ghost use Rattle.time_read.specs.Rows.{IsRow, entries_of, inode_of, last_inode};
+ghost use Rattle.time_read.specs.Within.{IsLedWithin};
 
 use block_log::Blocks;
 use checkpoint::InodeCache;
@@ -10,7 +11,7 @@ use codec::Inode;
 use object_map::{Kept, Row};
 use s4_types::{Moment, ObjectId};
 use std::alloc::Global;
-use time_read::{Present, inode_at};
+use time_read::{BlockRange, Present, inode_at};
 
 /// Makes of an inode the object's at a moment, led to from the nearest checkpoint. False where the
 /// memory for the entries is refused; then the inode is as it was.
@@ -70,7 +71,8 @@ pub(crate) fn lead_back<B: Blocks>(
     kept.value.lead_back(table, object, &kept.row, at, inode);
 }
 
-/// Makes of an object's inode after all its entries the one at a moment, in its place, for a read.
+/// Makes of an object's inode after all its entries the one at a moment, in its place, for a read
+/// that needs no other pointers than those to the blocks of a range.
 pub(crate) fn lead_back_to_read<B: Blocks>(
     alloc: Global,
     table: &mut B,
@@ -78,6 +80,7 @@ pub(crate) fn lead_back_to_read<B: Blocks>(
     object: ObjectId,
     kept: &Kept<Present>,
     at: Moment,
+    needed: BlockRange,
     inode: &mut Inode,
 )
     requires row { IsRow (B.log table.old).held object kept.now.row }
@@ -85,7 +88,8 @@ pub(crate) fn lead_back_to_read<B: Blocks>(
         (entries_of (B.log table.old).held object kept.now.row) }
     requires cached { IsTrueOf cache.old.pairs (B.log table.old).held object kept.now.row }
     requires present { inode.old ≡ last_inode (B.log table.old).held object kept.now.row }
-    ensures inode { inode.new ≡ inode_of (B.log table.old).held object kept.now.row at }
+    ensures inode { IsLedWithin needed inode.old
+        (inode_of (B.log table.old).held object kept.now.row at) inode.new }
     ensures added { AddsTrue (B.log table.old).held object kept.now.row cache.old.pairs
         cache.new.pairs }
     ensures same { B.log table.new ≡ B.log table.old }
@@ -96,5 +100,5 @@ pub(crate) fn lead_back_to_read<B: Blocks>(
         lead_back(alloc, table, cache, object, kept, at, inode);
         return;
     };
-    index.undo_past(at, inode);
+    index.undo_past_within(at, needed, inode);
 }

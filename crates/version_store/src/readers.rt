@@ -1,11 +1,12 @@
 //! What is read of an object by its inode: its bytes at once, or a plan of them.
 ghost use Rattle.std.specs.Prelude.{◌≡◌, ◌≤◌, true, length, take, drop, IfOk, IfErr};
 ghost use Rattle.s4_types.specs.declared.limits.TheConstants.{OBJECT_BLOCKS, OBJECT_BYTES};
+ghost use Rattle.s4_types.specs.declared.refusals.Refusal.{Refusal as Refused};
 ghost use Rattle.s4_types.specs.declared.refusals.Refusal.TheVariants.{NoMemory};
 ghost use Rattle.inode.specs.Contents.{contents_of, bytes_of};
 ghost use Rattle.inode.specs.Tidiness.{PointersLead};
 ghost use Rattle.version_store.specs.Planning.{IsReadPlan, IsPlanRefusal};
-ghost use Rattle.version_store.specs.Reading.{IsUnreadBy};
+ghost use Rattle.version_store.specs.Reading.{IsUnreadBy, RestsOn};
 
 use crate::named_table::NamedTable;
 use block_log::Blocks;
@@ -13,7 +14,7 @@ use codec::Inode;
 use s4_types::Refusal;
 use segment_word::Naming;
 use std::alloc::Global;
-use time_read::ReadPlan;
+use time_read::{BlockRange, ReadPlan};
 
 /// A way to read an object by its inode, over the table that the inode's blocks are in.
 pub trait Reader<B: Blocks>: Drop {
@@ -28,6 +29,13 @@ pub trait Reader<B: Blocks>: Drop {
 
     /// It may be refused for this.
     ghost refuses: { Self → B → Inode → Refusal → Type 0 };
+
+    /// The blocks whose pointers it needs: with other pointers to all others it reads the same.
+    fn needed(&self) -> BlockRange
+        ensures reads { (table : B) (read : Self.Read)
+            → RestsOn result (λ inode. reads self.now table inode read) }
+        ensures refuses { (table : B) (e : Refused)
+            → RestsOn result (λ inode. refuses self.now table inode e) };
 
     /// What is read by an inode. No block changes.
     fn read(self, alloc: Global, table: &mut B, inode: &Inode) -> Result<Self::Read, Refusal>
@@ -58,6 +66,10 @@ impl<B: Blocks> Reader<B> for BytesAtOnce {
 
     ghost refuses = { λ reader table inode e. e ≡ NoMemory };
 
+    fn needed(&self) -> BlockRange {
+        BlockRange::of_bytes(self.offset, self.wanted)
+    }
+
     fn read(self, alloc: Global, table: &mut B, inode: &Inode) -> Result<Vec<u8>, Refusal> {
         inode::read(alloc, table, inode, self.offset, self.wanted)
     }
@@ -85,6 +97,10 @@ impl<J: Naming> Reader<NamedTable<J>> for BytesPlanned {
 
     ghost refuses = { λ reader table inode e.
         IsPlanRefusal table inode reader.offset reader.wanted e };
+
+    fn needed(&self) -> BlockRange {
+        BlockRange::of_bytes(self.offset, self.wanted)
+    }
 
     fn read(
         self,

@@ -255,6 +255,7 @@ impl<B: Blocks> Store<B> {
         if self.latest <= at {
             return read_live(self.alloc, &mut self.table, &kept.value.inode, reader);
         }
+        let needed = reader.needed();
         let mut inode = kept.value.inode;
         lead_back_to_read(
             self.alloc,
@@ -263,6 +264,7 @@ impl<B: Blocks> Store<B> {
             object,
             kept,
             at,
+            needed,
             &mut inode,
         );
         read_live(self.alloc, &mut self.table, &inode, reader)
