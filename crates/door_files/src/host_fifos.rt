@@ -54,7 +54,7 @@ fn is_that_fifo(opened: &Metadata, seen: &Metadata) -> bool {
 
 /// Opens a FIFO once more, which is open for both directions: so that doesn't wait either. It is
 /// found by its number in this program and not by its path, which may lead to another one by now.
-pub fn open_again(rt: &HostRuntime, both: &File, how: &OpenOptions) -> io::Result<File> {
+fn open_again(rt: &HostRuntime, both: &File, how: &OpenOptions) -> io::Result<File> {
     let number = both.as_raw_fd();
     let path = format!(in rt.alloc(); "/proc/self/fd/{number}")?;
     how.open(rt, path.as_str())

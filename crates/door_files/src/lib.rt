@@ -9,7 +9,5 @@
 
 mod fifos;
 mod host_fifos;
-#[cfg(test)]
-mod tests;
 
 pub use fifos::{Fifos, open_door, open_session};

@@ -9,8 +9,6 @@
 
 mod line;
 mod reader;
-#[cfg(test)]
-mod tests;
 
 pub use line::{DoorLine, NAME_BYTES, SessionName};
 pub use reader::{DoorEnd, DoorReader, PIECE_BYTES};

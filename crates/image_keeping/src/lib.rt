@@ -11,8 +11,6 @@
 mod folder;
 mod keeper;
 mod memory;
-#[cfg(test)]
-mod tests;
 mod whole;
 
 pub use folder::{Folder, FolderError};

@@ -11,8 +11,6 @@
 
 mod folder;
 mod obstacles;
-#[cfg(test)]
-mod tests;
 
 pub use folder::FileFolder;
 pub use obstacles::KeepObstacle;

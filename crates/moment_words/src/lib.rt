@@ -8,8 +8,6 @@
 #![tactic(auto)]
 
 mod printing;
-#[cfg(test)]
-mod tests;
 mod words;
 
 pub use printing::{FIRST_DATED, MomentStyle, ShownMoment, moment_text, style_of};

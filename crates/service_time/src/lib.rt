@@ -11,8 +11,6 @@ mod clock;
 mod durations;
 mod machine;
 mod starts;
-#[cfg(test)]
-mod tests;
 
 pub use clock::{Readings, ServiceClock};
 pub use durations::duration_of;

@@ -1,7 +1,7 @@
 //! Lines in every cut.
 ghost use Rattle.std.specs.Prelude.{◌+◌, ◌^◌, ◌<◌, ◌≤◌};
 
-use crate::{DoorEnd, DoorLine, DoorReader};
+use door_lines::{DoorEnd, DoorLine, DoorReader};
 use serving::{MemorySource, Source};
 
 /// What a line says, in short.

@@ -1,11 +1,9 @@
 //! FIFOs of this system, and what is none.
-use crate::fifos::Fifos;
-use crate::host_fifos::open_again;
+use door_files::Fifos;
 use std::alloc::{AllocError, Global};
-use std::fs::{self, OpenOptions};
-use std::io::{self, Read, Write};
 use std::os::fd::AsRawFd;
 use std::test::Fail;
+use std::{fs, io};
 
 /// The path of a file of this program, which is a link to it.
 fn link_to<T: AsRawFd>(alloc: Global, file: &T) -> Result<String, AllocError> {
@@ -36,24 +34,5 @@ fn what_is_no_fifo_is_refused(rt: HostRuntime) -> Result<(), Fail> {
     assert!(rt; is_link_refused(&rt, &reader)?);
     assert_eq!(rt; fs::read(&rt, file)?.as_slice(), b"bytes".as_slice());
     fs::remove_file(&rt, file)?;
-    Ok(())
-}
-
-#[test]
-fn a_fifo_is_opened_again_for_each_direction(rt: HostRuntime) -> Result<(), Fail> {
-    let (reader, writer) = io::pipe(&rt)?;
-    let link = link_to(rt.alloc(), &reader)?;
-    let mut options = OpenOptions::new();
-    let both = options.read(true).write(true).open(&rt, link.as_str())?;
-    drop(reader);
-    drop(writer);
-    let mut input = open_again(&rt, &both, OpenOptions::new().read(true))?;
-    let mut output = open_again(&rt, &both, OpenOptions::new().write(true))?;
-    drop(both);
-    output.write_all(b"bytes")?;
-    drop(output);
-    let mut bytes = Vec::new(rt.alloc());
-    input.read_to_end(&mut bytes)?;
-    assert_eq!(rt; bytes.as_slice(), b"bytes".as_slice());
     Ok(())
 }

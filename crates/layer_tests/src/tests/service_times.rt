@@ -1,5 +1,5 @@
 //! Worked durations and starts.
-use crate::{DAY, FIRST_START, StartFault, WEEK, duration_of, start_of};
+use service_time::{DAY, FIRST_START, StartFault, WEEK, duration_of, start_of};
 use std::test::Fail;
 
 #[test]

@@ -1,5 +1,5 @@
 //! Each call of a folder fails in turn, and each outcome of a crash is looked at.
-use crate::{FolderError, KeepError, Keeper, MemoryFolder, WholeImage};
+use image_keeping::{FolderError, KeepError, Keeper, MemoryFolder, WholeImage};
 use std::alloc::{AllocError, Global};
 use std::test::Fail;
 

@@ -1,7 +1,7 @@
 //! Images of this system's files.
-use crate::FileFolder;
 use image_commands::{Files, Obstacle};
 use image_keeping::{Folder, Keeper, WholeImage};
+use kept_files::FileFolder;
 use std::fs;
 use std::io::Read;
 use std::marker::Send;

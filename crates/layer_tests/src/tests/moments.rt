@@ -1,5 +1,5 @@
 //! Worked moments. The dates beside the numbers are those of Python's `datetime`.
-use crate::{FIRST_DATED, MomentStyle, MomentWord, moment_of, moment_text, read, style_of};
+use moment_words::{FIRST_DATED, MomentStyle, MomentWord, moment_of, moment_text, read, style_of};
 use std::test::Fail;
 
 #[test]
