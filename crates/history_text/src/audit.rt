@@ -1,16 +1,18 @@
 //! The lines of an audit: for people in columns, for programs as JSON.
 ghost use Rattle.std.specs.Prelude.{◌≡◌, IfOk, string_bytes};
+ghost use Rattle.serde_json.specs.Data.{number, unsigned, object, member, no_members};
 ghost use Rattle.serde_json.specs.View.{view};
 ghost use Rattle.history_text.specs.Audit.{kind_word, kind_column, what_text, audit_head};
 ghost use Rattle.history_text.specs.Audit.{audit_line, bytes_data, moments_data, what_data};
 ghost use Rattle.history_text.specs.Audit.{audit_data, flush_line};
 ghost use Rattle.history_text.specs.Json.{json_line};
 
-use crate::json::{json_line, time_value};
+use crate::json::json_line;
 use crate::lines::{hidden_of, moment_column};
+use crate::members::{no_members, object_of, with_member, with_number, with_text, with_time};
 use moment_words::{MomentStyle, moment_text};
 use s4_types::{AuditKind, AuditRow, Moment};
-use serde_json::{Value, json};
+use serde_json::Value;
 use std::alloc::{AllocError, Global};
 
 fn kind_word(kind: AuditKind) -> &'static str
@@ -115,7 +117,8 @@ pub fn flush_line(alloc: Global, row: &AuditRow, style: MomentStyle) -> Result<S
 fn bytes_value(alloc: Global, offset: u64, length: u64) -> Result<Value, AllocError>
     ensures { IfOk result (λ value. view value ≡ bytes_data offset length) }
 {
-    json!(in alloc; { "offset": offset, "length": length })
+    let made = with_number(alloc, no_members(alloc), "offset", offset);
+    object_of(with_number(alloc, made, "length", length))
 }
 
 fn moments_value(
@@ -126,14 +129,18 @@ fn moments_value(
 ) -> Result<Value, AllocError>
     ensures { IfOk result (λ value. view value ≡ moments_data style first last) }
 {
-    let first_time = time_value(alloc, Moment::new(first), style)?;
-    let last_time = time_value(alloc, Moment::new(last), style)?;
-    json!(in alloc; {
-        "first": first,
-        "first_time": first_time,
-        "last": last,
-        "last_time": last_time
-    })
+    let made = with_number(alloc, no_members(alloc), "first", first);
+    let made = with_time(alloc, made, "first_time", Moment::new(first), style);
+    let made = with_number(alloc, made, "last", last);
+    object_of(with_time(alloc, made, "last_time", Moment::new(last), style))
+}
+
+// An object with one number.
+fn number_value(alloc: Global, key: &str, count: u64) -> Result<Value, AllocError>
+    ensures { IfOk result (λ value. view value
+        ≡ object (member key.now (number (unsigned count)) no_members)) }
+{
+    object_of(with_number(alloc, no_members(alloc), key, count))
 }
 
 fn what_value(
@@ -146,11 +153,11 @@ fn what_value(
     ensures { IfOk result (λ value. view value ≡ what_data style kind first second) }
 {
     match kind {
-        AuditKind::Create | AuditKind::SetAttr => json!(in alloc; { "attribute_length": first }),
+        AuditKind::Create | AuditKind::SetAttr => number_value(alloc, "attribute_length", first),
         AuditKind::Delete => Ok(Value::Null),
         AuditKind::Write => bytes_value(alloc, first, second),
-        AuditKind::Truncate => json!(in alloc; { "size": first }),
-        AuditKind::SetWindow => json!(in alloc; { "window": first }),
+        AuditKind::Truncate => number_value(alloc, "size", first),
+        AuditKind::SetWindow => number_value(alloc, "window", first),
         AuditKind::Flush | AuditKind::FlushO => moments_value(alloc, first, second, style),
     }
 }
@@ -158,17 +165,12 @@ fn what_value(
 fn audit_value(alloc: Global, row: &AuditRow, style: MomentStyle) -> Result<Value, AllocError>
     ensures { IfOk result (λ value. view value ≡ audit_data style row.now) }
 {
-    let (moment, object) = (row.moment.number(), row.object.number());
-    let kind = kind_word(row.kind);
-    let time = time_value(alloc, row.moment, style)?;
     let what = what_value(alloc, row.kind, row.first, row.second, style)?;
-    json!(in alloc; {
-        "moment": moment,
-        "time": time,
-        "kind": kind,
-        "object": object,
-        "what": what
-    })
+    let made = with_member(alloc, no_members(alloc), "what", what);
+    let made = with_number(alloc, made, "moment", row.moment.number());
+    let made = with_time(alloc, made, "time", row.moment, style);
+    let made = with_text(alloc, made, "kind", kind_word(row.kind));
+    object_of(with_number(alloc, made, "object", row.object.number()))
 }
 
 /// The line of a row of an audit, for programs: one JSON object.

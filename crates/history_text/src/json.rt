@@ -8,12 +8,15 @@ ghost use Rattle.history_text.specs.Json.{listed_data, change_data, side_data, i
 ghost use Rattle.history_text.specs.Json.{hidden_data, row_data, kinds_data, stat_data, times_data};
 ghost use Rattle.history_text.specs.Json.{counts_data, numbers_data};
 
+use crate::members::{
+    no_members, object_of, with_hex, with_member, with_number, with_text, with_time,
+};
 use crate::numbers::DriveNumbers;
 use codec::Pair;
 use history_view::{Blocks, Kind, KindCounts, Listed, LogRow, ObjectChange, ObjectStat};
 use moment_words::{MomentStyle, moment_text};
 use s4_types::{Moment, ObjectId, Span};
-use serde_json::{Value, json};
+use serde_json::Value;
 use std::alloc::{AllocError, Global};
 use std::str;
 
@@ -64,23 +67,16 @@ pub(crate) fn time_value(
 fn listed_value(alloc: Global, row: &Listed, style: MomentStyle) -> Result<Value, AllocError>
     ensures { IfOk result (λ value. view value ≡ listed_data style row.now) }
 {
-    let attribute = hex::encode(alloc, row.attribute.as_slice())?;
     let attribute_text = text_value(alloc, row.attribute.as_slice())?;
-    let (object, size, state) = (row.object.number(), row.size, state_word(row.is_live));
-    let (created, changed) = (row.created.number(), row.changed.number());
-    let created_time = time_value(alloc, row.created, style)?;
-    let changed_time = time_value(alloc, row.changed, style)?;
-    json!(in alloc; {
-        "object": object,
-        "state": state,
-        "size": size,
-        "created": created,
-        "created_time": created_time,
-        "changed": changed,
-        "changed_time": changed_time,
-        "attribute": attribute,
-        "attribute_text": attribute_text
-    })
+    let made = with_number(alloc, no_members(alloc), "object", row.object.number());
+    let made = with_text(alloc, made, "state", state_word(row.is_live));
+    let made = with_number(alloc, made, "size", u64::from(row.size));
+    let made = with_number(alloc, made, "created", row.created.number());
+    let made = with_time(alloc, made, "created_time", row.created, style);
+    let made = with_number(alloc, made, "changed", row.changed.number());
+    let made = with_time(alloc, made, "changed_time", row.changed, style);
+    let made = with_hex(alloc, made, "attribute", row.attribute.as_slice());
+    object_of(with_member(alloc, made, "attribute_text", attribute_text))
 }
 
 /// The line of an object.
@@ -139,43 +135,29 @@ fn change_value(
 ) -> Result<Value, AllocError>
     ensures { IfOk result (λ value. view value ≡ change_data style object change.now) }
 {
-    let (moment, object, kind) = (
-        change.moment.number(),
-        object.number(),
-        kind_word(change.kind),
-    );
-    let (before, after) = (change.size_before, change.size_after);
-    let (first, last) = block_values(change.blocks);
-    let (attribute_before, attribute_after) = attribute_values(alloc, &change.pair)?;
-    let time = time_value(alloc, change.moment, style)?;
-    json!(in alloc; {
-        "moment": moment,
-        "time": time,
-        "object": object,
-        "kind": kind,
-        "size_before": before,
-        "size_after": after,
-        "first_block": first,
-        "last_block": last,
-        "attribute_before": attribute_before,
-        "attribute_after": attribute_after
-    })
+    let sides = attribute_values(alloc, &change.pair)?;
+    let ends = block_values(change.blocks);
+    let made = with_number(alloc, no_members(alloc), "moment", change.moment.number());
+    let made = with_time(alloc, made, "time", change.moment, style);
+    let made = with_number(alloc, made, "object", object.number());
+    let made = with_text(alloc, made, "kind", kind_word(change.kind));
+    let made = with_number(alloc, made, "size_before", u64::from(change.size_before));
+    let made = with_number(alloc, made, "size_after", u64::from(change.size_after));
+    let made = with_member(alloc, made, "first_block", ends.0);
+    let made = with_member(alloc, made, "last_block", ends.1);
+    let made = with_member(alloc, made, "attribute_before", sides.0);
+    object_of(with_member(alloc, made, "attribute_after", sides.1))
 }
 
 fn hidden_value(alloc: Global, run: &Span, style: MomentStyle) -> Result<Value, AllocError>
     ensures { IfOk result (λ value. view value ≡ hidden_data style run.now) }
 {
-    let (first, last, object) = (run.first.number(), run.last.number(), run.object.number());
-    let time = time_value(alloc, run.first, style)?;
-    let last_time = time_value(alloc, run.last, style)?;
-    json!(in alloc; {
-        "moment": first,
-        "time": time,
-        "last": last,
-        "last_time": last_time,
-        "object": object,
-        "kind": "hidden"
-    })
+    let made = with_number(alloc, no_members(alloc), "moment", run.first.number());
+    let made = with_time(alloc, made, "time", run.first, style);
+    let made = with_number(alloc, made, "last", run.last.number());
+    let made = with_time(alloc, made, "last_time", run.last, style);
+    let made = with_number(alloc, made, "object", run.object.number());
+    object_of(with_text(alloc, made, "kind", "hidden"))
 }
 
 fn row_value(alloc: Global, row: &LogRow, style: MomentStyle) -> Result<Value, AllocError>
@@ -198,37 +180,26 @@ pub fn log_json(alloc: Global, row: &LogRow, style: MomentStyle) -> Result<Strin
 fn kinds_value(alloc: Global, kinds: &KindCounts) -> Result<Value, AllocError>
     ensures { IfOk result (λ value. view value ≡ kinds_data kinds.now) }
 {
-    let (made, deleted, attribute) = (kinds.made, kinds.deleted, kinds.attribute);
-    let (written, cut) = (kinds.written, kinds.cut);
-    let (lengthened, touched) = (kinds.lengthened, kinds.touched);
-    json!(in alloc; {
-        "made": made,
-        "deleted": deleted,
-        "attribute": attribute,
-        "written": written,
-        "cut": cut,
-        "lengthened": lengthened,
-        "touched": touched
-    })
+    let made = with_number(alloc, no_members(alloc), "made", kinds.made);
+    let made = with_number(alloc, made, "deleted", kinds.deleted);
+    let made = with_number(alloc, made, "attribute", kinds.attribute);
+    let made = with_number(alloc, made, "written", kinds.written);
+    let made = with_number(alloc, made, "cut", kinds.cut);
+    let made = with_number(alloc, made, "lengthened", kinds.lengthened);
+    object_of(with_number(alloc, made, "touched", kinds.touched))
 }
 
 fn stat_value(alloc: Global, stat: &ObjectStat, style: MomentStyle) -> Result<Value, AllocError>
     ensures { IfOk result (λ value. view value ≡ stat_data style stat.now) }
 {
-    let (object, changes) = (stat.object.number(), stat.changes);
-    let (first, last) = (stat.first.number(), stat.last.number());
-    let first_time = time_value(alloc, stat.first, style)?;
-    let last_time = time_value(alloc, stat.last, style)?;
     let kinds = kinds_value(alloc, &stat.kinds)?;
-    json!(in alloc; {
-        "object": object,
-        "changes": changes,
-        "kinds": kinds,
-        "first": first,
-        "first_time": first_time,
-        "last": last,
-        "last_time": last_time
-    })
+    let made = with_member(alloc, no_members(alloc), "kinds", kinds);
+    let made = with_number(alloc, made, "object", stat.object.number());
+    let made = with_number(alloc, made, "changes", stat.changes);
+    let made = with_number(alloc, made, "first", stat.first.number());
+    let made = with_time(alloc, made, "first_time", stat.first, style);
+    let made = with_number(alloc, made, "last", stat.last.number());
+    object_of(with_time(alloc, made, "last_time", stat.last, style))
 }
 
 /// The line of what the changes of an object come to.
@@ -255,16 +226,17 @@ fn times_value(
 fn dates_value(alloc: Global, numbers: &DriveNumbers) -> Result<Value, AllocError>
     ensures { IfOk result (λ value. view value ≡ times_data Date numbers.now) }
 {
-    let clock = moment_text(alloc, numbers.clock, MomentStyle::Date)?;
-    let floor = moment_text(alloc, numbers.floor, MomentStyle::Date)?;
-    json!(in alloc; { "clock": clock, "floor": floor })
+    let clock = Moment::new(numbers.clock);
+    let floor = Moment::new(numbers.floor);
+    let made = with_time(alloc, no_members(alloc), "clock", clock, MomentStyle::Date);
+    object_of(with_time(alloc, made, "floor", floor, MomentStyle::Date))
 }
 
 fn counts_value(alloc: Global, numbers: &DriveNumbers) -> Result<Value, AllocError>
     ensures { IfOk result (λ value. view value ≡ counts_data numbers.now) }
 {
-    let (runs, objects) = (numbers.hidden, numbers.hidden_objects);
-    json!(in alloc; { "runs": runs, "objects": objects })
+    let made = with_number(alloc, no_members(alloc), "runs", numbers.hidden);
+    object_of(with_number(alloc, made, "objects", numbers.hidden_objects))
 }
 
 fn numbers_value(
@@ -274,24 +246,19 @@ fn numbers_value(
 ) -> Result<Value, AllocError>
     ensures { IfOk result (λ value. view value ≡ numbers_data style numbers.now) }
 {
-    let (frames, free, room) = (numbers.frames, numbers.free, numbers.room);
-    let (live, deleted, next) = (numbers.live, numbers.deleted, numbers.next);
-    let (clock, window, floor) = (numbers.clock, numbers.window, numbers.floor);
     let hidden = counts_value(alloc, numbers)?;
     let time = times_value(alloc, numbers, style)?;
-    json!(in alloc; {
-        "frames": frames,
-        "free": free,
-        "room": room,
-        "live": live,
-        "deleted": deleted,
-        "next": next,
-        "clock": clock,
-        "window": window,
-        "floor": floor,
-        "time": time,
-        "hidden": hidden
-    })
+    let made = with_member(alloc, no_members(alloc), "hidden", hidden);
+    let made = with_member(alloc, made, "time", time);
+    let made = with_number(alloc, made, "frames", numbers.frames);
+    let made = with_number(alloc, made, "free", numbers.free);
+    let made = with_number(alloc, made, "room", numbers.room);
+    let made = with_number(alloc, made, "live", numbers.live);
+    let made = with_number(alloc, made, "deleted", numbers.deleted);
+    let made = with_number(alloc, made, "next", numbers.next);
+    let made = with_number(alloc, made, "clock", numbers.clock);
+    let made = with_number(alloc, made, "window", numbers.window);
+    object_of(with_number(alloc, made, "floor", numbers.floor))
 }
 
 /// The line of a drive's numbers.

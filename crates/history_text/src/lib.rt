@@ -8,6 +8,7 @@ mod attributes;
 mod audit;
 mod json;
 mod lines;
+mod members;
 mod numbers;
 
 pub use attributes::printed_attribute;
