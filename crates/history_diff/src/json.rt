@@ -13,9 +13,11 @@ use crate::differences::{AttributePair, Difference, DifferenceKind};
 use crate::patches::bytes_in;
 use crate::ranges::ByteRange;
 use crate::texts::Shown;
-use history_text::json_line;
+use history_text::{
+    json_line, no_members, object_of, with_hex, with_member, with_number, with_text,
+};
 use s4_types::ObjectId;
-use serde_json::{Map, Value, json, put};
+use serde_json::{Map, Value, put};
 use std::alloc::{AllocError, Global};
 
 fn kind_word(kind: DifferenceKind) -> &'static str
@@ -31,8 +33,8 @@ fn kind_word(kind: DifferenceKind) -> &'static str
 fn place_value(alloc: Global, range: ByteRange) -> Result<Value, AllocError>
     ensures { IfOk result (λ value. view value ≡ place_data range) }
 {
-    let (first, last) = (range.first, range.last);
-    json!(in alloc; { "first": first, "last": last })
+    let made = with_number(alloc, no_members(alloc), "first", range.first as u64);
+    object_of(with_number(alloc, made, "last", range.last as u64))
 }
 
 fn patch_value(
@@ -43,15 +45,10 @@ fn patch_value(
 ) -> Result<Value, AllocError>
     ensures { IfOk result (λ value. view value ≡ patch_data before.now after.now range) }
 {
-    let old = hex::encode(alloc, bytes_in(range, before))?;
-    let new = hex::encode(alloc, bytes_in(range, after))?;
-    let (first, last) = (range.first, range.last);
-    json!(in alloc; {
-        "first": first,
-        "last": last,
-        "before": old,
-        "after": new
-    })
+    let made = with_number(alloc, no_members(alloc), "first", range.first as u64);
+    let made = with_number(alloc, made, "last", range.last as u64);
+    let made = with_hex(alloc, made, "before", bytes_in(range, before));
+    object_of(with_hex(alloc, made, "after", bytes_in(range, after)))
 }
 
 fn range_value(
@@ -124,18 +121,14 @@ fn difference_members(
         (λ members. members_view members.entries
         ≡ difference_members object (view ranges) no_members (told_of difference.now)) }
 {
-    let kind = Value::try_from_str(alloc, kind_word(difference.kind))?;
-    let (before, after) = (difference.size_before, difference.size_after);
-    let (attribute_before, attribute_after) = attribute_values(alloc, &difference.attributes)?;
-    let mut members = Map::new(alloc);
-    put(&mut members, alloc, "object", Value::from(object.number()))?;
-    put(&mut members, alloc, "kind", kind)?;
-    put(&mut members, alloc, "size_before", Value::from(before))?;
-    put(&mut members, alloc, "size_after", Value::from(after))?;
-    put(&mut members, alloc, "attribute_before", attribute_before)?;
-    put(&mut members, alloc, "attribute_after", attribute_after)?;
-    put(&mut members, alloc, "ranges", ranges)?;
-    Ok(members)
+    let sides = attribute_values(alloc, &difference.attributes)?;
+    let made = with_number(alloc, no_members(alloc), "object", object.number());
+    let made = with_text(alloc, made, "kind", kind_word(difference.kind));
+    let made = with_number(alloc, made, "size_before", difference.size_before as u64);
+    let made = with_number(alloc, made, "size_after", difference.size_after as u64);
+    let made = with_member(alloc, made, "attribute_before", sides.0);
+    let made = with_member(alloc, made, "attribute_after", sides.1);
+    with_member(alloc, made, "ranges", ranges)
 }
 
 // The value of a difference, with the value of its ranges and what is shown.

@@ -4,7 +4,9 @@ ghost use Rattle.serde_json.specs.View.{members_view};
 ghost use Rattle.history_export.specs.Manifest.{file_members, file_name, manifest_line};
 ghost use Rattle.history_export.specs.Manifest.{object_members};
 
-use history_text::{json_line, text_value};
+use history_text::{
+    json_line, no_members, text_value, with_hex, with_member, with_number, with_text,
+};
 use history_view::Listed;
 use s4_types::ObjectId;
 use serde_json::{Map, Value, put};
@@ -33,33 +35,14 @@ pub fn file_members(
         (λ members. members_view members.entries ≡ file_members file.now row.now content.now) }
 {
     let digest = Sha256::digest(content);
-    let digest = hex::encode(alloc, digest.as_slice())?;
-    let attribute = hex::encode(alloc, row.attribute.as_slice())?;
     let attribute_text = text_value(alloc, row.attribute.as_slice())?;
-    let mut members = Map::new(alloc);
-    put(
-        &mut members,
-        alloc,
-        "file",
-        Value::try_from_str(alloc, file)?,
-    )?;
-    put(&mut members, alloc, "size", Value::from(content.len()))?;
-    put(&mut members, alloc, "sha256", Value::from(digest))?;
-    put(&mut members, alloc, "attribute", Value::from(attribute))?;
-    put(&mut members, alloc, "attribute_text", attribute_text)?;
-    put(
-        &mut members,
-        alloc,
-        "created",
-        Value::from(row.created.number()),
-    )?;
-    put(
-        &mut members,
-        alloc,
-        "changed",
-        Value::from(row.changed.number()),
-    )?;
-    Ok(members)
+    let made = with_text(alloc, no_members(alloc), "file", file);
+    let made = with_number(alloc, made, "size", content.len() as u64);
+    let made = with_hex(alloc, made, "sha256", digest.as_slice());
+    let made = with_hex(alloc, made, "attribute", row.attribute.as_slice());
+    let made = with_member(alloc, made, "attribute_text", attribute_text);
+    let made = with_number(alloc, made, "created", row.created.number());
+    with_number(alloc, made, "changed", row.changed.number())
 }
 
 /// The same of the file that an object has by its number.

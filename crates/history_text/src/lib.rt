@@ -1,7 +1,8 @@
 //! The lines of what a drive has of the past: for people in columns, for programs as JSON.
 //!
 //! The layer above may rely on this: each function gives exactly the text that its definition says,
-//! or NoMemory alone.
+//! or NoMemory alone. Members of a JSON object are added one by one, by functions that pass the first
+//! refusal of memory on.
 #![tactic(auto)]
 
 mod attributes;
@@ -18,4 +19,5 @@ pub use lines::{
     attributes_text, list_head, listed_line, log_head, log_line, numbers_lines, stat_head,
     stat_line,
 };
+pub use members::{no_members, object_of, with_hex, with_member, with_number, with_text};
 pub use numbers::DriveNumbers;

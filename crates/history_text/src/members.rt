@@ -13,14 +13,14 @@ use serde_json::{Map, Value};
 use std::alloc::{AllocError, Global};
 
 /// No members.
-pub(crate) fn no_members(alloc: Global) -> Result<Map<String, Value>, AllocError>
+pub fn no_members(alloc: Global) -> Result<Map<String, Value>, AllocError>
     ensures { IfOk result (λ map. members_view map.entries ≡ no_members) }
 {
     Ok(Map::new(alloc))
 }
 
 /// The members that are being made, with one more. The first refusal of memory stays.
-pub(crate) fn with_member(
+pub fn with_member(
     alloc: Global,
     made: Result<Map<String, Value>, AllocError>,
     key: &str,
@@ -36,7 +36,7 @@ pub(crate) fn with_member(
 }
 
 /// They, with a number more.
-pub(crate) fn with_number(
+pub fn with_number(
     alloc: Global,
     made: Result<Map<String, Value>, AllocError>,
     key: &str,
@@ -51,7 +51,7 @@ pub(crate) fn with_number(
 }
 
 /// They, with a text more.
-pub(crate) fn with_text(
+pub fn with_text(
     alloc: Global,
     made: Result<Map<String, Value>, AllocError>,
     key: &str,
@@ -66,7 +66,7 @@ pub(crate) fn with_text(
 }
 
 /// They, with bytes more, in hex.
-pub(crate) fn with_hex(
+pub fn with_hex(
     alloc: Global,
     made: Result<Map<String, Value>, AllocError>,
     key: &str,
@@ -99,7 +99,7 @@ pub(crate) fn with_time(
 }
 
 /// The object of the members.
-pub(crate) fn object_of(made: Result<Map<String, Value>, AllocError>) -> Result<Value, AllocError>
+pub fn object_of(made: Result<Map<String, Value>, AllocError>) -> Result<Value, AllocError>
     ensures { (members : Members) → IfOk made (λ map. members_view map.entries ≡ members)
         → IfOk result (λ value. view value ≡ object members) }
 {
