@@ -7,8 +7,8 @@ ghost use Rattle.s4_compact.specs.Compacting.{work_text, end_text, report_text, 
 ghost use Rattle.s4_compact.specs.Compacting.{report_line, printed};
 
 use drive_compaction::{Compaction, Ending};
-use history_text::json_line;
-use serde_json::{Value, json};
+use history_text::{json_line, no_members, object_of, with_number, with_text};
+use serde_json::Value;
 use std::alloc::{AllocError, Global};
 
 /// What a compaction came to, as it is printed.
@@ -105,25 +105,23 @@ fn report_value(alloc: Global, report: &Report) -> Result<Value, AllocError>
 {
     let (compaction, work) = (report.compaction, report.compaction.work);
     let (room_before, room_after) = (compaction.room_before as u64, compaction.room_after as u64);
-    let (free_before, free_after) = (compaction.free_before, compaction.free_after);
-    let (turns, past) = (compaction.turns, report.past as u64);
-    let (rewritten, removed) = (work.rewritten, work.removed);
-    let (emptied, moves) = (work.frames, work.moves);
-    let (cleaning, ending) = (cleaning_word(report), ending_word(compaction.ending));
-    json!(in alloc; {
-        "room_before": room_before,
-        "room_after": room_after,
-        "free_before": free_before,
-        "free_after": free_after,
-        "turns": turns,
-        "rewritten": rewritten,
-        "removed": removed,
-        "emptied": emptied,
-        "moves": moves,
-        "cleaning": cleaning,
-        "ending": ending,
-        "past": past
-    })
+    let made = with_number(alloc, no_members(alloc), "room_before", room_before);
+    let made = with_number(alloc, made, "room_after", room_after);
+    let made = with_number(
+        alloc,
+        made,
+        "free_before",
+        u64::from(compaction.free_before),
+    );
+    let made = with_number(alloc, made, "free_after", u64::from(compaction.free_after));
+    let made = with_number(alloc, made, "turns", u64::from(compaction.turns));
+    let made = with_number(alloc, made, "rewritten", work.rewritten);
+    let made = with_number(alloc, made, "removed", work.removed);
+    let made = with_number(alloc, made, "emptied", work.frames);
+    let made = with_number(alloc, made, "moves", work.moves);
+    let made = with_text(alloc, made, "cleaning", cleaning_word(report));
+    let made = with_text(alloc, made, "ending", ending_word(compaction.ending));
+    object_of(with_number(alloc, made, "past", report.past as u64))
 }
 
 // The line that programs read.
