@@ -4,25 +4,20 @@ ghost use Rattle.serde_json.specs.View.{view};
 ghost use Rattle.image_salvage.specs.Counts.{given_data, given_line};
 
 use crate::giving::GivenOut;
-use history_text::json_line;
-use serde_json::{Value, json};
+use history_text::{json_line, no_members, object_of, with_member, with_number};
+use serde_json::Value;
 use std::alloc::{AllocError, Global};
 
 fn given_value(alloc: Global, given: &GivenOut) -> Result<Value, AllocError>
     ensures { IfOk result (λ value. view value ≡ given_data given.now) }
 {
-    let (objects, gone, damaged) = (given.objects, given.blocks_gone, given.damaged);
-    let (lost, frames) = (given.lost_objects, given.lost_frames);
-    let (unlisted, left_out) = (given.unlisted, given.left_out);
-    json!(in alloc; {
-        "objects": objects,
-        "blocks_gone": gone,
-        "lost_objects": lost,
-        "lost_frames": frames,
-        "unlisted": unlisted,
-        "left_out": left_out,
-        "damaged": damaged
-    })
+    let made = with_number(alloc, no_members(alloc), "objects", given.objects);
+    let made = with_number(alloc, made, "blocks_gone", given.blocks_gone);
+    let made = with_number(alloc, made, "lost_objects", given.lost_objects);
+    let made = with_number(alloc, made, "lost_frames", given.lost_frames);
+    let made = with_number(alloc, made, "unlisted", given.unlisted);
+    let made = with_number(alloc, made, "left_out", given.left_out);
+    object_of(with_member(alloc, made, "damaged", Value::from(given.damaged)))
 }
 
 /// What was given out of an image, as one line of JSON: an object with the counts by their names,
