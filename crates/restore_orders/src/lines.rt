@@ -1,7 +1,7 @@
 //! The lines of what was done, for people and for programs.
-ghost use Rattle.std.specs.Prelude.{◌≡◌, IfOk, false, string_bytes};
-ghost use Rattle.serde_json.specs.View.{view};
-ghost use Rattle.serde_json.specs.Written.{has_float};
+ghost use Rattle.std.specs.Prelude.{◌≡◌, ℕ, IfOk, codes, string_bytes};
+ghost use Rattle.serde_json.specs.Data.{number, unsigned, string, member, no_members};
+ghost use Rattle.serde_json.specs.View.{view, members_view};
 ghost use Rattle.history_text.specs.Json.{json_line};
 ghost use Rattle.restore_orders.specs.Lines.{done_data, hidden_data, hidden_json, hidden_line};
 ghost use Rattle.restore_orders.specs.Lines.{hidden_text, planned_json, planned_line, planned_text};
@@ -9,54 +9,50 @@ ghost use Rattle.restore_orders.specs.Lines.{remade_data, restored_text, skipped
 ghost use Rattle.restore_orders.specs.Lines.{window_json, window_line, window_text};
 
 use history_restore::{Plan, Restored};
+use history_text::{json_line, no_members, object_of, with_number, with_text};
 use s4_images::Prints;
 use s4_types::{ObjectId, Span};
-use serde_json::{Value, json};
+use serde_json::{Map, Value};
 use std::alloc::{AllocError, Global};
 
-fn line_of(alloc: Global, value: &Value) -> Result<String, AllocError>
-    requires { has_float (view value.now) ≡ false }
-    ensures { IfOk result (λ line. string_bytes line ≡ json_line (view value.now)) }
-{
-    let mut line = value.to_string(alloc)?;
-    line.push_str("\n")?;
-    Ok(line)
-}
-
 // ---- objects that were restored
+
+// An object's number, and what was done to it.
+fn done_members(alloc: Global, object: u64, done: &str) -> Result<Map<String, Value>, AllocError>
+    ensures { (o : ℕ) → object ≡ o → IfOk result (λ map. members_view map.entries
+        ≡ member (codes "done") (string done.now)
+        (member (codes "object") (number (unsigned o)) no_members)) }
+{
+    let made = with_number(alloc, no_members(alloc), "object", object);
+    with_text(alloc, made, "done", done)
+}
 
 fn done_value(alloc: Global, object: u64, done: &str) -> Result<Value, AllocError>
     ensures { IfOk result (λ value. view value ≡ done_data object done.now) }
 {
-    json!(in alloc; {
-        "object": object,
-        "done": done
-    })
+    object_of(done_members(alloc, object, done))
 }
 
 fn done_json(alloc: Global, object: u64, done: &str) -> Result<String, AllocError>
     ensures { IfOk result (λ line. string_bytes line ≡ json_line (done_data object done.now)) }
 {
     let value = done_value(alloc, object, done)?;
-    line_of(alloc, &value)
+    json_line(alloc, &value)
 }
 
 /// What a line for programs has of an object that was made anew.
 pub fn remade_value(alloc: Global, object: u64, number: u64) -> Result<Value, AllocError>
     ensures { IfOk result (λ value. view value ≡ remade_data object number) }
 {
-    json!(in alloc; {
-        "object": object,
-        "done": "made anew",
-        "number": number
-    })
+    let made = done_members(alloc, object, "made anew");
+    object_of(with_number(alloc, made, "number", number))
 }
 
 fn remade_json(alloc: Global, object: u64, number: u64) -> Result<String, AllocError>
     ensures { IfOk result (λ line. string_bytes line ≡ json_line (remade_data object number)) }
 {
     let value = remade_value(alloc, object, number)?;
-    line_of(alloc, &value)
+    json_line(alloc, &value)
 }
 
 fn planned_json(alloc: Global, object: u64, number: u64, plan: Plan) -> Result<String, AllocError>
@@ -131,21 +127,16 @@ impl Prints<ObjectId> for Form {
 fn hidden_value(alloc: Global, span: Span) -> Result<Value, AllocError>
     ensures { IfOk result (λ value. view value ≡ hidden_data span) }
 {
-    let object = span.object.number();
-    let (first, last) = (span.first.number(), span.last.number());
-    json!(in alloc; {
-        "object": object,
-        "done": "hidden",
-        "first": first,
-        "last": last
-    })
+    let made = done_members(alloc, span.object.number(), "hidden");
+    let made = with_number(alloc, made, "first", span.first.number());
+    object_of(with_number(alloc, made, "last", span.last.number()))
 }
 
 fn hidden_json(alloc: Global, span: Span) -> Result<String, AllocError>
     ensures { IfOk result (λ line. string_bytes line ≡ hidden_json span) }
 {
     let value = hidden_value(alloc, span)?;
-    line_of(alloc, &value)
+    json_line(alloc, &value)
 }
 
 fn hidden_line(alloc: Global, span: Span) -> Result<String, AllocError>
@@ -176,18 +167,16 @@ pub(crate) fn hidden_text(
 fn window_value(alloc: Global, before: u64, window: u64) -> Result<Value, AllocError>
     ensures { IfOk result (λ value. view value ≡ window_data before window) }
 {
-    json!(in alloc; {
-        "done": "widened",
-        "from": before,
-        "to": window
-    })
+    let made = with_text(alloc, no_members(alloc), "done", "widened");
+    let made = with_number(alloc, made, "from", before);
+    object_of(with_number(alloc, made, "to", window))
 }
 
 fn window_json(alloc: Global, before: u64, window: u64) -> Result<String, AllocError>
     ensures { IfOk result (λ line. string_bytes line ≡ window_json before window) }
 {
     let value = window_value(alloc, before, window)?;
-    line_of(alloc, &value)
+    json_line(alloc, &value)
 }
 
 fn window_line(alloc: Global, before: u64, window: u64) -> Result<String, AllocError>
