@@ -8,24 +8,12 @@ use Rattle.s4_command.specs.declared.NoCommand.TheVariants as refusal
 pub among_refused : (kinds : Kinds) (e : NoCommand) → IsRefusedBy kinds e → IsAskedAmong kinds e
 among_refused kinds (refusal.Asked error) h = h
 among_refused kinds (refusal.Refused error) h = tt
-among_refused kinds (refusal.NoNumber name word) h = tt
-among_refused kinds (refusal.NoMoment name word) h = tt
-among_refused kinds (refusal.NoKind word) h = tt
-among_refused kinds (refusal.NoAuditKind word) h = tt
-among_refused kinds (refusal.Both one other) h = tt
-among_refused kinds (refusal.Neither one other) h = tt
-among_refused kinds refusal.Unspelled h = tt
+among_refused kinds (refusal.Fault fault) h = tt
 among_refused kinds refusal.NoMemory h = tt
 
 -- a refusal of the matches isn't one that was asked for
 pub among_own : (kinds : Kinds) (e : NoCommand) → IsOwn e → IsAskedAmong kinds e
 among_own kinds (refusal.Asked error) h = absurd h
 among_own kinds (refusal.Refused error) h = tt
-among_own kinds (refusal.NoNumber name word) h = tt
-among_own kinds (refusal.NoMoment name word) h = tt
-among_own kinds (refusal.NoKind word) h = tt
-among_own kinds (refusal.NoAuditKind word) h = tt
-among_own kinds (refusal.Both one other) h = tt
-among_own kinds (refusal.Neither one other) h = tt
-among_own kinds refusal.Unspelled h = tt
+among_own kinds (refusal.Fault fault) h = tt
 among_own kinds refusal.NoMemory h = tt

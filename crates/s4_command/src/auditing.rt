@@ -1,16 +1,19 @@
 //! What asks for what was accepted: `audit`.
-ghost use Rattle.std.specs.Prelude.{◌≡◌, IfNone, IfOk, IfSome, OnErr, Some, codes};
+ghost use Rattle.std.specs.Prelude.{◌≡◌, IfNone, IfOk, IfSome, None, OnErr, Some, codes};
 ghost use Rattle.clap.specs.Walk.{rows_of};
 ghost use Rattle.clap.specs.Matches.{found_of};
-ghost use Rattle.s4_command.specs.CommandLine.{IsAcceptedAsked, Spells, SpellsAudit, SpellsNone};
+ghost use Rattle.s4_command.specs.CommandLine.{IsAcceptedAsked, Spells, SpellsNone};
 ghost use Rattle.s4_command.specs.CommandLine.{accepted_word};
 
-use crate::reading::{moment_in, number_in};
-use crate::{Command, NoCommand};
+use crate::reading::{moment_in, needed_text_in, note, number_in};
+use crate::{Command, WordFault};
 use clap::ArgMatches;
 use moment_words::MomentWord;
 use s4_types::AuditKind;
 use s4d_command::reading::{is_given, text_in};
+
+/// The words for the kinds of accepted change.
+const KINDS: &str = "create, delete, write, truncate, setattr, setwindow, flush or flusho";
 
 /// What `audit` asks for.
 #[derive(Clone, Copy)]
@@ -32,54 +35,46 @@ pub struct AuditAsked<'a> {
     pub json: bool,
 }
 
-pub(crate) fn audit_asked<'a>(found: &ArgMatches<'a>) -> Result<Command<'a>, NoCommand<'a>>
+pub(crate) fn audit_asked<'a>(found: &ArgMatches<'a>) -> Result<Command<'a>, WordFault<'a>>
     ensures spelled { IfOk result (Spells (Some (codes "audit", rows_of (found_of found.now)))) }
     ensures usage { OnErr result (SpellsNone
         (Some (codes "audit", rows_of (found_of found.now)))) }
 {
-    match audit_in(found) {
-        Ok(audit) => Ok(Command::Audit(audit)),
-        Err(refusal) => Err(refusal),
+    let mut fault = None;
+    let image = needed_text_in(found, "image", &mut fault);
+    let object = number_in(found, "object", &mut fault);
+    let since = moment_in(found, "since", &mut fault);
+    let until = moment_in(found, "until", &mut fault);
+    let kind = accepted_in(found, &mut fault);
+    let limit = number_in(found, "limit", &mut fault);
+    match fault {
+        None => Ok(Command::Audit(AuditAsked {
+            image,
+            object,
+            since,
+            until,
+            kind,
+            limit,
+            moments: is_given(found, "moments"),
+            json: is_given(found, "json"),
+        })),
+        Some(fault) => Err(fault),
     }
 }
 
-fn audit_in<'a>(matches: &ArgMatches<'a>) -> Result<AuditAsked<'a>, NoCommand<'a>>
-    ensures spelled { IfOk result (SpellsAudit (rows_of (found_of matches.now))) }
-    ensures usage { OnErr result ((audit : _) → SpellsAudit (rows_of (found_of matches.now)) audit
-        → ⊥) }
+// The kind of accepted change that is given, and none where none is.
+fn accepted_in<'a>(matches: &ArgMatches<'a>, noted: &mut Option<WordFault<'a>>) -> Option<AuditKind>
+    ensures asked { noted.new ≡ None → IsAcceptedAsked (rows_of (found_of matches.now)) result }
+    ensures kept { noted.new ≡ None → noted.old ≡ None }
+    ensures usage { (kind : _) → IsAcceptedAsked (rows_of (found_of matches.now)) kind
+        → noted.old ≡ None → noted.new ≡ None }
 {
-    let image = text_in(matches, "image").ok_or(NoCommand::Unspelled)?;
-    let object = number_in(matches, "object")?;
-    let since = moment_in(matches, "since")?;
-    let until = moment_in(matches, "until")?;
-    let kind = accepted_in(matches)?;
-    let limit = number_in(matches, "limit")?;
-    Ok(AuditAsked {
-        image,
-        object,
-        since,
-        until,
-        kind,
-        limit,
-        moments: is_given(matches, "moments"),
-        json: is_given(matches, "json"),
-    })
-}
-
-// The kind of accepted change that is given, and none where none is. A text that is no kind is
-// refused.
-fn accepted_in<'a>(matches: &ArgMatches<'a>) -> Result<Option<AuditKind>, NoCommand<'a>>
-    ensures asked { IfOk result (IsAcceptedAsked (rows_of (found_of matches.now))) }
-    ensures usage { OnErr result ((kind : _) → IsAcceptedAsked (rows_of (found_of matches.now)) kind
-        → ⊥) }
-{
-    let Some(word) = text_in(matches, "kind") else {
-        return Ok(None);
-    };
-    match accepted_of(word) {
-        Some(kind) => Ok(Some(kind)),
-        None => Err(NoCommand::NoAuditKind { word }),
+    let word = text_in(matches, "kind")?;
+    let kind = accepted_of(word);
+    if kind.is_none() {
+        note(noted, WordFault::NoKind { word, kinds: KINDS });
     }
+    kind
 }
 
 fn accepted_of(word: &str) -> Option<AuditKind>

@@ -2,12 +2,11 @@
 ghost use Rattle.std.specs.Prelude.{IfOk, OnErr, Some, codes};
 ghost use Rattle.clap.specs.Walk.{rows_of};
 ghost use Rattle.clap.specs.Matches.{found_of};
-ghost use Rattle.s4_command.specs.CommandLine.{Spells, SpellsNone, SpellsLog, SpellsDiff};
-ghost use Rattle.s4_command.specs.CommandLine.{SpellsReport};
+ghost use Rattle.s4_command.specs.CommandLine.{Spells, SpellsNone};
 
 use crate::choosing::{flags_apart, kind_in, one_at_most};
-use crate::reading::{moment_in, needed_moment_in, number_in};
-use crate::{Command, NoCommand};
+use crate::reading::{moment_in, needed_moment_in, needed_text_in, number_in};
+use crate::{Command, WordFault};
 use clap::ArgMatches;
 use moment_words::MomentWord;
 use s4d_command::reading::{is_given, text_in};
@@ -84,94 +83,74 @@ pub struct ReportAsked<'a> {
     pub since: Option<MomentWord>,
 }
 
-pub(crate) fn log_asked<'a>(found: &ArgMatches<'a>) -> Result<Command<'a>, NoCommand<'a>>
+pub(crate) fn log_asked<'a>(found: &ArgMatches<'a>) -> Result<Command<'a>, WordFault<'a>>
     ensures spelled { IfOk result (Spells (Some (codes "log", rows_of (found_of found.now)))) }
     ensures usage { OnErr result (SpellsNone (Some (codes "log", rows_of (found_of found.now)))) }
 {
-    match log_in(found) {
-        Ok(log) => Ok(Command::Log(log)),
-        Err(refusal) => Err(refusal),
+    let mut fault = None;
+    let image = needed_text_in(found, "image", &mut fault);
+    one_at_most(found, "object", "name", &mut fault);
+    let object = number_in(found, "object", &mut fault);
+    let since = moment_in(found, "since", &mut fault);
+    let until = moment_in(found, "until", &mut fault);
+    let kind = kind_in(found, &mut fault);
+    let limit = number_in(found, "limit", &mut fault);
+    match fault {
+        None => Ok(Command::Log(LogAsked {
+            image,
+            object,
+            name: text_in(found, "name"),
+            since,
+            until,
+            kind,
+            limit,
+            by_object: is_given(found, "by-object"),
+            reverse: is_given(found, "reverse"),
+            stat: is_given(found, "stat"),
+            moments: is_given(found, "moments"),
+            json: is_given(found, "json"),
+        })),
+        Some(fault) => Err(fault),
     }
 }
 
-pub(crate) fn diff_asked<'a>(found: &ArgMatches<'a>) -> Result<Command<'a>, NoCommand<'a>>
+pub(crate) fn diff_asked<'a>(found: &ArgMatches<'a>) -> Result<Command<'a>, WordFault<'a>>
     ensures spelled { IfOk result (Spells (Some (codes "diff", rows_of (found_of found.now)))) }
     ensures usage { OnErr result (SpellsNone (Some (codes "diff", rows_of (found_of found.now)))) }
 {
-    match diff_in(found) {
-        Ok(diff) => Ok(Command::Diff(diff)),
-        Err(refusal) => Err(refusal),
+    let mut fault = None;
+    let image = needed_text_in(found, "image", &mut fault);
+    one_at_most(found, "object", "name", &mut fault);
+    flags_apart(found, "patch", "text", &mut fault);
+    let from = needed_moment_in(found, "from", &mut fault);
+    let to = moment_in(found, "to", &mut fault);
+    let object = number_in(found, "object", &mut fault);
+    match fault {
+        None => Ok(Command::Diff(DiffAsked {
+            image,
+            from,
+            to,
+            object,
+            name: text_in(found, "name"),
+            patch: is_given(found, "patch"),
+            text: is_given(found, "text"),
+            moments: is_given(found, "moments"),
+            json: is_given(found, "json"),
+        })),
+        Some(fault) => Err(fault),
     }
 }
 
-pub(crate) fn report_asked<'a>(found: &ArgMatches<'a>) -> Result<Command<'a>, NoCommand<'a>>
+pub(crate) fn report_asked<'a>(found: &ArgMatches<'a>) -> Result<Command<'a>, WordFault<'a>>
     ensures spelled { IfOk result (Spells (Some (codes "report", rows_of (found_of found.now)))) }
     ensures usage { OnErr result (SpellsNone
         (Some (codes "report", rows_of (found_of found.now)))) }
 {
-    match report_in(found) {
-        Ok(report) => Ok(Command::Report(report)),
-        Err(refusal) => Err(refusal),
+    let mut fault = None;
+    let image = needed_text_in(found, "image", &mut fault);
+    let since = moment_in(found, "since", &mut fault);
+    match fault {
+        None => Ok(Command::Report(ReportAsked { image, since })),
+        Some(fault) => Err(fault),
     }
-}
-
-fn log_in<'a>(matches: &ArgMatches<'a>) -> Result<LogAsked<'a>, NoCommand<'a>>
-    ensures spelled { IfOk result (SpellsLog (rows_of (found_of matches.now))) }
-    ensures usage { OnErr result ((log : _) → SpellsLog (rows_of (found_of matches.now)) log → ⊥) }
-{
-    let image = text_in(matches, "image").ok_or(NoCommand::Unspelled)?;
-    one_at_most(matches, "object", "name")?;
-    let object = number_in(matches, "object")?;
-    let since = moment_in(matches, "since")?;
-    let until = moment_in(matches, "until")?;
-    let kind = kind_in(matches)?;
-    let limit = number_in(matches, "limit")?;
-    Ok(LogAsked {
-        image,
-        object,
-        name: text_in(matches, "name"),
-        since,
-        until,
-        kind,
-        limit,
-        by_object: is_given(matches, "by-object"),
-        reverse: is_given(matches, "reverse"),
-        stat: is_given(matches, "stat"),
-        moments: is_given(matches, "moments"),
-        json: is_given(matches, "json"),
-    })
-}
-
-fn diff_in<'a>(matches: &ArgMatches<'a>) -> Result<DiffAsked<'a>, NoCommand<'a>>
-    ensures spelled { IfOk result (SpellsDiff (rows_of (found_of matches.now))) }
-    ensures usage { OnErr result ((diff : _) → SpellsDiff (rows_of (found_of matches.now)) diff
-        → ⊥) }
-{
-    let image = text_in(matches, "image").ok_or(NoCommand::Unspelled)?;
-    one_at_most(matches, "object", "name")?;
-    flags_apart(matches, "patch", "text")?;
-    let from = needed_moment_in(matches, "from")?;
-    let to = moment_in(matches, "to")?;
-    let object = number_in(matches, "object")?;
-    Ok(DiffAsked {
-        image,
-        from,
-        to,
-        object,
-        name: text_in(matches, "name"),
-        patch: is_given(matches, "patch"),
-        text: is_given(matches, "text"),
-        moments: is_given(matches, "moments"),
-        json: is_given(matches, "json"),
-    })
-}
-
-fn report_in<'a>(matches: &ArgMatches<'a>) -> Result<ReportAsked<'a>, NoCommand<'a>>
-    ensures spelled { IfOk result (SpellsReport (rows_of (found_of matches.now))) }
-    ensures usage { OnErr result ((report : _)
-        → SpellsReport (rows_of (found_of matches.now)) report → ⊥) }
-{
-    let image = text_in(matches, "image").ok_or(NoCommand::Unspelled)?;
-    let since = moment_in(matches, "since")?;
-    Ok(ReportAsked { image, since })
 }

@@ -1,75 +1,88 @@
 //! What the readers of the commands take from the matches: which of two things is given, and a kind
 //! of change.
-ghost use Rattle.std.specs.Prelude.{◌≡◌, IfNone, IfOk, IfSome, OnErr, OnOk};
+ghost use Rattle.std.specs.Prelude.{◌≡◌, IfNone, IfSome, None};
 ghost use Rattle.clap.specs.Walk.{rows_of};
 ghost use Rattle.clap.specs.Matches.{found_of};
 ghost use Rattle.s4_command.specs.CommandLine.{AreApart, AreFlagsApart, IsKindAsked, IsOneGiven};
 ghost use Rattle.s4_command.specs.CommandLine.{kind_word};
 
-use crate::{ChangeKind, NoCommand};
+use crate::reading::note;
+use crate::{ChangeKind, WordFault};
 use clap::ArgMatches;
 use s4d_command::reading::{is_given, text_in};
 
-/// Refuses the line where both are given.
+/// The words for the kinds of change.
+const KINDS: &str = "made, deleted, written, cut, lengthened, attribute or touched";
+
+/// Notes a fault where both are given.
 pub(crate) fn one_at_most<'a>(
     matches: &ArgMatches<'a>,
     one: &'static str,
     other: &'static str,
-) -> Result<(), NoCommand<'a>>
-    ensures apart { OnOk result (AreApart one.now other.now (rows_of (found_of matches.now))) }
-    ensures usage { OnErr result (AreApart one.now other.now (rows_of (found_of matches.now)) → ⊥) }
+    noted: &mut Option<WordFault<'a>>,
+)
+    ensures apart { noted.new ≡ None → AreApart one.now other.now (rows_of (found_of matches.now)) }
+    ensures kept { noted.new ≡ None → noted.old ≡ None }
+    ensures usage { AreApart one.now other.now (rows_of (found_of matches.now))
+        → noted.old ≡ None → noted.new ≡ None }
 {
-    match (text_in(matches, one), text_in(matches, other)) {
-        (Some(_), Some(_)) => Err(NoCommand::Both { one, other }),
-        _ => Ok(()),
+    if text_in(matches, one).is_some() && text_in(matches, other).is_some() {
+        note(noted, WordFault::Both { one, other });
     }
 }
 
-/// Refuses the line where neither is given.
+/// Notes a fault where neither is given.
 pub(crate) fn one_at_least<'a>(
     matches: &ArgMatches<'a>,
     one: &'static str,
     other: &'static str,
-) -> Result<(), NoCommand<'a>>
-    ensures given { OnOk result (IsOneGiven one.now other.now (rows_of (found_of matches.now))) }
-    ensures usage { OnErr result (IsOneGiven one.now other.now (rows_of (found_of matches.now))
-        → ⊥) }
+    noted: &mut Option<WordFault<'a>>,
+)
+    ensures given { noted.new ≡ None
+        → IsOneGiven one.now other.now (rows_of (found_of matches.now)) }
+    ensures kept { noted.new ≡ None → noted.old ≡ None }
+    ensures usage { IsOneGiven one.now other.now (rows_of (found_of matches.now))
+        → noted.old ≡ None → noted.new ≡ None }
 {
-    match (text_in(matches, one), text_in(matches, other)) {
-        (None, None) => Err(NoCommand::Neither { one, other }),
-        _ => Ok(()),
+    if text_in(matches, one).is_none() && text_in(matches, other).is_none() {
+        note(noted, WordFault::Neither { one, other });
     }
 }
 
-/// Refuses the line where both flags are given.
+/// Notes a fault where both flags are given.
 pub(crate) fn flags_apart<'a>(
     matches: &ArgMatches<'a>,
     one: &'static str,
     other: &'static str,
-) -> Result<(), NoCommand<'a>>
-    ensures apart { OnOk result (AreFlagsApart one.now other.now (rows_of (found_of matches.now))) }
-    ensures usage { OnErr result (AreFlagsApart one.now other.now (rows_of (found_of matches.now))
-        → ⊥) }
+    noted: &mut Option<WordFault<'a>>,
+)
+    ensures apart { noted.new ≡ None
+        → AreFlagsApart one.now other.now (rows_of (found_of matches.now)) }
+    ensures kept { noted.new ≡ None → noted.old ≡ None }
+    ensures usage { AreFlagsApart one.now other.now (rows_of (found_of matches.now))
+        → noted.old ≡ None → noted.new ≡ None }
 {
     if is_given(matches, one) && is_given(matches, other) {
-        return Err(NoCommand::Both { one, other });
+        note(noted, WordFault::Both { one, other });
     }
-    Ok(())
 }
 
-/// The kind of change that is given, and none where none is. A text that is no kind is refused.
-pub(crate) fn kind_in<'a>(matches: &ArgMatches<'a>) -> Result<Option<ChangeKind>, NoCommand<'a>>
-    ensures asked { IfOk result (IsKindAsked (rows_of (found_of matches.now))) }
-    ensures usage { OnErr result ((kind : _) → IsKindAsked (rows_of (found_of matches.now)) kind
-        → ⊥) }
+/// The kind of change that is given, and none where none is.
+pub(crate) fn kind_in<'a>(
+    matches: &ArgMatches<'a>,
+    noted: &mut Option<WordFault<'a>>,
+) -> Option<ChangeKind>
+    ensures asked { noted.new ≡ None → IsKindAsked (rows_of (found_of matches.now)) result }
+    ensures kept { noted.new ≡ None → noted.old ≡ None }
+    ensures usage { (kind : _) → IsKindAsked (rows_of (found_of matches.now)) kind
+        → noted.old ≡ None → noted.new ≡ None }
 {
-    let Some(word) = text_in(matches, "kind") else {
-        return Ok(None);
-    };
-    match kind_of(word) {
-        Some(kind) => Ok(Some(kind)),
-        None => Err(NoCommand::NoKind { word }),
+    let word = text_in(matches, "kind")?;
+    let kind = kind_of(word);
+    if kind.is_none() {
+        note(noted, WordFault::NoKind { word, kinds: KINDS });
     }
+    kind
 }
 
 fn kind_of(word: &str) -> Option<ChangeKind>

@@ -2,12 +2,11 @@
 ghost use Rattle.std.specs.Prelude.{IfOk, OnErr, Some, codes};
 ghost use Rattle.clap.specs.Walk.{rows_of};
 ghost use Rattle.clap.specs.Matches.{found_of};
-ghost use Rattle.s4_command.specs.CommandLine.{Spells, SpellsNone, SpellsList, SpellsCat};
-ghost use Rattle.s4_command.specs.CommandLine.{SpellsExport};
+ghost use Rattle.s4_command.specs.CommandLine.{Spells, SpellsNone};
 
 use crate::choosing::{one_at_least, one_at_most};
-use crate::reading::{moment_in, number_in};
-use crate::{Command, NoCommand};
+use crate::reading::{moment_in, needed_text_in, number_in};
+use crate::{Command, WordFault};
 use clap::ArgMatches;
 use moment_words::MomentWord;
 use s4d_command::reading::{is_given, text_in};
@@ -50,77 +49,57 @@ pub struct ExportAsked<'a> {
     pub at: Option<MomentWord>,
 }
 
-pub(crate) fn list_asked<'a>(found: &ArgMatches<'a>) -> Result<Command<'a>, NoCommand<'a>>
+pub(crate) fn list_asked<'a>(found: &ArgMatches<'a>) -> Result<Command<'a>, WordFault<'a>>
     ensures spelled { IfOk result (Spells (Some (codes "list", rows_of (found_of found.now)))) }
     ensures usage { OnErr result (SpellsNone (Some (codes "list", rows_of (found_of found.now)))) }
 {
-    match list_in(found) {
-        Ok(list) => Ok(Command::List(list)),
-        Err(refusal) => Err(refusal),
+    let mut fault = None;
+    let image = needed_text_in(found, "image", &mut fault);
+    let at = moment_in(found, "at", &mut fault);
+    match fault {
+        None => Ok(Command::List(ListAsked {
+            image,
+            at,
+            deleted: is_given(found, "deleted"),
+            moments: is_given(found, "moments"),
+            json: is_given(found, "json"),
+        })),
+        Some(fault) => Err(fault),
     }
 }
 
-pub(crate) fn cat_asked<'a>(found: &ArgMatches<'a>) -> Result<Command<'a>, NoCommand<'a>>
+pub(crate) fn cat_asked<'a>(found: &ArgMatches<'a>) -> Result<Command<'a>, WordFault<'a>>
     ensures spelled { IfOk result (Spells (Some (codes "cat", rows_of (found_of found.now)))) }
     ensures usage { OnErr result (SpellsNone (Some (codes "cat", rows_of (found_of found.now)))) }
 {
-    match cat_in(found) {
-        Ok(cat) => Ok(Command::Cat(cat)),
-        Err(refusal) => Err(refusal),
+    let mut fault = None;
+    let image = needed_text_in(found, "image", &mut fault);
+    one_at_most(found, "object", "name", &mut fault);
+    one_at_least(found, "object", "name", &mut fault);
+    let object = number_in(found, "object", &mut fault);
+    let at = moment_in(found, "at", &mut fault);
+    match fault {
+        None => Ok(Command::Cat(CatAsked {
+            image,
+            object,
+            name: text_in(found, "name"),
+            at,
+        })),
+        Some(fault) => Err(fault),
     }
 }
 
-pub(crate) fn export_asked<'a>(found: &ArgMatches<'a>) -> Result<Command<'a>, NoCommand<'a>>
+pub(crate) fn export_asked<'a>(found: &ArgMatches<'a>) -> Result<Command<'a>, WordFault<'a>>
     ensures spelled { IfOk result (Spells (Some (codes "export", rows_of (found_of found.now)))) }
     ensures usage { OnErr result (SpellsNone
         (Some (codes "export", rows_of (found_of found.now)))) }
 {
-    match export_in(found) {
-        Ok(export) => Ok(Command::Export(export)),
-        Err(refusal) => Err(refusal),
+    let mut fault = None;
+    let image = needed_text_in(found, "image", &mut fault);
+    let folder = needed_text_in(found, "folder", &mut fault);
+    let at = moment_in(found, "at", &mut fault);
+    match fault {
+        None => Ok(Command::Export(ExportAsked { image, folder, at })),
+        Some(fault) => Err(fault),
     }
-}
-
-fn list_in<'a>(matches: &ArgMatches<'a>) -> Result<ListAsked<'a>, NoCommand<'a>>
-    ensures spelled { IfOk result (SpellsList (rows_of (found_of matches.now))) }
-    ensures usage { OnErr result ((list : _) → SpellsList (rows_of (found_of matches.now)) list
-        → ⊥) }
-{
-    let image = text_in(matches, "image").ok_or(NoCommand::Unspelled)?;
-    let at = moment_in(matches, "at")?;
-    Ok(ListAsked {
-        image,
-        at,
-        deleted: is_given(matches, "deleted"),
-        moments: is_given(matches, "moments"),
-        json: is_given(matches, "json"),
-    })
-}
-
-fn cat_in<'a>(matches: &ArgMatches<'a>) -> Result<CatAsked<'a>, NoCommand<'a>>
-    ensures spelled { IfOk result (SpellsCat (rows_of (found_of matches.now))) }
-    ensures usage { OnErr result ((cat : _) → SpellsCat (rows_of (found_of matches.now)) cat → ⊥) }
-{
-    let image = text_in(matches, "image").ok_or(NoCommand::Unspelled)?;
-    one_at_most(matches, "object", "name")?;
-    one_at_least(matches, "object", "name")?;
-    let object = number_in(matches, "object")?;
-    let at = moment_in(matches, "at")?;
-    Ok(CatAsked {
-        image,
-        object,
-        name: text_in(matches, "name"),
-        at,
-    })
-}
-
-fn export_in<'a>(matches: &ArgMatches<'a>) -> Result<ExportAsked<'a>, NoCommand<'a>>
-    ensures spelled { IfOk result (SpellsExport (rows_of (found_of matches.now))) }
-    ensures usage { OnErr result ((export : _)
-        → SpellsExport (rows_of (found_of matches.now)) export → ⊥) }
-{
-    let image = text_in(matches, "image").ok_or(NoCommand::Unspelled)?;
-    let folder = text_in(matches, "folder").ok_or(NoCommand::Unspelled)?;
-    let at = moment_in(matches, "at")?;
-    Ok(ExportAsked { image, folder, at })
 }

@@ -6,7 +6,8 @@
 //! memory is one of its own. What a command does is said elsewhere.
 #![tactic(auto)]
 
-ghost use Rattle.std.specs.Prelude.{◌≡◌, ◌≢◌, IfOk, IfErr, IsErrAnd, Some, [], map, true};
+ghost use Rattle.std.specs.Prelude.{◌≡◌, ◌≢◌, IfOk, IfErr, IsErrAnd, OnErr, Some, [], codes, map};
+ghost use Rattle.std.specs.Prelude.{true};
 ghost use Rattle.clap.specs.Walk.{rows_of};
 ghost use Rattle.clap.specs.Takes.{takes};
 ghost use Rattle.clap.specs.Faults.{fault_of};
@@ -17,14 +18,15 @@ ghost use Rattle.clap.specs.Simple.{subcommand_of, subcommand_rows_of};
 ghost use Rattle.s4_command.specs.CommandLine.{line, IsAskedAmong, IsOwn, IsRefusedBy};
 ghost use Rattle.s4_command.specs.CommandLine.{Spells, SpellsNone};
 
-mod arguments;
 mod auditing;
 mod changes;
 mod choosing;
 mod contents;
+mod faults;
 mod line;
 mod reading;
 mod restoring;
+mod rows;
 mod whole;
 
 pub use auditing::AuditAsked;
@@ -35,6 +37,7 @@ use clap::ArgMatches;
 use clap::error::ErrorKind;
 pub use contents::{CatAsked, ExportAsked, ListAsked};
 use contents::{cat_asked, export_asked, list_asked};
+pub use faults::WordFault;
 use line::command_line;
 pub use restoring::RestoreAsked;
 use restoring::restore_asked;
@@ -82,43 +85,9 @@ pub enum NoCommand<'a> {
     /// The words give no command: this says why.
     #[error("{0}")]
     Refused(clap::Error),
-    /// The word for this is no number.
-    #[error("{word} is no number for {name}; give one from 0 to 2^64 - 1")]
-    NoNumber {
-        name: &'static str,
-        word: &'a str,
-    },
-    /// The word for this is no moment.
-    #[error("{word} is no moment for {name}; give a number, a time as 2026-11-27T13:18:02Z, or an age as 90s, 15m, 2h, 3d or 1w")]
-    NoMoment {
-        name: &'static str,
-        word: &'a str,
-    },
-    /// The word is no kind of change.
-    #[error("{word} is no kind of change; give made, deleted, written, cut, lengthened, attribute or touched")]
-    NoKind {
-        word: &'a str,
-    },
-    /// The word is no kind of accepted change.
-    #[error("{word} is no kind of change; give create, delete, write, truncate, setattr, setwindow, flush or flusho")]
-    NoAuditKind {
-        word: &'a str,
-    },
-    /// Both are given, of which one alone may be.
-    #[error("{one} and {other} can't be given together")]
-    Both {
-        one: &'static str,
-        other: &'static str,
-    },
-    /// Neither is given, of which one has to be.
-    #[error("{one} or {other} has to be given")]
-    Neither {
-        one: &'static str,
-        other: &'static str,
-    },
-    /// The words give no command.
-    #[error("the words spell no command; try --help")]
-    Unspelled,
+    /// The parser took the words, and they give no command: this says why.
+    #[error("{0}")]
+    Fault(WordFault<'a>),
     /// A growth of memory was refused.
     #[error("a growth of memory was refused")]
     NoMemory,
@@ -172,22 +141,8 @@ fn command_in<'a>(alloc: Global, matches: &ArgMatches<'a>) -> Result<Command<'a>
     ensures own { IfErr result IsOwn }
 {
     match matches.subcommand() {
-        Some((name, found)) => match named_command(alloc, name, found) {
-            Ok(command) => Ok(command),
-            Err(refusal) => Err(own(refusal)),
-        },
-        None => Err(NoCommand::Unspelled),
-    }
-}
-
-// A refusal of matches. The parser took their words, so that no error of its own is in it.
-fn own<'a>(refusal: NoCommand<'a>) -> NoCommand<'a>
-    ensures own { IsOwn result }
-    ensures memory { refusal.entry ≡ NoCommand.NoMemory → result ≡ NoCommand.NoMemory }
-{
-    match refusal {
-        NoCommand::Asked(_) | NoCommand::Refused(_) => NoCommand::Unspelled,
-        other => other,
+        Some((name, found)) => named_command(alloc, name, found),
+        None => Err(NoCommand::Fault(WordFault::Unspelled)),
     }
 }
 
@@ -199,6 +154,22 @@ fn named_command<'a>(
     ensures spelled { IfOk result (Spells (Some (name.now, rows_of (found_of found.now)))) }
     ensures usage { IfErr result (λ e. e ≢ NoCommand.NoMemory
         → SpellsNone (Some (name.now, rows_of (found_of found.now)))) }
+    ensures own { IfErr result IsOwn }
+{
+    if name == "restore" {
+        return restore_asked(alloc, found);
+    }
+    match unrestoring_command(name, found) {
+        Ok(command) => Ok(command),
+        Err(fault) => Err(NoCommand::Fault(fault)),
+    }
+}
+
+// A command that is not `restore`.
+fn unrestoring_command<'a>(name: &str, found: &ArgMatches<'a>) -> Result<Command<'a>, WordFault<'a>>
+    ensures spelled { IfOk result (Spells (Some (name.now, rows_of (found_of found.now)))) }
+    ensures usage { OnErr result (name.now ≢ codes "restore"
+        → SpellsNone (Some (name.now, rows_of (found_of found.now)))) }
 {
     match name {
         "list" => list_asked(found),
@@ -208,11 +179,10 @@ fn named_command<'a>(
         "info" => info_asked(found),
         "diff" => diff_asked(found),
         "export" => export_asked(found),
-        "restore" => restore_asked(alloc, found),
         "check" => check_asked(found),
         "compact" => compact_asked(found),
         "salvage" => salvage_asked(found),
         "report" => report_asked(found),
-        _ => Err(NoCommand::Unspelled),
+        _ => Err(WordFault::Unspelled),
     }
 }

@@ -1,65 +1,106 @@
-//! What the readers of the commands take from the matches: numbers and moments.
-ghost use Rattle.std.specs.Prelude.{◌≢◌, IfOk, IfErr, OnErr, Some};
-ghost use Rattle.clap.specs.Walk.{rows_of, texts};
+//! What the readers of the commands take from the matches: texts, numbers and moments. Each notes
+//! what is wrong with the words where nothing was noted before, and its value is of use only where
+//! nothing is noted at the end.
+ghost use Rattle.std.specs.Prelude.{◌≡◌, ◌≢◌, IfOk, IsOk, None, Some};
+ghost use Rattle.clap.specs.Walk.{first_of, rows_of, texts};
 ghost use Rattle.clap.specs.Matches.{found_of};
-ghost use Rattle.s4_command.specs.CommandLine.{AreNumbers, IsAsked, IsMomentAsked, texts_of};
+ghost use Rattle.s4_command.specs.CommandLine.{AreNumbers, IsAsked, IsMomentAsked};
+ghost use Rattle.s4_command.specs.CommandLine.{texts_of};
 
-use crate::NoCommand;
+use crate::WordFault;
 use clap::ArgMatches;
 use moment_words::{MomentWord, read};
 use s4d_command::reading::{number, number_of, text_in, texts_in};
-use std::alloc::Global;
+use std::alloc::{AllocError, Global};
 
-/// The number that is given, and none where none is. A text that is no number is refused.
-pub(crate) fn number_in<'a>(
-    matches: &ArgMatches<'a>,
-    id: &'static str,
-) -> Result<Option<u64>, NoCommand<'a>>
-    ensures asked { IfOk result (IsAsked id.now (rows_of (found_of matches.now))) }
-    ensures usage { OnErr result ((number : _)
-        → IsAsked id.now (rows_of (found_of matches.now)) number → ⊥) }
+/// Notes a fault, where none is noted.
+pub(crate) fn note<'a>(noted: &mut Option<WordFault<'a>>, fault: WordFault<'a>)
+    ensures { noted.new ≢ None }
 {
-    let Some(word) = text_in(matches, id) else {
-        return Ok(None);
-    };
-    match number(matches, id) {
-        Some(number) => Ok(Some(number)),
-        None => Err(NoCommand::NoNumber { name: id, word }),
+    if noted.is_none() {
+        *noted = Some(fault);
     }
 }
 
-/// The moment that is given, and none where none is. A text that is no moment is refused.
+/// The text, where one has to be given.
+pub(crate) fn needed_text_in<'a>(
+    matches: &ArgMatches<'a>,
+    id: &str,
+    noted: &mut Option<WordFault<'a>>,
+) -> &'a str
+    ensures given { noted.new ≡ None
+        → first_of id.now (rows_of (found_of matches.now)) ≡ Some result.now }
+    ensures kept { noted.new ≡ None → noted.old ≡ None }
+    ensures usage { (text : _) → first_of id.now (rows_of (found_of matches.now)) ≡ Some text
+        → noted.old ≡ None → noted.new ≡ None }
+{
+    match text_in(matches, id) {
+        Some(text) => text,
+        None => {
+            note(noted, WordFault::Unspelled);
+            ""
+        }
+    }
+}
+
+/// The number that is given, and none where none is.
+pub(crate) fn number_in<'a>(
+    matches: &ArgMatches<'a>,
+    id: &'static str,
+    noted: &mut Option<WordFault<'a>>,
+) -> Option<u64>
+    ensures asked { noted.new ≡ None → IsAsked id.now (rows_of (found_of matches.now)) result }
+    ensures kept { noted.new ≡ None → noted.old ≡ None }
+    ensures usage { (number : _) → IsAsked id.now (rows_of (found_of matches.now)) number
+        → noted.old ≡ None → noted.new ≡ None }
+{
+    let word = text_in(matches, id)?;
+    let number = number(matches, id);
+    if number.is_none() {
+        note(noted, WordFault::NoNumber { name: id, word });
+    }
+    number
+}
+
+/// The moment that is given, and none where none is.
 pub(crate) fn moment_in<'a>(
     matches: &ArgMatches<'a>,
     id: &'static str,
-) -> Result<Option<MomentWord>, NoCommand<'a>>
-    ensures asked { IfOk result (IsMomentAsked id.now (rows_of (found_of matches.now))) }
-    ensures usage { OnErr result ((moment : _)
-        → IsMomentAsked id.now (rows_of (found_of matches.now)) moment → ⊥) }
+    noted: &mut Option<WordFault<'a>>,
+) -> Option<MomentWord>
+    ensures asked { noted.new ≡ None
+        → IsMomentAsked id.now (rows_of (found_of matches.now)) result }
+    ensures kept { noted.new ≡ None → noted.old ≡ None }
+    ensures usage { (moment : _) → IsMomentAsked id.now (rows_of (found_of matches.now)) moment
+        → noted.old ≡ None → noted.new ≡ None }
 {
-    let Some(word) = text_in(matches, id) else {
-        return Ok(None);
-    };
-    match read(word) {
-        Some(moment) => Ok(Some(moment)),
-        None => Err(NoCommand::NoMoment { name: id, word }),
+    let word = text_in(matches, id)?;
+    let moment = read(word);
+    if moment.is_none() {
+        note(noted, WordFault::NoMoment { name: id, word });
     }
+    moment
 }
 
 /// The moment, where one has to be given.
 pub(crate) fn needed_moment_in<'a>(
     matches: &ArgMatches<'a>,
     id: &'static str,
-) -> Result<MomentWord, NoCommand<'a>>
-    ensures asked { IfOk result (λ moment. IsMomentAsked id.now (rows_of (found_of matches.now))
-        (Some moment)) }
-    ensures usage { OnErr result ((moment : _)
-        → IsMomentAsked id.now (rows_of (found_of matches.now)) (Some moment) → ⊥) }
+    noted: &mut Option<WordFault<'a>>,
+) -> MomentWord
+    ensures asked { noted.new ≡ None
+        → IsMomentAsked id.now (rows_of (found_of matches.now)) (Some result) }
+    ensures kept { noted.new ≡ None → noted.old ≡ None }
+    ensures usage { (moment : _)
+        → IsMomentAsked id.now (rows_of (found_of matches.now)) (Some moment)
+        → noted.old ≡ None → noted.new ≡ None }
 {
-    match moment_in(matches, id) {
-        Ok(Some(moment)) => Ok(moment),
-        Ok(None) => Err(NoCommand::Unspelled),
-        Err(refusal) => Err(refusal),
+    match moment_in(matches, id, noted) {
+        Some(moment) => moment,
+        None => {
+            note(noted, WordFault::Unspelled);
+            MomentWord::Moment(0)
+        }
     }
 }
 
@@ -68,14 +109,17 @@ pub(crate) fn numbers_in<'a>(
     alloc: Global,
     matches: &ArgMatches<'a>,
     id: &'static str,
-) -> Result<Vec<u64>, NoCommand<'a>>
-    ensures asked { IfOk result (λ numbers. AreNumbers
+    noted: &mut Option<WordFault<'a>>,
+) -> Result<Vec<u64>, AllocError>
+    ensures asked { IfOk result (λ numbers. noted.new ≡ None → AreNumbers
         (texts_of id.now (rows_of (found_of matches.now))) numbers.items) }
-    ensures usage { IfErr result (λ e. e ≢ NoCommand.NoMemory → (numbers : _) →
-        AreNumbers (texts_of id.now (rows_of (found_of matches.now))) numbers → ⊥) }
+    ensures kept { noted.new ≡ None → noted.old ≡ None }
+    ensures usage { IsOk result → (numbers : _)
+        → AreNumbers (texts_of id.now (rows_of (found_of matches.now))) numbers
+        → noted.old ≡ None → noted.new ≡ None }
 {
     match texts_in(matches, id) {
-        Some(words) => numbers_of(alloc, id, words),
+        Some(words) => numbers_of(alloc, id, words, noted),
         None => Ok(Vec::new(alloc)),
     }
 }
@@ -84,19 +128,21 @@ fn numbers_of<'a>(
     alloc: Global,
     name: &'static str,
     words: &[&'a str],
-) -> Result<Vec<u64>, NoCommand<'a>>
-    ensures asked { IfOk result (λ numbers. AreNumbers (texts words.now) numbers.items) }
-    ensures usage { IfErr result (λ e. e ≢ NoCommand.NoMemory → (numbers : _)
-        → AreNumbers (texts words.now) numbers → ⊥) }
+    noted: &mut Option<WordFault<'a>>,
+) -> Result<Vec<u64>, AllocError>
+    ensures asked { IfOk result (λ numbers. noted.new ≡ None
+        → AreNumbers (texts words.now) numbers.items) }
+    ensures kept { noted.new ≡ None → noted.old ≡ None }
+    ensures usage { IsOk result → (numbers : _) → AreNumbers (texts words.now) numbers
+        → noted.old ≡ None → noted.new ≡ None }
 {
     let mut numbers = Vec::new(alloc);
     for word in words {
         let Some(number) = number_of(word) else {
-            return Err(NoCommand::NoNumber { name, word });
+            note(noted, WordFault::NoNumber { name, word });
+            return Ok(numbers);
         };
-        if numbers.push(number).is_err() {
-            return Err(NoCommand::NoMemory);
-        }
+        numbers.push(number)?;
     }
     Ok(numbers)
 }

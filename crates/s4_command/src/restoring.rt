@@ -2,10 +2,10 @@
 ghost use Rattle.std.specs.Prelude.{◌≢◌, IfOk, IfErr, Some, codes};
 ghost use Rattle.clap.specs.Walk.{rows_of};
 ghost use Rattle.clap.specs.Matches.{found_of};
-ghost use Rattle.s4_command.specs.CommandLine.{Spells, SpellsNone, SpellsRestore};
+ghost use Rattle.s4_command.specs.CommandLine.{IsOwn, Spells, SpellsNone};
 
 use crate::choosing::one_at_most;
-use crate::reading::{needed_moment_in, numbers_in};
+use crate::reading::{needed_moment_in, needed_text_in, numbers_in};
 use crate::{Command, NoCommand};
 use clap::ArgMatches;
 use moment_words::MomentWord;
@@ -45,35 +45,26 @@ pub(crate) fn restore_asked<'a>(
     ensures spelled { IfOk result (Spells (Some (codes "restore", rows_of (found_of found.now)))) }
     ensures usage { IfErr result (λ e. e ≢ NoCommand.NoMemory
         → SpellsNone (Some (codes "restore", rows_of (found_of found.now)))) }
+    ensures own { IfErr result IsOwn }
 {
-    match restore_in(alloc, found) {
-        Ok(restore) => Ok(Command::Restore(restore)),
-        Err(refusal) => Err(refusal),
+    let mut fault = None;
+    let image = needed_text_in(found, "image", &mut fault);
+    one_at_most(found, "object", "name", &mut fault);
+    let at = needed_moment_in(found, "at", &mut fault);
+    let objects = numbers_in(alloc, found, "object", &mut fault)?;
+    match fault {
+        None => Ok(Command::Restore(RestoreAsked {
+            image,
+            at,
+            objects,
+            name: text_in(found, "name"),
+            map: text_in(found, "map"),
+            dry_run: is_given(found, "dry-run"),
+            flush: is_given(found, "flush"),
+            skip: is_given(found, "skip"),
+            keep_newer: is_given(found, "keep-newer"),
+            json: is_given(found, "json"),
+        })),
+        Some(fault) => Err(NoCommand::Fault(fault)),
     }
-}
-
-fn restore_in<'a>(
-    alloc: Global,
-    matches: &ArgMatches<'a>,
-) -> Result<RestoreAsked<'a>, NoCommand<'a>>
-    ensures spelled { IfOk result (SpellsRestore (rows_of (found_of matches.now))) }
-    ensures usage { IfErr result (λ e. e ≢ NoCommand.NoMemory → (restore : _)
-        → SpellsRestore (rows_of (found_of matches.now)) restore → ⊥) }
-{
-    let image = text_in(matches, "image").ok_or(NoCommand::Unspelled)?;
-    one_at_most(matches, "object", "name")?;
-    let at = needed_moment_in(matches, "at")?;
-    let objects = numbers_in(alloc, matches, "object")?;
-    Ok(RestoreAsked {
-        image,
-        at,
-        objects,
-        name: text_in(matches, "name"),
-        map: text_in(matches, "map"),
-        dry_run: is_given(matches, "dry-run"),
-        flush: is_given(matches, "flush"),
-        skip: is_given(matches, "skip"),
-        keep_newer: is_given(matches, "keep-newer"),
-        json: is_given(matches, "json"),
-    })
 }

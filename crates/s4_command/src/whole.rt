@@ -2,10 +2,10 @@
 ghost use Rattle.std.specs.Prelude.{IfOk, OnErr, Some, codes};
 ghost use Rattle.clap.specs.Walk.{rows_of};
 ghost use Rattle.clap.specs.Matches.{found_of};
-ghost use Rattle.s4_command.specs.CommandLine.{Spells, SpellsNone, SpellsInfo, SpellsCheck};
-ghost use Rattle.s4_command.specs.CommandLine.{SpellsCompact, SpellsSalvage};
+ghost use Rattle.s4_command.specs.CommandLine.{Spells, SpellsNone};
 
-use crate::{Command, NoCommand};
+use crate::reading::needed_text_in;
+use crate::{Command, WordFault};
 use clap::ArgMatches;
 use s4d_command::reading::{is_given, text_in};
 
@@ -45,95 +45,61 @@ pub struct SalvageAsked<'a> {
     pub json: bool,
 }
 
-pub(crate) fn info_asked<'a>(found: &ArgMatches<'a>) -> Result<Command<'a>, NoCommand<'a>>
+pub(crate) fn info_asked<'a>(found: &ArgMatches<'a>) -> Result<Command<'a>, WordFault<'a>>
     ensures spelled { IfOk result (Spells (Some (codes "info", rows_of (found_of found.now)))) }
     ensures usage { OnErr result (SpellsNone (Some (codes "info", rows_of (found_of found.now)))) }
 {
-    match info_in(found) {
-        Ok(info) => Ok(Command::Info(info)),
-        Err(refusal) => Err(refusal),
-    }
+    let Some(image) = text_in(found, "image") else {
+        return Err(WordFault::Unspelled);
+    };
+    Ok(Command::Info(InfoAsked {
+        image,
+        moments: is_given(found, "moments"),
+        json: is_given(found, "json"),
+    }))
 }
 
-pub(crate) fn check_asked<'a>(found: &ArgMatches<'a>) -> Result<Command<'a>, NoCommand<'a>>
+pub(crate) fn check_asked<'a>(found: &ArgMatches<'a>) -> Result<Command<'a>, WordFault<'a>>
     ensures spelled { IfOk result (Spells (Some (codes "check", rows_of (found_of found.now)))) }
     ensures usage { OnErr result (SpellsNone (Some (codes "check", rows_of (found_of found.now)))) }
 {
-    match check_in(found) {
-        Ok(check) => Ok(Command::Check(check)),
-        Err(refusal) => Err(refusal),
-    }
+    let Some(image) = text_in(found, "image") else {
+        return Err(WordFault::Unspelled);
+    };
+    Ok(Command::Check(CheckAsked {
+        image,
+        json: is_given(found, "json"),
+    }))
 }
 
-pub(crate) fn compact_asked<'a>(found: &ArgMatches<'a>) -> Result<Command<'a>, NoCommand<'a>>
+pub(crate) fn compact_asked<'a>(found: &ArgMatches<'a>) -> Result<Command<'a>, WordFault<'a>>
     ensures spelled { IfOk result (Spells (Some (codes "compact", rows_of (found_of found.now)))) }
     ensures usage { OnErr result (SpellsNone
         (Some (codes "compact", rows_of (found_of found.now)))) }
 {
-    match compact_in(found) {
-        Ok(compact) => Ok(Command::Compact(compact)),
-        Err(refusal) => Err(refusal),
-    }
+    let Some(image) = text_in(found, "image") else {
+        return Err(WordFault::Unspelled);
+    };
+    Ok(Command::Compact(CompactAsked {
+        image,
+        json: is_given(found, "json"),
+    }))
 }
 
-pub(crate) fn salvage_asked<'a>(found: &ArgMatches<'a>) -> Result<Command<'a>, NoCommand<'a>>
+pub(crate) fn salvage_asked<'a>(found: &ArgMatches<'a>) -> Result<Command<'a>, WordFault<'a>>
     ensures spelled { IfOk result (Spells (Some (codes "salvage", rows_of (found_of found.now)))) }
     ensures usage { OnErr result (SpellsNone
         (Some (codes "salvage", rows_of (found_of found.now)))) }
 {
-    match salvage_in(found) {
-        Ok(salvage) => Ok(Command::Salvage(salvage)),
-        Err(refusal) => Err(refusal),
+    let mut fault = None;
+    let image = needed_text_in(found, "image", &mut fault);
+    let folder = needed_text_in(found, "folder", &mut fault);
+    match fault {
+        None => Ok(Command::Salvage(SalvageAsked {
+            image,
+            folder,
+            json: is_given(found, "json"),
+        })),
+        Some(fault) => Err(fault),
     }
-}
-
-fn info_in<'a>(matches: &ArgMatches<'a>) -> Result<InfoAsked<'a>, NoCommand<'a>>
-    ensures spelled { IfOk result (SpellsInfo (rows_of (found_of matches.now))) }
-    ensures usage { OnErr result ((info : _) → SpellsInfo (rows_of (found_of matches.now)) info
-        → ⊥) }
-{
-    let image = text_in(matches, "image").ok_or(NoCommand::Unspelled)?;
-    Ok(InfoAsked {
-        image,
-        moments: is_given(matches, "moments"),
-        json: is_given(matches, "json"),
-    })
-}
-
-fn check_in<'a>(matches: &ArgMatches<'a>) -> Result<CheckAsked<'a>, NoCommand<'a>>
-    ensures spelled { IfOk result (SpellsCheck (rows_of (found_of matches.now))) }
-    ensures usage { OnErr result ((check : _) → SpellsCheck (rows_of (found_of matches.now)) check
-        → ⊥) }
-{
-    let image = text_in(matches, "image").ok_or(NoCommand::Unspelled)?;
-    Ok(CheckAsked {
-        image,
-        json: is_given(matches, "json"),
-    })
-}
-
-fn compact_in<'a>(matches: &ArgMatches<'a>) -> Result<CompactAsked<'a>, NoCommand<'a>>
-    ensures spelled { IfOk result (SpellsCompact (rows_of (found_of matches.now))) }
-    ensures usage { OnErr result ((compact : _)
-        → SpellsCompact (rows_of (found_of matches.now)) compact → ⊥) }
-{
-    let image = text_in(matches, "image").ok_or(NoCommand::Unspelled)?;
-    Ok(CompactAsked {
-        image,
-        json: is_given(matches, "json"),
-    })
-}
-
-fn salvage_in<'a>(matches: &ArgMatches<'a>) -> Result<SalvageAsked<'a>, NoCommand<'a>>
-    ensures spelled { IfOk result (SpellsSalvage (rows_of (found_of matches.now))) }
-    ensures usage { OnErr result ((salvage : _)
-        → SpellsSalvage (rows_of (found_of matches.now)) salvage → ⊥) }
-{
-    let image = text_in(matches, "image").ok_or(NoCommand::Unspelled)?;
-    let folder = text_in(matches, "folder").ok_or(NoCommand::Unspelled)?;
-    Ok(SalvageAsked {
-        image,
-        folder,
-        json: is_given(matches, "json"),
-    })
 }
