@@ -1,3 +1,4 @@
 pub mod Batches
+pub mod Showing
 pub mod Waiting
 pub mod private

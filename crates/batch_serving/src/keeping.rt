@@ -1,11 +1,20 @@
 //! What a session waits for before its replies go out.
-ghost use Rattle.std.specs.Prelude.{Bool, OnErr, OnOk, false, true};
+ghost use Rattle.std.specs.Prelude.{ℕ, Bool, OnErr, OnOk, false, true};
 ghost use Rattle.batch_serving.specs.Waiting.{HasWaited};
 
 use group_commit::{Flush, Monitor, NotKept, Receipt, Steps};
-use kept_serving::Step;
 use std::sync::Wait;
 use std::time::Clock;
+
+/// A backend whose last step is known.
+pub trait Step {
+    // This number of changes was accepted then, and the clock was there.
+    ghost is_at: { Self → ℕ → ℕ → Type 0 };
+
+    /// The number of accepted changes, and the clock.
+    fn place(&self) -> (u64, u64)
+        ensures { is_at self.now result.0 result.1 };
+}
 
 /// What waits until all that a backend has done is kept.
 pub trait Keeping<B> {

@@ -7,15 +7,18 @@
 //! without that, or memory is short, no reply is missing but those of the last batch, of which all
 //! but the last have less than `BATCH_BYTES` bytes. The backend is asked nothing else, and what was
 //! answered stays done. An end other than `NoMemory` comes only where its name says. What a wait
-//! shows is said by what waits. How many batches there are is in no clause.
+//! shows is said by what waits. How many batches there are is in no clause. A `DueSource` gives bytes
+//! only while the service isn't to stop, and has counted that their replies are due.
 #![tactic(auto)]
 
 mod batches;
+mod due_source;
 mod ends;
 mod keeping;
 mod serving_batches;
 
 pub use batches::BATCH_BYTES;
+pub use due_source::DueSource;
 pub use ends::BatchEnd;
-pub use keeping::{AtMonitor, Keeping};
+pub use keeping::{AtMonitor, Keeping, Step};
 pub use serving_batches::serve_batch;

@@ -1,4 +1,5 @@
 //! The layers, from frames and records up to the wire and to images, and those of a service.
+mod commits;
 mod fifos;
 mod file_folders;
 mod lines;

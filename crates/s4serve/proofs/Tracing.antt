@@ -7,7 +7,7 @@ use Rattle.s4_types.specs.declared.replies.Reply.{Reply}
 use Rattle.rpc.specs.declared.items.Item.{Item}
 use Rattle.rpc.specs.declared.items.Item.TheVariants.{Whole, BadFrame}
 use Rattle.serving.specs.Answering.{Answered, Run}
-use Rattle.kept_serving.specs.Showing.{IsShown}
+use Rattle.batch_serving.specs.Showing.{IsShown}
 use Rattle.batch_serving.specs.Batches.{AreBatches, IsLast, LeftBy, Serves}
 use Rattle.batch_serving.specs.Waiting.{HasWaited}
 use Rattle.batch_serving.specs.declared.ends.BatchEnd.{BatchEnd}

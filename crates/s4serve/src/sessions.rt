@@ -7,9 +7,8 @@ ghost use Rattle.server.specs.declared.clocks.Undrawn.{Undrawn as Nothing};
 ghost use Rattle.s4serve.specs.Seats.{IsSeatAt, ServedFields, ServedSteps};
 ghost use Rattle.s4serve.specs.Traces.{HasWaitedForAll, TracedSteps, untraced};
 
-use batch_serving::{AtMonitor, BatchEnd, serve_batch};
+use batch_serving::{AtMonitor, BatchEnd, Step, serve_batch};
 use group_commit::{Flush, Receipt, Steps};
-use kept_serving::Step;
 use s4_types::{Moment, Reply, Request};
 use server::{Gate, Locked, Running, Undrawn};
 use serving::{Backend, Clock, Sink, Source};

@@ -1,4 +1,4 @@
--- What is shown where a reply is passed on.
+-- What a receipt shows of a session's last step.
 use Rattle.std.specs.Prelude.{ℕ, Option, Some, None}
 use Rattle.group_commit.specs.Commit.{Covers}
 

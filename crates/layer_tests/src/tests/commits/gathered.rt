@@ -2,7 +2,7 @@
 //! that takes, and nobody waits for what doesn't come.
 ghost use Rattle.std.specs.Prelude.{◌≡◌};
 
-use crate::tests::{Kept, Store, is_kept};
+use crate::tests::commits::{Kept, Store, is_kept};
 use group_commit::{CommitStep, Monitor, Open, Steps};
 use std::io;
 use std::process::Abort;

@@ -1,6 +1,6 @@
 //! Two sessions that wait, one of which is held before a step until the other has come to another:
 //! every run ends, in whichever order they come.
-use crate::tests::{Kept, Store, is_kept};
+use crate::tests::commits::{Kept, Store, is_kept};
 use group_commit::{CommitStep, Monitor, Steps};
 use std::process::Abort;
 use std::sync::{Condvar, CondvarTimeouts, Mutex, Wait};

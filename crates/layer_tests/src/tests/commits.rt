@@ -1,10 +1,11 @@
-//! A store of numbers that is flushed, and receipts of it.
+//! Sessions that wait until their changes are kept, on threads that are held at steps: a store of
+//! numbers that is flushed, and receipts of it.
 ghost use Rattle.std.specs.Prelude.{◌≡◌};
 
 mod batches;
 mod gathered;
 mod ordered;
-mod sinks;
+mod stopping;
 
 use group_commit::{Flush, FlushError, Monitor, NotKept, Receipt, Steps};
 use std::sync::{Mutex, Wait};
