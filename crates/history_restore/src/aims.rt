@@ -1,12 +1,12 @@
 //! Under which numbers objects are restored: their own, or those under which they were made anew.
-ghost use Rattle.std.specs.Prelude.{◌≡◌, filter, not, IfOk, IfErr};
+ghost use Rattle.std.specs.Prelude.{◌≡◌, filter, not, IfOk, IfErr, None};
+ghost use Rattle.s4_types.specs.declared.refusals.Refusal.TheVariants.{NoMemory};
 ghost use Rattle.s4_model.specs.Refusals.{is_absent};
 ghost use Rattle.drive.specs.Fields.{state_in, store_of};
 ghost use Rattle.history_restore.specs.Aims.{AreAims, AreAskedAims, aim_by, aims_by, counting};
 ghost use Rattle.history_restore.specs.Aims.{counts, has_stand_in, is_asked, is_not_skipped};
-ghost use Rattle.history_restore.specs.Aims.{object_for, own_aim};
+ghost use Rattle.history_restore.specs.Aims.{is_there, object_for, own_aim, was_there};
 ghost use Rattle.history_restore.specs.Planning.{IsUnplanned};
-ghost use Rattle.history_restore.specs.Restoring.{IsUnread};
 
 use crate::comparing::compare;
 use crate::failures::{Failure, unread};
@@ -52,6 +52,27 @@ fn is_there(version: &Version) -> bool
     }
 }
 
+/// Whether an object was there at a moment, and whether anything is there under a number.
+fn was_and_is<J: Naming>(
+    alloc: Global,
+    drive: &mut Drive<J>,
+    session: &mut Session<J>,
+    aim: &Aim,
+    at: Moment,
+) -> Result<(bool, bool), Failure>
+    ensures was { IfOk result
+        (λ there. there.0 ≡ was_there (state_in drive.old) aim.now.object at) }
+    ensures is { IfOk result (λ there. there.1 ≡ is_there (state_in drive.old) aim.now.target) }
+    ensures unplanned { IfErr result (IsUnplanned (state_in drive.old) at) }
+    ensures state { state_in drive.new ≡ state_in drive.old }
+    ensures store { store_of drive.new ≡ store_of drive.old }
+{
+    match compare(alloc, drive, session, aim, at) {
+        Ok(compared) => Ok((is_there(&compared.earlier), is_there(&compared.latest))),
+        Err(refusal) => Err(unread(&own_aim(aim.object), refusal)),
+    }
+}
+
 /// Whether a stand-in counts: its object was there at the moment and isn't any more, and what was
 /// made anew for it is there.
 fn does_count<J: Naming>(
@@ -60,26 +81,23 @@ fn does_count<J: Naming>(
     session: &mut Session<J>,
     stand_in: StandIn,
     at: Moment,
-) -> Result<bool, Refusal>
+) -> Result<bool, Failure>
     ensures found { IfOk result (λ found. found ≡ counts (state_in drive.old) at stand_in) }
-    ensures unread { IfErr result (IsUnread (state_in drive.old) stand_in.object at) }
+    ensures unplanned { IfErr result (IsUnplanned (state_in drive.old) at) }
     ensures state { state_in drive.new ≡ state_in drive.old }
     ensures store { store_of drive.new ≡ store_of drive.old }
 {
     let aim = own_aim(stand_in.object);
-    let own = compare(alloc, drive, session, &aim, at)?;
-    if !is_there(&own.earlier) {
-        return Ok(false);
-    }
-    if is_there(&own.latest) {
+    let (was, is) = was_and_is(alloc, drive, session, &aim, at)?;
+    if !was || is {
         return Ok(false);
     }
     let aim = Aim {
         object: stand_in.object,
         target: stand_in.number,
     };
-    let anew = compare(alloc, drive, session, &aim, at)?;
-    Ok(is_there(&anew.latest))
+    let (_, is) = was_and_is(alloc, drive, session, &aim, at)?;
+    Ok(is)
 }
 
 /// Of these stand-ins those that count.
@@ -98,14 +116,9 @@ fn counting<J: Naming>(
 {
     let mut found = Vec::new(alloc);
     for stand_in in stand_ins {
-        let aim = own_aim(stand_in.object);
-        let counts = match does_count(alloc, drive, session, *stand_in, at) {
-            Ok(counts) => counts,
-            Err(refusal) => return Err(unread(&aim, refusal)),
-        };
-        if counts {
+        if does_count(alloc, drive, session, *stand_in, at)? {
             let Ok(()) = found.push(*stand_in) else {
-                return Err(unread(&aim, Refusal::NoMemory));
+                return Err(unread(&own_aim(stand_in.object), Refusal::NoMemory));
             };
         }
     }
@@ -150,13 +163,8 @@ fn object_at<J: Naming>(
     ensures store { store_of drive.new ≡ store_of drive.old }
 {
     for stand_in in stand_ins {
-        if stand_in.number == number {
-            let aim = own_aim(stand_in.object);
-            match does_count(alloc, drive, session, *stand_in, at) {
-                Ok(true) => return Ok(stand_in.object),
-                Ok(false) => {}
-                Err(refusal) => return Err(unread(&aim, refusal)),
-            }
+        if stand_in.number == number && does_count(alloc, drive, session, *stand_in, at)? {
+            return Ok(stand_in.object);
         }
     }
     Ok(number)
@@ -185,6 +193,14 @@ pub fn aim_at<J: Naming>(
         object,
         target: number,
     })
+}
+
+/// There was no memory for a list of all.
+fn no_list() -> Failure
+    ensures refusal { result.refusal ≡ NoMemory }
+    ensures flush { result.flush ≡ None }
+{
+    unread(&own_aim(ObjectId::new(0)), Refusal::NoMemory)
 }
 
 /// The aims of rows, by the stand-ins that count.
@@ -233,6 +249,28 @@ pub fn aims_without(
     Ok(left)
 }
 
+/// The aims of rows, by those of these stand-ins that count.
+fn aims_of_rows<J: Naming>(
+    alloc: Global,
+    drive: &mut Drive<J>,
+    session: &mut Session<J>,
+    stand_ins: &[StandIn],
+    rows: &[ObjectId],
+    at: Moment,
+) -> Result<Vec<Aim>, Failure>
+    ensures aims { IfOk result
+        (λ aims. aims.items ≡ aims_by (counting (state_in drive.old) at stand_ins.now) rows.now) }
+    ensures unplanned { IfErr result (IsUnplanned (state_in drive.old) at) }
+    ensures state { state_in drive.new ≡ state_in drive.old }
+    ensures store { store_of drive.new ≡ store_of drive.old }
+{
+    let found = counting(alloc, drive, session, stand_ins, at)?;
+    match aims_by(alloc, found.as_slice(), rows) {
+        Ok(aims) => Ok(aims),
+        Err(_) => Err(no_list()),
+    }
+}
+
 /// The aims of all objects that have a row, by the ascending numbers under which they are restored.
 /// An object that was made anew by an earlier restore has the number of what was made, its
 /// stand-in, as long as that is there; a stand-in has no aim by itself.
@@ -253,15 +291,10 @@ pub fn all_aims<J: Naming>(
     ensures state { state_in drive.new ≡ state_in drive.old }
     ensures store { store_of drive.new ≡ store_of drive.old }
 {
-    let none = own_aim(ObjectId::new(0));
     let Ok(rows) = all_objects(alloc, drive) else {
-        return Err(unread(&none, Refusal::NoMemory));
+        return Err(no_list());
     };
-    let found = counting(alloc, drive, session, stand_ins, at)?;
-    match aims_by(alloc, found.as_slice(), rows.as_slice()) {
-        Ok(aims) => Ok(aims),
-        Err(_) => Err(unread(&none, Refusal::NoMemory)),
-    }
+    aims_of_rows(alloc, drive, session, stand_ins, rows.as_slice(), at)
 }
 
 /// The aims of those objects that are asked for and have a row, by the ascending numbers under
@@ -284,9 +317,8 @@ pub fn asked_aims<J: Naming>(
     ensures store { store_of drive.new ≡ store_of drive.old }
 {
     let whole = all_aims(alloc, drive, session, stand_ins, at)?;
-    let none = own_aim(ObjectId::new(0));
     match asked_among(alloc, whole.as_slice(), asked) {
         Ok(aims) => Ok(aims),
-        Err(_) => Err(unread(&none, Refusal::NoMemory)),
+        Err(_) => Err(no_list()),
     }
 }
