@@ -1,5 +1,5 @@
 -- What was read of a file, against what is known of it.
-use Rattle.std.proofs.Common.{◌≡◌, ◌⊎◌, ◌<◌, ◌≤◌, ◌==◌, cond, ◌++◌, ◌∙◌, ℕ, List, Option, Some, None, refl, sym, ap, subst, length, drop, arith, inl, inr, append_assoc, length-append}
+use Rattle.std.proofs.Common.{◌≡◌, ◌⊎◌, ◌<◌, ◌≤◌, ◌==◌, cond, ◌++◌, ◌∙◌, ℕ, IfOk, List, OnOk, Option, Some, None, Result, Ok, Err, refl, sym, ap, subst, length, drop, arith, inl, inr, append_assoc, length-append}
 use Rattle.std.proofs.lemmas.List.{append-nil, take-append-le, get_or_append_left}
 use Rattle.std.proofs.KnownBytes.{Consumes-trans, Consumes-kept, starts_with_rest}
 use Rattle.std.proofs.Transfers.{starts_with_length}
@@ -23,6 +23,16 @@ use Rattle.codec.specs.declared.versions.ImageVersion.TheVariants.{First, Second
 use Rattle.image_commands.specs.Files.{AreKnown}
 use Rattle.image_commands.specs.Faults.{SaysDamaged}
 use Rattle.image_commands.specs.Verifying.{IsDamaged, IsOverlong, IsUnsplit, longest_without_audit, mark_asked}
+
+-- what follows from a fact of the value, and from one that holds where there is a value, holds of the value
+pub if_ok_with : {A E Q : Type 0} {P R : A → Type 0} → (result : Result A E) → ((value : A) → P value → Q → R value) → IfOk result P → OnOk result Q → IfOk result R
+if_ok_with (Ok value) f fact more = f value fact more
+if_ok_with (Err error) f fact more = tt
+
+-- and from two such
+pub if_ok_with_both : {A E Q S : Type 0} {P R : A → Type 0} → (result : Result A E) → ((value : A) → P value → Q → S → R value) → IfOk result P → OnOk result Q → OnOk result S → IfOk result R
+if_ok_with_both (Ok value) f fact more last = f value fact more last
+if_ok_with_both (Err error) f fact more last = tt
 
 -- a reader at its end gave all that is known of it
 pub all_read : (known left : Option (List ℕ)) (bytes : List ℕ) → Consumes known left bytes → IsAtEnd left → AreKnown known bytes

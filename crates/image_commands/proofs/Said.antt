@@ -9,7 +9,7 @@ use Rattle.verifier.specs.Images.{ImageFields}
 use Rattle.verifier.specs.Opened.{IsToldBy}
 use Rattle.image_commands.specs.declared.faults.Fault.{Fault}
 use Rattle.image_commands.specs.declared.faults.Fault.TheVariants.{CannotRead, CannotWrite, HasBytes, KeptIn, Refused, WriteFailed}
-use Rattle.image_commands.specs.Faults.{KeepsMade, KeepsNew, SaysOverlong, SaysUnmade, SaysUnplaced, SaysDamaged, SaysUnread, SaysUnreadable, SaysUnsplit, SaysUnwritable, SaysUnwritten}
+use Rattle.image_commands.specs.Faults.{KeepsMade, KeepsNew, SaysNoPlace, SaysOverlong, SaysUnmade, SaysUnplaced, SaysDamaged, SaysUnread, SaysUnreadable, SaysUnsplit, SaysUnwritable, SaysUnwritten}
 use Rattle.image_commands.specs.Making.{SpellsNew}
 use Rattle.image_commands.specs.ReadingPast.{RefusesObject, RefusesVersion, SaysRefused, SaysUngiven}
 use Rattle.image_commands.specs.Verifying.{IsVerified}
@@ -52,16 +52,34 @@ unread_bytes known file (HasBytes path) is = absurd is
 unread_bytes known file (KeptIn path obstacle kept) is = absurd is
 unread_bytes known file WriteFailed is = absurd is
 
--- an image that can't be written was not made
-pub unmade : (known : Option (List ℕ)) (image : List ℕ) (fault : Fault) → SaysUnwritable image fault → SaysUnmade known image fault
-unmade known image (Refused refusal) is = inl is
-unmade known image (CannotRead path obstacle) is = absurd is
-unmade known image (CannotWrite path obstacle) is = is
-unmade known image (HasBytes path) is = absurd is
-unmade known image (KeptIn path obstacle kept) is = absurd is
-unmade known image WriteFailed is = absurd is
+-- a place that can't be written is none
+pub no_place : (known : Option (List ℕ)) (image : List ℕ) (fault : Fault) → SaysUnwritable image fault → SaysNoPlace known image fault
+no_place known image (Refused refusal) is = is
+no_place known image (CannotRead path obstacle) is = absurd is
+no_place known image (CannotWrite path obstacle) is = is
+no_place known image (HasBytes path) is = absurd is
+no_place known image (KeptIn path obstacle kept) is = absurd is
+no_place known image WriteFailed is = absurd is
 
--- nor is one that isn't in its place
+-- an image that has no place was not made
+pub unmade_nowhere : (known : Option (List ℕ)) (image : List ℕ) (fault : Fault) → SaysNoPlace known image fault → SaysUnmade known image fault
+unmade_nowhere known image (Refused refusal) is = inl is
+unmade_nowhere known image (CannotRead path obstacle) is = absurd is
+unmade_nowhere known image (CannotWrite path obstacle) is = is
+unmade_nowhere known image (HasBytes path) is = is
+unmade_nowhere known image (KeptIn path obstacle kept) is = absurd is
+unmade_nowhere known image WriteFailed is = absurd is
+
+-- nor does its fault name a file that has it
+pub names_nowhere : (known : Option (List ℕ)) (image : List ℕ) (frames window : ℕ) (files : List ℕ → Option (List ℕ)) (fault : Fault) → SaysNoPlace known image fault → KeepsMade frames window files fault
+names_nowhere known image frames window files (Refused refusal) is = tt
+names_nowhere known image frames window files (CannotRead path obstacle) is = tt
+names_nowhere known image frames window files (CannotWrite path obstacle) is = tt
+names_nowhere known image frames window files (HasBytes path) is = tt
+names_nowhere known image frames window files (KeptIn path obstacle kept) is = absurd is
+names_nowhere known image frames window files WriteFailed is = tt
+
+-- an image that isn't in its place was not made
 pub unmade_in_place : (known : Option (List ℕ)) (image : List ℕ) (fault : Fault) → SaysUnplaced image fault → SaysUnmade known image fault
 unmade_in_place known image (Refused refusal) is = inl is
 unmade_in_place known image (CannotRead path obstacle) is = absurd is
@@ -70,14 +88,23 @@ unmade_in_place known image (HasBytes path) is = absurd is
 unmade_in_place known image (KeptIn path obstacle kept) is = is
 unmade_in_place known image WriteFailed is = absurd is
 
--- a fault of writing names no file that has an image
-pub names_none : (image : List ℕ) (frames window : ℕ) (files : List ℕ → Option (List ℕ)) (fault : Fault) → SaysUnwritable image fault → KeepsMade frames window files fault
-names_none image frames window files (Refused refusal) is = tt
-names_none image frames window files (CannotRead path obstacle) is = tt
-names_none image frames window files (CannotWrite path obstacle) is = tt
-names_none image frames window files (HasBytes path) is = tt
-names_none image frames window files (KeptIn path obstacle kept) is = absurd is
-names_none image frames window files WriteFailed is = tt
+-- an image that can't be written isn't in its place
+pub unplaced : (image : List ℕ) (fault : Fault) → SaysUnwritable image fault → SaysUnplaced image fault
+unplaced image (Refused refusal) is = is
+unplaced image (CannotRead path obstacle) is = absurd is
+unplaced image (CannotWrite path obstacle) is = is
+unplaced image (HasBytes path) is = absurd is
+unplaced image (KeptIn path obstacle kept) is = absurd is
+unplaced image WriteFailed is = absurd is
+
+-- nor is it in another file
+pub names_none : (image bytes : List ℕ) (files : List ℕ → Option (List ℕ)) (fault : Fault) → SaysUnwritable image fault → KeepsNew files bytes fault
+names_none image bytes files (Refused refusal) is = tt
+names_none image bytes files (CannotRead path obstacle) is = tt
+names_none image bytes files (CannotWrite path obstacle) is = tt
+names_none image bytes files (HasBytes path) is = tt
+names_none image bytes files (KeptIn path obstacle kept) is = absurd is
+names_none image bytes files WriteFailed is = tt
 
 -- the file that a fault names has the image of a new drive, where the bytes are one
 pub names_made : (frames window : ℕ) (files : List ℕ → Option (List ℕ)) (bytes : List ℕ) (fault : Fault) → SpellsNew frames window bytes → KeepsNew files bytes fault → KeepsMade frames window files fault

@@ -38,6 +38,13 @@ SaysUnwritable file (Refused refusal) = refusal ≡ NoMemory
 SaysUnwritable file (CannotWrite path obstacle) = path.now ≡ file
 SaysUnwritable file _ = ⊥
 
+-- why there is no place for a new image: what is there has bytes, or it can't be written; or memory was short
+abbrev pub SaysNoPlace : Option (List ℕ) → (image : List ℕ) → Fault → Type 0
+SaysNoPlace known image (Refused refusal) = refusal ≡ NoMemory
+SaysNoPlace known image (HasBytes path) = (path.now ≡ image) × HasSome known
+SaysNoPlace known image (CannotWrite path obstacle) = path.now ≡ image
+SaysNoPlace known image _ = ⊥
+
 -- why an image isn't in its place: that can't be written, and the image may be in another file; or memory was short
 abbrev pub SaysUnplaced : (image : List ℕ) → Fault → Type 0
 SaysUnplaced image (Refused refusal) = refusal ≡ NoMemory

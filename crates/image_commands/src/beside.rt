@@ -1,7 +1,6 @@
 //! The names of files beside an image.
-use crate::paths::folder_of;
+use crate::paths::path_beside;
 use std::alloc::{AllocError, Global};
-use std::path::Path;
 
 /// How many names of each kind there are for a file beside an image: `s4d.new`, and `s4d.new.1` to
 /// `s4d.new.99`.
@@ -37,10 +36,11 @@ pub fn beside_path(
     front: &str,
     number: u32,
 ) -> Result<String, AllocError> {
-    let folder = Path::new(folder_of(Path::new(image)));
-    let name = match number {
-        0 => String::from_str(alloc, front)?,
-        _ => format!(in alloc; "{front}.{number}")?,
-    };
-    Ok(folder.join(alloc, name)?.into_string())
+    match number {
+        0 => path_beside(alloc, image, front),
+        _ => {
+            let name = format!(in alloc; "{front}.{number}")?;
+            path_beside(alloc, image, name.as_str())
+        }
+    }
 }

@@ -4,7 +4,9 @@ ghost use Rattle.std.specs.Prelude.{false, None, ⊤};
 use crate::beside::{MOST_BESIDE, TOLD, UNTOLD, beside_path, is_beside_name};
 use crate::files::{Files, NotExchanged, NotReplaced, Placed};
 use crate::obstacles::Obstacle;
-use crate::paths::{are_one_file, are_one_path, end_of_path, folder_of, found, real_path};
+use crate::paths::{
+    are_in_one_folder, are_one_file, are_one_path, end_of_path, folder_of, found, real_path,
+};
 use std::alloc::Global;
 use std::fs::{self, File, Metadata, OpenOptions, TryLockError};
 use std::io::{self, Read, Seek, SeekFrom, Stderr, Stdin, Stdout, Write};
@@ -56,11 +58,19 @@ pub struct LeftFile {
 
 /// The standard streams. The system opens no socket by a path, so what their paths name is not
 /// opened, but used as it is.
-#[derive(Clone, Copy, PartialEq, Eq)]
+#[derive(Clone, Copy)]
 enum Standard {
     Input,
     Output,
     Error,
+}
+
+/// What is at a path.
+#[derive(Clone, Copy)]
+enum Kind {
+    File,
+    Folder,
+    Other,
 }
 
 /// What a session reads on this system.
@@ -229,12 +239,9 @@ impl Files for HostRuntime {
         let path = end_of_path(self, path)?;
         let path = Path::new(path.as_str());
         match path.file_name() {
-            Some(name) if is_beside_name(name) => {}
-            _ => return Ok(false),
-        }
-        let folder = folder_of(Path::new(claim.path.as_str()));
-        match (found(self, folder_of(path)), found(self, folder)) {
-            (Some(one), Some(other)) => Ok(are_one_file(&one, &other)),
+            Some(name) if is_beside_name(name) => {
+                Ok(are_in_one_folder(self, path, Path::new(claim.path.as_str())))
+            }
             _ => Ok(false),
         }
     }
@@ -328,10 +335,7 @@ impl Files for HostRuntime {
     fn sync_folder(&mut self, claim: &ImageClaim) -> Result<(), Obstacle> {
         match &claim.folder {
             Some(folder) => sync_names(folder)?,
-            None => {
-                let folder = File::open(self, folder_of(Path::new(claim.path.as_str())))?;
-                sync_names(&folder)?;
-            }
+            None => sync_names(&folder_beside(self, claim)?)?,
         }
         Ok(())
     }
@@ -379,21 +383,47 @@ fn is_still_at(rt: &HostRuntime, file: &File, path: &str) -> bool {
 // has just put another one in its place.
 fn locked(rt: &HostRuntime, path: &str) -> Result<File, Obstacle> {
     // A stream isn't opened: that could wait, or be seen at its other end.
+    match kind_at(rt, path)? {
+        Kind::File => {}
+        Kind::Folder => return Err(Obstacle::Folder),
+        Kind::Other => return Err(Obstacle::NoFile),
+    }
+    let image = open_to_change(rt, path)?;
+    lock_image(rt, &image, path)?;
+    Ok(image)
+}
+
+// What is at a path.
+fn kind_at(rt: &HostRuntime, path: &str) -> io::Result<Kind> {
     let about = fs::metadata(rt, path)?;
-    if about.is_dir() {
-        return Err(Obstacle::Folder);
+    if about.is_file() {
+        Ok(Kind::File)
+    } else if about.is_dir() {
+        Ok(Kind::Folder)
+    } else {
+        Ok(Kind::Other)
     }
-    if !about.is_file() {
-        return Err(Obstacle::NoFile);
-    }
-    let image = OpenOptions::new().read(true).write(true).open(rt, path)?;
-    if image.metadata()?.permissions().readonly() {
+}
+
+// Locks the image of this path, where its mode lets anybody write it.
+fn lock_image(rt: &HostRuntime, image: &File, path: &str) -> Result<(), Obstacle> {
+    if is_read_only(image)? {
         return Err(Obstacle::NotAllowed);
     }
-    match lock(rt, &image, path)? {
-        true => Ok(image),
+    match lock(rt, image, path)? {
+        true => Ok(()),
         false => Err(Obstacle::Served),
     }
+}
+
+// Whether a file's mode lets nobody write it.
+fn is_read_only(file: &File) -> io::Result<bool> {
+    Ok(file.metadata()?.permissions().readonly())
+}
+
+// Opens a file that is there, to be read and written.
+fn open_to_change(rt: &HostRuntime, path: &str) -> io::Result<File> {
+    OpenOptions::new().read(true).write(true).open(rt, path)
 }
 
 // Locks a file against other programs, and says whether it is at its path then. Not so where
@@ -429,19 +459,40 @@ fn is_led_to(rt: &HostRuntime, file: &File, path: &str) -> io::Result<bool> {
 // it, no file that was there is lost, and the name is short however long the image's is.
 fn new_beside(rt: &HostRuntime, alloc: Global, claim: &ImageClaim) -> Result<BesideFile, Obstacle> {
     // It is opened now, so that a folder of which that is refused is known before any session.
-    let folder = File::open(rt, folder_of(Path::new(claim.path.as_str())))?;
+    let folder = folder_beside(rt, claim)?;
     for number in 0..MOST_BESIDE {
-        let path = beside_path(alloc, claim.path.as_str(), claim.beside, number)?;
-        let is_free = can_be_linked(rt, claim, path.as_str())?;
-        if !is_free {
-            continue;
-        }
-        match made_locked(rt, claim, path.as_str())? {
-            Some(file) => return Ok(BesideFile { path, file, folder }),
-            None => {}
+        if let Some((path, file)) = numbered_beside(rt, alloc, claim, number)? {
+            return Ok(BesideFile { path, file, folder });
         }
     }
     Err(Obstacle::NoName)
+}
+
+// The folder that an image is in, opened.
+fn folder_beside(rt: &HostRuntime, claim: &ImageClaim) -> io::Result<File> {
+    File::open(rt, folder_of(Path::new(claim.path.as_str())))
+}
+
+// Makes it by the name of this number, where that is free.
+fn numbered_beside(
+    rt: &HostRuntime,
+    alloc: Global,
+    claim: &ImageClaim,
+    number: u32,
+) -> Result<Option<(String, File)>, Obstacle> {
+    let path = beside_path(alloc, claim.path.as_str(), claim.beside, number)?;
+    match made_beside(rt, claim, path.as_str())? {
+        Some(file) => Ok(Some((path, file))),
+        None => Ok(None),
+    }
+}
+
+// Makes it at a path without links, and locks it. None where that isn't free.
+fn made_beside(rt: &HostRuntime, claim: &ImageClaim, path: &str) -> Result<Option<File>, Obstacle> {
+    match can_be_linked(rt, claim, path)? {
+        true => made_locked(rt, claim, path),
+        false => Ok(None),
+    }
 }
 
 // Whether a name beside an image is free. An image that is mounted by itself can't be renamed over,
@@ -467,18 +518,26 @@ fn can_be_linked(rt: &HostRuntime, claim: &ImageClaim, path: &str) -> Result<boo
 // A file that was made at a path without links, and is locked. None where a file is there, or
 // another program took this one for a leftover before it was locked.
 fn made_locked(rt: &HostRuntime, claim: &ImageClaim, path: &str) -> Result<Option<File>, Obstacle> {
-    let mode = if claim.image.is_some() {
-        PRIVATE
-    } else {
-        ORDINARY
+    let mode = match &claim.image {
+        Some(_) => PRIVATE,
+        None => ORDINARY,
     };
+    match made(rt, path, mode) {
+        Ok(file) => lock_made(rt, file, path),
+        Err(error) if error.kind() == io::ErrorKind::AlreadyExists => Ok(None),
+        Err(error) => Err(Obstacle::from(error)),
+    }
+}
+
+// A file that was made, with this mode, where none was.
+fn made(rt: &HostRuntime, path: &str, mode: u32) -> io::Result<File> {
     let mut options = OpenOptions::new();
     options.write(true).create_new(true).mode(mode);
-    let file = match options.open(rt, path) {
-        Ok(file) => file,
-        Err(error) if error.kind() == io::ErrorKind::AlreadyExists => return Ok(None),
-        Err(error) => return Err(Obstacle::from(error)),
-    };
+    options.open(rt, path)
+}
+
+// A file that was just made, locked.
+fn lock_made(rt: &HostRuntime, file: File, path: &str) -> Result<Option<File>, Obstacle> {
     match lock(rt, &file, path) {
         Ok(true) => Ok(Some(file)),
         Ok(false) => Ok(None),
@@ -500,15 +559,19 @@ fn left_at(rt: &HostRuntime, path: String) -> Option<LeftFile> {
 // The same file, without its path.
 fn locked_at(rt: &HostRuntime, path: &str) -> io::Result<Option<File>> {
     // What is no file isn't opened.
-    let is_file = fs::symlink_metadata(rt, path)?.is_file();
-    if !is_file {
+    if !is_file_at(rt, path)? {
         return Ok(None);
     }
-    let file = OpenOptions::new().read(true).write(true).open(rt, path)?;
+    let file = open_to_change(rt, path)?;
     match lock(rt, &file, path)? {
         true => Ok(Some(file)),
         false => Ok(None),
     }
+}
+
+// Whether a regular file is at a path without links.
+fn is_file_at(rt: &HostRuntime, path: &str) -> io::Result<bool> {
+    Ok(fs::symlink_metadata(rt, path)?.is_file())
 }
 
 // Gives a file beside an image the image's mode and owner, and its length.
@@ -519,13 +582,19 @@ fn prepare(
     length: usize,
 ) -> Result<(), Obstacle> {
     if let Some(image) = &claim.image {
-        let about = image.metadata()?;
-        if keep_owner(file, &about).is_err() {
-            return Err(Obstacle::NotKept);
-        }
+        keep_image_owner(file, image)?;
     }
     write_zeros(alloc, file, length)?;
     Ok(())
+}
+
+// Gives a file the owner, the group and the mode of an image.
+fn keep_image_owner(file: &File, image: &File) -> Result<(), Obstacle> {
+    let about = image.metadata()?;
+    match keep_owner(file, &about) {
+        Ok(()) => Ok(()),
+        Err(_) => Err(Obstacle::NotKept),
+    }
 }
 
 // Gives a file the owner, the group and the mode of another.

@@ -29,7 +29,7 @@ pub use files::{Files, NotExchanged, NotReplaced, Placed};
 pub use leftovers::remove_leftovers;
 pub use obstacles::Obstacle;
 pub use reading_past::{write_object, write_version};
-pub use saving::{Place, longest_image, make_file};
+pub use saving::{Place, claim_empty, longest_image, make_file, put_image};
 pub use streams::hold_standard_streams;
 pub use verifying::{
     Asked, number_line, read_bytes, read_image, read_whole, verify_file, write_out,

@@ -1,6 +1,6 @@
 //! Where paths of this system lead.
 use crate::obstacles::Obstacle;
-use std::alloc::Global;
+use std::alloc::{AllocError, Global};
 use std::fs::{self, Metadata};
 use std::io;
 use std::os::unix::fs::{FileTypeExt, MetadataExt};
@@ -27,12 +27,14 @@ pub fn are_one_file(one: &Metadata, other: &Metadata) -> bool {
 pub fn are_one_path(rt: &HostRuntime, first: &str, second: &str) -> io::Result<bool> {
     let (first, second) = (end_of_links(rt, first)?, end_of_links(rt, second)?);
     let (first, second) = (Path::new(first.as_str()), Path::new(second.as_str()));
-    if first.file_name() != second.file_name() {
-        return Ok(false);
-    }
+    Ok(first.file_name() == second.file_name() && are_in_one_folder(rt, first, second))
+}
+
+/// Whether the folders of both paths are there, and one.
+pub fn are_in_one_folder(rt: &HostRuntime, first: Path<'_>, second: Path<'_>) -> bool {
     match (found(rt, folder_of(first)), found(rt, folder_of(second))) {
-        (Some(one), Some(other)) => Ok(are_one_file(&one, &other)),
-        _ => Ok(false),
+        (Some(one), Some(other)) => are_one_file(&one, &other),
+        _ => false,
     }
 }
 
@@ -43,6 +45,12 @@ pub fn folder_of<'a>(path: Path<'a>) -> &'a str {
         Some(_) => ".",
         None => path.as_str(),
     }
+}
+
+/// The path of this name in the folder that another path is in.
+pub fn path_beside(alloc: Global, path: &str, name: &str) -> Result<String, AllocError> {
+    let folder = Path::new(folder_of(Path::new(path)));
+    Ok(folder.join(alloc, name)?.into_string())
 }
 
 /// The path of a file without links, or the one where it would be made.
@@ -70,8 +78,8 @@ fn end_of_links(rt: &HostRuntime, path: &str) -> io::Result<String> {
 fn next_link(rt: &HostRuntime, path: &str) -> io::Result<Option<String>> {
     match fs::read_link(rt, path) {
         Ok(next) => {
-            let folder = Path::new(folder_of(Path::new(path)));
-            Ok(Some(folder.join(rt.alloc(), next)?.into_string()))
+            let next = path_beside(rt.alloc(), path, next.as_path().as_str())?;
+            Ok(Some(next))
         }
         Err(error) if error.kind() == io::ErrorKind::OutOfMemory => Err(error),
         Err(_) => Ok(None),
@@ -82,15 +90,19 @@ fn next_link(rt: &HostRuntime, path: &str) -> io::Result<Option<String>> {
 /// or no file can have the path.
 pub fn real_path(rt: &HostRuntime, alloc: Global, path: &str) -> Result<(String, bool), Obstacle> {
     match fs::canonicalize(rt, path) {
-        Ok(found) => return Ok((found.into_string(), true)),
-        Err(error) if error.kind() != io::ErrorKind::NotFound => return Err(Obstacle::from(error)),
-        Err(_) => {}
+        Ok(found) => Ok((found.into_string(), true)),
+        Err(error) if error.kind() == io::ErrorKind::NotFound => {
+            Ok((new_path(rt, alloc, path)?, false))
+        }
+        Err(error) => Err(Obstacle::from(error)),
     }
+}
+
+// The path of a file that isn't there.
+fn new_path(rt: &HostRuntime, alloc: Global, path: &str) -> Result<String, Obstacle> {
     let is_link = fs::symlink_metadata(rt, path).is_ok();
     match Path::new(path).file_name() {
-        Some(name) if !is_link && path.ends_with(name) => {
-            Ok((String::from_str(alloc, path)?, false))
-        }
+        Some(name) if !is_link && path.ends_with(name) => Ok(String::from_str(alloc, path)?),
         _ => Err(Obstacle::NoFile),
     }
 }

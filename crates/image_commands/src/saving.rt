@@ -6,8 +6,8 @@ ghost use Rattle.s4_types.specs.Sizes.{IsFrameCount};
 ghost use Rattle.s4_types.specs.declared.refusals.Refusal.TheVariants.{NoMemory};
 ghost use Rattle.s4_model.specs.State.{new_base};
 ghost use Rattle.image_commands.specs.Files.{AreKnown};
-ghost use Rattle.image_commands.specs.Faults.{KeepsMade, KeepsNew, SaysUnmade, SaysUnplaced};
-ghost use Rattle.image_commands.specs.Faults.{SaysUnwritable};
+ghost use Rattle.image_commands.specs.Faults.{KeepsMade, KeepsNew, SaysNoPlace, SaysUnmade};
+ghost use Rattle.image_commands.specs.Faults.{SaysUnplaced, SaysUnwritable};
 ghost use Rattle.image_commands.specs.Making.{HasNew, IsEmptyStore, SpellsNew};
 ghost use Rattle.image_commands.specs.Verifying.{longest_without_audit};
 
@@ -56,38 +56,57 @@ pub fn make_file<'a, F: Files>(
         Ok(bytes) => bytes,
         Err(refusal) => return Err(Fault::Refused(refusal)),
     };
-    match empty_place(alloc, files, asked.image) {
-        Ok(place) => place.put(files, bytes.as_slice()),
+    match claim_empty(alloc, files, asked.image) {
+        Ok(claim) => put_image(alloc, files, asked.image, claim, bytes.as_slice()),
         Err(fault) => Err(fault),
     }
 }
 
-// A place for an image where no file is, or one without bytes.
-fn empty_place<'a, F: Files>(
+/// Claims the path of a new image, where no file is, or one without bytes. What has bytes is
+/// refused, since it may be a drive.
+pub fn claim_empty<'a, F: Files>(
     alloc: Global,
-    files: &mut F,
+    files: &F,
     path: &'a str,
-) -> Result<Place<'a, F>, Fault<'a>>
-    ensures path { IfOk result (λ place. place.path.now ≡ path.now) }
-    ensures claimed { IfOk result (λ place. F.leads place.claim place.path.now) }
-    ensures empty { OnOk result (AreKnown (F.contents files.old path.now) []) }
-    ensures others { (other : List ℕ)
-        → Keeps (F.contents files.old other) (F.contents files.new other) }
-    ensures unknown { IfOk result
-        (λ place. (other : List ℕ)
-        → F.is_beside place.beside other ≡ true → F.contents files.old other ≡ None) }
-    ensures fault { IfErr result (SaysUnmade (F.contents files.old path.now) path.now) }
-    ensures named { IfErr result
-        (λ fault. (frames window : ℕ) → KeepsMade frames window (F.contents files.new) fault) }
+) -> Result<F::Claim, Fault<'a>>
+    ensures claimed { IfOk result (λ claim. F.leads claim path.now) }
+    ensures empty { OnOk result (AreKnown (F.contents files.now path.now) []) }
+    ensures fault { IfErr result (SaysNoPlace (F.contents files.now path.now) path.now) }
 {
     let claim = match files.claim(alloc, path) {
         Ok(claim) => claim,
         Err(obstacle) => return Err(writing(obstacle, path)),
     };
     match files.has_bytes(&claim) {
-        Ok(false) => Place::beside(alloc, files, path, claim, 0),
+        Ok(false) => Ok(claim),
         Ok(true) => Err(Fault::HasBytes(path)),
         Err(error) => Err(writing(Obstacle::of(error.kind()), path)),
+    }
+}
+
+/// Puts these bytes at a claimed path. Where that fails and they are all in the file beside it, the
+/// fault names that.
+pub fn put_image<'a, F: Files>(
+    alloc: Global,
+    files: &mut F,
+    path: &'a str,
+    claim: F::Claim,
+    bytes: &[u8],
+) -> Result<Placed, Fault<'a>>
+    requires claimed { F.leads claim path.now }
+    ensures image { OnOk result (AreKnown (F.contents files.new path.now) bytes.now) }
+    ensures others { OnOk result
+        ((other : List ℕ)
+        → F.apart path.now other
+        → Keeps (F.contents files.old other) (F.contents files.new other)) }
+    ensures kept { OnErr result
+        ((other : List ℕ) → Keeps (F.contents files.old other) (F.contents files.new other)) }
+    ensures fault { IfErr result (SaysUnplaced path.now) }
+    ensures named { IfErr result (KeepsNew (F.contents files.new) bytes.now) }
+{
+    match Place::beside(alloc, files, path, claim, 0) {
+        Ok(place) => place.put(files, bytes),
+        Err(fault) => Err(fault),
     }
 }
 
@@ -103,7 +122,9 @@ fn save_new<J: Naming>(alloc: Global, made: NewDrive, asked: New<'_>) -> Result<
     ensures refusal { IfErr result (λ e. e ≡ NoMemory) }
 {
     let mut drive = made.named::<J>();
-    save(alloc, &mut drive)
+    let saved = save(alloc, &mut drive);
+    drop(drive);
+    saved
 }
 
 /// An image's path that is claimed, and the file beside it that takes its place.

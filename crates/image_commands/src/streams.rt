@@ -1,5 +1,5 @@
 //! The standard streams of a program that opens files.
-use std::fs::OpenOptions;
+use std::fs::{File, OpenOptions};
 use std::io;
 use std::os::fd::{AsRawFd, IntoRawFd};
 
@@ -25,7 +25,7 @@ pub fn hold_standard_streams(rt: &HostRuntime) -> io::Result<()> {
         drop(unreadable);
     }
     for _ in 0..STANDARD_ERROR {
-        let unwritable = OpenOptions::new().read(true).open(rt, NOTHING)?;
+        let unwritable = File::open(rt, NOTHING)?;
         if unwritable.as_raw_fd() > STANDARD_ERROR {
             return Ok(());
         }

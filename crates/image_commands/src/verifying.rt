@@ -1,6 +1,7 @@
 //! `verify`, and how each command reads an image.
 ghost use Rattle.std.specs.Prelude.{◌≡◌, ℕ, ◌+◌, ◌++◌, ◌^◌, ◌<◌, ◌≤◌, List, Option, Some};
-ghost use Rattle.std.specs.Prelude.{IfOk, IfSome, IfNone, IfErr, IsTrue, OnOk, length, string_bytes};
+ghost use Rattle.std.specs.Prelude.{IfOk, IfSome, IfNone, IfErr, IsFalse, IsTrue, OnOk, [], length};
+ghost use Rattle.std.specs.Prelude.{string_bytes};
 ghost use Rattle.std.specs.Io.{StartsWith};
 ghost use Rattle.std.specs.Io.KnownBytes.{Appends, Consumes, IsAtEnd};
 ghost use Rattle.s4_types.specs.declared.limits.TheConstants.{MOST_FRAMES};
@@ -144,20 +145,25 @@ fn read_shorter<R: Read>(alloc: Global, reader: &mut R) -> io::Result<Option<Vec
     ensures overlong { IfOk result (λ read. IfNone read (IsOverlong (R.remaining reader.old))) }
 {
     let mut bytes = Vec::new(alloc);
-    read_until(reader, &mut bytes, FRONT_BYTES)?;
+    match add_shorter(reader, &mut bytes)? {
+        true => Ok(Some(bytes)),
+        false => Ok(None),
+    }
+}
+
+// Adds them to none. Whether they are all.
+fn add_shorter<R: Read>(reader: &mut R, bytes: &mut Vec<u8>) -> io::Result<bool>
+    requires none { bytes.old.items ≡ [] }
+    ensures bytes { IfOk result
+        (λ all. IsTrue all → AreKnown (R.remaining reader.old) bytes.new.items) }
+    ensures overlong { IfOk result (λ all. IsFalse all → IsOverlong (R.remaining reader.old)) }
+{
+    read_until(reader, bytes, FRONT_BYTES)?;
     if bytes.len() < FRONT_BYTES {
-        return Ok(Some(bytes));
+        return Ok(true);
     }
     let most = most_with(bytes.as_slice());
-    read_until(reader, &mut bytes, most + 1)?;
-    if bytes.len() > most {
-        // No memory has so many bytes; a length that is told is less.
-        if most == LONGEST_IMAGE {
-            return Err(io::Error::from(io::ErrorKind::OutOfMemory));
-        }
-        return Ok(None);
-    }
-    Ok(Some(bytes))
+    read_to_end(reader, bytes, most)
 }
 
 // The most bytes that are read: as many as the longest image without audit rows has, or as one with
@@ -191,23 +197,61 @@ fn read_bounded<R: Read>(
         (λ read. IfErr read (IsUnsplit asked (R.remaining reader.old))) }
 {
     let mut bytes = Vec::new(alloc);
-    read_until(reader, &mut bytes, FRONT_BYTES)?;
+    match add_bounded(asked, reader, &mut bytes)? {
+        None => Ok(Ok(bytes)),
+        Some(cause) => Ok(Err(cause)),
+    }
+}
+
+// Adds them to none. The cause where they are no such image.
+fn add_bounded<R: Read>(
+    asked: Asked,
+    reader: &mut R,
+    bytes: &mut Vec<u8>,
+) -> io::Result<Option<Cause>>
+    requires none { bytes.old.items ≡ [] }
+    ensures bytes { IfOk result
+        (λ why. IfNone why (AreKnown (R.remaining reader.old) bytes.new.items)) }
+    ensures damaged { IfOk result
+        (λ why. IfSome why (IsUnsplit asked (R.remaining reader.old))) }
+{
+    read_until(reader, bytes, FRONT_BYTES)?;
     if bytes.len() < FRONT_BYTES {
-        return Ok(Err(Cause::Length));
+        return Ok(Some(Cause::Length));
     }
     let mark = asked.mark(bytes.as_slice());
     let Some(longest) = longest_with_by(mark, bytes.as_slice()) else {
-        return Ok(Err(Cause::Header));
+        return Ok(Some(Cause::Header));
     };
-    read_until(reader, &mut bytes, longest + 1)?;
-    if bytes.len() > longest {
-        // No memory has so many bytes; a length that is told is less.
-        if longest == LONGEST_IMAGE {
-            return Err(io::Error::from(io::ErrorKind::OutOfMemory));
-        }
-        return Ok(Err(Cause::Length));
+    let is_all = read_to_end(reader, bytes, longest)?;
+    if !is_all {
+        return Ok(Some(Cause::Length));
     }
-    Ok(Ok(bytes))
+    Ok(None)
+}
+
+// Adds what a reader gives, and says whether that is all. Not so where there are more bytes than
+// the most: then one more than that is read.
+fn read_to_end<R: Read>(reader: &mut R, bytes: &mut Vec<u8>, most: usize) -> io::Result<bool>
+    requires { most ≤ 2 ^ 62 }
+    ensures read { OnOk result
+        ((known : Option (List ℕ))
+        → Consumes known (R.remaining reader.old) bytes.old.items
+        → Consumes known (R.remaining reader.new) bytes.new.items) }
+    ensures front { OnOk result (StartsWith bytes.new.items bytes.old.items) }
+    ensures whole { IfOk result (λ all. IsTrue all → IsAtEnd (R.remaining reader.new)) }
+    ensures more { IfOk result
+        (λ all. IsFalse all → (most < 2 ^ 62) × (most < length bytes.new.items)) }
+{
+    read_until(reader, bytes, most + 1)?;
+    if bytes.len() <= most {
+        return Ok(true);
+    }
+    // No memory has so many bytes; a length that is told is less.
+    match most == LONGEST_IMAGE {
+        true => Err(io::Error::from(io::ErrorKind::OutOfMemory)),
+        false => Ok(false),
+    }
 }
 
 // Adds what a reader gives until there are this many bytes, or it has no more.
@@ -272,41 +316,21 @@ fn write_image_numbers<'a, W: Sink>(
         (λ fault. (known : Option (List ℕ)) (path : List ℕ)
         → SaysUnverified known path (W.failures writer.old) (W.failures writer.new) fault) }
 {
-    write_numbers(
+    let line = number_line(
         alloc,
         image.frames(),
         image.objects(),
         image.clock(),
         image.window(),
         image.floor(),
-        writer,
-    )
-}
-
-// Writes the line of such numbers.
-fn write_numbers<'a, W: Sink>(
-    alloc: Global,
-    frames: u16,
-    objects: usize,
-    clock: Moment,
-    window: u64,
-    floor: Moment,
-    writer: &mut W,
-) -> Result<(), Fault<'a>>
-    requires writer { W.failures writer.old + 1 < 2 ^ 64 }
-    ensures line { OnOk result (Appends (W.passed writer.old) (W.passed writer.new)
-        (number_line frames objects clock window floor)) }
-    ensures fault { IfErr result
-        (λ fault. (known : Option (List ℕ)) (path : List ℕ)
-        → SaysUnverified known path (W.failures writer.old) (W.failures writer.new) fault) }
-{
-    match number_line(alloc, frames, objects, clock, window, floor) {
+    );
+    match line {
         Ok(line) => write_out(writer, line.as_bytes()),
         Err(_) => Err(Fault::Refused(Refusal::NoMemory)),
     }
 }
 
-/// The line of such numbers.
+/// The line of the numbers of an image.
 pub fn number_line(
     alloc: Global,
     frames: u16,
