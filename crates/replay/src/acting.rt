@@ -1,44 +1,44 @@
 //! Steps of sessions and of the drive.
 use crate::commands::{Acting, Asked, Asking, Tidying, Upkeep};
 use crate::party::{Played, Reading};
-use crate::sitting::tell_done;
 use crate::stage::{Stage, tell_answer};
 use crate::text::Text;
+use crate::words::frame_of;
 use history_cleaner::Turn;
 use interleaving::{Act, Answer, Step};
 use s4_types::{
     AdminRequest, Bytes, Moment, ObjectId, ObjectRequest, Question, Refusal, Reply, Request, Role,
 };
+use segment_copier::Candidate;
 use std::alloc::Global;
-
-/// The number of a frame; of one that isn't there where the number is greater than any.
-pub(crate) fn frame_of(number: u64) -> u16 {
-    u16::try_from(number).unwrap_or(u16::MAX)
-}
 
 /// The request that a command encodes.
 fn request_of(alloc: Global, asking: Asking, asked: &Asked<'_>) -> Result<Request, Refusal> {
-    let bytes = Bytes::from_slice(alloc, asked.bytes)?;
-    Ok(request_with(asking, asked, bytes))
+    match asking {
+        Asking::Create | Asking::Write | Asking::Append | Asking::SetAttr => {
+            let bytes = Bytes::from_slice(alloc, asked.bytes)?;
+            Ok(Request::Update(change_with(asking, asked, bytes)))
+        }
+        _ => Ok(request_without(asking, asked)),
+    }
 }
 
-/// The request that a command encodes, with its bytes.
-fn request_with(asking: Asking, asked: &Asked<'_>, bytes: Bytes) -> Request {
-    let [number, second, _] = asked.numbers;
+/// The change that a command encodes, with its bytes.
+fn change_with(asking: Asking, asked: &Asked<'_>, bytes: Bytes) -> ObjectRequest {
+    let [number, offset, _] = asked.numbers;
     let object = ObjectId::new(number);
     match asking {
-        Asking::Create => Request::Update(ObjectRequest::Create { attribute: bytes }),
-        Asking::Write => Request::Update(ObjectRequest::Write {
+        Asking::Create => ObjectRequest::Create { attribute: bytes },
+        Asking::Write => ObjectRequest::Write {
             object,
-            offset: second,
+            offset,
             bytes,
-        }),
-        Asking::Append => Request::Update(ObjectRequest::Append { object, bytes }),
-        Asking::SetAttr => Request::Update(ObjectRequest::SetAttr {
+        },
+        Asking::Append => ObjectRequest::Append { object, bytes },
+        _ => ObjectRequest::SetAttr {
             object,
             attribute: bytes,
-        }),
-        _ => request_without(asking, asked),
+        },
     }
 }
 
@@ -70,7 +70,7 @@ fn request_without(asking: Asking, asked: &Asked<'_>) -> Request {
             from: Moment::new(number),
             max: u16::try_from(second).unwrap_or(u16::MAX),
         }),
-        _ => read_of(&reading_of(asked)),
+        _ => Request::Query(reading_of(asked).question()),
     }
 }
 
@@ -84,15 +84,6 @@ fn reading_of(asked: &Asked<'_>) -> Reading {
         at: asked.at,
         now: asked.now,
     }
-}
-
-fn read_of(reading: &Reading) -> Request {
-    Request::Query(Question::Read {
-        object: reading.object,
-        offset: reading.offset,
-        length: reading.length,
-        at: reading.at,
-    })
 }
 
 fn resolve_of(reading: &Reading) -> Act {
@@ -142,36 +133,54 @@ fn lacks_memory(answer: &Answer) -> bool {
     )
 }
 
-/// Takes a step, and compares its answer with what the plain drive tells. NoMemory where it can be
-/// taken once more.
-pub(crate) fn take<D: Played>(
-    stage: &mut Stage,
-    drive: &mut D,
-    step: Step,
-) -> Result<Answer, Refusal> {
-    let answer = drive.take(&step)?;
+/// What a step is answered. NoMemory where it can be taken once more.
+fn answered<D: Played>(stage: &mut Stage, drive: &mut D, step: &Step) -> Result<Answer, Refusal> {
+    let answer = drive.take(step)?;
     if lacks_memory(&answer) {
-        stage.see_step(&step)?;
+        drop(answer);
+        stage.see_step(step)?;
         return Err(Refusal::NoMemory);
     }
-    // (what was done isn't done once more where memory to tell of it is refused)
-    stage.is_spent = true;
-    stage.compare(step, &answer)?;
     Ok(answer)
 }
 
-/// Somebody takes a step.
-fn act_by<D: Played>(
+/// What somebody is answered.
+pub(crate) fn act_by<D: Played>(
     stage: &mut Stage,
     drive: &mut D,
-    name: &[u8],
+    actor: usize,
     act: Act,
+) -> Result<Answer, Refusal> {
+    let step = Step::By { actor, act };
+    let answer = answered(stage, drive, &step);
+    drop(step);
+    answer
+}
+
+/// Takes a step.
+fn take<D: Played>(
+    stage: &mut Stage,
+    drive: &mut D,
+    step: Step,
     text: &mut Text,
 ) -> Result<(), Refusal> {
-    let actor = stage.place_of(name);
-    let answer = take(stage, drive, Step::By { actor, act })?;
+    match answered(stage, drive, &step) {
+        Ok(answer) => settle(stage, step, answer, text),
+        Err(refusal) => {
+            drop(step);
+            Err(refusal)
+        }
+    }
+}
+
+/// Compares the answer to a step that was taken with the plain drive's.
+fn settle(stage: &mut Stage, step: Step, answer: Answer, text: &mut Text) -> Result<(), Refusal> {
+    // (what was done isn't done once more where memory to tell of it is refused)
+    stage.is_spent = true;
+    let compared = stage.compare(step, &answer);
     tell_answer(text, &answer);
-    Ok(())
+    drop(answer);
+    compared
 }
 
 /// Somebody asks for something.
@@ -182,15 +191,11 @@ pub(crate) fn perform_asking<D: Played>(
     asked: &Asked<'_>,
     text: &mut Text,
 ) -> Result<(), Refusal> {
-    let request = request_of(stage.alloc, asking, asked)?;
+    let actor = stage.place_of(asked.name);
     let now = asked.now;
-    act_by(
-        stage,
-        drive,
-        asked.name,
-        Act::Request { request, now },
-        text,
-    )
+    let request = request_of(stage.alloc, asking, asked)?;
+    let act = Act::Request { request, now };
+    take(stage, drive, Step::By { actor, act }, text)
 }
 
 /// Somebody fetches, copies or commits. Where the drive refuses memory the plan is spent, so that
@@ -198,21 +203,20 @@ pub(crate) fn perform_asking<D: Played>(
 fn spend<D: Played>(
     stage: &mut Stage,
     drive: &mut D,
-    name: &[u8],
-    act: Act,
+    step: Step,
+    is_move: bool,
     text: &mut Text,
 ) -> Result<(), Refusal> {
-    let is_move = !matches!(act, Act::Fetch);
-    let step = Step::By {
-        actor: stage.place_of(name),
-        act,
-    };
-    let answer = drive.take(&step)?;
-    stage.is_spent = true;
-    stage.excuse(is_move, &answer);
-    stage.compare(step, &answer)?;
-    tell_answer(text, &answer);
-    Ok(())
+    match drive.take(&step) {
+        Ok(answer) => {
+            stage.excuse(is_move, &answer);
+            settle(stage, step, answer, text)
+        }
+        Err(refusal) => {
+            drop(step);
+            Err(refusal)
+        }
+    }
 }
 
 /// Somebody does something else.
@@ -223,12 +227,13 @@ pub(crate) fn perform_acting<D: Played>(
     asked: &Asked<'_>,
     text: &mut Text,
 ) -> Result<(), Refusal> {
+    let actor = stage.place_of(asked.name);
     let act = act_of(acting, asked);
+    let step = Step::By { actor, act };
     match acting {
-        Acting::Fetch | Acting::Copy | Acting::Commit => {
-            spend(stage, drive, asked.name, act, text)
-        }
-        _ => act_by(stage, drive, asked.name, act, text),
+        Acting::Fetch => spend(stage, drive, step, false, text),
+        Acting::Copy | Acting::Commit => spend(stage, drive, step, true, text),
+        _ => take(stage, drive, step, text),
     }
 }
 
@@ -240,9 +245,7 @@ pub(crate) fn perform_upkeep<D: Played>(
     asked: &Asked<'_>,
     text: &mut Text,
 ) -> Result<(), Refusal> {
-    let answer = take(stage, drive, step_of(upkeep, asked))?;
-    tell_answer(text, &answer);
-    Ok(())
+    take(stage, drive, step_of(upkeep, asked), text)
 }
 
 /// A full pass of the cleaner. Where memory is refused it is done once more, and counts what the
@@ -258,8 +261,7 @@ fn pass<D: Played>(stage: &mut Stage, drive: &mut D, text: &mut Text) -> Result<
         }
         report => report?,
     };
-    text.word("Passed");
-    text.number(report.rewritten as u64);
+    text.named("Passed", report.rewritten as u64);
     text.number(report.removed as u64);
     text.number(report.released as u64);
     Ok(())
@@ -267,7 +269,7 @@ fn pass<D: Played>(stage: &mut Stage, drive: &mut D, text: &mut Text) -> Result<
 
 /// The first turn of the next round: an object that was passed over waits for that round.
 fn turn_again<D: Played>(drive: &mut D) -> Turn {
-    for _ in 0..drive.next() {
+    for _ in 0..drive.numbers().next {
         if matches!(drive.turn(), Turn::Ended) {
             break;
         }
@@ -287,8 +289,7 @@ fn turn<D: Played>(stage: &mut Stage, drive: &mut D, text: &mut Text) -> Result<
     };
     match turn {
         Turn::Cleaned(object) => {
-            text.word("Cleaned");
-            text.number(object.number());
+            text.named("Cleaned", object.number());
             Ok(())
         }
         Turn::PassedOver(_, refusal) => Err(refusal),
@@ -306,39 +307,64 @@ fn move_chosen<D: Played>(
     text: &mut Text,
 ) -> Result<(), Refusal> {
     let Some(chosen) = drive.chosen()? else {
-        text.word("Idle");
+        text.done(false);
         return Ok(());
     };
     drive.come(Role::Admin)?;
     let actor = stage.seats.len();
-    let moved = move_by(drive, actor, chosen.frame, chosen.object);
+    let moved = move_by(stage, drive, actor, chosen, text);
     drive.leave(actor);
-    match moved? {
-        Answer::Done => {
-            text.word("Moved");
-            text.number(chosen.frame as u64);
-            text.number(chosen.object.number());
-        }
-        answer => tell_answer(text, &answer),
+    moved
+}
+
+/// What an actor does in turn to make a move.
+static MOVE: [Acting; 3] = [Acting::Plan, Acting::Copy, Acting::Commit];
+
+/// Whether an answer is Done. Another one is put into the text.
+fn is_done(text: &mut Text, answer: Answer) -> bool {
+    let is_done = matches!(answer, Answer::Done);
+    if !is_done {
+        tell_answer(text, &answer);
     }
-    Ok(())
+    drop(answer);
+    is_done
 }
 
 /// An actor moves an object's blocks out of a frame. The first answer that isn't Done ends that.
 fn move_by<D: Played>(
+    stage: &mut Stage,
     drive: &mut D,
     actor: usize,
-    frame: u16,
-    object: ObjectId,
-) -> Result<Answer, Refusal> {
-    for act in [Act::Plan { frame, object }, Act::Copy, Act::Commit] {
-        match drive.take(&Step::By { actor, act })? {
-            Answer::Done => {}
-            Answer::Refused(Refusal::NoMemory) => return Err(Refusal::NoMemory),
-            answer => return Ok(answer),
+    chosen: Candidate,
+    text: &mut Text,
+) -> Result<(), Refusal> {
+    let asked = Asked::of_move(chosen.frame, chosen.object);
+    for acting in &MOVE {
+        let answer = act_by(stage, drive, actor, act_of(*acting, &asked))?;
+        if !is_done(text, answer) {
+            return Ok(());
         }
     }
-    Ok(Answer::Done)
+    text.numbers("Moved", &[chosen.frame as u64, chosen.object.number()]);
+    Ok(())
+}
+
+/// A plan of a read by somebody who is there is laid on the pile.
+fn keep_by<D: Played>(
+    stage: &mut Stage,
+    drive: &mut D,
+    place: usize,
+    reading: &Reading,
+) -> Result<(), Refusal> {
+    // (room on the pile is taken before the drive's step)
+    stage.pile.reserve(1)?;
+    let kept = drive.keep(place, reading);
+    stage.plan(place, None);
+    match kept {
+        Err(Refusal::NoMemory) => stage.see(place, reading.now)?,
+        _ => stage.keep(place, reading, kept)?,
+    }
+    kept
 }
 
 /// A plan of a read is laid on the pile.
@@ -349,32 +375,11 @@ fn keep<D: Played>(
     text: &mut Text,
 ) -> Result<(), Refusal> {
     let place = stage.place_of(asked.name);
-    if place >= stage.seats.len() {
-        text.word("Idle");
-        return Ok(());
+    let is_there = place < stage.seats.len();
+    if is_there {
+        keep_by(stage, drive, place, &reading_of(asked))?;
     }
-    // (room on the pile is taken before the drive's step)
-    stage.pile.reserve(1)?;
-    let reading = reading_of(asked);
-    let planned = drive.keep(place, &reading);
-    stage.plan(place, None);
-    let answer = match planned {
-        Ok(()) => Answer::Done,
-        Err(Refusal::NoMemory) => {
-            stage.see(place, reading.now)?;
-            return Err(Refusal::NoMemory);
-        }
-        Err(refusal) => Answer::Refused(refusal),
-    };
-    stage.is_spent = true;
-    let told = stage.reply(place, read_of(&reading), reading.now)?;
-    if let Some(told) = &told {
-        stage.compare_plan(told, &answer);
-    }
-    if answer == Answer::Done {
-        stage.pile.push(told)?;
-    }
-    tell_answer(text, &answer);
+    text.done(is_there);
     Ok(())
 }
 
@@ -389,15 +394,16 @@ fn take_last<D: Played>(stage: &mut Stage, drive: &mut D, text: &mut Text) -> Re
     };
     stage.excuse(false, &answer);
     stage.compare_fetched(&planned, &answer);
+    drop(planned);
     tell_answer(text, &answer);
+    drop(answer);
     Ok(())
 }
 
 /// Frames that hold nothing are marked and released.
 fn empty<D: Played>(drive: &mut D, text: &mut Text) -> Result<(), Refusal> {
     let count = drive.empty()?;
-    text.word("Emptied");
-    text.number(count as u64);
+    text.named("Emptied", count as u64);
     Ok(())
 }
 
@@ -409,7 +415,7 @@ fn drop_plans<D: Played>(stage: &mut Stage, drive: &mut D, is_all: bool, text: &
     } else {
         drop(stage.pile.pop());
     }
-    tell_done(text, true);
+    text.done(true);
 }
 
 /// What is done in more than one step, and with the pile.
@@ -437,7 +443,7 @@ pub(crate) fn perform_tidying<D: Played>(
         }
         Tidying::CleanAudit => {
             drive.clean_audit();
-            tell_done(text, true);
+            text.done(true);
             Ok(())
         }
     }

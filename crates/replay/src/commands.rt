@@ -1,6 +1,6 @@
 //! The commands of a script.
 use crate::words::{bytes_of, count_of, parts_of};
-use s4_types::{Moment, Refusal, Role};
+use s4_types::{Moment, ObjectId, Refusal, Role};
 use std::alloc::Global;
 
 /// What a session asks.
@@ -266,30 +266,30 @@ fn number_of(word: &[u8]) -> Option<Number> {
     }
 }
 
-/// What the words of a command give: the places of two names and of bytes among them, and numbers.
+/// What the words of a command give.
 #[derive(Clone, Copy)]
-struct Given {
+pub(crate) struct Given<'a> {
+    pub(crate) verb: Verb,
+    /// How often it is done.
+    pub(crate) times: u64,
     /// How many words were taken.
     taken: usize,
-    name: usize,
-    other: usize,
-    bytes: usize,
+    name: &'a [u8],
+    other: &'a [u8],
+    /// The word that encodes bytes.
+    coded: &'a [u8],
     numbers: [Number; 3],
     counted: usize,
     at: Option<Number>,
     now: Option<Number>,
 }
 
-/// A command that is done.
+/// A command that is done, and the answer that must come.
 #[derive(Drop)]
 pub(crate) struct Command<'a> {
-    pub(crate) verb: Verb,
-    name: &'a [u8],
-    other: &'a [u8],
+    pub(crate) given: Given<'a>,
     bytes: Vec<u8>,
-    numbers: [Number; 3],
-    at: Option<Number>,
-    now: Option<Number>,
+    pub(crate) expected: Option<&'a [u8]>,
 }
 
 /// What a command says beside its verb, where the drive's clock is known.
@@ -305,17 +305,32 @@ pub(crate) struct Asked<'a> {
     pub(crate) now: Moment,
 }
 
+impl<'a> Asked<'a> {
+    /// What is said of a move of an object's blocks out of a frame.
+    pub(crate) fn of_move(frame: u16, object: ObjectId) -> Self {
+        Asked {
+            name: b"",
+            other: b"",
+            bytes: b"",
+            numbers: [frame as u64, object.number(), 0],
+            at: None,
+            now: Moment::new(0),
+        }
+    }
+}
+
 impl<'a> Command<'a> {
     /// What it says, where the clock is this.
     pub(crate) fn asked(&self, clock: u64) -> Asked<'_> {
-        let [first, second, third] = self.numbers;
-        let now = self.now.unwrap_or(Number::Plain(0));
+        let given = self.given;
+        let [first, second, third] = given.numbers;
+        let now = given.now.unwrap_or(Number::Plain(0));
         Asked {
-            name: self.name,
-            other: self.other,
+            name: given.name,
+            other: given.other,
             bytes: self.bytes.as_slice(),
             numbers: [first.at(clock), second.at(clock), third.at(clock)],
-            at: moment_at(self.at, clock),
+            at: moment_at(given.at, clock),
             now: Moment::new(now.at(clock)),
         }
     }
@@ -326,16 +341,15 @@ fn moment_at(number: Option<Number>, clock: u64) -> Option<Moment> {
     Some(Moment::new(number?.at(clock)))
 }
 
-/// The place of a word that isn't there.
-const NOWHERE: usize = usize::MAX;
-
-impl Given {
-    fn new() -> Self {
+impl<'a> Given<'a> {
+    fn new(verb: Verb, times: u64) -> Self {
         Given {
+            verb,
+            times,
             taken: 0,
-            name: NOWHERE,
-            other: NOWHERE,
-            bytes: NOWHERE,
+            name: b"",
+            other: b"",
+            coded: b"",
             numbers: [Number::Plain(0); 3],
             counted: 0,
             at: None,
@@ -343,20 +357,13 @@ impl Given {
         }
     }
 
-    /// One more word is taken.
-    fn pass(&mut self) -> bool {
-        self.taken = self.taken.saturating_add(1);
-        true
-    }
-
     /// Takes one more name.
-    fn take_name(&mut self) -> bool {
-        if self.name == NOWHERE {
-            self.name = self.taken;
+    fn take_name(&mut self, word: &'a [u8]) {
+        if self.name.is_empty() {
+            self.name = word;
         } else {
-            self.other = self.taken;
+            self.other = word;
         }
-        self.pass()
     }
 
     /// Takes one more number, if the word is one.
@@ -369,7 +376,7 @@ impl Given {
             *place = number;
         }
         self.counted = counted.saturating_add(1);
-        self.pass()
+        true
     }
 
     /// Takes a word and the number after it, where they come next.
@@ -383,49 +390,45 @@ impl Given {
     }
 
     /// Takes what a part of a pattern represents. Whether it is there.
-    fn take(&mut self, part: &[u8], words: &[&[u8]]) -> bool {
+    fn take(&mut self, part: &[u8], words: &[&'a [u8]]) -> bool {
         match part {
             [b'[', b'a', ..] => self.at = self.take_after("at", words),
             [b'[', ..] => self.now = self.take_after("now", words),
-            _ => return self.taken < words.len()
-                && self.take_word(part, word_at(words, self.taken)),
+            _ => return self.take_word(part, word_at(words, self.taken)),
         }
         true
     }
 
-    /// Takes a word as a part of a pattern says. Whether it fits.
-    fn take_word(&mut self, part: &[u8], word: &[u8]) -> bool {
+    /// Takes a word as a part of a pattern says. Whether it fits. No part fits where no word is
+    /// left.
+    fn take_word(&mut self, part: &[u8], word: &'a [u8]) -> bool {
+        self.taken = self.taken.saturating_add(1);
         match part {
-            [b'$'] => self.take_name(),
-            [b'#'] => self.take_number(word),
-            [b'%'] => {
-                self.bytes = self.taken;
-                self.pass()
+            [b'#'] => return self.take_number(word),
+            [b'$'] => self.take_name(word),
+            [b'%'] => self.coded = word,
+            _ => return part == word,
+        }
+        !word.is_empty()
+    }
+
+    /// Takes all words as a pattern says. Whether they fit it.
+    fn take_all(&mut self, pattern: &str, words: &[&'a [u8]]) -> bool {
+        for part in pattern.split_whitespace() {
+            if !self.take(part.as_bytes(), words) {
+                return false;
             }
-            _ => part == word && self.pass(),
         }
+        self.taken == words.len()
     }
 }
 
-/// What words give where they fit a pattern.
-fn fit(pattern: &str, words: &[&[u8]]) -> Option<Given> {
-    let mut given = Given::new();
-    for part in pattern.split_whitespace() {
-        if !given.take(part.as_bytes(), words) {
-            return None;
-        }
-    }
-    if given.taken != words.len() {
-        return None;
-    }
-    Some(given)
-}
-
-/// The command that words give, and what they ask for, if they give one.
-fn find(words: &[&[u8]]) -> Option<(Verb, Given)> {
+/// What words give that are done so often, if they encode a command.
+fn find<'a>(words: &[&'a [u8]], times: u64) -> Option<Given<'a>> {
     for (pattern, verb) in &COMMANDS {
-        if let Some(given) = fit(pattern, words) {
-            return Some((*verb, given));
+        let mut given = Given::new(*verb, times);
+        if given.take_all(pattern, words) {
+            return Some(given);
         }
     }
     None
@@ -439,51 +442,72 @@ fn word_at<'a>(words: &[&'a [u8]], place: usize) -> &'a [u8] {
     }
 }
 
-/// The command that words give, if they encode one.
-fn command_of<'a>(alloc: Global, words: &[&'a [u8]]) -> Result<Option<Command<'a>>, Refusal> {
-    let Some((verb, given)) = find(words) else {
-        return Ok(None);
-    };
-    let Some(bytes) = bytes_of(alloc, word_at(words, given.bytes))? else {
-        return Ok(None);
-    };
-    let numbers = given.numbers;
-    Ok(Some(Command {
-        verb,
-        name: word_at(words, given.name),
-        other: word_at(words, given.other),
-        bytes,
-        numbers,
-        at: given.at,
-        now: given.now,
-    }))
+/// How often a command is done, and its words after that.
+fn times_of<'a, 'b>(words: &'b [&'a [u8]]) -> (u64, &'b [&'a [u8]]) {
+    match (count_of(word_at(words, 0)), words.get(2..)) {
+        (Some(count), Some(rest)) if word_at(words, 1) == "times".as_bytes() => (count, rest),
+        _ => (1, words),
+    }
 }
 
-/// A command, and the answer that must come.
-#[derive(Drop)]
-pub(crate) struct Exchange<'a> {
-    pub(crate) command: Command<'a>,
-    pub(crate) expected: Option<&'a [u8]>,
+/// What a text gives, if it encodes a command.
+fn given_by<'a>(alloc: Global, text: &'a [u8]) -> Result<Option<Given<'a>>, Refusal> {
+    let words = parts_of(alloc, text, b' ')?;
+    let (times, words) = times_of(words.as_slice());
+    Ok(find(words, times))
+}
+
+/// The command that a part of a line encodes, with its answer, if it encodes one. Only the first
+/// part can say how often it is done.
+fn command_of<'a>(
+    alloc: Global,
+    part: &'a [u8],
+    is_first: bool,
+) -> Result<Option<Command<'a>>, Refusal> {
+    let (text, expected) = cut_answer(part);
+    let Some(given) = given_by(alloc, text)? else {
+        return Ok(None);
+    };
+    if given.times != 1 && !is_first {
+        return Ok(None);
+    }
+    match bytes_of(alloc, given.coded)? {
+        Some(bytes) => Ok(Some(Command {
+            given,
+            bytes,
+            expected,
+        })),
+        None => Ok(None),
+    }
 }
 
 /// A line of a script: commands that are done in turn, so often, and the line as it is before its
 /// last answer.
 #[derive(Drop)]
 pub(crate) struct Line<'a> {
-    pub(crate) times: u64,
-    pub(crate) exchanges: Vec<Exchange<'a>>,
+    pub(crate) commands: Vec<Command<'a>>,
     pub(crate) text: &'a [u8],
+}
+
+impl<'a> Line<'a> {
+    /// How often its commands are done.
+    pub(crate) fn times(&self) -> u64 {
+        match self.commands.first() {
+            Some(first) => first.given.times,
+            None => 1,
+        }
+    }
 }
 
 /// The arrow before an answer.
 const ARROW: &[u8] = b" -> ";
 
 /// Where the arrow before an answer stands: the first one outside of quotes.
-fn find_arrow(exchange: &[u8]) -> Option<usize> {
+fn find_arrow(part: &[u8]) -> Option<usize> {
     let mut is_quoted = false;
-    for place in 0..exchange.len() {
-        is_quoted = is_quoted != (exchange[place] == b'"');
-        if !is_quoted && exchange.get(place..).unwrap_or(&[]).starts_with(ARROW) {
+    for place in 0..part.len() {
+        is_quoted = is_quoted != (part[place] == b'"');
+        if !is_quoted && part.get(place..).unwrap_or(&[]).starts_with(ARROW) {
             return Some(place);
         }
     }
@@ -491,64 +515,47 @@ fn find_arrow(exchange: &[u8]) -> Option<usize> {
 }
 
 /// What is before the arrow, and the answer after it, if there is one.
-fn cut_answer(exchange: &[u8]) -> (&[u8], Option<&[u8]>) {
-    let Some(place) = find_arrow(exchange) else {
-        return (exchange, None);
+fn cut_answer(part: &[u8]) -> (&[u8], Option<&[u8]>) {
+    let Some(place) = find_arrow(part) else {
+        return (part, None);
     };
-    let (text, rest) = exchange.split_at(place.min(exchange.len()));
+    let (text, rest) = part.split_at(place.min(part.len()));
     match rest.get(ARROW.len()..) {
         Some(answer) => (text, Some(answer.trim_ascii())),
         None => (text, None),
     }
 }
 
-/// How often a line's commands are done, and the words after that.
-fn times_of<'a, 'b>(words: &'b [&'a [u8]]) -> (u64, &'b [&'a [u8]]) {
-    let Some(count) = count_of(word_at(words, 0)) else {
-        return (1, words);
-    };
-    if word_at(words, 1) != "times".as_bytes() {
-        return (1, words);
-    }
-    (count, words.get(2..).unwrap_or(&[]))
-}
-
-/// Puts what a part says after other parts, and how often it says that they are done. None where it
-/// is no command.
-fn push_exchange<'a>(
+/// Puts the commands of parts after others. Whether all are commands.
+fn put_commands<'a>(
     alloc: Global,
-    exchanges: &mut Vec<Exchange<'a>>,
-    exchange: &'a [u8],
-) -> Result<Option<u64>, Refusal> {
-    let (text, expected) = cut_answer(exchange);
-    let words = parts_of(alloc, text, b' ')?;
-    let (times, words) = times_of(words.as_slice());
-    let Some(command) = command_of(alloc, words)? else {
-        return Ok(None);
-    };
-    exchanges.push(Exchange { command, expected })?;
-    Ok(Some(times))
-}
-
-/// What a line says, if it has commands. Only its first part can say how often.
-pub(crate) fn line_of<'a>(alloc: Global, line: &'a [u8]) -> Result<Option<Line<'a>>, Refusal> {
-    let mut exchanges = Vec::new(alloc);
-    let mut times = 1;
-    let spelled = parts_of(alloc, line, b';')?;
-    for (number, exchange) in spelled.iter().enumerate() {
-        match push_exchange(alloc, &mut exchanges, exchange)? {
-            Some(count) if number == 0 => times = count,
-            Some(1) => {}
-            _ => return Ok(None),
+    commands: &mut Vec<Command<'a>>,
+    parts: &[&'a [u8]],
+) -> Result<bool, Refusal> {
+    for part in parts {
+        match command_of(alloc, part, commands.is_empty())? {
+            Some(command) => commands.push(command)?,
+            None => return Ok(false),
         }
     }
-    let last = spelled.last().copied().unwrap_or(line);
+    Ok(true)
+}
+
+/// A line without its last answer, where this is its last part.
+fn without_answer<'a>(line: &'a [u8], last: &[u8]) -> &'a [u8] {
     let (text, _) = cut_answer(last);
-    let behind = last.len().saturating_sub(text.len());
-    let text = line.get(..line.len().saturating_sub(behind));
-    Ok(Some(Line {
-        times,
-        exchanges,
-        text: text.unwrap_or(line),
-    }))
+    let answer = last.len().saturating_sub(text.len());
+    line.get(..line.len().saturating_sub(answer))
+        .unwrap_or(line)
+}
+
+/// What a line says, if it has commands.
+pub(crate) fn line_of<'a>(alloc: Global, line: &'a [u8]) -> Result<Option<Line<'a>>, Refusal> {
+    let parts = parts_of(alloc, line, b';')?;
+    let text = without_answer(line, parts.last().copied().unwrap_or(line));
+    let mut commands = Vec::new(alloc);
+    if !put_commands(alloc, &mut commands, parts.as_slice())? {
+        return Ok(None);
+    }
+    Ok(Some(Line { commands, text }))
 }

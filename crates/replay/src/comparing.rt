@@ -1,20 +1,21 @@
 //! All that can be read, compared with what the plain drive tells, and what the drive counts with a
 //! count anew.
+use crate::acting::act_by;
 use crate::commands::Beside;
 use crate::counting::find_miscount;
 use crate::party::Played;
-use crate::stage::Stage;
+use crate::stage::{Stage, is_reply};
 use crate::text::Text;
-use interleaving::{Act, Answer, Step};
+use interleaving::{Act, Answer};
 use s4_types::limits::READ_BYTES;
 use s4_types::{Moment, ObjectId, Question, Refusal, Reply, Request, Role};
 
-/// Asks for an object's bytes at a moment from an offset on, as many as one read gives; without an
-/// offset for its size, moments and attribute.
-fn question(object: u64, at: u64, offset: Option<u64>) -> Request {
+/// A look at an object's bytes at a moment from an offset on, as many as one read gives; without an
+/// offset at its size, moments and attribute.
+fn question(object: u64, at: u64, offset: Option<u64>) -> Question {
     let object = ObjectId::new(object);
     let at = Some(Moment::new(at));
-    Request::Query(match offset {
+    match offset {
         None => Question::GetAttr { object, at },
         Some(offset) => Question::Read {
             object,
@@ -22,47 +23,79 @@ fn question(object: u64, at: u64, offset: Option<u64>) -> Request {
             length: READ_BYTES as u32,
             at,
         },
-    })
-}
-
-/// What the drive replies to a session's request.
-fn drive_reply<D: Played>(
-    drive: &mut D,
-    actor: usize,
-    request: Request,
-) -> Result<Option<Reply>, Refusal> {
-    let now = Moment::new(0);
-    let act = Act::Request { request, now };
-    match drive.take(&Step::By { actor, act })? {
-        Answer::Reply(Reply::Refused(Refusal::NoMemory)) => Err(Refusal::NoMemory),
-        Answer::Reply(reply) => Ok(Some(reply)),
-        _ => Ok(None),
     }
 }
 
-/// What the drive and the plain drive reply to a question. One that the drive refuses memory is
-/// asked once more.
-fn both_replies<D: Played>(
+/// What the drive answers a session's question.
+fn ask<D: Played>(
     stage: &mut Stage,
     drive: &mut D,
     actor: usize,
-    object: u64,
-    at: u64,
-    offset: Option<u64>,
-) -> Result<(Option<Reply>, Option<Reply>), Refusal> {
-    let given = match drive_reply(drive, actor, question(object, at, offset)) {
-        Err(_) => drive_reply(drive, actor, question(object, at, offset))?,
-        Ok(reply) => reply,
+    question: &Question,
+) -> Result<Answer, Refusal> {
+    let act = Act::Request {
+        request: Request::Query(*question),
+        now: Moment::new(0),
     };
-    let told = stage.reply(usize::MAX, question(object, at, offset), Moment::new(0))?;
-    Ok((given, told))
+    act_by(stage, drive, actor, act)
 }
 
-/// How many bytes a reply tells that an object has: none where it is no reply to the question for
-/// its attributes.
-fn size_told(reply: &Option<Reply>) -> u64 {
+/// The same. What the drive refuses memory is asked once more.
+fn ask_twice<D: Played>(
+    stage: &mut Stage,
+    drive: &mut D,
+    actor: usize,
+    question: &Question,
+) -> Result<Answer, Refusal> {
+    match ask(stage, drive, actor, question) {
+        Err(_) => ask(stage, drive, actor, question),
+        answered => answered,
+    }
+}
+
+/// What the drive and the plain drive answer a question.
+#[derive(Clone, Copy)]
+struct Compared {
+    is_same: bool,
+    /// How many bytes the object has; none where it isn't asked for.
+    size: u64,
+}
+
+/// Asks both drives a question.
+fn ask_both<D: Played>(
+    stage: &mut Stage,
+    drive: &mut D,
+    actor: usize,
+    question: &Question,
+) -> Result<Compared, Refusal> {
+    let answer = ask_twice(stage, drive, actor, question)?;
+    let compared = compare(stage, question, &answer);
+    drop(answer);
+    compared
+}
+
+/// Compares what the drive answers a question with the plain drive's reply, if there is one.
+fn compare(stage: &mut Stage, question: &Question, answer: &Answer) -> Result<Compared, Refusal> {
+    let reply = stage.reply(usize::MAX, Request::Query(*question), Moment::new(0))?;
+    let compared = match &reply {
+        Some(reply) => Compared {
+            is_same: is_reply(answer, reply),
+            size: size_in(reply),
+        },
+        None => Compared {
+            is_same: true,
+            size: 0,
+        },
+    };
+    drop(reply);
+    Ok(compared)
+}
+
+/// How many bytes an object has by a reply: none where it is no reply to the question for its
+/// attributes.
+fn size_in(reply: &Reply) -> u64 {
     match reply {
-        Some(Reply::Attr { size, .. }) => u64::from(*size),
+        Reply::Attr { size, .. } => u64::from(*size),
         _ => 0,
     }
 }
@@ -76,15 +109,14 @@ fn is_alike<D: Played>(
     object: u64,
     at: u64,
 ) -> Result<bool, Refusal> {
-    let (given, told) = both_replies(stage, drive, actor, object, at, None)?;
-    if given != told {
+    let compared = ask_both(stage, drive, actor, &question(object, at, None))?;
+    if !compared.is_same {
         return Ok(false);
     }
-    let last = size_told(&told).saturating_sub(1) / READ_BYTES;
+    let last = compared.size.saturating_sub(1) / READ_BYTES;
     for piece in 0..=last {
         let offset = Some(piece * READ_BYTES);
-        let (given, told) = both_replies(stage, drive, actor, object, at, offset)?;
-        if given != told {
+        if !ask_both(stage, drive, actor, &question(object, at, offset))?.is_same {
             return Ok(false);
         }
     }
@@ -98,9 +130,10 @@ fn find_unlike_by<D: Played>(
     drive: &mut D,
     actor: usize,
 ) -> Result<Option<(u64, u64)>, Refusal> {
-    let first = drive.floor().saturating_sub(1);
-    let last = drive.clock().saturating_add(1);
-    for object in 1..=drive.next() {
+    let numbers = drive.numbers();
+    let first = numbers.floor.saturating_sub(1);
+    let last = numbers.clock.saturating_add(1);
+    for object in 1..=numbers.next {
         for at in first..=last {
             if !is_alike(stage, drive, actor, object, at)? {
                 return Ok(Some((object, at)));
@@ -125,16 +158,12 @@ fn find_unlike<D: Played>(stage: &mut Stage, drive: &mut D) -> Result<Option<(u6
 /// Says whether all is alike, where there is a plain drive.
 fn tell_alike<D: Played>(stage: &mut Stage, drive: &mut D, text: &mut Text) -> Result<(), Refusal> {
     if stage.plain.is_none() {
-        text.word("Idle");
+        text.done(false);
         return Ok(());
     }
     match find_unlike(stage, drive)? {
         None => text.word("alike"),
-        Some((object, at)) => {
-            text.word("unlike");
-            text.number(object);
-            text.number(at);
-        }
+        Some((object, at)) => text.numbers("unlike", &[object, at]),
     }
     Ok(())
 }
@@ -175,9 +204,7 @@ fn compare_all<D: Played>(stage: &mut Stage, drive: &mut D) -> Result<(), Refusa
         return Ok(());
     }
     if let Some((object, at)) = find_unlike(stage, drive)? {
-        stage.remark.word("unlike");
-        stage.remark.number(object);
-        stage.remark.number(at);
+        stage.remark.numbers("unlike", &[object, at]);
     }
     Ok(())
 }
@@ -193,7 +220,7 @@ pub(crate) fn perform_comparing<D: Played>(
         Beside::Alike => tell_alike(stage, drive, text),
         Beside::Watch => {
             stage.is_watched = true;
-            text.word("Done");
+            text.done(true);
             Ok(())
         }
     }

@@ -1,8 +1,8 @@
 //! What the drive counts, compared with a count anew.
-use crate::acting::frame_of;
-use crate::looking::{block_of, tell_change};
+use crate::looking::tell_change;
 use crate::party::Played;
 use crate::text::Text;
+use crate::words::{block_of, frame_of};
 use s4_types::Refusal;
 use s4_types::limits::PAYLOAD_BLOCKS;
 

@@ -1,13 +1,12 @@
 //! The image that is kept.
 use crate::commands::{Asked, Imaging};
 use crate::party::Played;
-use crate::sitting::tell_done;
 use crate::stage::Stage;
 use crate::text::Text;
+use crate::words::place_of;
 use s4_types::Refusal;
 use sha2::{Digest, Sha256};
 use std::alloc::Global;
-use std::mem;
 use std::thread::Threads;
 use verifier::{Image, verify};
 
@@ -128,6 +127,18 @@ fn tell_image(text: &mut Text, image: &Image) {
     tell_named(text, "floor", image.floor().number());
 }
 
+fn tell_verified<R: Threads>(
+    rt: &R,
+    alloc: Global,
+    bytes: &[u8],
+    text: &mut Text,
+) -> Result<(), Refusal> {
+    let image = verify(rt, alloc, bytes)?;
+    tell_image(text, &image);
+    drop(image);
+    Ok(())
+}
+
 /// Turns the lowest bit of a byte. Whether it is there.
 fn turn_bit(image: &mut [u8], place: usize) -> bool {
     match image.get_mut(place) {
@@ -154,10 +165,32 @@ fn fault_with<R: Threads>(
         sign(turned.as_mut_slice());
     }
     match verify(rt, alloc, turned.as_slice()) {
-        Ok(_) => Ok(None),
+        Ok(image) => {
+            drop(image);
+            Ok(None)
+        }
         Err(Refusal::NoMemory) => Err(Refusal::NoMemory),
         Err(refusal) => Ok(Some(refusal)),
     }
+}
+
+/// The first of places from one to before another whose byte, once it is turned, makes the image
+/// none for another reason than this.
+fn find_other<R: Threads>(
+    rt: &R,
+    alloc: Global,
+    image: &[u8],
+    begin: usize,
+    end: usize,
+    is_signed: bool,
+    fault: Option<Refusal>,
+) -> Result<Option<usize>, Refusal> {
+    for place in begin..end {
+        if fault_with(rt, alloc, image, place, is_signed)? != fault {
+            return Ok(Some(place));
+        }
+    }
+    Ok(None)
 }
 
 /// Tells what the image is once each of this many bytes is turned, if that is the same of all.
@@ -172,43 +205,40 @@ fn tell_turned<R: Threads>(
     let begin = place_of(asked.numbers[0]);
     let end = begin.saturating_add(place_of(asked.numbers[1]));
     if begin >= end || end > image.len() {
-        text.word("Idle");
+        text.done(false);
         return Ok(());
     }
-    let first = fault_with(rt, alloc, image, begin, is_signed)?;
-    for place in begin..end {
-        if fault_with(rt, alloc, image, place, is_signed)? != first {
-            text.word("differ at");
-            text.number(place as u64);
-            return Ok(());
-        }
-    }
-    match first {
-        Some(refusal) => text.refusal(refusal),
-        None => text.word("ok"),
+    let fault = fault_with(rt, alloc, image, begin, is_signed)?;
+    let other = find_other(rt, alloc, image, begin, end, is_signed, fault)?;
+    match (other, fault) {
+        (Some(place), _) => text.named("differ at", place as u64),
+        (None, Some(refusal)) => text.refusal(refusal),
+        (None, None) => text.word("ok"),
     }
     Ok(())
 }
 
-/// A place in an image; after all where the number is greater than any.
-fn place_of(number: u64) -> usize {
-    usize::try_from(number).unwrap_or(usize::MAX)
-}
-
-/// This many zeros.
-fn zeros(alloc: Global, length: u64) -> Result<Vec<u8>, Refusal> {
-    Ok(Vec::from_elem(alloc, 0, place_of(length))?)
+/// This many zeros in place of an image.
+fn set_zeros(alloc: Global, image: &mut Vec<u8>, length: usize) -> Result<(), Refusal> {
+    *image = Vec::from_elem(alloc, 0, length)?;
+    Ok(())
 }
 
 /// A second image of these bytes in place of another.
 fn copy(alloc: Global, from: &[u8], to: &mut Vec<u8>) -> Result<(), Refusal> {
-    drop(mem::replace(to, Vec::from_slice(alloc, from)?));
+    *to = Vec::from_slice(alloc, from)?;
+    Ok(())
+}
+
+/// These bytes after an image.
+fn add(image: &mut Vec<u8>, bytes: &[u8]) -> Result<(), Refusal> {
+    image.extend_from_slice(bytes)?;
     Ok(())
 }
 
 /// Cuts this many bytes off.
-fn cut(image: &mut Vec<u8>, count: u64) -> bool {
-    match image.len().checked_sub(place_of(count)) {
+fn cut(image: &mut Vec<u8>, count: usize) -> bool {
+    match image.len().checked_sub(count) {
         Some(length) => {
             image.truncate(length);
             true
@@ -217,25 +247,33 @@ fn cut(image: &mut Vec<u8>, count: u64) -> bool {
     }
 }
 
-/// Does something with the image that is kept, which is told Done, or Idle where that isn't within
-/// it.
-fn change_image(stage: &mut Stage, imaging: Imaging, asked: &Asked<'_>) -> Result<bool, Refusal> {
+/// Changes the image that is kept within its length. Whether that is within it.
+fn change_within(image: &mut Vec<u8>, imaging: Imaging, asked: &Asked<'_>) -> bool {
     let place = place_of(asked.numbers[0]);
     match imaging {
-        Imaging::Put => {
-            let image = stage.image.as_mut_slice();
-            return Ok(put(image, place, asked.bytes));
+        Imaging::Put => put(image.as_mut_slice(), place, asked.bytes),
+        Imaging::Cut => cut(image, place),
+        Imaging::TurnBit => turn_bit(image.as_mut_slice(), place),
+        Imaging::SignAll => {
+            sign_all(image.as_mut_slice());
+            true
         }
-        Imaging::Cut => return Ok(cut(&mut stage.image, asked.numbers[0])),
-        Imaging::TurnBit => return Ok(turn_bit(stage.image.as_mut_slice(), place)),
-        Imaging::Zeros => stage.image = zeros(stage.alloc, asked.numbers[0])?,
-        Imaging::Add => stage.image.extend_from_slice(asked.bytes)?,
-        Imaging::Keep => copy(stage.alloc, stage.image.as_slice(), &mut stage.kept)?,
-        Imaging::Back => copy(stage.alloc, stage.kept.as_slice(), &mut stage.image)?,
-        Imaging::SignAll => sign_all(stage.image.as_mut_slice()),
-        _ => sign(stage.image.as_mut_slice()),
+        _ => {
+            sign(image.as_mut_slice());
+            true
+        }
     }
-    Ok(true)
+}
+
+/// Takes room for another image that is kept, or for more of it.
+fn change_whole(stage: &mut Stage, imaging: Imaging, asked: &Asked<'_>) -> Result<(), Refusal> {
+    let alloc = stage.alloc;
+    match imaging {
+        Imaging::Zeros => set_zeros(alloc, &mut stage.image, place_of(asked.numbers[0])),
+        Imaging::Keep => copy(alloc, stage.image.as_slice(), &mut stage.kept),
+        Imaging::Back => copy(alloc, stage.kept.as_slice(), &mut stage.image),
+        _ => add(&mut stage.image, asked.bytes),
+    }
 }
 
 fn tell_bytes(text: &mut Text, image: &[u8], asked: &Asked<'_>) {
@@ -249,8 +287,7 @@ fn tell_bytes(text: &mut Text, image: &[u8], asked: &Asked<'_>) {
 
 fn save<D: Played>(stage: &mut Stage, drive: &mut D, text: &mut Text) -> Result<(), Refusal> {
     stage.image = drive.save()?;
-    text.word("Saved");
-    text.number(stage.image.len() as u64);
+    text.named("Saved", stage.image.len() as u64);
     Ok(())
 }
 
@@ -278,17 +315,18 @@ pub(crate) fn perform_imaging<D: Played, R: Threads>(
             tell_bytes(text, stage.image.as_slice(), asked);
             Ok(())
         }
-        Imaging::Verify => {
-            tell_image(text, &verify(rt, alloc, stage.image.as_slice())?);
+        Imaging::Verify => tell_verified(rt, alloc, stage.image.as_slice(), text),
+        Imaging::Turned | Imaging::TurnedSigned => {
+            let is_signed = matches!(imaging, Imaging::TurnedSigned);
+            tell_turned(rt, alloc, stage.image.as_slice(), asked, is_signed, text)
+        }
+        Imaging::Zeros | Imaging::Keep | Imaging::Back | Imaging::Add => {
+            change_whole(stage, imaging, asked)?;
+            text.done(true);
             Ok(())
         }
-        Imaging::Turned => { tell_turned(rt, alloc, stage.image.as_slice(), asked, false, text) }
-        Imaging::TurnedSigned => {
-            tell_turned(rt, alloc, stage.image.as_slice(), asked, true, text)
-        }
         _ => {
-            let is_done = change_image(stage, imaging, asked)?;
-            tell_done(text, is_done);
+            text.done(change_within(&mut stage.image, imaging, asked));
             Ok(())
         }
     }

@@ -1,30 +1,26 @@
 //! What is looked at.
-use crate::acting::frame_of;
 use crate::commands::{Asked, Look};
 use crate::counting::tell_recount;
 use crate::party::Played;
 use crate::text::Text;
-use codec::{Entry, Pair, Status, Triple};
-use s4_types::{Moment, Ptr, Refusal};
+use crate::words::{block_of, frame_of, place_of};
+use codec::{Entry, Inode, Pair, Status, Triple};
+use s4_types::{Ptr, Refusal};
 
 fn tell_row<D: Played>(text: &mut Text, drive: &mut D, object: u64) {
     let Some(row) = drive.row(object) else {
         text.word("none");
         return;
     };
-    text.word("created");
-    text.number(row.created.number());
-    text.word("bytes");
-    text.number(row.journal_bytes as u64);
-    text.word("checkpoint");
+    text.named("created", row.created.number());
+    text.named("bytes", row.journal_bytes as u64);
     match row.checkpoint {
-        Some(_) => tell_moment(text, row.checkpoint_moment),
-        None => text.word("none"),
+        Some(_) => text.named("checkpoint", row.checkpoint_moment.number()),
+        None => text.word("checkpoint none"),
     }
     text.word("head");
     tell_head(text, row.head);
-    text.word("stamp");
-    text.number(row.stamp);
+    text.named("stamp", row.stamp);
 }
 
 fn tell_head(text: &mut Text, head: Option<Ptr>) {
@@ -88,8 +84,7 @@ fn tell_entry(text: &mut Text, entry: Option<&Entry>) {
         text.word("none");
         return;
     };
-    text.word("moment");
-    text.number(entry.moment().number());
+    text.named("moment", entry.moment().number());
     tell_status(text, entry.before(), entry.after());
     if let Some(pair) = entry.pair() {
         tell_pair(text, &pair);
@@ -97,22 +92,6 @@ fn tell_entry(text: &mut Text, entry: Option<&Entry>) {
     for triple in entry.triples() {
         tell_triple(text, triple);
     }
-}
-
-/// Tells an object's entry of a number, from 1 on.
-fn tell_numbered<D: Played>(
-    text: &mut Text,
-    drive: &mut D,
-    object: u64,
-    number: u64,
-) -> Result<(), Refusal> {
-    let entries = drive.entries(object)?;
-    let place = match number.checked_sub(1) {
-        Some(place) => usize::try_from(place).unwrap_or(usize::MAX),
-        None => usize::MAX,
-    };
-    tell_entry(text, entries.get(place));
-    Ok(())
 }
 
 fn tell_above<D: Played>(text: &mut Text, drive: &mut D, object: u64) {
@@ -123,17 +102,20 @@ fn tell_above<D: Played>(text: &mut Text, drive: &mut D, object: u64) {
 }
 
 fn tell_inode<D: Played>(text: &mut Text, drive: &mut D, object: u64, at: u64) {
-    let Some(inode) = drive.inode(object, at) else {
-        text.word("none");
-        return;
-    };
+    match drive.inode(object, at) {
+        Some(inode) => {
+            tell_fields(text, &inode);
+            drop(inode);
+        }
+        None => text.word("none"),
+    }
+}
+
+fn tell_fields(text: &mut Text, inode: &Inode) {
     text.word(if inode.alive { "live" } else { "dead" });
-    text.word("size");
-    text.number(inode.size as u64);
-    text.word("created");
-    tell_moment(text, inode.created);
-    text.word("changed");
-    tell_moment(text, inode.changed);
+    text.named("size", inode.size as u64);
+    text.named("created", inode.created.number());
+    text.named("changed", inode.changed.number());
     text.word("attribute");
     text.bytes(inode.attribute.as_slice());
     tell_pointers(text, &inode.pointers);
@@ -146,14 +128,13 @@ fn tell_distance<D: Played>(
     at: u64,
 ) -> Result<(), Refusal> {
     match drive.inode_counted(object, at)? {
-        Some((_, entries)) => text.number(entries as u64),
+        Some((inode, entries)) => {
+            drop(inode);
+            text.number(entries as u64);
+        }
         None => text.word("none"),
     }
     Ok(())
-}
-
-fn tell_moment(text: &mut Text, moment: Moment) {
-    text.number(moment.number());
 }
 
 fn tell_pointers(text: &mut Text, pointers: &[Option<Ptr>]) {
@@ -184,18 +165,12 @@ fn tell_held<D: Played>(
     Ok(())
 }
 
-/// The number of a block; one that is too great is that of no payload block.
-pub(crate) fn block_of(block: u64) -> u8 {
-    u8::try_from(block).unwrap_or(u8::MAX)
-}
-
 fn tell_frame<D: Played>(text: &mut Text, drive: &mut D, frame: u64) {
     let Some(generation) = drive.generation(frame_of(frame)) else {
         text.word("none");
         return;
     };
-    text.word("generation");
-    text.number(generation as u64);
+    text.named("generation", generation as u64);
     if drive.is_draining(frame_of(frame)) {
         text.word("emptied");
     }
@@ -220,13 +195,14 @@ fn tell_chosen<D: Played>(text: &mut Text, drive: &mut D) -> Result<(), Refusal>
 }
 
 /// Looks at one number of the drive.
-fn look_at_drive<D: Played>(drive: &mut D, look: Look) -> u64 {
+fn look_at_drive<D: Played>(drive: &D, look: Look) -> u64 {
+    let numbers = drive.numbers();
     match look {
-        Look::Clock => drive.clock(),
-        Look::Floor => drive.floor(),
-        Look::Window => drive.window(),
-        Look::Next => drive.next(),
-        _ => drive.room() as u64,
+        Look::Clock => numbers.clock,
+        Look::Floor => numbers.floor,
+        Look::Window => numbers.window,
+        Look::Next => numbers.next,
+        _ => numbers.room,
     }
 }
 
@@ -256,10 +232,26 @@ fn look_at_object<D: Played>(
         Look::Inode => tell_inode(text, drive, object, second),
         Look::Distance => return tell_distance(text, drive, object, second),
         Look::Held => return tell_held(text, drive, object, second),
-        Look::Entry => return tell_numbered(text, drive, object, second),
-        Look::Entries => tell_moments(text, drive.entries(object)?.as_slice()),
-        Look::LastEntry => tell_entry(text, drive.entries(object)?.last()),
-        _ => text.number(drive.entries(object)?.len() as u64),
+        _ => return look_at_entries(text, drive, look, object, second),
+    }
+    Ok(())
+}
+
+/// Looks at an object's entries, or at one of them by its number.
+fn look_at_entries<D: Played>(
+    text: &mut Text,
+    drive: &mut D,
+    look: Look,
+    object: u64,
+    number: u64,
+) -> Result<(), Refusal> {
+    let entries = drive.entries(object)?;
+    match look {
+        // (they are numbered from 1 on)
+        Look::Entry => tell_entry(text, entries.get(place_of(number.wrapping_sub(1)))),
+        Look::LastEntry => tell_entry(text, entries.last()),
+        Look::Entries => tell_moments(text, entries.as_slice()),
+        _ => text.number(entries.len() as u64),
     }
     Ok(())
 }
@@ -284,7 +276,7 @@ pub(crate) fn perform_look<D: Played>(
         Look::Chosen => tell_chosen(text, drive),
         Look::Rules => {
             drive.rules();
-            text.word("Done");
+            text.done(true);
             Ok(())
         }
         _ => look_at_object(drive, look, asked, text),

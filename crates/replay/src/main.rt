@@ -51,11 +51,11 @@ struct Sum {
 }
 
 /// Prints what came of a script, and counts it.
-fn count(rt: &HostRuntime, sum: &mut Sum, report: Report) -> Result<(), Fault> {
+fn count(rt: &HostRuntime, sum: &mut Sum, report: &Report) -> Result<(), Fault> {
     sum.lines = sum.lines.saturating_add(report.lines);
     sum.differing = sum.differing.saturating_add(report.differing);
     sum.is_broken = sum.is_broken || report.is_broken;
-    let Ok(text) = report.text.finish() else {
+    let Ok(text) = report.text.whole() else {
         return Err(Fault::NoMemory);
     };
     match print!(rt; "{text}") {
@@ -79,7 +79,11 @@ fn play<T: Threads>(
         Err(_) => return Err(Fault::NoScript(number)),
     };
     match play_script(threads, rt.alloc(), name, script.as_str(), manner) {
-        Ok(report) => count(rt, sum, report),
+        Ok(report) => {
+            let counted = count(rt, sum, &report);
+            drop(report);
+            counted
+        }
         Err(_) => Err(Fault::NoMemory),
     }
 }

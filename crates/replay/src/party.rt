@@ -10,11 +10,11 @@ ghost use Rattle.drive.specs.Opened.{base_of};
 
 use crate::player::{Player, Start};
 use codec::{Entry, Inode};
-use drive::{Drive, NewDrive, OpenedDrive};
+use drive::{Drive, NewDrive, OpenedDrive, Session};
 use history_cleaner::{Cleaner, PassReport, Rounds, Turn, clean_audit, empty_frames, full_pass};
 use interleaving::{Actor, Answer, Step, run};
 use object_map::Row;
-use s4_types::{Moment, ObjectId, Ptr, Refusal, Role};
+use s4_types::{Moment, ObjectId, Ptr, Question, Refusal, Role};
 use segment_copier::{Candidate, Copier, candidate};
 use segment_table::OverFrames;
 use segment_word::Naming;
@@ -33,6 +33,29 @@ pub(crate) struct Reading {
     pub(crate) length: u32,
     pub(crate) at: Option<Moment>,
     pub(crate) now: Moment,
+}
+
+impl Reading {
+    /// What it asks for.
+    pub(crate) fn question(&self) -> Question {
+        Question::Read {
+            object: self.object,
+            offset: self.offset,
+            length: self.length,
+            at: self.at,
+        }
+    }
+}
+
+/// The numbers of a drive.
+#[derive(Clone, Copy)]
+pub(crate) struct Numbers {
+    pub(crate) clock: u64,
+    pub(crate) floor: u64,
+    pub(crate) window: u64,
+    /// The number that the next object gets.
+    pub(crate) next: u64,
+    pub(crate) room: u64,
 }
 
 /// A drive with its sessions, under any name; sessions are told by their places, from 0 on. No call
@@ -70,15 +93,7 @@ pub(crate) trait Played {
 
     fn chosen(&mut self) -> Result<Option<Candidate>, Refusal>;
 
-    fn clock(&self) -> u64;
-
-    fn floor(&self) -> u64;
-
-    fn window(&self) -> u64;
-
-    fn next(&self) -> u64;
-
-    fn room(&self) -> usize;
+    fn numbers(&self) -> Numbers;
 
     fn sees(&self, object: u64, first: u64, last: u64) -> bool;
 
@@ -135,6 +150,25 @@ impl<J: Naming> Party<J> {
     }
 }
 
+/// A plan of a read by a session is laid on a pile.
+fn lay<J: Naming>(
+    drive: &mut Drive<J>,
+    session: &mut Session<J>,
+    reading: &Reading,
+    pile: &mut Vec<ReadPlan>,
+) -> Result<(), Refusal> {
+    let plan = drive.resolve(
+        session,
+        reading.object,
+        reading.offset,
+        reading.length,
+        reading.at,
+        reading.now,
+    )?;
+    pile.push(plan)?;
+    Ok(())
+}
+
 impl<J: Naming> Played for Party<J> {
     fn come(&mut self, role: Role) -> Result<(), Refusal> {
         let session = self.drive.session(role)?;
@@ -172,17 +206,9 @@ impl<J: Naming> Played for Party<J> {
             return Ok(());
         }
         let mut session = self.actors.remove(place).into_session();
-        let planned = self.drive.resolve(
-            &mut session,
-            reading.object,
-            reading.offset,
-            reading.length,
-            reading.at,
-            reading.now,
-        );
+        let kept = lay(&mut self.drive, &mut session, reading, &mut self.pile);
         self.actors.insert(place, Actor::new(session))?;
-        self.pile.push(planned?)?;
-        Ok(())
+        kept
     }
 
     fn fetch(&mut self) -> Result<Option<Vec<u8>>, Refusal> {
@@ -220,24 +246,14 @@ impl<J: Naming> Played for Party<J> {
         candidate(&mut self.drive)
     }
 
-    fn clock(&self) -> u64 {
-        self.drive.clock().number()
-    }
-
-    fn floor(&self) -> u64 {
-        self.drive.floor().number()
-    }
-
-    fn window(&self) -> u64 {
-        self.drive.window()
-    }
-
-    fn next(&self) -> u64 {
-        self.drive.next().number()
-    }
-
-    fn room(&self) -> usize {
-        self.drive.room()
+    fn numbers(&self) -> Numbers {
+        Numbers {
+            clock: self.drive.clock().number(),
+            floor: self.drive.floor().number(),
+            window: self.drive.window(),
+            next: self.drive.next().number(),
+            room: self.drive.room() as u64,
+        }
     }
 
     fn sees(&self, object: u64, first: u64, last: u64) -> bool {
@@ -314,7 +330,9 @@ fn play_over<J: Naming, R: Threads>(
     player: &mut Player<'_>,
 ) -> Result<Start, Refusal> {
     let mut party = Party::new(alloc, drive);
-    player.play(rt, &mut party)
+    let start = player.play(rt, &mut party);
+    drop(party);
+    start
 }
 
 fn play_made<J: Naming, R: Threads>(
@@ -373,21 +391,21 @@ pub(crate) fn play_new<R: Threads>(
     play_made::<Brand, R>(rt, alloc, made, player)
 }
 
-/// The drive of an image. What is refused for lack of memory is asked for once more.
+/// The drive of an image.
 fn opened_drive<R: Threads>(rt: &R, alloc: Global, image: &[u8]) -> Result<OpenedDrive, Refusal> {
-    match open(alloc, verify(rt, alloc, image)?) {
-        Err(_) => open(alloc, verify(rt, alloc, image)?),
-        opened => opened,
-    }
+    open(alloc, verify(rt, alloc, image)?)
 }
 
-/// Plays on over the drive of an image.
+/// Plays on over the drive of an image. What is refused for lack of memory is asked for once more.
 pub(crate) fn play_image<R: Threads>(
     rt: &R,
     alloc: Global,
     image: &[u8],
     player: &mut Player<'_>,
 ) -> Result<Start, Refusal> {
-    let opened = opened_drive(rt, alloc, image)?;
+    let opened = match opened_drive(rt, alloc, image) {
+        Err(_) => opened_drive(rt, alloc, image)?,
+        Ok(opened) => opened,
+    };
     play_opened::<Brand, R>(rt, alloc, opened, player)
 }

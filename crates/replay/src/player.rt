@@ -5,7 +5,7 @@ ghost use Rattle.s4_types.specs.Sizes.{IsFrameCount};
 ghost use Rattle.checkpoint.specs.declared.cache.TheConstants.{CACHED_INODES as MOST_INODES};
 
 use crate::acting::{perform_acting, perform_asking, perform_tidying, perform_upkeep};
-use crate::commands::{Beginning, Command, Exchange, Line, Verb, line_of};
+use crate::commands::{Beginning, Command, Line, Verb, line_of};
 use crate::comparing::{perform_comparing, watch, watch_line};
 use crate::imaging::{new_image, perform_imaging};
 use crate::looking::perform_look;
@@ -15,7 +15,6 @@ use crate::stage::Stage;
 use crate::text::Text;
 use crate::words::is_said;
 use checkpoint::CACHED_INODES;
-use s4_model::PlainDrive;
 use s4_types::limits::{FEWEST_FRAMES, MOST_FRAMES};
 use s4_types::{Refusal, Role};
 use std::alloc::Global;
@@ -23,22 +22,23 @@ use std::str::from_utf8;
 use std::thread::Threads;
 use verifier::verify;
 
-/// What comes after a drive: the script's end, a new drive, one whose last frames are retired, or
-/// the one of the image that is kept.
+/// A drive that is made.
+#[derive(Clone, Copy)]
+pub(crate) struct Making {
+    frames: usize,
+    window: u64,
+    inodes: usize,
+    /// How many of its last frames are retired, where it is opened from such an image.
+    retired: Option<usize>,
+    /// Whether no plain drive is beside it.
+    is_alone: bool,
+}
+
+/// What comes after a drive: the script's end, a new drive, or the one of the image that is kept.
 #[derive(Clone, Copy)]
 pub(crate) enum Start {
     End,
-    New {
-        frames: usize,
-        window: u64,
-        inodes: usize,
-        is_alone: bool,
-    },
-    Retired {
-        frames: usize,
-        window: u64,
-        retired: usize,
-    },
+    New(Making),
     Image,
 }
 
@@ -71,6 +71,8 @@ pub(crate) struct Player<'a> {
     next: usize,
     manner: Manner,
     stage: Stage,
+    /// What the last command was answered.
+    answer: Text,
     report: Report,
 }
 
@@ -92,10 +94,10 @@ fn perform<D: Played, R: Threads>(
     command: &Command<'_>,
     text: &mut Text,
 ) -> Result<(), Refusal> {
-    let asked = command.asked(drive.clock());
-    match command.verb {
+    let asked = command.asked(drive.numbers().clock);
+    match command.given.verb {
         Verb::Begin(_) => {
-            text.word("Idle");
+            text.done(false);
             Ok(())
         }
         Verb::Look(look) => perform_look(drive, look, &asked, text),
@@ -117,23 +119,34 @@ fn is_step(verb: Verb) -> bool {
     )
 }
 
-/// What a command is answered; NoMemory is refused where it is told.
+/// Puts a refusal into the answer, but NoMemory, which stays one.
+fn put_refusal(text: &mut Text, performed: Result<(), Refusal>) -> Result<(), Refusal> {
+    match performed {
+        Err(Refusal::NoMemory) => Err(Refusal::NoMemory),
+        Err(refusal) => {
+            text.refusal(refusal);
+            Ok(())
+        }
+        Ok(()) => Ok(()),
+    }
+}
+
+/// Does a command. NoMemory where memory was refused.
 fn try_command<D: Played, R: Threads>(
     rt: &R,
     stage: &mut Stage,
     drive: &mut D,
     command: &Command<'_>,
-) -> Result<String, Refusal> {
-    let mut text = Text::with_room(stage.alloc)?;
-    match perform(rt, stage, drive, command, &mut text) {
-        Ok(()) => {}
-        Err(Refusal::NoMemory) => return Err(Refusal::NoMemory),
-        Err(refusal) => text.refusal(refusal),
-    }
-    if is_step(command.verb) {
+    text: &mut Text,
+) -> Result<(), Refusal> {
+    stage.begin_command();
+    text.begin()?;
+    let performed = perform(rt, stage, drive, command, text);
+    put_refusal(text, performed)?;
+    if is_step(command.given.verb) {
         watch(stage, drive)?;
     }
-    text.finish()
+    text.check()
 }
 
 /// The same; what is refused memory is done once more where it can be. All is compared before that.
@@ -142,16 +155,15 @@ fn do_command<D: Played, R: Threads>(
     stage: &mut Stage,
     drive: &mut D,
     command: &Command<'_>,
-) -> Result<String, Refusal> {
-    stage.begin_command();
-    match try_command(rt, stage, drive, command) {
+    text: &mut Text,
+) -> Result<(), Refusal> {
+    match try_command(rt, stage, drive, command, text) {
         Err(Refusal::NoMemory) if !stage.is_spent => {
             stage.has_lacked = true;
             watch_line(stage, drive)?;
-            stage.begin_command();
-            try_command(rt, stage, drive, command)
+            try_command(rt, stage, drive, command, text)
         }
-        told => told,
+        done => done,
     }
 }
 
@@ -168,11 +180,10 @@ fn is_expected(alloc: Global, told: &str, expected: &[u8]) -> Result<bool, Refus
     }
 }
 
-/// What a line is answered: its last answer, or the first that isn't right, with what is expected
-/// there.
-#[derive(Drop)]
+/// What a line came to: what is expected of its last answer, or of the first that isn't right, and
+/// whether that is right.
+#[derive(Clone, Copy)]
 struct Outcome<'a> {
-    told: String,
     expected: Option<&'a [u8]>,
     is_right: bool,
 }
@@ -180,53 +191,58 @@ struct Outcome<'a> {
 /// Whether an answer is the one that is expected, or passes where none is.
 fn judged<'a>(
     alloc: Global,
-    told: String,
+    text: &Text,
     expected: Option<&'a [u8]>,
 ) -> Result<Outcome<'a>, Refusal> {
+    let answer = text.whole()?;
     let is_right = match expected {
-        Some(expected) => is_expected(alloc, told.as_str(), expected)?,
-        None => is_good(told.as_str()),
+        Some(expected) => is_expected(alloc, answer, expected)?,
+        None => is_good(answer),
     };
-    Ok(Outcome {
-        told,
-        expected,
-        is_right,
-    })
+    Ok(Outcome { expected, is_right })
 }
 
-/// What a part is answered, and whether that is right. Where it is done once more, what its line
-/// ends with may come the last time alone.
-fn do_exchange<'a, D: Played, R: Threads>(
+/// Does a command, and judges its answer. Where it is done once more, what its line ends with may
+/// come the last time alone.
+fn judge_command<'a, D: Played, R: Threads>(
     rt: &R,
     stage: &mut Stage,
     drive: &mut D,
-    exchange: &Exchange<'a>,
+    command: &Command<'a>,
     is_awaited: bool,
+    text: &mut Text,
 ) -> Result<Outcome<'a>, Refusal> {
-    let told = do_command(rt, stage, drive, &exchange.command)?;
-    let expected = if is_awaited { exchange.expected } else { None };
+    do_command(rt, stage, drive, command, text)?;
+    let expected = if is_awaited { command.expected } else { None };
     let is_excused = match expected {
         Some(_) => stage.is_partial,
         None => stage.is_excused,
     };
-    let mut outcome = judged(stage.alloc, told, expected)?;
+    let mut outcome = judged(stage.alloc, text, expected)?;
     outcome.is_right = outcome.is_right || is_excused;
     Ok(outcome)
 }
 
-/// What a line is answered.
+/// Does what a line says, up to the first answer that isn't right. Done where it has no command.
 fn do_line<'a, D: Played, R: Threads>(
     rt: &R,
     stage: &mut Stage,
     drive: &mut D,
     line: &Line<'a>,
+    text: &mut Text,
 ) -> Result<Outcome<'a>, Refusal> {
-    let mut outcome = done(stage.alloc)?;
-    let last = line.exchanges.len().saturating_sub(1);
-    for time in 1..=line.times {
-        for (number, exchange) in line.exchanges.iter().enumerate() {
-            let is_awaited = number < last || time == line.times;
-            outcome = do_exchange(rt, stage, drive, exchange, is_awaited)?;
+    text.begin()?;
+    text.done(true);
+    let mut outcome = Outcome {
+        expected: None,
+        is_right: true,
+    };
+    let times = line.times();
+    let last = line.commands.len().saturating_sub(1);
+    for time in 1..=times {
+        for (number, command) in line.commands.iter().enumerate() {
+            let is_awaited = number < last || time == times;
+            outcome = judge_command(rt, stage, drive, command, is_awaited, text)?;
             if !outcome.is_right || !stage.remark.is_empty() {
                 return Ok(outcome);
             }
@@ -234,15 +250,6 @@ fn do_line<'a, D: Played, R: Threads>(
     }
     watch_line(stage, drive)?;
     Ok(outcome)
-}
-
-/// What is answered where nothing is in the way.
-fn done<'a>(alloc: Global) -> Result<Outcome<'a>, Refusal> {
-    Ok(Outcome {
-        told: String::from_str(alloc, "Done")?,
-        expected: None,
-        is_right: true,
-    })
 }
 
 impl<'a> Player<'a> {
@@ -261,6 +268,14 @@ impl<'a> Player<'a> {
         self.report.text.mark(": ");
     }
 
+    /// A line that says nothing is printed as it is.
+    fn pass_over(&mut self, line: &[u8]) {
+        if self.manner.is_printed {
+            self.print(line);
+            self.report.text.mark("\n");
+        }
+    }
+
     /// A line that is no command ends its script.
     fn break_off(&mut self, line: &[u8]) -> Option<Start> {
         self.print_place();
@@ -271,16 +286,21 @@ impl<'a> Player<'a> {
         Some(Start::End)
     }
 
-    /// Says how a line differs.
-    fn print_differing(&mut self, line: &Line<'_>, outcome: &Outcome<'_>, remark: &str) {
-        self.report.differing = self.report.differing.saturating_add(1);
-        self.print_place();
+    /// Prints a line and what it was answered.
+    fn print_answer(&mut self, line: &Line<'_>) {
         self.print(line.text);
         self.report.text.mark(" -> ");
-        self.report.text.mark(outcome.told.as_str());
-        if !remark.is_empty() {
+        self.report.text.join(&self.answer);
+    }
+
+    /// Says how a line differs.
+    fn print_differing(&mut self, line: &Line<'_>, outcome: Outcome<'_>) {
+        self.report.differing = self.report.differing.saturating_add(1);
+        self.print_place();
+        self.print_answer(line);
+        if !self.stage.remark.is_empty() {
             self.report.text.mark(", and ");
-            self.report.text.mark(remark);
+            self.report.text.join(&self.stage.remark);
         }
         if let Some(expected) = outcome.expected {
             self.report.text.mark(", and not ");
@@ -289,73 +309,72 @@ impl<'a> Player<'a> {
         self.report.text.mark("\n");
     }
 
-    /// Judges what a line was answered.
-    fn judge(&mut self, line: &Line<'_>, outcome: &Outcome<'_>) -> Result<(), Refusal> {
+    /// Judges what a line was answered, and forgets what was remarked.
+    fn judge(&mut self, line: &Line<'_>, outcome: Outcome<'_>) {
         self.report.lines = self.report.lines.saturating_add(1);
         if self.manner.is_printed {
-            self.print(line.text);
-            self.report.text.mark(" -> ");
-            self.report.text.mark(outcome.told.as_str());
+            self.print_answer(line);
             self.report.text.mark("\n");
         }
-        let remark = self.stage.take_remark()?;
-        if !outcome.is_right || !remark.is_empty() {
-            self.print_differing(line, outcome, remark.as_str());
+        if !outcome.is_right || !self.stage.remark.is_empty() {
+            self.print_differing(line, outcome);
+            self.stage.remark.clear();
         }
-        Ok(())
+    }
+
+    /// The new drive that a command begins, where it can be made.
+    fn making_of(&self, beginning: Beginning, command: &Command<'_>) -> Option<Start> {
+        let [frames, window, third] = command.asked(0).numbers;
+        let third = usize::try_from(third).unwrap_or(0);
+        let making = Making {
+            frames: usize::try_from(frames).unwrap_or(0),
+            window,
+            inodes: match beginning {
+                Beginning::Caching => third,
+                _ => self.manner.inodes,
+            },
+            retired: match beginning {
+                Beginning::Retired => Some(third),
+                _ => None,
+            },
+            is_alone: matches!(beginning, Beginning::Alone),
+        };
+        if !can_be_made(making.frames, making.inodes) {
+            return None;
+        }
+        Some(Start::New(making))
     }
 
     /// The drive that a command begins; none where it is no such command, or is refused, which is
     /// told.
     fn start_of<R: Threads>(
-        &mut self,
+        &self,
         rt: &R,
         beginning: Beginning,
         command: &Command<'_>,
     ) -> Result<Option<Start>, Refusal> {
-        if matches!(beginning, Beginning::Open) {
-            verify(rt, self.alloc, self.stage.image.as_slice())?;
-            return Ok(Some(Start::Image));
+        if !matches!(beginning, Beginning::Open) {
+            return Ok(self.making_of(beginning, command));
         }
-        let [frames, window, third] = command.asked(0).numbers;
-        let frames = usize::try_from(frames).unwrap_or(0);
-        let third = usize::try_from(third).unwrap_or(0);
-        let inodes = match beginning {
-            Beginning::Caching => third,
-            _ => self.manner.inodes,
-        };
-        if !can_be_made(frames, inodes) {
-            return Ok(None);
-        }
-        if matches!(beginning, Beginning::Retired) {
-            return Ok(Some(Start::Retired {
-                frames,
-                window,
-                retired: third,
-            }));
-        }
-        Ok(Some(Start::New {
-            frames,
-            window,
-            inodes,
-            is_alone: matches!(beginning, Beginning::Alone),
-        }))
+        drop(verify(rt, self.alloc, self.stage.image.as_slice())?);
+        Ok(Some(Start::Image))
     }
 
     /// Judges what a line that begins a drive was answered: Done, or a refusal.
     fn judge_start(
         &mut self,
         line: &Line<'_>,
-        exchange: &Exchange<'_>,
-        refusal: Option<Refusal>,
-    ) -> Result<(), Refusal> {
-        let mut text = Text::with_room(self.alloc)?;
-        match refusal {
-            Some(refusal) => text.refusal(refusal),
-            None => text.word("Done"),
+        command: &Command<'_>,
+        started: Result<Option<Start>, Refusal>,
+    ) -> Result<Option<Start>, Refusal> {
+        self.answer.begin()?;
+        match started {
+            Ok(_) => self.answer.done(true),
+            Err(refusal) => self.answer.refusal(refusal),
         }
-        let outcome = judged(self.alloc, text.finish()?, exchange.expected)?;
-        self.judge(line, &outcome)
+        let outcome = judged(self.alloc, &self.answer, command.expected)?;
+        self.judge(line, outcome);
+        Ok(started.unwrap_or(None))
     }
 
     /// Begins another drive, and judges that.
@@ -364,24 +383,34 @@ impl<'a> Player<'a> {
         rt: &R,
         beginning: Beginning,
         line: &Line<'_>,
-        exchange: &Exchange<'_>,
+        command: &Command<'_>,
     ) -> Result<Option<Start>, Refusal> {
-        let started = match self.start_of(rt, beginning, &exchange.command) {
-            Err(Refusal::NoMemory) => self.start_of(rt, beginning, &exchange.command),
+        let started = match self.start_of(rt, beginning, command) {
+            Err(Refusal::NoMemory) => self.start_of(rt, beginning, command),
             started => started,
         };
         match started {
             Ok(None) => Ok(self.break_off(line.text)),
-            Ok(start) => {
-                self.judge_start(line, exchange, None)?;
-                Ok(start)
-            }
             Err(Refusal::NoMemory) => Err(Refusal::NoMemory),
-            Err(refusal) => {
-                self.judge_start(line, exchange, Some(refusal))?;
-                Ok(None)
-            }
+            _ => self.judge_start(line, command, started),
         }
+    }
+
+    /// Plays what a line says, and gives what begins then.
+    fn play_commands<D: Played, R: Threads>(
+        &mut self,
+        rt: &R,
+        drive: &mut D,
+        line: &Line<'_>,
+    ) -> Result<Option<Start>, Refusal> {
+        if let [command] = line.commands.as_slice()
+            && let Verb::Begin(beginning) = command.given.verb
+        {
+            return self.begin(rt, beginning, line, command);
+        }
+        let outcome = do_line(rt, &mut self.stage, drive, line, &mut self.answer)?;
+        self.judge(line, outcome);
+        Ok(None)
     }
 
     /// Plays a line, and gives what begins then.
@@ -392,61 +421,69 @@ impl<'a> Player<'a> {
         text: &[u8],
     ) -> Result<Option<Start>, Refusal> {
         if text.is_empty() || text.starts_with(b"#") {
-            if self.manner.is_printed {
-                self.print(text);
-                self.report.text.mark("\n");
-            }
+            self.pass_over(text);
             return Ok(None);
         }
-        let Some(line) = read_line(self.alloc, text)? else {
-            return Ok(self.break_off(text));
-        };
-        if let [exchange] = line.exchanges.as_slice()
-            && let Verb::Begin(beginning) = exchange.command.verb
-        {
-            return self.begin(rt, beginning, &line, exchange);
+        match read_line(self.alloc, text)? {
+            Some(line) => {
+                let start = self.play_commands(rt, drive, &line);
+                drop(line);
+                start
+            }
+            None => Ok(self.break_off(text)),
         }
-        let outcome = do_line(rt, &mut self.stage, drive, &line)?;
-        self.judge(&line, &outcome)?;
-        Ok(None)
     }
 
     /// Makes a drive and plays on over it, and gives what comes then.
+    fn play_made<R: Threads>(&mut self, rt: &R, made: Making) -> Result<Start, Refusal> {
+        let window = if made.is_alone {
+            None
+        } else {
+            Some(made.window)
+        };
+        self.stage.begin(window);
+        if let Some(retired) = made.retired {
+            let image = new_image(self.alloc, made.frames, made.window, retired)?;
+            return play_image(rt, self.alloc, image.as_slice(), self);
+        }
+        if !can_be_made(made.frames, made.inodes) {
+            return Ok(Start::End);
+        }
+        play_new(rt, self.alloc, made.frames, made.window, made.inodes, self)
+    }
+
+    /// Opens the image that is kept and plays on over its drive, and gives what comes then.
+    fn play_kept<R: Threads>(&mut self, rt: &R) -> Result<Start, Refusal> {
+        self.stage.begin(None);
+        let image = Vec::from_slice(self.alloc, self.stage.image.as_slice())?;
+        play_image(rt, self.alloc, image.as_slice(), self)
+    }
+
+    /// Plays on over the next drive, and gives what comes then.
     fn play_start<R: Threads>(&mut self, rt: &R, start: Start) -> Result<Start, Refusal> {
         match start {
-            Start::New {
-                frames,
-                window,
-                inodes,
-                is_alone,
-            } => {
-                let plain = if is_alone {
-                    None
-                } else {
-                    Some(PlainDrive::new(self.alloc, window))
-                };
-                self.stage.begin(plain);
-                if !can_be_made(frames, inodes) {
-                    return Ok(Start::End);
-                }
-                play_new(rt, self.alloc, frames, window, inodes, self)
-            }
-            Start::Retired {
-                frames,
-                window,
-                retired,
-            } => {
-                self.stage.begin(Some(PlainDrive::new(self.alloc, window)));
-                let image = new_image(self.alloc, frames, window, retired)?;
-                play_image(rt, self.alloc, image.as_slice(), self)
-            }
-            Start::Image => {
-                self.stage.begin(None);
-                let image = Vec::from_slice(self.alloc, self.stage.image.as_slice())?;
-                play_image(rt, self.alloc, image.as_slice(), self)
-            }
+            Start::New(made) => self.play_made(rt, made),
+            Start::Image => self.play_kept(rt),
             Start::End => Ok(Start::End),
         }
+    }
+
+    /// Plays all, as drives come one after the other.
+    fn play_all<R: Threads>(&mut self, rt: &R) -> Result<(), Refusal> {
+        let mut start = Start::New(Making {
+            frames: FEWEST_FRAMES,
+            window: 100,
+            inodes: self.manner.inodes,
+            retired: None,
+            is_alone: false,
+        });
+        for _ in 0..=self.lines.len() {
+            start = self.play_start(rt, start)?;
+            if matches!(start, Start::End) {
+                break;
+            }
+        }
+        Ok(())
     }
 
     /// Plays on over a drive, and gives what begins then.
@@ -509,12 +546,6 @@ pub(crate) fn play_script<R: Threads>(
     manner: Manner,
 ) -> Result<Report, Refusal> {
     let lines = lines_of(alloc, script)?;
-    let report = Report {
-        text: Text::new(alloc),
-        lines: 0,
-        differing: 0,
-        is_broken: false,
-    };
     let mut player = Player {
         alloc,
         name,
@@ -522,19 +553,19 @@ pub(crate) fn play_script<R: Threads>(
         next: 0,
         manner,
         stage: Stage::new(alloc, manner.is_counted),
-        report,
+        answer: Text::new(alloc),
+        report: Report {
+            text: Text::new(alloc),
+            lines: 0,
+            differing: 0,
+            is_broken: false,
+        },
     };
-    let mut start = Start::New {
-        frames: FEWEST_FRAMES,
-        window: 100,
-        inodes: manner.inodes,
-        is_alone: false,
-    };
-    for _ in 0..=lines.len() {
-        start = player.play_start(rt, start)?;
-        if matches!(start, Start::End) {
-            break;
+    match player.play_all(rt) {
+        Ok(()) => Ok(player.report),
+        Err(refusal) => {
+            drop(player);
+            Err(refusal)
         }
     }
-    Ok(player.report)
 }

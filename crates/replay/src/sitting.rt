@@ -4,6 +4,7 @@ use crate::party::Played;
 use crate::stage::Stage;
 use crate::text::Text;
 use s4_types::{Refusal, Role};
+use std::alloc::Global;
 
 /// A session comes; one of that name leaves first.
 pub(crate) fn come<D: Played>(
@@ -39,12 +40,18 @@ fn come_many<D: Played>(
     role: Role,
 ) -> Result<(), Refusal> {
     for number in 1..=asked.numbers[0] {
-        let mut name = Vec::from_slice(stage.alloc, asked.name)?;
-        let digits = format!(in stage.alloc; "{number}")?;
-        name.extend_from_slice(digits.as_bytes())?;
+        let name = numbered(stage.alloc, asked.name, number)?;
         come(stage, drive, name.as_slice(), role)?;
     }
     Ok(())
+}
+
+/// A name with a number after it.
+fn numbered(alloc: Global, name: &[u8], number: u64) -> Result<Vec<u8>, Refusal> {
+    let digits = format!(in alloc; "{number}")?;
+    let mut numbered = Vec::from_slice(alloc, name)?;
+    numbered.extend_from_slice(digits.as_bytes())?;
+    Ok(numbered)
 }
 
 /// A session ends beside another one.
@@ -62,11 +69,6 @@ fn end_beside<D: Played>(
     stage.plan(other, None);
     stage.rise(place);
     Ok(true)
-}
-
-/// Done, or Idle.
-pub(crate) fn tell_done(text: &mut Text, is_done: bool) {
-    text.word(if is_done { "Done" } else { "Idle" });
 }
 
 /// Lets sessions come and go.
@@ -89,6 +91,6 @@ pub(crate) fn perform_sitting<D: Played>(
         Sitting::End => leave(stage, drive, asked.name),
         Sitting::EndBeside => end_beside(stage, drive, asked)?,
     };
-    tell_done(text, is_done);
+    text.done(is_done);
     Ok(())
 }

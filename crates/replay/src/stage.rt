@@ -1,11 +1,11 @@
 //! What is beside the drive while a script is played: who sits at it, the plain drive, and an
 //! image.
+use crate::party::Reading;
 use crate::text::Text;
 use interleaving::{Act, Answer, Step};
 use s4_model::PlainDrive;
 use s4_types::{AuditRow, Moment, ObjectId, Question, Refusal, Reply, Request, Role};
 use std::alloc::Global;
-use std::mem;
 
 /// A session of a drive, and what the plan of a read that it has is to give.
 #[derive(Drop)]
@@ -65,11 +65,15 @@ impl Stage {
         }
     }
 
-    /// Another drive comes, with nobody, and with this plain drive beside it.
-    pub(crate) fn begin(&mut self, plain: Option<PlainDrive>) {
+    /// Another drive comes, with nobody, and with a plain drive of this window beside it, if there
+    /// is one.
+    pub(crate) fn begin(&mut self, window: Option<u64>) {
         self.seats.clear();
         self.pile.clear();
-        self.plain = plain;
+        self.plain = match window {
+            Some(window) => Some(PlainDrive::new(self.alloc, window)),
+            None => None,
+        };
         self.is_watched = false;
         self.has_lacked = false;
         self.has_lost = false;
@@ -125,9 +129,10 @@ impl Stage {
     }
 
     /// What a plan of a read that somebody made is to give.
-    pub(crate) fn plan(&mut self, place: usize, told: Option<Reply>) {
-        if let Some(seat) = self.seats.get_mut(place) {
-            seat.planned = told;
+    pub(crate) fn plan(&mut self, place: usize, planned: Option<Reply>) {
+        match self.seats.get_mut(place) {
+            Some(seat) => seat.planned = planned,
+            None => drop(planned),
         }
     }
 
@@ -135,22 +140,18 @@ impl Stage {
     /// request.
     pub(crate) fn see(&mut self, place: usize, now: Moment) -> Result<(), Refusal> {
         let object = ObjectId::new(1);
-        self.reply(
-            place,
-            Request::Query(Question::GetAttr { object, at: None }),
-            now,
-        )?;
+        let request = Request::Query(Question::GetAttr { object, at: None });
+        drop(self.reply(place, request, now)?);
         Ok(())
     }
 
     /// The plain drive sees the moment of a step that the drive was refused memory for.
     pub(crate) fn see_step(&mut self, step: &Step) -> Result<(), Refusal> {
-        let Step::By { actor, act } = step else {
-            return Ok(());
-        };
-        match act {
-            Act::Request { now, .. } => self.see(*actor, *now),
-            Act::Resolve { now, .. } => self.see(*actor, *now),
+        match step {
+            Step::By {
+                actor,
+                act: Act::Request { now, .. } | Act::Resolve { now, .. },
+            } => self.see(*actor, *now),
             _ => Ok(()),
         }
     }
@@ -164,32 +165,26 @@ impl Stage {
         request: Request,
         now: Moment,
     ) -> Result<Option<Reply>, Refusal> {
-        let role = match self.seats.get(place) {
-            Some(seat) => seat.role,
-            None => Role::Admin,
-        };
+        let role = self.role_of(place);
         let Some(plain) = &mut self.plain else {
+            drop(request);
             return Ok(None);
         };
-        let again = read_again(&request);
-        let mut reply = plain.request(role, request, now);
-        if let Some(read) = again
-            && matches!(reply, Reply::Refused(Refusal::NoMemory))
-        {
-            reply = plain.request(role, read, now);
+        let reply = reply_of(plain, role, request, now);
+        if lacks_memory(&reply) {
+            drop(reply);
+            self.is_spent = true;
+            return Err(Refusal::NoMemory);
         }
-        match reply {
-            Reply::Refused(Refusal::NoMemory) => {
-                self.is_spent = true;
-                Err(Refusal::NoMemory)
-            }
-            reply => Ok(Some(reply)),
-        }
+        Ok(Some(reply))
     }
 
-    /// What is wrong beside the answer, which is forgotten then.
-    pub(crate) fn take_remark(&mut self) -> Result<String, Refusal> {
-        mem::replace(&mut self.remark, Text::new(self.alloc)).finish()
+    /// The role of somebody who sits there; where nobody does, an administrator's.
+    fn role_of(&self, place: usize) -> Role {
+        match self.seats.get(place) {
+            Some(seat) => seat.role,
+            None => Role::Admin,
+        }
     }
 
     /// Remarks what the plain drive tells.
@@ -207,18 +202,21 @@ impl Stage {
         answer: &Answer,
     ) -> Result<(), Refusal> {
         if is_for_want(answer) {
+            drop(request);
             return self.see(place, now);
         }
-        if let Some(told) = self.reply(place, request, now)?
-            && !is_reply(answer, &told)
+        let reply = self.reply(place, request, now)?;
+        if let Some(reply) = &reply
+            && !is_reply(answer, reply)
         {
-            self.remark_reply(&told);
+            self.remark_reply(reply);
         }
+        drop(reply);
         Ok(())
     }
 
     /// Compares a plan that was made or refused with what the plain drive replied to the read.
-    pub(crate) fn compare_plan(&mut self, told: &Reply, answer: &Answer) {
+    fn compare_plan(&mut self, told: &Reply, answer: &Answer) {
         let is_told = match (answer, told) {
             (Answer::Done, Reply::Data(_)) => true,
             (Answer::Refused(Refusal::Busy), _) => true,
@@ -241,19 +239,54 @@ impl Stage {
         }
     }
 
+    /// What a plan of a read is to give, which was made or refused by this answer: what the plain
+    /// drive replies to the read, and is compared with the answer.
+    fn planned(
+        &mut self,
+        place: usize,
+        reading: &Reading,
+        answer: &Answer,
+    ) -> Result<Option<Reply>, Refusal> {
+        let reply = self.reply(place, Request::Query(reading.question()), reading.now)?;
+        if let Some(reply) = &reply {
+            self.compare_plan(reply, answer);
+        }
+        Ok(reply)
+    }
+
     /// Compares the answer to a plan of a read.
     fn compare_resolve(
         &mut self,
         place: usize,
-        read: Request,
-        now: Moment,
+        reading: &Reading,
         answer: &Answer,
     ) -> Result<(), Refusal> {
-        if let Some(told) = self.reply(place, read, now)? {
-            self.compare_plan(&told, answer);
-            if *answer == Answer::Done {
-                self.plan(place, Some(told));
-            }
+        let planned = self.planned(place, reading, answer)?;
+        match answer {
+            Answer::Done => self.plan(place, planned),
+            _ => drop(planned),
+        }
+        Ok(())
+    }
+
+    /// Lays what a plan of a read is to give on the pile, where the plan was made.
+    pub(crate) fn keep(
+        &mut self,
+        place: usize,
+        reading: &Reading,
+        made: Result<(), Refusal>,
+    ) -> Result<(), Refusal> {
+        self.is_spent = true;
+        let answer = match made {
+            Ok(()) => Answer::Done,
+            Err(refusal) => Answer::Refused(refusal),
+        };
+        let planned = self.planned(place, reading, &answer);
+        drop(answer);
+        let planned = planned?;
+        match made {
+            Ok(()) => self.pile.push(planned)?,
+            Err(_) => drop(planned),
         }
         Ok(())
     }
@@ -265,6 +298,7 @@ impl Stage {
             None => None,
         };
         self.compare_fetched(&planned, answer);
+        drop(planned);
     }
 
     /// Compares what a plan gave with what it was to give, where there is a plain drive.
@@ -291,13 +325,14 @@ impl Stage {
                 at,
                 now,
             } => {
-                let read = Request::Query(Question::Read {
+                let reading = Reading {
                     object,
                     offset,
                     length,
                     at,
-                });
-                self.compare_resolve(place, read, now, answer)
+                    now,
+                };
+                self.compare_resolve(place, &reading, answer)
             }
             Act::Fetch => {
                 self.compare_fetch(place, answer);
@@ -318,12 +353,30 @@ impl Stage {
     }
 }
 
-/// The same request, where it is a question.
-fn read_again(request: &Request) -> Option<Request> {
+/// Whether a reply is a refusal for lack of memory.
+fn lacks_memory(reply: &Reply) -> bool {
+    matches!(reply, Reply::Refused(Refusal::NoMemory))
+}
+
+/// What a request asks, where it is a question.
+fn question_of(request: &Request) -> Option<Question> {
     match request {
-        Request::Query(question) => Some(Request::Query(*question)),
+        Request::Query(question) => Some(*question),
         _ => None,
     }
+}
+
+/// What a plain drive replies to a request. A question that is refused memory is asked once more.
+fn reply_of(plain: &mut PlainDrive, role: Role, request: Request, now: Moment) -> Reply {
+    let asked = question_of(&request);
+    let reply = plain.request(role, request, now);
+    if let Some(question) = asked
+        && lacks_memory(&reply)
+    {
+        drop(reply);
+        return plain.request(role, Request::Query(question), now);
+    }
+    reply
 }
 
 /// Whether a request was refused for lack of room or readers, as a plain drive never does.
@@ -335,7 +388,7 @@ fn is_for_want(answer: &Answer) -> bool {
 }
 
 /// Whether an answer is this reply.
-fn is_reply(answer: &Answer, told: &Reply) -> bool {
+pub(crate) fn is_reply(answer: &Answer, told: &Reply) -> bool {
     match answer {
         Answer::Reply(given) => given == told,
         _ => false,
@@ -346,14 +399,9 @@ fn is_reply(answer: &Answer, told: &Reply) -> bool {
 pub(crate) fn tell_reply(text: &mut Text, reply: &Reply) {
     match reply {
         Reply::Refused(refusal) => text.refusal(*refusal),
-        Reply::Changed(moment) => {
-            text.word("Changed");
-            text.number(moment.number());
-        }
+        Reply::Changed(moment) => text.named("Changed", moment.number()),
         Reply::Created(object, moment) => {
-            text.word("Created");
-            text.number(object.number());
-            text.number(moment.number());
+            text.numbers("Created", &[object.number(), moment.number()]);
         }
         Reply::Data(bytes) => {
             text.word("Data");
@@ -365,10 +413,8 @@ pub(crate) fn tell_reply(text: &mut Text, reply: &Reply) {
             changed,
             attribute,
         } => {
-            text.word("Attr");
-            text.number(*size as u64);
-            text.number(created.number());
-            text.number(changed.number());
+            let numbers = [*size as u64, created.number(), changed.number()];
+            text.numbers("Attr", &numbers);
             text.bytes(attribute.as_slice());
         }
         Reply::AuditRows(rows) => {

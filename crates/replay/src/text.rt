@@ -24,36 +24,54 @@ impl Text {
         }
     }
 
-    /// Words for which there is room, where they are few. It is asked for once more where it is
-    /// refused.
-    pub(crate) fn with_room(alloc: Global) -> Result<Self, Refusal> {
-        let words = match String::with_capacity(alloc, ANSWER_BYTES) {
-            Err(_) => String::with_capacity(alloc, ANSWER_BYTES)?,
-            Ok(words) => words,
-        };
-        Ok(Text {
-            words,
-            is_cut: false,
-        })
+    /// Takes the words away.
+    pub(crate) fn clear(&mut self) {
+        self.words.clear();
+        self.is_cut = false;
     }
 
-    /// The whole; NoMemory where some of it couldn't be kept.
-    pub(crate) fn finish(self) -> Result<String, Refusal> {
+    /// Takes the words away, and takes room for most answers. It is asked for once more where it
+    /// is refused.
+    pub(crate) fn begin(&mut self) -> Result<(), Refusal> {
+        self.clear();
+        if self.words.reserve(ANSWER_BYTES).is_err() {
+            self.words.reserve(ANSWER_BYTES)?;
+        }
+        Ok(())
+    }
+
+    /// NoMemory where some of it couldn't be kept.
+    pub(crate) fn check(&self) -> Result<(), Refusal> {
         if self.is_cut {
             return Err(Refusal::NoMemory);
         }
-        Ok(self.words)
+        Ok(())
+    }
+
+    /// The whole; NoMemory where some of it couldn't be kept.
+    pub(crate) fn whole(&self) -> Result<&str, Refusal> {
+        self.check()?;
+        Ok(self.words.as_str())
     }
 
     pub(crate) fn is_empty(&self) -> bool {
-        self.words.len() == 0
+        self.words.len() == 0 && !self.is_cut
+    }
+
+    /// Whether both are the same, as far as they could be kept.
+    pub(crate) fn is_same(&self, other: &Text) -> Result<bool, Refusal> {
+        Ok(self.whole()? == other.whole()?)
     }
 
     /// Signs after what was told, without a space.
     pub(crate) fn mark(&mut self, signs: &str) {
-        if self.words.push_str(signs).is_err() {
-            self.is_cut = true;
-        }
+        self.is_cut |= self.words.push_str(signs).is_err();
+    }
+
+    /// Other words, without a space.
+    pub(crate) fn join(&mut self, other: &Text) {
+        self.is_cut |= other.is_cut;
+        self.mark(other.words.as_str());
     }
 
     fn gap(&mut self) {
@@ -69,9 +87,7 @@ impl Text {
 
     /// A number after what was told, without a space.
     pub(crate) fn digits(&mut self, number: u64) {
-        if write!(self.words, "{number}").is_err() {
-            self.is_cut = true;
-        }
+        self.is_cut |= write!(self.words, "{number}").is_err();
     }
 
     pub(crate) fn number(&mut self, number: u64) {
@@ -79,19 +95,34 @@ impl Text {
         self.digits(number);
     }
 
+    /// A word and a number.
+    pub(crate) fn named(&mut self, name: &str, number: u64) {
+        self.word(name);
+        self.number(number);
+    }
+
+    /// A word and numbers.
+    pub(crate) fn numbers(&mut self, name: &str, numbers: &[u64]) {
+        self.word(name);
+        for number in numbers {
+            self.number(*number);
+        }
+    }
+
+    /// Whether something could be done.
+    pub(crate) fn done(&mut self, is_done: bool) {
+        self.word(if is_done { "Done" } else { "Idle" });
+    }
+
     /// Two hex digits.
     fn hex(&mut self, byte: u8) {
-        if write!(self.words, "{byte:02x}").is_err() {
-            self.is_cut = true;
-        }
+        self.is_cut |= write!(self.words, "{byte:02x}").is_err();
     }
 
     /// A word of 16 hex digits.
     pub(crate) fn long_hex(&mut self, number: u64) {
         self.gap();
-        if write!(self.words, "{number:016x}").is_err() {
-            self.is_cut = true;
-        }
+        self.is_cut |= write!(self.words, "{number:016x}").is_err();
     }
 
     /// The name of a refusal, after `Refused` but for `Damaged`, which is told alone.
@@ -100,9 +131,7 @@ impl Text {
         if !matches!(refusal, Refusal::Damaged(_)) {
             self.mark("Refused ");
         }
-        if write!(self.words, "{refusal}").is_err() {
-            self.is_cut = true;
-        }
+        self.is_cut |= write!(self.words, "{refusal}").is_err();
     }
 
     /// Where a pointer leads, without a space before.
@@ -140,9 +169,7 @@ impl Text {
     /// Printable bytes as they are, without a space.
     fn joined_signs(&mut self, signs: &[u8]) {
         for sign in signs {
-            if self.words.push(char::from(*sign)).is_err() {
-                self.is_cut = true;
-            }
+            self.is_cut |= self.words.push(char::from(*sign)).is_err();
         }
     }
 

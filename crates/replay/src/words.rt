@@ -51,6 +51,21 @@ pub(crate) fn count_of(word: &[u8]) -> Option<u64> {
     Some(number)
 }
 
+/// The number of a frame; of one that isn't there where the number is greater than any.
+pub(crate) fn frame_of(number: u64) -> u16 {
+    u16::try_from(number).unwrap_or(u16::MAX)
+}
+
+/// The number of a block; one that is too great is that of no payload block.
+pub(crate) fn block_of(number: u64) -> u8 {
+    u8::try_from(number).unwrap_or(u8::MAX)
+}
+
+/// A place in a list; after all where the number is greater than any.
+pub(crate) fn place_of(number: u64) -> usize {
+    usize::try_from(number).unwrap_or(usize::MAX)
+}
+
 /// What a hex digit tells.
 fn digit_of(sign: u8) -> Option<u8> {
     let digit = char::from(sign).to_digit(16)?;
@@ -147,29 +162,45 @@ fn put_many(bytes: &mut Vec<u8>, byte: Option<u8>, count: &[u8]) -> Result<bool,
     }
 }
 
+/// Puts the bytes that a word encodes after others. Whether it encodes any.
+fn put_word(alloc: Global, bytes: &mut Vec<u8>, word: &[u8]) -> Result<bool, Refusal> {
+    let parts = parts_of(alloc, word, b'+')?;
+    for part in parts.as_slice() {
+        if !put_part(bytes, part)? {
+            return Ok(false);
+        }
+    }
+    Ok(true)
+}
+
 /// The bytes that a word encodes, if it encodes any.
 pub(crate) fn bytes_of(alloc: Global, word: &[u8]) -> Result<Option<Vec<u8>>, Refusal> {
     let mut bytes = Vec::new(alloc);
-    let parts = parts_of(alloc, word, b'+')?;
-    for part in parts.as_slice() {
-        if !put_part(&mut bytes, part)? {
-            return Ok(None);
-        }
+    if put_word(alloc, &mut bytes, word)? {
+        Ok(Some(bytes))
+    } else {
+        Ok(None)
     }
-    Ok(Some(bytes))
+}
+
+/// Tells a word, or the bytes that it encodes as they are told.
+fn respell(alloc: Global, text: &mut Text, word: &[u8]) -> Result<(), Refusal> {
+    let mut bytes = Vec::new(alloc);
+    if put_word(alloc, &mut bytes, word)? {
+        text.bytes(bytes.as_slice());
+    } else {
+        text.signs(word);
+    }
+    Ok(())
 }
 
 /// Words, in which bytes are encoded as they are told.
-fn respelled(alloc: Global, words: &[u8]) -> Result<String, Refusal> {
-    let mut text = Text::new(alloc);
+fn respell_all(alloc: Global, text: &mut Text, words: &[u8]) -> Result<(), Refusal> {
     let words = parts_of(alloc, words, b' ')?;
     for word in words.as_slice() {
-        match bytes_of(alloc, word)? {
-            Some(bytes) => text.bytes(bytes.as_slice()),
-            None => text.signs(word),
-        }
+        respell(alloc, text, word)?;
     }
-    text.finish()
+    Ok(())
 }
 
 /// Whether what is told is what is expected, word by word: `any` is everything.
@@ -177,7 +208,9 @@ pub(crate) fn is_said(alloc: Global, told: &str, expected: &[u8]) -> Result<bool
     if told.as_bytes() == expected || "any".as_bytes() == expected {
         return Ok(true);
     }
-    let told = respelled(alloc, told.as_bytes())?;
-    let expected = respelled(alloc, expected)?;
-    Ok(told.as_str() == expected.as_str())
+    let mut given = Text::new(alloc);
+    respell_all(alloc, &mut given, told.as_bytes())?;
+    let mut awaited = Text::new(alloc);
+    respell_all(alloc, &mut awaited, expected)?;
+    given.is_same(&awaited)
 }
