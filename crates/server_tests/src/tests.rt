@@ -1,21 +1,7 @@
 //! Scenes with one new drive each, and what they have in common.
-ghost use Rattle.std.specs.Prelude.{◌≡◌, ℕ, List, true};
+ghost use Rattle.std.specs.Prelude.{◌≡◌, ◌<◌, ℕ, List, true};
 ghost use Rattle.s4_model.specs.State.{new_base};
 ghost use Rattle.serving.specs.Drawing.{Drawn};
-
-/// A client that reads these bytes.
-macro_rules! client {
-    ($alloc:expr, $input:expr) => {
-        Client {
-            role: Role::Client,
-            reader: MemorySource::new($input, 65_536),
-            writer: MemorySink::new($alloc),
-            outcome: Outcome::Waiting,
-            session: None,
-            part: None,
-        }
-    };
-}
 
 mod clocks;
 mod failing;
@@ -25,10 +11,10 @@ mod paced;
 mod places;
 
 use drive::NewDrive;
-use s4_types::Moment;
 use s4_types::limits::FEWEST_FRAMES;
-use server::{Blanks, Client, Outcome, Running, SharedDrive, UpkeepStep};
-use serving::{Clock, MemorySink, MemorySource, ServeEnd, Ticking};
+use s4_types::{Bytes, Moment, ObjectRequest, Request, Role};
+use server::{Blanks, Client, Outcome, Part, Running, SharedDrive, UpkeepStep};
+use serving::{Backend, Clock, MemorySink, MemorySource, ServeEnd, Ticking};
 use std::alloc::Global;
 use std::marker::Brand;
 use std::process::Abort;
@@ -64,8 +50,37 @@ enum Scene {
 /// Parts of a run's books that there are: each session has one.
 const PARTS: u64 = 100;
 
-/// Plays a scene. The drive is let go here alone, since that is proved anew in each function that
-/// does so.
+/// Plays a scene over a drive that sessions share.
+fn play_over_drive<
+    J: Running + Send + Sync,
+    C: Clock + Send,
+    R: Abort + Threads + Wait + time::Clock + Sync,
+>(
+    rt: &R,
+    alloc: Global,
+    drive: &Mutex<SharedDrive<J, C>>,
+    rest: &mut Part<J>,
+    scene: Scene,
+) -> Result<(), Fail>
+    requires upkeep { J.has_upkeep ≡ true }
+    requires parts { 90 < rest.old.parts }
+{
+    match scene {
+        Scene::Ticking(start, tick) => clocks::tick(rt, alloc, drive, rest, start, tick),
+        Scene::Held => held::hold(rt, alloc, drive, rest),
+        Scene::Sixteen => held::gather(rt, alloc, drive, rest),
+        Scene::Crowded => held::crowd_out(rt, alloc, drive, rest),
+        Scene::FailsAbove(room) => failing::fail_above(rt, alloc, drive, rest, room),
+        Scene::FailsBelow(room) => failing::fail_below(rt, alloc, drive, rest, room),
+        Scene::Ordered(held, until) => { ordered::run_ordered(rt, alloc, drive, rest, held, until) }
+        Scene::Uneven => clocks::draw_unevenly(rt, alloc, drive, rest),
+        Scene::Places => places::go(rt, alloc, drive, rest),
+        Scene::Paced => paced::age(rt, alloc, drive, rest),
+    }
+}
+
+/// Plays a scene over a new drive. That is let go here alone, since what a function owns is proved
+/// to be let go at each of its ends.
 fn play_named<
     J: Running + Send + Sync,
     C: Clock + Send + Drop,
@@ -84,20 +99,9 @@ fn play_named<
     let drive = made.named::<J>();
     let (shared, mut rest) = SharedDrive::new(drive, clock, blanks);
     let drive = Mutex::new(shared);
-    match scene {
-        Scene::Ticking(start, tick) => clocks::tick(rt, alloc, &drive, &mut rest, start, tick),
-        Scene::Held => held::hold(rt, alloc, &drive, &mut rest),
-        Scene::Sixteen => held::gather(rt, alloc, &drive, &mut rest),
-        Scene::Crowded => held::crowd_out(rt, alloc, &drive, &mut rest),
-        Scene::FailsAbove(room) => failing::fail_above(rt, alloc, &drive, &mut rest, room),
-        Scene::FailsBelow(room) => failing::fail_below(rt, alloc, &drive, &mut rest, room),
-        Scene::Ordered(held, until) => {
-            ordered::run_ordered(rt, alloc, &drive, &mut rest, held, until)
-        }
-        Scene::Uneven => clocks::draw_unevenly(rt, alloc, &drive, &mut rest),
-        Scene::Places => places::go(rt, alloc, &drive, &mut rest),
-        Scene::Paced => paced::age(rt, alloc, &drive, &mut rest),
-    }
+    let played = play_over_drive(rt, alloc, &drive, &mut rest, scene);
+    drop(drive);
+    played
 }
 
 /// Plays a scene over a clock, and a drive with a window.
@@ -124,6 +128,36 @@ fn play<R: Abort + Threads + Wait + time::Clock + Sync>(
         _ => Ticking::new(Moment::new(0), 1),
     };
     play_over(rt, alloc, clock, 100, scene)
+}
+
+/// A client that reads these bytes.
+fn client_of<'a, J: Running>(
+    alloc: Global,
+    role: Role,
+    input: &'a [u8],
+) -> Client<J, MemorySource<'a>, MemorySink>
+    ensures reader { result.reader.failures ≡ 0 }
+    ensures writer { result.writer.failures ≡ 0 }
+{
+    Client {
+        role,
+        reader: MemorySource::new(input, 65_536),
+        writer: MemorySink::new(alloc),
+        outcome: Outcome::Waiting,
+        session: None,
+        part: None,
+    }
+}
+
+/// Asks, and lets the reply go.
+fn ask<B: Backend>(session: &mut B, request: Request) {
+    drop(session.request(request, Moment::new(0)));
+}
+
+/// A Create.
+fn create(alloc: Global) -> Result<Request, Fail> {
+    let attribute = Bytes::from_slice(alloc, b"")?;
+    Ok(Request::Update(ObjectRequest::Create { attribute }))
 }
 
 /// These parts, one after the other.

@@ -21,6 +21,24 @@ fn moment_of<B: Backend>(session: &mut B) -> Option<Moment> {
     }
 }
 
+/// The moments of four changes of this session and another in turn.
+fn moments_beside<J: Running, C: Clock, R: Abort + Wait, B: Backend>(
+    rt: &R,
+    alloc: Global,
+    drive: &Mutex<SharedDrive<J, C>>,
+    rest: &mut Part<J>,
+    one: &mut B,
+) -> Result<[Option<Moment>; 4], Fail>
+    requires { 1 < rest.old.parts }
+{
+    let mut two = Locked::new(rt, alloc, drive, Role::Admin, rest.split(), &Open, 2)?;
+    let first = moment_of(one);
+    let second = moment_of(&mut two);
+    let third = moment_of(&mut two);
+    drop(two);
+    Ok([first, second, third, moment_of(one)])
+}
+
 /// The moments of four changes of two sessions in turn.
 fn four_moments<J: Running, C: Clock, R: Abort + Wait>(
     rt: &R,
@@ -31,13 +49,9 @@ fn four_moments<J: Running, C: Clock, R: Abort + Wait>(
     requires { 2 < rest.old.parts }
 {
     let mut one = Locked::new(rt, alloc, drive, Role::Admin, rest.split(), &Open, 1)?;
-    let mut two = Locked::new(rt, alloc, drive, Role::Admin, rest.split(), &Open, 2)?;
-    Ok([
-        moment_of(&mut one),
-        moment_of(&mut two),
-        moment_of(&mut two),
-        moment_of(&mut one),
-    ])
+    let moments = moments_beside(rt, alloc, drive, rest, &mut one);
+    drop(one);
+    moments
 }
 
 /// Two sessions draw from one count, which stops at the last moment: nothing is accepted after
@@ -53,14 +67,14 @@ pub(super) fn tick<J: Running, C: Clock, R: Abort + Wait>(
     requires { 2 < rest.old.parts }
 {
     let mut last = start;
-    for moment in four_moments(rt, alloc, drive, rest)? {
+    for moment in &four_moments(rt, alloc, drive, rest)? {
         let next = last.saturating_add(tick);
         let wanted = if next == last {
             None
         } else {
             Some(Moment::new(next))
         };
-        assert!(rt; moment == wanted);
+        assert!(rt; *moment == wanted);
         last = next;
     }
     Ok(())

@@ -106,6 +106,31 @@ impl Gate for Asked {
     fn upkeep(&self, _step: UpkeepStep) {}
 }
 
+/// Serves the four requests, and says how the session ended and whether what it wrote stays: the
+/// Write does once it was asked.
+fn serve_four<B: Backend, W: Sink>(
+    alloc: Global,
+    session: &mut B,
+    input: &[u8],
+    writer: &mut W,
+    wanted: &[u8],
+) -> (ServeEnd, bool)
+    requires writer { W.failures writer.old + 1 < 2 ^ 64 }
+{
+    let mut reader = MemorySource::new(input, 65_536);
+    let end = serve(alloc, &mut reader, writer, session, &mut Undrawn);
+    let read = Request::Query(Question::Read {
+        object: ObjectId::new(1),
+        offset: 0,
+        length: 3,
+        at: None,
+    });
+    match session.request(read, Moment::new(0)) {
+        Reply::Data(bytes) => (end, bytes.as_slice() == wanted),
+        _ => (end, false),
+    }
+}
+
 /// Serves the four requests to a writer that takes `room` bytes of the replies, fewer than there
 /// are. Of each request that was asked a byte was still to be written, and the Write stays once it
 /// was asked.
@@ -121,29 +146,21 @@ fn serve_failing<J: Running, C: Clock, R: Abort + Wait, W: Sink>(
     requires part { 1 < rest.old.parts }
 {
     let input = joined(alloc, &[&CREATE, &WRITE, &READ, &READ_PAST])?;
+    let whole = ENDS.iter().filter(|end| **end <= room).count();
+    let wanted: &[u8] = if whole == 0 { b"" } else { b"abc" };
     let asked = Asked {
         count: AtomicUsize::new(0),
     };
     let mut session = Locked::new(rt, alloc, drive, Role::Client, rest.split(), &asked, 1)?;
-    let mut reader = MemorySource::new(input.as_slice(), 65_536);
-    let end = serve(alloc, &mut reader, writer, &mut session, &mut Undrawn);
+    let (end, stays) = serve_four(alloc, &mut session, input.as_slice(), writer, wanted);
+    drop(session);
     assert!(rt; end == ServeEnd::WriteFailed);
-    let whole = ENDS.iter().filter(|end| **end <= room).count();
+    // (the Read after the session is asked, too)
     assert!(rt;
-        asked.count.load(Ordering::SeqCst) == whole + 1,
+        asked.count.load(Ordering::SeqCst) == whole + 2,
         "asked once more"
     );
-    let read = Request::Query(Question::Read {
-        object: ObjectId::new(1),
-        offset: 0,
-        length: 3,
-        at: None,
-    });
-    let wanted: &[u8] = if whole == 0 { b"" } else { b"abc" };
-    match session.request(read, Moment::new(0)) {
-        Reply::Data(bytes) => assert!(rt; bytes.as_slice() == wanted, "the Write stays"),
-        _ => assert!(rt; false, "the object is there"),
-    }
+    assert!(rt; stays, "the Write stays");
     Ok(())
 }
 

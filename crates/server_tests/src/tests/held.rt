@@ -1,9 +1,9 @@
 //! Sessions on threads, held at a gate until others have come so far.
-ghost use Rattle.std.specs.Prelude.{◌≡◌, ◌+◌, ◌-◌, ◌^◌, ◌<◌, ◌≤◌, All, OnOk, length};
+ghost use Rattle.std.specs.Prelude.{◌≡◌, ◌+◌, ◌-◌, ◌^◌, ◌<◌, ◌≤◌, All, IfOk, OnOk, length, vec_len};
 
-use crate::tests::{Scene, TURNS, await_flag, has_written, joined, play};
+use crate::tests::{Scene, TURNS, ask, await_flag, client_of, create, has_written, joined, play};
 use s4_types::Refusal::Busy;
-use s4_types::{Bytes, Moment, ObjectId, ObjectRequest, Request, Role};
+use s4_types::{Bytes, ObjectId, ObjectRequest, Request, Role};
 use server::{
     Client, Gate, Locked, Open, Outcome, Part, Running, SharedDrive, UpkeepStep, give_parts,
     run_sessions,
@@ -90,6 +90,23 @@ impl Gate for Crowd {
     fn upkeep(&self, _step: UpkeepStep) {}
 }
 
+/// A Write of the sealed bytes to object 1.
+fn write_sealed(alloc: Global) -> Result<Request, Fail> {
+    let bytes = Bytes::from_slice(alloc, &SEALED)?;
+    Ok(Request::Update(ObjectRequest::Write {
+        object: ObjectId::new(1),
+        offset: 0,
+        bytes,
+    }))
+}
+
+/// The sealed bytes are made.
+fn make<B: Backend>(alloc: Global, writer: &mut B) -> Result<(), Fail> {
+    ask(writer, create(alloc)?);
+    ask(writer, write_sealed(alloc)?);
+    Ok(())
+}
+
 /// The sealed bytes are made, by a session at which nobody waits.
 fn fill<J: Running, C: Clock, R: Wait>(
     rt: &R,
@@ -101,18 +118,9 @@ fn fill<J: Running, C: Clock, R: Wait>(
     ensures { rest.new.parts + 1 ≡ rest.old.parts }
 {
     let mut writer = Locked::new(rt, alloc, drive, Role::Client, rest.split(), &Open, 1)?;
-    let attribute = Bytes::from_slice(alloc, b"")?;
-    writer.request(
-        Request::Update(ObjectRequest::Create { attribute }),
-        Moment::new(0),
-    );
-    let write = Request::Update(ObjectRequest::Write {
-        object: ObjectId::new(1),
-        offset: 0,
-        bytes: Bytes::from_slice(alloc, &SEALED)?,
-    });
-    writer.request(write, Moment::new(0));
-    Ok(())
+    let made = make(alloc, &mut writer);
+    drop(writer);
+    made
 }
 
 /// Serves sessions that have no part of the books yet.
@@ -141,6 +149,55 @@ fn serve_all<
     run_sessions(rt, alloc, drive, gate, clients);
 }
 
+/// Clients that read these bytes, as many as that.
+fn clients_of<'a, J: Running>(
+    alloc: Global,
+    input: &'a [u8],
+    count: usize,
+) -> Result<Vec<Client<J, MemorySource<'a>, MemorySink>>, Fail>
+    ensures count { IfOk result (λ clients. vec_len clients ≡ count) }
+    ensures readers { IfOk result
+        (λ clients. All (λ c. c.reader.failures + 1 < 2 ^ 64) clients.items) }
+    ensures writers { IfOk result
+        (λ clients. All (λ c. c.writer.failures + 1 < 2 ^ 64) clients.items) }
+{
+    let mut clients = Vec::new(alloc);
+    for _ in 0..count {
+        clients.push(client_of(alloc, Role::Client, input))?;
+    }
+    Ok(clients)
+}
+
+/// A reader and a writer at once: the one is held until the other is answered.
+fn serve_held<'a, J: Running + Send + Sync, C: Clock + Send, R: Threads + Wait + Sync>(
+    rt: &R,
+    alloc: Global,
+    drive: &Mutex<SharedDrive<J, C>>,
+    rest: &mut Part<J>,
+    turns: &Turns,
+    both: &'a [u8],
+) -> [Client<J, MemorySource<'a>, MemorySink>; 2]
+    requires { 2 < rest.old.parts }
+{
+    let mut clients = [
+        client_of(alloc, Role::Client, &READ_ALL),
+        client_of(alloc, Role::Client, both),
+    ];
+    serve_all(rt, alloc, drive, rest, turns, &mut clients);
+    clients
+}
+
+/// Whether the reader had the old bytes, and the writer these and its change.
+fn had_the_old<J: Running>(
+    alloc: Global,
+    clients: &[Client<J, MemorySource<'_>, MemorySink>; 2],
+) -> Result<bool, Fail> {
+    let old = joined(alloc, &[&DATA, &SEALED])?;
+    let old_and_changed = joined(alloc, &[&DATA, &SEALED, &CHANGED])?;
+    let is_old = has_written(&clients[0], old.as_slice());
+    Ok(is_old && has_written(&clients[1], old_and_changed.as_slice()))
+}
+
 /// A read of sealed bytes is held until another session has changed them, and gives what was there.
 pub(super) fn hold<J: Running + Send + Sync, C: Clock + Send, R: Abort + Threads + Wait + Sync>(
     rt: &R,
@@ -151,28 +208,36 @@ pub(super) fn hold<J: Running + Send + Sync, C: Clock + Send, R: Abort + Threads
     requires { 90 < rest.old.parts }
 {
     fill(rt, alloc, drive, rest)?;
+    let both = joined(alloc, &[&READ_ALL, &WRITE_ALL, &OTHERS])?;
     let turns = Turns {
         planned: AtomicBool::new(false),
         changed: AtomicBool::new(false),
         given_up: AtomicBool::new(false),
     };
-    let both = joined(alloc, &[&READ_ALL, &WRITE_ALL, &OTHERS])?;
-    let old = joined(alloc, &[&DATA, &SEALED])?;
-    let old_and_changed = joined(alloc, &[&DATA, &SEALED, &CHANGED])?;
-    let mut clients = [client!(alloc, &READ_ALL), client!(alloc, &both)];
-    serve_all(rt, alloc, drive, rest, &turns, &mut clients);
+    let clients = serve_held(rt, alloc, drive, rest, &turns, both.as_slice());
+    let had_the_old = had_the_old(alloc, &clients);
+    drop(clients);
     assert!(rt; !turns.given_up.load(Ordering::SeqCst), "both came so far");
-    assert!(rt; has_written(&clients[0], &old), "as it was planned");
-    assert!(rt;
-        has_written(&clients[1], &old_and_changed),
-        "changed meanwhile"
-    );
+    assert!(rt; had_the_old?, "as it was planned, and changed meanwhile");
     Ok(())
 }
 
 #[test]
 fn a_read_is_fetched_after_its_bytes_were_changed(rt: HostRuntime) -> Result<(), Fail> {
     play(&rt, rt.alloc(), Scene::Held)
+}
+
+/// Whether each session ended well and wrote these bytes.
+fn have_written<J: Running>(
+    clients: &[Client<J, MemorySource<'_>, MemorySink>],
+    bytes: &[u8],
+) -> bool {
+    for client in clients {
+        if !has_written(client, bytes) {
+            return false;
+        }
+    }
+    true
 }
 
 /// 16 sessions at once, each held in its first read until all are there. Each is asked once.
@@ -191,25 +256,8 @@ pub(super) fn gather<J: Running + Send + Sync, C: Clock + Send, R: Abort + Threa
         given_up: AtomicBool::new(false),
     };
     let old = joined(alloc, &[&DATA, &SEALED])?;
-    let mut clients = [
-        client!(alloc, &READ_ALL),
-        client!(alloc, &READ_ALL),
-        client!(alloc, &READ_ALL),
-        client!(alloc, &READ_ALL),
-        client!(alloc, &READ_ALL),
-        client!(alloc, &READ_ALL),
-        client!(alloc, &READ_ALL),
-        client!(alloc, &READ_ALL),
-        client!(alloc, &READ_ALL),
-        client!(alloc, &READ_ALL),
-        client!(alloc, &READ_ALL),
-        client!(alloc, &READ_ALL),
-        client!(alloc, &READ_ALL),
-        client!(alloc, &READ_ALL),
-        client!(alloc, &READ_ALL),
-        client!(alloc, &READ_ALL),
-    ];
-    serve_all(rt, alloc, drive, rest, &crowd, &mut clients);
+    let mut clients = clients_of(alloc, &READ_ALL, 16)?;
+    serve_all(rt, alloc, drive, rest, &crowd, clients.as_mut_slice());
     assert!(rt; !crowd.given_up.load(Ordering::SeqCst), "all came");
     assert!(rt;
         crowd.there.load(Ordering::SeqCst) == 16,
@@ -219,7 +267,7 @@ pub(super) fn gather<J: Running + Send + Sync, C: Clock + Send, R: Abort + Threa
         crowd.answered.load(Ordering::SeqCst) == 16,
         "and answered once"
     );
-    assert!(rt; clients.iter().all(|client| has_written(client, &old)));
+    assert!(rt; have_written(clients.as_slice(), old.as_slice()));
     Ok(())
 }
 
@@ -252,13 +300,13 @@ fn serve_two<J: Running + Send + Sync, C: Clock + Send, R: Threads + Wait + Sync
     alloc: Global,
     drive: &Mutex<SharedDrive<J, C>>,
     rest: &mut Part<J>,
-) -> [Client<J, MemorySource<'static>, MemorySink>; 2]
+) -> Result<Vec<Client<J, MemorySource<'static>, MemorySink>>, Fail>
     requires { 2 < rest.old.parts }
-    ensures { rest.new.parts + 2 ≡ rest.old.parts }
+    ensures { OnOk result (rest.new.parts + 2 ≡ rest.old.parts) }
 {
-    let mut clients = [client!(alloc, &READ_ALL), client!(alloc, &READ_ALL)];
-    serve_all(rt, alloc, drive, rest, &Open, &mut clients);
-    clients
+    let mut clients = clients_of(alloc, &READ_ALL, 2)?;
+    serve_all(rt, alloc, drive, rest, &Open, clients.as_mut_slice());
+    Ok(clients)
 }
 
 /// Whether each session was refused as Busy, and nothing was written to it.
@@ -290,15 +338,11 @@ pub(super) fn crowd_out<
     requires { 90 < rest.old.parts }
 {
     let seats = all_seats(rt, alloc, drive, rest)?;
-    assert!(rt;
-        are_refused(&serve_two(rt, alloc, drive, rest)),
-        "no seat is free"
-    );
+    let refused = serve_two(rt, alloc, drive, rest)?;
+    assert!(rt; are_refused(refused.as_slice()), "no seat is free");
     drop(seats);
-    assert!(rt;
-        are_served(&serve_two(rt, alloc, drive, rest)),
-        "all seats are free"
-    );
+    let served = serve_two(rt, alloc, drive, rest)?;
+    assert!(rt; are_served(served.as_slice()), "all seats are free");
     Ok(())
 }
 

@@ -2,12 +2,10 @@
 //! its own: every run ends, in whichever order they come.
 ghost use Rattle.std.specs.Prelude.{◌≡◌, ◌<◌, true};
 
-use crate::tests::{Scene, joined, play};
+use crate::tests::{Scene, client_of, joined, play};
 use s4_types::Role;
-use server::{
-    Client, Gate, Outcome, Part, Running, SharedDrive, UpkeepStep, give_parts, run_with_upkeep,
-};
-use serving::{Clock, MemorySink, MemorySource, ServeEnd};
+use server::{Gate, Outcome, Part, Running, SharedDrive, UpkeepStep, give_parts, run_with_upkeep};
+use serving::{Clock, ServeEnd};
 use std::alloc::Global;
 use std::process::Abort;
 use std::sync::{Condvar, CondvarTimeouts, Mutex, Wait};
@@ -173,14 +171,7 @@ pub(super) fn run_ordered<
     let gate = Order::new(rt, held, until);
     let asked = joined(alloc, &REQUESTS)?;
     let mut clients = Vec::new(alloc);
-    clients.push(Client {
-        role: Role::Admin,
-        reader: MemorySource::new(&asked, 65_536),
-        writer: MemorySink::new(alloc),
-        outcome: Outcome::Waiting,
-        session: None,
-        part: None,
-    })?;
+    clients.push(client_of(alloc, Role::Admin, asked.as_slice()))?;
     give_parts(rest, clients.as_mut_slice());
     let (clients, upkeep) = run_with_upkeep(rt, alloc, drive, &gate, clients);
     let is_served = clients[0].outcome == Outcome::Served(ServeEnd::Ended);

@@ -1,12 +1,10 @@
 //! How soon a full drive accepts again once its history has aged, where the window is long.
 ghost use Rattle.std.specs.Prelude.{◌≡◌, ◌<◌, true};
 
-use crate::tests::{Scene, await_flag, play_over};
+use crate::tests::{Scene, await_flag, client_of, play_over};
 use s4_types::{Moment, Role};
-use server::{
-    Client, Gate, Outcome, Part, Running, SharedDrive, UpkeepStep, give_parts, run_with_upkeep,
-};
-use serving::{Clock, MemorySink, MemorySource, ServeEnd};
+use server::{Gate, Outcome, Part, Running, SharedDrive, UpkeepStep, give_parts, run_with_upkeep};
+use serving::{Clock, ServeEnd};
 use std::alloc::Global;
 use std::process::Abort;
 use std::sync::atomic::{AtomicBool, Ordering};
@@ -117,14 +115,7 @@ pub(super) fn age<
     };
     let asked = requests(alloc)?;
     let mut clients = Vec::new(alloc);
-    clients.push(Client {
-        role: Role::Client,
-        reader: MemorySource::new(&asked, 65_536),
-        writer: MemorySink::new(alloc),
-        outcome: Outcome::Waiting,
-        session: None,
-        part: None,
-    })?;
+    clients.push(client_of(alloc, Role::Client, asked.as_slice()))?;
     give_parts(rest, clients.as_mut_slice());
     let (clients, _) = run_with_upkeep(rt, alloc, drive, &gate, clients);
     assert!(rt; !gate.given_up.load(Ordering::SeqCst), "the cleaner began");
