@@ -1,11 +1,12 @@
 //! Images of this system's files.
+ghost use Rattle.std.specs.Prelude.{IsTrue};
+
 use image_commands::{Files, Obstacle};
 use image_keeping::{Folder, Keeper, WholeImage};
 use kept_files::FileFolder;
-use std::fs;
-use std::io::Read;
 use std::marker::Send;
 use std::test::Fail;
+use std::{fs, io};
 
 /// Whether a path can't be claimed, since another program has it.
 fn is_claimed(rt: &HostRuntime, path: &str) -> bool {
@@ -20,25 +21,45 @@ fn is_for_any_thread<T: Send>(_value: &T) -> bool {
     true
 }
 
+/// Whether the image is kept with these bytes, and claimed then.
+fn is_kept<K: Keeper>(rt: &HostRuntime, keeper: &mut K, path: &str, bytes: &[u8]) -> bool
+    requires { IsTrue (K.is_usable keeper.old) }
+    ensures { IsTrue result → IsTrue (K.is_usable keeper.new) }
+{
+    keeper.keep(bytes).is_ok() && is_claimed(rt, path)
+}
+
+/// Whether a file has these bytes.
+fn has_bytes(rt: &HostRuntime, path: &str, bytes: &[u8]) -> bool {
+    match fs::read(rt, path) {
+        Ok(read) => read.as_slice() == bytes,
+        Err(_) => false,
+    }
+}
+
 #[test]
 fn the_image_is_kept_and_claimed(rt: HostRuntime) -> Result<(), Fail> {
     let path = "kept.image";
     fs::write(&rt, path, b"old")?;
     let claim = rt.claim(rt.alloc(), path)?;
     let mut keeper = WholeImage::new(FileFolder::new(rt.alloc(), rt, claim));
-    assert!(rt; is_for_any_thread(&keeper));
-    keeper.keep(b"one")?;
-    assert!(rt; is_claimed(&rt, path));
-    keeper.keep(b"more than one")?;
-    assert!(rt; is_claimed(&rt, path));
-    keeper.keep(b"twice")?;
-    assert!(rt; is_claimed(&rt, path));
-    assert_eq!(rt; fs::read(&rt, path)?.as_slice(), b"twice".as_slice());
-    assert!(rt; fs::metadata(&rt, "s4d.new").is_err());
+    let are_kept = is_for_any_thread(&keeper)
+        && is_kept(&rt, &mut keeper, path, b"one")
+        && is_kept(&rt, &mut keeper, path, b"more than one")
+        && is_kept(&rt, &mut keeper, path, b"twice");
     drop(keeper);
+    assert!(rt; are_kept, "each is kept, and claimed by its keeper");
+    assert!(rt; has_bytes(&rt, path, b"twice"));
+    assert!(rt; fs::metadata(&rt, "s4d.new").is_err());
     assert!(rt; !is_claimed(&rt, path));
     fs::remove_file(&rt, path)?;
     Ok(())
+}
+
+/// Puts another file in the place of this one.
+fn replace(rt: &HostRuntime, path: &str) -> io::Result<()> {
+    fs::write(rt, "moved/another.image", b"other")?;
+    fs::rename(rt, "moved/another.image", path)
 }
 
 #[test]
@@ -48,15 +69,13 @@ fn another_file_is_not_replaced(rt: HostRuntime) -> Result<(), Fail> {
     fs::write(&rt, path, b"old")?;
     let claim = rt.claim(rt.alloc(), path)?;
     let mut keeper = WholeImage::new(FileFolder::new(rt.alloc(), rt, claim));
-    fs::write(&rt, "moved/another.image", b"other")?;
-    fs::rename(&rt, "moved/another.image", path)?;
-    assert!(rt; keeper.keep(b"new").is_err());
-    assert_eq!(rt; fs::read(&rt, path)?.as_slice(), b"other".as_slice());
+    let is_replaced = replace(&rt, path).is_ok();
+    let is_refused = keeper.keep(b"new").is_err();
     // The new one has all its bytes beside it.
-    assert_eq!(rt;
-        fs::read(&rt, "moved/s4d.new")?.as_slice(),
-        b"new".as_slice()
-    );
+    let is_beside = has_bytes(&rt, "moved/s4d.new", b"new");
+    drop(keeper);
+    assert!(rt; is_replaced && is_refused && is_beside);
+    assert!(rt; has_bytes(&rt, path, b"other"));
     fs::remove_file(&rt, "moved/s4d.new")?;
     fs::remove_file(&rt, path)?;
     fs::remove_dir(&rt, "moved")?;

@@ -2,7 +2,7 @@
 ghost use Rattle.std.specs.Prelude.{◌≡◌};
 
 use segment_word::Naming;
-use segment_word::accepts::{Accepts, HistorySeat, SessionSeat};
+use segment_word::accepts::{Accepts, HistorySeat, SessionSeat, Sessions};
 use std::alloc::Global;
 use std::marker::Brand;
 use std::process::Abort;
@@ -58,13 +58,27 @@ fn share_a_lock<J: Naming + Send + Sync, R: Threads + Wait + Abort + Sync>(
     requires { accepts ≡ J.accepts }
 {
     let (sessions, drive) = accepts.named::<J>();
+    let drive = Mutex::new(drive);
+    let shared = share(rt, alloc, &sessions, &drive);
+    drop(sessions);
+    assert!(rt; drive.lock(rt).count() == 200);
+    drop(drive);
+    shared
+}
+
+// Two sessions share the drive.
+fn share<J: Naming + Send + Sync, R: Threads + Wait + Abort + Sync>(
+    rt: &R,
+    alloc: Global,
+    sessions: &Sessions<J>,
+    drive: &Mutex<HistorySeat<J>>,
+) -> Result<(), Fail> {
     let one = sessions.seat()?;
     let two = sessions.seat()?;
-    let drive = Mutex::new(drive);
     let (one, two) = join(
         rt,
-        || accept_all(rt, alloc, &drive, one),
-        || accept_all(rt, alloc, &drive, two),
+        || accept_all(rt, alloc, drive, one),
+        || accept_all(rt, alloc, drive, two),
     );
     let one = one.ok_or("one")?;
     let two = two.ok_or("two")?;
@@ -73,6 +87,5 @@ fn share_a_lock<J: Naming + Send + Sync, R: Threads + Wait + Abort + Sync>(
     for number in 1..=2 * EACH as u64 {
         assert!(rt; one.contains(&number) != two.contains(&number));
     }
-    assert!(rt; drive.lock(rt).count() == 200);
     Ok(())
 }

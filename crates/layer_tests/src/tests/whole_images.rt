@@ -13,7 +13,9 @@ fn kept(
     let folder = MemoryFolder::new(alloc, b"old", calls, error)?;
     let mut keeper = WholeImage::new(folder);
     let answer = keeper.keep(b"new");
-    Ok((answer, keeper.folder().earlier().len() + 1))
+    let outcomes = keeper.folder().earlier().len() + 1;
+    drop(keeper);
+    Ok((answer, outcomes))
 }
 
 #[test]
@@ -39,9 +41,11 @@ fn each_call_fails_in_turn(rt: HostRuntime) -> Result<(), Fail> {
 fn the_image_is_kept(rt: HostRuntime) -> Result<(), Fail> {
     let folder = MemoryFolder::new(rt.alloc(), b"", u64::MAX, FolderError::Failed)?;
     let mut keeper = WholeImage::new(folder);
-    keeper.keep(b"one")?;
-    keeper.keep(b"two")?;
-    assert_eq!(rt; keeper.folder().named(), b"two".as_slice());
-    assert_eq!(rt; keeper.folder().earlier().len(), 0);
+    let are_kept = keeper.keep(b"one").is_ok() && keeper.keep(b"two").is_ok();
+    let is_there = keeper.folder().named() == b"two".as_slice();
+    let outcomes = keeper.folder().earlier().len();
+    drop(keeper);
+    assert!(rt; are_kept && is_there);
+    assert_eq!(rt; outcomes, 0);
     Ok(())
 }
