@@ -62,14 +62,6 @@ row_is_later s kept now m change row is at made =
     let same : row.moment ≡ m = ap (λ (r : AuditRow). r.moment) made in
     all_before s.clock row.moment kept (omega (arith, same, at)) is.past
 
--- a drive that begins without rows keeps none
-pub none_kept : (l : Ledger) (base named : Base) (rows : List AuditRow) → l ≡ begun named → base ≡ named → base.audit ≡ [] → rows ≡ [] → KeepsAudit (state_of l.history) rows
-none_kept l base named rows is same none empty =
-    let s : State = state_of (begun base).history in
-    let whole : [] ≡ audit_of s = ap (λ (all : List AuditRow). rows_from s.floor (all ++ [])) (sym none) in
-    subst (λ (x : Ledger). KeepsAudit (state_of x.history) rows) (ap begun same ∙ sym is)
-    (subst (KeepsAudit s) (sym empty) (record { whole = whole; past = tt }))
-
 -- a drive that begins with the rows of its base keeps these
 pub base_kept : (l : Ledger) (base named : Base) (rows : List AuditRow) → l ≡ begun named → base ≡ named → base.audit ≡ rows → AllByRecursion (λ row. row.moment ≤ base.clock) rows → KeepsAudit (state_of l.history) rows
 base_kept l base named rows is same kept past =

@@ -2,10 +2,10 @@ pub mod Versions
 pub mod Needed
 pub mod Kept
 pub mod Stepping
-pub mod Beginning
 pub mod Judging
 pub mod Unversioned
 pub mod Auditing
+pub mod Beginning
 pub mod Told
 pub mod Storing
 pub mod Served

@@ -22,7 +22,6 @@ use window::Window;
 /// their blocks, and which rows of the audit are kept: from the floor on these are the audit, and
 /// no answer shows whether others are kept below it. `J` names the drive and what its history
 /// begins with; a session of another drive has another type.
-#[derive(Drop)]
 pub struct Drive<J: Naming> {
     pub(crate) alloc: Global,
     pub(crate) history: HistorySeat<J>,
@@ -31,6 +30,21 @@ pub struct Drive<J: Naming> {
     pub(crate) window: Window,
     pub(crate) next: ObjectId,
     pub(crate) audit: AuditLog,
+}
+
+// Written by hand, so that an owner lets it go by one call.
+impl<J: Naming> Drop for Drive<J> {
+    fn drop(self) {
+        let Drive {
+            alloc: _,
+            history: _,
+            sessions: _,
+            store: _,
+            window: _,
+            next: _,
+            audit: _,
+        } = self;
+    }
 }
 
 impl<J: Naming> Model for Drive<J> {
@@ -83,7 +97,6 @@ impl<J: Naming> Drive<J> {
         ensures none { ShareNone stays.old.told ends.told }
         ensures same { stays.new ≡ stays.old }
     {
-        let Session { seat, role: _ } = ends;
-        self.history.end_beside(&mut stays.seat, seat);
+        self.history.end_beside(&mut stays.seat, ends.into_seat());
     }
 }

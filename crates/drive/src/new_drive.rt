@@ -10,40 +10,43 @@ ghost use Rattle.segment_table.specs.Room.{log_of, new_places};
 ghost use Rattle.version_store.specs.Store.{fields_of, IsStore};
 
 use crate::drive::Drive;
+use crate::opened_drive::OpenedDrive;
 use audit_log::AuditLog;
 use checkpoint::CACHED_INODES;
-use s4_model::laws::histories_go_on_record_by_record;
 use s4_types::{ObjectId, Refusal};
 use segment_table::{OverFrames, SegmentTable};
 use segment_word::Naming;
-use segment_word::accepts::Accepts;
 use std::alloc::Global;
 use std::marker::Model;
 use version_store::Store;
 use window::Window;
 
-/// A new drive that has no name yet. Contracts see the table of its accept word, its objects and
-/// its window.
-#[derive(Drop)]
+/// A new drive that has no name yet: an opened one of no objects. Contracts see the table of its
+/// accept word, its objects and its window.
 pub struct NewDrive {
-    alloc: Global,
-    accepts: Accepts,
-    store: Store<SegmentTable>,
-    window: Window,
+    opened: OpenedDrive,
+}
+
+// Written by hand, so that an owner lets it go by one call.
+impl Drop for NewDrive {
+    fn drop(self) {
+        let NewDrive { opened: _ } = self;
+    }
 }
 
 impl Model for NewDrive {
-    ghost use Rattle.s4_model.specs.State.{state_of, new_history};
+    ghost use Rattle.std.specs.Prelude.{◌≡◌};
+    ghost use Rattle.s4_model.specs.State.{new_base};
     ghost use Rattle.segment_table.specs.Room.{log_of};
     ghost use Rattle.version_store.specs.Store.{fields_of};
     ghost use Rattle.drive.specs.Fields.{NewFields};
-    ghost use Rattle.drive.specs.Keeping.{IsKeptDrive};
+    ghost use Rattle.drive.specs.Opened.{base_of};
 
     ghost Value = { NewFields };
 
-    ghost view = { λ d. record { accepts = d.accepts; store = d.store; window = d.window.window } };
+    ghost view = { λ d. record { accepts = d.opened.accepts; store = d.opened.store; window = d.opened.timeline.window } };
 
-    ghost invariant = { λ d. IsKeptDrive (state_of (new_history d.window.window)) (fields_of log_of d.store) d.window 1 };
+    ghost invariant = { λ d. base_of (fields_of log_of d.opened.store) d.opened.timeline d.opened.next d.opened.audit ≡ new_base d.opened.timeline.window };
 }
 
 impl NewDrive {
@@ -68,7 +71,6 @@ impl NewDrive {
     /// 1 to `CACHED_INODES`. That changes no answer, only which blocks are read for it.
     ///
     /// It is refused as that is.
-    #[tactic(auto, using(crate::proofs::Beginning::kept_new))]
     pub fn with_cache(
         alloc: Global,
         frames: usize,
@@ -85,22 +87,16 @@ impl NewDrive {
         ensures store { IfOk result (λ d. IsStore (fields_of log_of d.store)) }
         ensures refusal { IfErr result (λ e. (e ≡ NoMemory) ⊎ (e ≡ Busy)) }
     {
-        histories_go_on_record_by_record();
         let table = SegmentTable::new(alloc, frames)?;
         table.frame_rules();
         let store = Store::new(alloc, table, inodes)?;
-        let accepts = Accepts::new(alloc)?;
         let window = Window::new(alloc, window);
-        Ok(NewDrive {
-            alloc,
-            accepts,
-            store,
-            window,
-        })
+        let audit = AuditLog::new(alloc);
+        let opened = OpenedDrive::from_parts(alloc, store, window, ObjectId::new(1), audit)?;
+        Ok(NewDrive { opened })
     }
 
     /// The drive, under a name that says which one it is and what its history begins with.
-    #[tactic(auto, using(crate::proofs::Auditing::none_kept))]
     pub fn named<J: Naming>(self) -> Drive<J>
         requires accepts { self.accepts ≡ J.accepts }
         requires frames { self.store.table.seat.table ≡ J.frames }
@@ -109,21 +105,7 @@ impl NewDrive {
         ensures store { result.store ≡ self.store }
         ensures frames { result.store.table.seat.table ≡ J.frames }
     {
-        let NewDrive {
-            alloc,
-            accepts,
-            store,
-            window,
-        } = self;
-        let (sessions, history) = accepts.named::<J>();
-        Drive {
-            alloc,
-            history,
-            sessions,
-            store: store.named::<J>(),
-            window,
-            next: ObjectId::new(1),
-            audit: AuditLog::new(alloc),
-        }
+        let NewDrive { opened } = self;
+        opened.named::<J>()
     }
 }

@@ -24,7 +24,6 @@ use window::Window;
 
 /// A drive that was opened and has no name yet. Contracts see the table of its accept word, its
 /// objects, its window, the next object's number and the rows of its audit.
-#[derive(Drop)]
 pub struct OpenedDrive {
     alloc: Global,
     accepts: Accepts,
@@ -32,6 +31,20 @@ pub struct OpenedDrive {
     window: Window,
     next: ObjectId,
     audit: AuditLog,
+}
+
+// Written by hand, so that an owner lets it go by one call.
+impl Drop for OpenedDrive {
+    fn drop(self) {
+        let OpenedDrive {
+            alloc: _,
+            accepts: _,
+            store: _,
+            window: _,
+            next: _,
+            audit: _,
+        } = self;
+    }
 }
 
 impl Model for OpenedDrive {

@@ -1,6 +1,6 @@
 //! The window of a drive: what can be read, and each step of clock, floor and hidden runs.
 ghost use Rattle.std.specs.Prelude.{◌≡◌, ◌⊎◌, ℕ, true, false, ◌+◌, ◌-◌, ◌<◌, ◌≤◌, max, Some};
-ghost use Rattle.std.specs.Prelude.{MatchBool, MatchResult, IfOk, IfErr, filter, length, List};
+ghost use Rattle.std.specs.Prelude.{MatchBool, MatchResult, IfOk, IfErr, filter, length, List, []};
 ghost use Rattle.std.specs.List.{AllByRecursion};
 ghost use Rattle.s4_types.specs.declared.limits.TheConstants.{RUNS_IN_ALL};
 ghost use Rattle.s4_types.specs.declared.changes.Accepted.{Accepted};
@@ -31,7 +31,6 @@ use std::marker::Model;
 /// The clock, the window, the floor and the runs of hidden moments of a drive.
 ///
 /// Contracts speak of every state of a history that the window represents.
-#[derive(Drop)]
 pub struct Window {
     alloc: Global,
     clock: Moment,
@@ -44,6 +43,21 @@ pub struct Window {
     count: usize,
     /// No run ends before it.
     earliest: Moment,
+}
+
+// Written by hand, so that an owner lets it go by one call.
+impl Drop for Window {
+    fn drop(self) {
+        let Window {
+            alloc: _,
+            clock: _,
+            window: _,
+            floor: _,
+            chunks: _,
+            count: _,
+            earliest: _,
+        } = self;
+    }
 }
 
 impl Model for Window {
@@ -89,7 +103,9 @@ impl FlushPlan {
 impl Window {
     /// The window of a new drive: it reaches `window` moments back, and nothing is hidden.
     pub fn new(alloc: Global, window: u64) -> Self
-        ensures { StandsFor result (state_of (new_history window)) }
+        ensures numbers { (result.clock ≡ 0) × (result.window ≡ window) × (result.floor ≡ 0) }
+        ensures runs { result.runs ≡ [] }
+        ensures stands { StandsFor result (state_of (new_history window)) }
     {
         Window {
             alloc,
