@@ -20,11 +20,21 @@ pub(crate) enum Carried<P: Drop, Q: Drop> {
 
 /// An actor: a session, with at most one plan of a read and at most one move, which is planned or
 /// copied. Contracts see all three. Dropping it gives its session's seat back and ends its pins.
-#[derive(Drop)]
 pub struct Actor<J: Naming, M: Moves<J>> {
     pub(crate) session: Session<J>,
     pub(crate) plan: Option<ReadPlan>,
     pub(crate) carried: Carried<M::Plan, M::Moved>,
+}
+
+// Written by hand, so that an owner lets it go by one call.
+impl<J: Naming, M: Moves<J>> Drop for Actor<J, M> {
+    fn drop(self) {
+        let Actor {
+            session: _,
+            plan: _,
+            carried: _,
+        } = self;
+    }
 }
 
 impl<J: Naming, M: Moves<J>> Model for Actor<J, M> {
@@ -52,6 +62,11 @@ impl<J: Naming, M: Moves<J>> Actor<J, M> {
     pub fn into_session(self) -> Session<J>
         ensures { result ≡ self.session }
     {
-        self.session
+        let Actor {
+            session,
+            plan: _,
+            carried: _,
+        } = self;
+        session
     }
 }

@@ -8,7 +8,6 @@ use image_keeping::{Folder, FolderError};
 use std::alloc::Global;
 
 /// The path of an image that is claimed, and the file beside it, over some files.
-#[derive(Drop)]
 pub struct FileFolder<F: Files + Drop> {
     alloc: Global,
     files: F,
@@ -20,6 +19,20 @@ pub struct FileFolder<F: Files + Drop> {
     is_usable: bool,
     /// What was in the way of the last call that failed.
     obstacle: Option<KeepObstacle>,
+}
+
+// Written by hand, so that an owner lets it go by one call.
+impl<F: Files + Drop> Drop for FileFolder<F> {
+    fn drop(self) {
+        let FileFolder {
+            alloc: _,
+            files: _,
+            claim: _,
+            beside: _,
+            is_usable: _,
+            obstacle: _,
+        } = self;
+    }
 }
 
 impl<F: Files + Drop> FileFolder<F> {

@@ -129,13 +129,25 @@ pub(crate) trait Played {
 }
 
 /// The drive with what is beside it.
-#[derive(Drop)]
 struct Party<J: Naming> {
     alloc: Global,
     drive: Drive<J>,
     actors: Vec<Actor<J, Copier>>,
     rounds: Rounds,
     pile: Vec<ReadPlan>,
+}
+
+// Written by hand, so that an owner lets it go by one call.
+impl<J: Naming> Drop for Party<J> {
+    fn drop(self) {
+        let Party {
+            alloc: _,
+            drive: _,
+            actors: _,
+            rounds: _,
+            pile: _,
+        } = self;
+    }
 }
 
 impl<J: Naming> Party<J> {

@@ -8,15 +8,24 @@ use s4_types::{AuditRow, Moment, ObjectId, Question, Refusal, Reply, Request, Ro
 use std::alloc::Global;
 
 /// A session of a drive, and what the plan of a read that it has is to give.
-#[derive(Drop)]
 pub(crate) struct Seat {
     name: Vec<u8>,
     role: Role,
     planned: Option<Reply>,
 }
 
+// Written by hand, so that an owner lets it go by one call.
+impl Drop for Seat {
+    fn drop(self) {
+        let Seat {
+            name: _,
+            role: _,
+            planned: _,
+        } = self;
+    }
+}
+
 /// What is beside the drive.
-#[derive(Drop)]
 pub(crate) struct Stage {
     pub(crate) alloc: Global,
     pub(crate) seats: Vec<Seat>,
@@ -43,6 +52,28 @@ pub(crate) struct Stage {
     pub(crate) remark: Text,
     pub(crate) image: Vec<u8>,
     pub(crate) kept: Vec<u8>,
+}
+
+// Written by hand, so that an owner lets it go by one call.
+impl Drop for Stage {
+    fn drop(self) {
+        let Stage {
+            alloc: _,
+            seats: _,
+            plain: _,
+            pile: _,
+            is_watched: _,
+            is_counted: _,
+            has_lacked: _,
+            is_spent: _,
+            is_excused: _,
+            is_partial: _,
+            has_lost: _,
+            remark: _,
+            image: _,
+            kept: _,
+        } = self;
+    }
 }
 
 impl Stage {

@@ -22,7 +22,6 @@ use version_store::CopiedBlock;
 
 /// A move of an object's held blocks out of a frame of the drive that `J` names. While it lives,
 /// the frame keeps its generation and its contents, where there is something to move.
-#[derive(Drop)]
 pub struct MovePlan<J: Naming> {
     frame: u16,
     object: ObjectId,
@@ -33,6 +32,20 @@ pub struct MovePlan<J: Naming> {
     // none where there is nothing to move
     pin: Option<Pin>,
     of: PhantomData<J>,
+}
+
+// Written by hand, so that an owner lets it go by one call.
+impl<J: Naming> Drop for MovePlan<J> {
+    fn drop(self) {
+        let MovePlan {
+            frame: _,
+            object: _,
+            stamp: _,
+            places: _,
+            pin: _,
+            of: _,
+        } = self;
+    }
 }
 
 impl<J: Naming> Model for MovePlan<J> {

@@ -65,12 +65,22 @@ impl UsedBlock {
 
 /// The frames of a saved drive with what their blocks are for, before a table is made of them.
 /// Contracts see it as a table that has no name.
-#[derive(Drop)]
 pub struct TableBuilder {
     words: FrameWords,
     slots: Vec<Slots>,
     // the number of the open frame
     current: Option<u16>,
+}
+
+// Written by hand, so that an owner lets it go by one call.
+impl Drop for TableBuilder {
+    fn drop(self) {
+        let TableBuilder {
+            words: _,
+            slots: _,
+            current: _,
+        } = self;
+    }
 }
 
 impl Model for TableBuilder {

@@ -34,11 +34,21 @@ use std::alloc::Global;
 use std::marker::Model;
 
 /// Blocks that pointers refer to, in the frames of a drive.
-#[derive(Drop)]
 pub struct SegmentTable {
     frames: Frames,
     segments: Segments,
     alloc: Global,
+}
+
+// Written by hand, so that an owner lets it go by one call.
+impl Drop for SegmentTable {
+    fn drop(self) {
+        let SegmentTable {
+            frames: _,
+            segments: _,
+            alloc: _,
+        } = self;
+    }
 }
 
 impl Model for SegmentTable {

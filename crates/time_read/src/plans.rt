@@ -150,7 +150,6 @@ impl PlanPiece {
 
 /// What a read is to give: pieces of whole blocks, and which of their bytes it asks for. While it
 /// lives, each frame of a pinned piece keeps its contents, whatever other threads do.
-#[derive(Drop)]
 pub struct ReadPlan {
     pieces: Vec<PlanPiece>,
     // where the bytes begin in the first piece
@@ -158,6 +157,18 @@ pub struct ReadPlan {
     length: usize,
     // none where no piece is pinned
     pin: Option<Pin>,
+}
+
+// Written by hand, so that an owner lets it go by one call.
+impl Drop for ReadPlan {
+    fn drop(self) {
+        let ReadPlan {
+            pieces: _,
+            skip: _,
+            length: _,
+            pin: _,
+        } = self;
+    }
 }
 
 impl Model for ReadPlan {

@@ -24,11 +24,21 @@ use undo_redo::laws::groups_part_at_a_moment;
 /// `ATTRIBUTE_BYTES`. In a chain an entry has `SHORTEST_ENTRY_BYTES` and more, a pointer
 /// `TRIPLE_BYTES`, and an attribute 3 at least. So less than three times `CHAIN_ENTRY_BYTES` are in
 /// use here; without attributes no more than those. The lists may have asked for more, to grow.
-#[derive(Drop)]
 pub struct UndoIndex {
     records: Vec<UndoRecord>,
     pointers: EarlierPointers,
     attributes: Vec<Attribute>,
+}
+
+// Written by hand, so that an owner lets it go by one call.
+impl Drop for UndoIndex {
+    fn drop(self) {
+        let UndoIndex {
+            records: _,
+            pointers: _,
+            attributes: _,
+        } = self;
+    }
 }
 
 impl Model for UndoIndex {

@@ -34,7 +34,6 @@ use std::marker::Model;
 use time_read::{Present, inode_at_counted};
 
 /// The rows of all objects, and the table that their blocks are in.
-#[derive(Drop)]
 pub struct Store<B: Blocks> {
     alloc: Global,
     // The present inode and an index of the journal are kept beside each row, so that neither a
@@ -50,6 +49,19 @@ pub struct Store<B: Blocks> {
     // What is kept under a stamp that its row no longer has isn't looked at any more; a row that
     // goes takes all with it, since its stamps begin anew where its number is given once more.
     cache: InodeCache,
+}
+
+// Written by hand, so that an owner lets it go by one call.
+impl<B: Blocks + Drop> Drop for Store<B> {
+    fn drop(self) {
+        let Store {
+            alloc: _,
+            objects: _,
+            table: _,
+            latest: _,
+            cache: _,
+        } = self;
+    }
 }
 
 impl<B: Blocks> Model for Store<B> {
