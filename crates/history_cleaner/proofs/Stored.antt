@@ -17,6 +17,14 @@ pub record RunLaws : Type 0 where
   pub done : (i : Inode) (entries : List EntryFields) (t : ℕ) → AllBy t entries → inode_after i entries t ≡ redone_all entries i
   pub since : (i : Inode) (entries : List EntryFields) (m t : ℕ) → AllBy m entries → m ≤ t → inode_after i entries t ≡ inode_after i entries m
 
+-- the same, from the clauses of the law that states them
+pub run_laws : ((i j : Inode) (entries : List EntryFields) → Run i entries j → j ≡ redone_all entries i)
+    → ((i j : Inode) (entries : List EntryFields) → Run i entries j → i ≡ undone_all entries j)
+    → ((i : Inode) (entries : List EntryFields) (t : ℕ) → AllBy t entries → inode_after i entries t ≡ redone_all entries i)
+    → ((i : Inode) (entries : List EntryFields) (m t : ℕ) → AllBy m entries → m ≤ t → inode_after i entries t ≡ inode_after i entries m)
+    → RunLaws
+run_laws ends begins done since = record { ends = ends; begins = begins; done = done; since = since }
+
 -- the inode at a moment, from the first one on
 pub at_moment : (s : StoreFields) (o : ℕ) (row : Row) (t : ℕ) → inode_of s.log.held o row t ≡ inode_after (first_of s.log.held o row) (entries_of s.log.held o row) t
 unfolding inode_of

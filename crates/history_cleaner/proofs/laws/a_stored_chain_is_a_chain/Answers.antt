@@ -1,12 +1,7 @@
-use Rattle.history_cleaner.proofs.Stored.{RunLaws, stored_chain}
+use Rattle.history_cleaner.proofs.Stored.{RunLaws, run_laws, stored_chain}
 use Rattle.history_cleaner.proofs.laws.a_stored_chain_is_a_chain.Goals as goal
 
 pub returns : goal.returns
 returns c =
-    let run : RunLaws = record {
-      ends = c.entries_determine_a_run.ensures.end;
-      begins = c.entries_determine_a_run.ensures.beginning;
-      done = c.entries_determine_a_run.ensures.done;
-      since = c.entries_determine_a_run.ensures.since;
-    } in
+    let run : RunLaws = run_laws c.entries_determine_a_run.ensures.end c.entries_determine_a_run.ensures.beginning c.entries_determine_a_run.ensures.done c.entries_determine_a_run.ensures.since in
     stored_chain run c.a_chain_is_one_later.ensures

@@ -2,8 +2,8 @@ use Rattle.migration.proofs.Then.{Laws}
 use Rattle.migration.proofs.Done.{migrates, lays_out, no_more}
 use Rattle.migration.proofs.copy_laws.what_was_written_is_migrated.Goals as goal
 
-pub returns-clause-migrates : goal.returns-clause-migrates
-returns-clause-migrates c =
+pub returns : goal.returns
+returns c =
     let laws : Laws = record {
       saved = c.a_saved_row_tells_the_same.ensures;
       stands = c.a_row_that_is_held_stands.ensures;
@@ -11,18 +11,4 @@ returns-clause-migrates c =
       matter = c.only_its_blocks_matter.ensures;
       moments = c.mapped_entries_stay_in_order.ensures.old;
     } in
-    migrates laws
-
-pub returns-clause-layout : goal.returns-clause-layout
-returns-clause-layout c =
-    let laws : Laws = record {
-      saved = c.a_saved_row_tells_the_same.ensures;
-      stands = c.a_row_that_is_held_stands.ensures;
-      written = c.an_object_of_a_version_can_be_written.ensures;
-      matter = c.only_its_blocks_matter.ensures;
-      moments = c.mapped_entries_stay_in_order.ensures.old;
-    } in
-    lays_out laws
-
-pub returns-clause-fits : goal.returns-clause-fits
-returns-clause-fits c = no_more c.images_with_a_mark.ensures.read c.one_image_is_read.ensures
+    record { migrates = migrates laws; layout = lays_out laws; fits = no_more c.images_with_a_mark.ensures.read c.one_image_is_read.ensures }
