@@ -290,20 +290,18 @@ impl Files for HostRuntime {
         bytes: &[u8],
     ) -> Result<Placed, NotReplaced> {
         let mut beside = beside;
-        if let Err(error) = fill(&mut beside.file, bytes) {
-            self.remove_beside(beside);
-            return Err(NotReplaced {
-                obstacle: Obstacle::from(error),
-                kept: None,
-            });
-        }
-        match put_in_place(self, &claim, &beside) {
-            Ok(placed) => Ok(placed),
-            Err(obstacle) => Err(NotReplaced {
-                obstacle,
-                kept: Some(beside.path),
-            }),
-        }
+        let replaced = match fill(&mut beside.file, bytes) {
+            Ok(()) => put_filled(self, &claim, beside),
+            Err(error) => {
+                self.remove_beside(beside);
+                Err(NotReplaced {
+                    obstacle: Obstacle::from(error),
+                    kept: None,
+                })
+            }
+        };
+        drop(claim);
+        replaced
     }
 
     fn fill(&mut self, beside: &mut BesideFile, bytes: &[u8]) -> Result<(), Obstacle> {
@@ -630,6 +628,24 @@ fn fill(file: &mut File, bytes: &[u8]) -> io::Result<()> {
     file.seek(SeekFrom::Start(0))?;
     file.write_all(bytes)?;
     file.set_len(bytes.len() as u64)
+}
+
+// Puts the file beside an image, which was filled, in the image's place. It stays where that fails.
+fn put_filled(
+    rt: &HostRuntime,
+    claim: &ImageClaim,
+    beside: BesideFile,
+) -> Result<Placed, NotReplaced> {
+    match put_in_place(rt, claim, &beside) {
+        Ok(placed) => {
+            drop(beside);
+            Ok(placed)
+        }
+        Err(obstacle) => Err(NotReplaced {
+            obstacle,
+            kept: Some(beside.path),
+        }),
+    }
 }
 
 // Gives the file beside an image the image's name once its bytes are on the disk, where that still

@@ -4,59 +4,82 @@ ghost use Rattle.image_commands.specs.Crashes.{IsShort};
 ghost use Rattle.std.specs.declared.io.ErrorKind.TheVariants.{OutOfMemory};
 
 use std::alloc::AllocError;
+use std::error::Error;
+use std::fmt::{self, Display, Formatter};
 use std::io;
-use thiserror::Error;
 
 /// Why a file can't be read or made, or an image not be put in its place. Each prints what is so,
 /// and what can be done.
-#[derive(Clone, Copy, Debug, PartialEq, Eq, Error)]
+#[derive(Clone, Copy, Debug, PartialEq, Eq)]
 pub enum Obstacle {
-    #[error("memory is short; try again with more")]
     NoMemory,
     /// Another program has the image, or has just put another one in its place.
-    #[error("a program serves it; end that one")]
     Served,
-    #[error("it is no file, or a link that leads nowhere; give the path of a file")]
     NoFile,
-    #[error("it is a folder; give the path of a file")]
     Folder,
     /// Of what is to be read.
-    #[error("it is not there; give the path of a file that is")]
     NotThere,
     /// Of what is to be read.
-    #[error("its mode or a folder's lets nobody read it, or not you; change that")]
     Unreadable,
-    #[error("it has bytes, and a new drive would wipe them; name another file, or remove this one")]
     HasBytes,
-    #[error("its folder is not there; make it, or name one that is")]
     NoFolder,
-    #[error("its mode or its folder's lets nobody write, or not you; change that")]
     NotAllowed,
-    #[error("its file system is read-only; mount it for writing, or name a file on another one")]
     ReadOnly,
-    #[error("its mode and owner cannot be kept; be the owner")]
     NotKept,
-    #[error("s4d.new and s4d.new.1 to s4d.new.99 are taken in its folder; see what these files are")]
     NoName,
-    #[error("there is no room for it; make room on its disk")]
     NoRoom,
-    #[error("it is mounted as a single file; mount its folder in place of it")]
     Mounted,
-    #[error("its path leads to another file than before, or to none")]
     Moved,
-    #[error("its folder cannot be written to the disk; the new image is there, unless the machine fails")]
     NotLasting,
     /// Of a session's file: it is the image, is read or written by another session, or has the name
     /// of a file beside the image.
-    #[error("it is the image, another session's file, or one beside the image; name another file")]
     Shared,
-    #[error("another program has it in use; end that one, or name another file")]
     InUse,
-    #[error("the system refuses it")]
     Other,
 }
 
 impl Obstacle {
+    // What is so, and what can be done.
+    fn text(self) -> &'static str {
+        match self {
+            Obstacle::NoMemory => "memory is short; try again with more",
+            Obstacle::Served => "a program serves it; end that one",
+            Obstacle::NoFile => {
+                "it is no file, or a link that leads nowhere; give the path of a file"
+            }
+            Obstacle::Folder => "it is a folder; give the path of a file",
+            Obstacle::NotThere => "it is not there; give the path of a file that is",
+            Obstacle::Unreadable => {
+                "its mode or a folder's lets nobody read it, or not you; change that"
+            }
+            Obstacle::HasBytes => {
+                "it has bytes, and a new drive would wipe them; name another file, or remove this one"
+            }
+            Obstacle::NoFolder => "its folder is not there; make it, or name one that is",
+            Obstacle::NotAllowed => {
+                "its mode or its folder's lets nobody write, or not you; change that"
+            }
+            Obstacle::ReadOnly => {
+                "its file system is read-only; mount it for writing, or name a file on another one"
+            }
+            Obstacle::NotKept => "its mode and owner cannot be kept; be the owner",
+            Obstacle::NoName => {
+                "s4d.new and s4d.new.1 to s4d.new.99 are taken in its folder; see what these files are"
+            }
+            Obstacle::NoRoom => "there is no room for it; make room on its disk",
+            Obstacle::Mounted => "it is mounted as a single file; mount its folder in place of it",
+            Obstacle::Moved => "its path leads to another file than before, or to none",
+            Obstacle::NotLasting => {
+                "its folder cannot be written to the disk; the new image is there, unless the machine fails"
+            }
+            Obstacle::Shared => {
+                "it is the image, another session's file, or one beside the image; name another file"
+            }
+            Obstacle::InUse => "another program has it in use; end that one, or name another file",
+            Obstacle::Other => "the system refuses it",
+        }
+    }
+
     /// What an error of the system says of a file that is to be written.
     pub fn of(kind: io::ErrorKind) -> Obstacle
         ensures memory { kind ≡ OutOfMemory → result ≡ Obstacle.NoMemory }
@@ -103,6 +126,14 @@ impl Obstacle {
         }
     }
 }
+
+impl Display for Obstacle {
+    fn fmt<W: fmt::Write>(&self, f: &mut Formatter<W>) -> fmt::Result {
+        f.write_str(self.text())
+    }
+}
+
+impl Error for Obstacle {}
 
 impl From<io::Error> for Obstacle {
     fn from(error: io::Error) -> Obstacle {

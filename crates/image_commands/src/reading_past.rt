@@ -96,8 +96,14 @@ fn write_past<'a, J: Naming, W: Sink>(
     };
     let object = ObjectId::new(asked.object);
     let moment = Moment::new(asked.moment);
-    match version_at(alloc, drive, &mut session, object, moment) {
-        Ok(version) => write_version(&version, writer),
+    let past = version_at(alloc, drive, &mut session, object, moment);
+    drop(session);
+    match past {
+        Ok(version) => {
+            let written = write_version(&version, writer);
+            drop(version);
+            written
+        }
         Err(refusal) => Err(Fault::Refused(refusal)),
     }
 }

@@ -80,7 +80,7 @@ pub fn claim_empty<'a, F: Files>(
     match files.has_bytes(&claim) {
         Ok(false) => Ok(claim),
         Ok(true) => Err(Fault::HasBytes(path)),
-        Err(error) => Err(writing(Obstacle::of(error.kind()), path)),
+        Err(error) => Err(writing(Obstacle::from(error), path)),
     }
 }
 

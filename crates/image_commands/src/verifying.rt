@@ -7,8 +7,8 @@ ghost use Rattle.std.specs.Io.KnownBytes.{Appends, Consumes, IsAtEnd};
 ghost use Rattle.s4_types.specs.declared.limits.TheConstants.{MOST_FRAMES};
 ghost use Rattle.s4_types.specs.declared.refusals.Cause.{Cause as Found};
 ghost use Rattle.image_parts.specs.Causes.{FirstSplitCause};
-ghost use Rattle.image_commands.specs.Faults.{SaysOverlong, SaysUnread, SaysUnsplit, SaysUnverified};
-ghost use Rattle.image_commands.specs.Faults.{SaysUnwritten};
+ghost use Rattle.image_commands.specs.Faults.{SaysOverlong, SaysUnread, SaysUnreadable};
+ghost use Rattle.image_commands.specs.Faults.{SaysUnsplit, SaysUnverified, SaysUnwritten};
 ghost use Rattle.image_commands.specs.Files.{AreKnown};
 ghost use Rattle.image_commands.specs.Leaving.{IsNoImage};
 ghost use Rattle.image_commands.specs.Verifying.{number_line, image_line, IsUnsplit, IsVerified};
@@ -84,8 +84,12 @@ pub fn is_damaged<T: Threads, R: Read>(rt: &T, alloc: Global, reader: &mut R) ->
 {
     match read_bounded(alloc, Asked::Present, reader) {
         Ok(Ok(bytes)) => match verify(rt, alloc, bytes.as_slice()) {
+            Ok(image) => {
+                drop(image);
+                false
+            }
             Err(Refusal::Damaged(_)) => true,
-            _ => false,
+            Err(_) => false,
         },
         Ok(Err(_)) => true,
         Err(_) => false,
@@ -106,12 +110,12 @@ pub fn read_whole<'a, F: Files>(
 {
     let mut reader = match files.open(path) {
         Ok(reader) => reader,
-        Err(error) => return Err(reading(error.kind(), path)),
+        Err(error) => return Err(unread(error, path)),
     };
     match read_bounded(alloc, asked, &mut reader) {
         Ok(Ok(bytes)) => Ok(bytes),
         Ok(Err(cause)) => Err(Fault::Refused(Refusal::Damaged(cause))),
-        Err(error) => Err(reading(error.kind(), path)),
+        Err(error) => Err(unread(error, path)),
     }
 }
 
@@ -128,13 +132,20 @@ pub fn read_bytes<'a, F: Files>(
 {
     let mut reader = match files.open(path) {
         Ok(reader) => reader,
-        Err(error) => return Err(reading(error.kind(), path)),
+        Err(error) => return Err(unread(error, path)),
     };
     match read_shorter(alloc, &mut reader) {
         Ok(Some(bytes)) => Ok(bytes),
         Ok(None) => Err(Fault::Refused(Refusal::Damaged(Cause::Length))),
-        Err(error) => Err(reading(error.kind(), path)),
+        Err(error) => Err(unread(error, path)),
     }
+}
+
+// Why a file can't be read whose reader failed, or that was not opened.
+fn unread<'a>(error: io::Error, path: &'a str) -> Fault<'a>
+    ensures { SaysUnreadable path.now result }
+{
+    reading(error.kind(), path)
 }
 
 // All bytes of a reader; none where they are more than `most_with` gives of their front: then one
@@ -296,11 +307,14 @@ pub fn verify_file<'a, T: Threads, F: Files, W: Sink>(
         (SaysUnverified (F.contents files.now asked.entry.image.now) asked.entry.image.now
         (W.failures writer.old) (W.failures writer.new)) }
 {
-    let image = match read_image(rt, alloc, files, asked.image) {
-        Ok(image) => image,
-        Err(fault) => return Err(fault),
-    };
-    write_image_numbers(alloc, &image, writer)
+    match read_image(rt, alloc, files, asked.image) {
+        Ok(verified) => {
+            let written = write_image_numbers(alloc, &verified, writer);
+            drop(verified);
+            written
+        }
+        Err(fault) => Err(fault),
+    }
 }
 
 // Writes the line of an image's numbers.
