@@ -34,19 +34,23 @@ pub record OverImage (known : Option (List ℕ)) (Holds : DriveFields → Type 0
 abbrev pub FailsOver : (known : Option (List ℕ)) → (Fails : DriveFields → Failure → Type 0) → Failure → Type 0
 FailsOver known Fails failure = HasNoMoments failure ⊎ OverImage known (λ d. Fails d failure)
 
--- A drive that was opened is changed, and saved as these bytes.
-pub record ChangesOpened (opened : OpenedFields) (bytes : List ℕ) (Changes : DriveFields → DriveFields → Type 0) : Type 0 where
-  pub drive : DriveFields
-  pub named : IsNamedOf opened drive
+-- A drive is changed so, and saved as these bytes.
+pub record SavesChanged (Changes : DriveFields → Type 0) (bytes : List ℕ) : Type 0 where
   pub later : DriveFields
-  pub changes : Changes drive later
+  pub changes : Changes later
   pub saved : SpellsSaved later bytes
 
--- The same, and these are what is known of a file then.
+-- A drive that was opened is changed, and what it is saved as is what is known of a file then.
 pub record SavesOpened (opened : OpenedFields) (known' : Option (List ℕ)) (Changes : DriveFields → DriveFields → Type 0) : Type 0 where
   pub bytes : List ℕ
-  pub changed : ChangesOpened opened bytes Changes
+  pub changed : OverOpened opened (λ d. SavesChanged (Changes d) bytes)
   pub kept : AreKnown known' bytes
+
+-- The same of a drive that was opened from this image.
+pub record SavesRead (image : ImageFields) (known' : Option (List ℕ)) (Changes : DriveFields → DriveFields → Type 0) : Type 0 where
+  pub opened : OpenedFields
+  pub parts : IsOpenedOf image opened
+  pub saves : SavesOpened opened known' Changes
 
 -- The drive that an image told is changed, and its file has what it is saved as then.
 pub record ChangesImage (known known' : Option (List ℕ)) (Changes : DriveFields → DriveFields → Type 0) : Type 0 where

@@ -5,9 +5,10 @@ ghost use Rattle.segment_table.specs.Room.{log_of};
 ghost use Rattle.version_store.specs.Store.{fields_of};
 ghost use Rattle.drive.specs.Fields.{DriveFields};
 ghost use Rattle.drive.specs.Opened.{base_of};
-ghost use Rattle.s4_images.specs.Commands.{ChangesImage, ChangesOpened, SavesOpened};
+ghost use Rattle.s4_images.specs.Commands.{ChangesImage, SavesChanged, SavesOpened, SavesRead};
 
 use crate::faults::Failure;
+use crate::using::{DriveUse, use_opened};
 use drive::{Drive, OpenedDrive};
 use image_commands::{Files, Place, Placed, longest_image, read_image, writing};
 use segment_word::Naming;
@@ -15,7 +16,7 @@ use serving::Sink;
 use std::alloc::Global;
 use std::marker::Brand;
 use std::thread::Threads;
-use verifier::{open, save};
+use verifier::{Image, open, save};
 
 /// What changes a drive, and prints what it did.
 pub trait DriveChange {
@@ -59,14 +60,44 @@ pub fn change_image<T: Threads, F: Files, C: DriveChange, W: Sink>(
     // failure all the same.
     let claim = files.claim(alloc, image);
     let read = read_image(rt, alloc, files, image)?;
-    let claim = match claim {
-        Ok(claim) => claim,
-        Err(obstacle) => return Err(Failure::from(writing(obstacle, image))),
-    };
+    match claim {
+        Ok(claim) => change_claimed(alloc, files, image, claim, read, change, writer),
+        Err(obstacle) => {
+            drop(read);
+            Err(Failure::from(writing(obstacle, image)))
+        }
+    }
+}
+
+// The same of an image that was claimed and read.
+#[tactic(auto, using(crate::proofs::Kept::untouched))]
+fn change_claimed<F: Files, C: DriveChange, W: Sink>(
+    alloc: Global,
+    files: &mut F,
+    image: &str,
+    claim: F::Claim,
+    read: Image,
+    change: &C,
+    writer: &mut W,
+) -> Result<Placed, Failure>
+    requires writer { W.failures writer.old + 1 < 2 ^ 64 }
+    requires claimed { F.leads claim image.now }
+    ensures changed { OnOk result
+        (SavesRead read (F.contents files.new image.now)
+        (λ drive later. C.changes change.now drive later (W.passed writer.old)
+        (W.passed writer.new))) }
+    ensures kept { OnErr result
+        ((path : List ℕ) → Keeps (F.contents files.old path) (F.contents files.new path)) }
+{
     let length = longest_image(read.frames());
     let opened = open(alloc, read)?;
-    let place = Place::beside(alloc, files, image, claim, length)?;
-    change_opened::<Brand, F, C, W>(alloc, files, place, opened, change, writer)
+    match Place::beside(alloc, files, image, claim, length) {
+        Ok(place) => change_opened::<Brand, F, C, W>(alloc, files, place, opened, change, writer),
+        Err(fault) => {
+            drop(opened);
+            Err(Failure::from(fault))
+        }
+    }
 }
 
 // Changes a drive that was just opened, and puts its image in its place.
@@ -93,7 +124,7 @@ fn change_opened<'a, J: Naming, F: Files, C: DriveChange, W: Sink>(
         → F.is_beside place.entry.beside path ≡ false
         → Keeps (F.contents files.old path) (F.contents files.new path)) }
 {
-    match changed_bytes::<J, C, W>(alloc, opened, change, writer) {
+    match use_opened::<J, Vec<u8>, W, Saving<'_, C>>(alloc, opened, &Saving { change }, writer) {
         Ok(bytes) => {
             let placed = place.put(files, bytes.as_slice())?;
             Ok(placed)
@@ -105,25 +136,25 @@ fn change_opened<'a, J: Naming, F: Files, C: DriveChange, W: Sink>(
     }
 }
 
-// Changes a drive that was just opened, and gives what it is saved as.
-fn changed_bytes<J: Naming, C: DriveChange, W: Sink>(
-    alloc: Global,
-    opened: OpenedDrive,
-    change: &C,
-    writer: &mut W,
-) -> Result<Vec<u8>, Failure>
-    requires accepts { opened.accepts ≡ J.accepts }
-    requires frames { opened.store.table.seat.table ≡ J.frames }
-    requires base { base_of (fields_of log_of opened.store) opened.timeline opened.next
-        opened.audit ≡ J.base }
-    requires writer { W.failures writer.old + 1 < 2 ^ 64 }
-    ensures changed { IfOk result
-        (λ bytes. ChangesOpened opened bytes.items
-        (λ drive later. C.changes change.now drive later (W.passed writer.old)
-        (W.passed writer.new))) }
-{
-    let mut drive = opened.named::<J>();
-    change.make(alloc, &mut drive, writer)?;
-    let bytes = save(alloc, &mut drive)?;
-    Ok(bytes)
+/// A change, with what the drive is saved as after it.
+#[derive(Clone, Copy)]
+struct Saving<'a, C: DriveChange> {
+    change: &'a C,
+}
+
+impl<C: DriveChange, W: Sink> DriveUse<Vec<u8>, W> for Saving<'_, C> {
+    ghost takes = { λ _ writer. W.failures writer + 1 < 2 ^ 64 };
+
+    ghost gives = { λ it d bytes before after. SavesChanged (λ later. C.changes it.change.now d later (W.passed before) (W.passed after)) bytes.items };
+
+    fn apply<J: Naming>(
+        &self,
+        alloc: Global,
+        drive: &mut Drive<J>,
+        writer: &mut W,
+    ) -> Result<Vec<u8>, Failure> {
+        self.change.make(alloc, drive, writer)?;
+        let bytes = save(alloc, drive)?;
+        Ok(bytes)
+    }
 }

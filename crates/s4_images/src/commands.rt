@@ -1,22 +1,18 @@
 //! Commands over the drive that an image tells.
-ghost use Rattle.std.specs.Prelude.{◌≡◌, ⊤, ℕ, ◌+◌, ◌^◌, ◌<◌, List, Option, IfErr, IfOk};
-ghost use Rattle.segment_table.specs.Room.{log_of};
-ghost use Rattle.version_store.specs.Store.{fields_of};
+ghost use Rattle.std.specs.Prelude.{⊤, ℕ, ◌+◌, ◌^◌, ◌<◌, List, Option, IfErr, IfOk};
 ghost use Rattle.drive.specs.Fields.{DriveFields};
-ghost use Rattle.drive.specs.Opened.{base_of};
-ghost use Rattle.s4_images.specs.Commands.{FailsOver, OverImage, OverOpened};
+ghost use Rattle.s4_images.specs.Commands.{FailsOver, OverImage};
 ghost use Rattle.s4_images.specs.declared.commands.Verdict.{Verdict as Found};
 ghost use Rattle.s4_images.specs.declared.faults.Failure.{Failure as Failed};
 
 use crate::faults::Failure;
-use drive::{Drive, OpenedDrive};
-use image_commands::{Files, read_image};
+use crate::using::{DriveUse, use_image};
+use drive::Drive;
+use image_commands::Files;
 use segment_word::Naming;
 use serving::Sink;
 use std::alloc::Global;
-use std::marker::Brand;
 use std::thread::Threads;
-use verifier::open;
 
 /// What a command found, as the program's status tells it.
 #[derive(Clone, Copy, PartialEq, Eq)]
@@ -67,30 +63,22 @@ pub fn over_image<T: Threads, F: Files, C: DriveCommand, W: Sink>(
     ensures fails { IfErr result
         (FailsOver (F.contents files.now image.now) (C.fails command.now)) }
 {
-    let image = read_image(rt, alloc, files, image)?;
-    let opened = open(alloc, image)?;
-    over_opened::<Brand, C, W>(alloc, opened, command, writer)
+    use_image(rt, alloc, files, image, command, writer)
 }
 
-// The same over a drive that was just opened.
-fn over_opened<J: Naming, C: DriveCommand, W: Sink>(
-    alloc: Global,
-    opened: OpenedDrive,
-    command: &C,
-    writer: &mut W,
-) -> Result<Verdict, Failure>
-    requires accepts { opened.accepts ≡ J.accepts }
-    requires frames { opened.store.table.seat.table ≡ J.frames }
-    requires base { base_of (fields_of log_of opened.store) opened.timeline opened.next
-        opened.audit ≡ J.base }
-    requires writer { W.failures writer.old + 1 < 2 ^ 64 }
-    ensures shows { IfOk result
-        (λ verdict. OverOpened opened
-        (λ drive. C.shows command.now drive verdict (W.passed writer.old)
-        (W.passed writer.new))) }
-    ensures fails { IfErr result
-        (λ failure. OverOpened opened (λ drive. C.fails command.now drive failure)) }
-{
-    let mut drive = opened.named::<J>();
-    command.perform(alloc, &mut drive, writer)
+impl<C: DriveCommand, W: Sink> DriveUse<Verdict, W> for C {
+    ghost takes = { λ _ writer. W.failures writer + 1 < 2 ^ 64 };
+
+    ghost gives = { λ it d verdict before after. C.shows it d verdict (W.passed before) (W.passed after) };
+
+    ghost fails = { C.fails };
+
+    fn apply<J: Naming>(
+        &self,
+        alloc: Global,
+        drive: &mut Drive<J>,
+        writer: &mut W,
+    ) -> Result<Verdict, Failure> {
+        self.perform(alloc, drive, writer)
+    }
 }

@@ -1,24 +1,16 @@
-use Rattle.std.proofs.Common.{ℕ, List, subst}
-use Rattle.std.proofs.lemmas.Result.{on_ok_weaker, on_err_weaker}
-use Rattle.image_commands.specs.Files.{AreKnown}
-use Rattle.s4_images.proofs.Kept.{kept_beside}
+use Rattle.std.proofs.lemmas.Result.{on_ok_weaker}
 use Rattle.s4_images.proofs.changing.change_image.Goals as goal
 
-pub returns : goal.returns
-returns g c = record {
-  changed = on_ok_weaker c.change_opened.result
-      (λ done. record {
-        drive = done.changed.drive;
-        told = record { image = c.in_ok-read.read; verified = c.in_ok-read.ensures.verified; opened = c.in_ok-opened.opened; parts = c.in_ok-opened.ensures.opened; named = done.changed.named };
-        later = done.changed.later;
-        changes = done.changed.changes;
-        bytes = done.bytes;
-        saved = done.changed.saved;
-        kept = subst (λ (path : List ℕ). AreKnown (g.F.Files.contents c.change_opened.new.files path) done.bytes) c.in_ok-place.ensures.path done.kept;
-      })
-      c.change_opened.ensures.changed;
-  kept = on_err_weaker c.change_opened.result
-      (λ kept. kept_beside (g.F.Files.contents c.args.files.now) (g.F.Files.contents c.beside.new.files) (g.F.Files.contents c.change_opened.new.files) (g.F.Files.is_beside c.in_ok-place.place.beside)
-      c.beside.ensures.others c.in_ok-place.ensures.unknown kept)
-      c.change_opened.ensures.kept;
-}
+pub returns-in-Ok-clause-changed : goal.returns-in-Ok-clause-changed
+returns-in-Ok-clause-changed g c =
+    on_ok_weaker c.change_claimed.result
+    (λ done. record {
+      drive = done.saves.changed.drive;
+      told = record { image = c.in_ok-read.read; verified = c.in_ok-read.ensures.verified; opened = done.opened; parts = done.parts; named = done.saves.changed.named };
+      later = done.saves.changed.holds.later;
+      changes = done.saves.changed.holds.changes;
+      bytes = done.saves.bytes;
+      saved = done.saves.changed.holds.saved;
+      kept = done.saves.kept;
+    })
+    c.change_claimed.ensures.changed

@@ -1,7 +1,7 @@
 use Rattle.segment_table.specs.Room.{log_of}
 use Rattle.version_store.specs.Store.{fields_of}
 use Rattle.drive.specs.Opened.{base_of}
-use Rattle.s4_images.proofs.changing.change_image.Given as goal
+use Rattle.s4_images.proofs.changing.change_claimed.Given as goal
 
 -- the drive that was opened
 abbrev pub ghosts-change_opened : goal.ghosts-change_opened
