@@ -12,3 +12,13 @@ mod service_times;
 mod summaries;
 mod whole_images;
 mod wire;
+
+use std::fs;
+
+/// Whether a file has these bytes.
+fn has_bytes(rt: &HostRuntime, path: &str, bytes: &[u8]) -> bool {
+    match fs::read(rt, path) {
+        Ok(read) => read.as_slice() == bytes,
+        Err(_) => false,
+    }
+}

@@ -21,6 +21,12 @@ struct Kept {
     reach: u64,
 }
 
+/// Nothing is kept.
+const NOTHING: Kept = Kept {
+    number: 0,
+    reach: 0,
+};
+
 impl Receipt for Kept {
     ghost number = { λ k. k.number };
 
@@ -63,14 +69,33 @@ impl Store {
             fails,
         }
     }
-}
 
-/// Accepts a change, and answers its number and the clock.
-fn accept(rt: &impl Wait, store: &Mutex<Store>) -> (u64, u64) {
-    let mut store = store.lock(rt);
-    store.accepted = store.accepted.saturating_add(1);
-    store.clock = store.clock.saturating_add(7);
-    (store.accepted, store.clock)
+    /// Accepts a change, and answers its number and the clock.
+    fn accept(&mut self) -> (u64, u64) {
+        self.accepted = self.accepted.saturating_add(1);
+        self.clock = self.clock.saturating_add(7);
+        (self.accepted, self.clock)
+    }
+
+    /// Keeps what was accepted.
+    fn flush(&mut self) -> Result<Kept, FlushError> {
+        if self.fails {
+            return Err(FlushError::Failed);
+        }
+        if self.short > 0 {
+            self.short -= 1;
+            return Err(FlushError::Short);
+        }
+        self.flushes = self.flushes.saturating_add(1);
+        Ok(Kept {
+            number: self.accepted,
+            reach: self.clock.saturating_add(AHEAD),
+        })
+    }
+
+    fn announce(&mut self) {
+        self.announced = self.announced.saturating_add(1);
+    }
 }
 
 /// What flushes the store.
@@ -82,24 +107,11 @@ struct Flusher<'a, R: Wait> {
 
 impl<R: Wait> Flush<Kept> for Flusher<'_, R> {
     fn flush(&mut self) -> Result<Kept, FlushError> {
-        let mut store = self.store.lock(self.rt);
-        if store.fails {
-            return Err(FlushError::Failed);
-        }
-        if store.short > 0 {
-            store.short -= 1;
-            return Err(FlushError::Short);
-        }
-        store.flushes = store.flushes.saturating_add(1);
-        Ok(Kept {
-            number: store.accepted,
-            reach: store.clock.saturating_add(AHEAD),
-        })
+        self.store.lock(self.rt).flush()
     }
 
     fn announce_shortage(&mut self) {
-        let mut store = self.store.lock(self.rt);
-        store.announced = store.announced.saturating_add(1);
+        self.store.lock(self.rt).announce();
     }
 }
 
@@ -111,7 +123,7 @@ fn is_kept<R: Wait + Clock, S: Steps>(
     steps: &S,
 ) -> bool {
     let mut flusher = Flusher { rt, store };
-    let (number, clock) = accept(rt, store);
+    let (number, clock) = store.lock(rt).accept();
     match monitor.await_kept(rt, &mut flusher, steps, number, clock) {
         Ok(receipt) => receipt.number() >= number && receipt.reach() >= clock,
         Err(NotKept) => false,

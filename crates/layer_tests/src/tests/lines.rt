@@ -1,5 +1,5 @@
 //! Lines in every cut.
-ghost use Rattle.std.specs.Prelude.{◌+◌, ◌^◌, ◌<◌, ◌≤◌};
+ghost use Rattle.std.specs.Prelude.{◌≡◌, ◌+◌, ◌^◌, ◌<◌, IsTrue};
 
 use door_lines::{DoorEnd, DoorLine, DoorReader};
 use serving::{MemorySource, Source};
@@ -13,10 +13,10 @@ fn word(line: &DoorLine) -> &str {
     }
 }
 
-/// Whether the next line says this.
+/// Whether the next line says this. No read failed then.
 fn is_next<S: Source>(reader: &mut DoorReader, source: &mut S, wanted: &str) -> bool
     requires { S.failures source.old + 1 < 2 ^ 64 }
-    ensures { S.failures source.new ≤ S.failures source.old + 1 }
+    ensures { IsTrue result → S.failures source.new ≡ S.failures source.old }
 {
     match reader.next_line(source) {
         Ok(line) => word(&line) == wanted,
@@ -24,22 +24,40 @@ fn is_next<S: Source>(reader: &mut DoorReader, source: &mut S, wanted: &str) -> 
     }
 }
 
+/// Whether lines that come in pieces of at most this many bytes say these words, and then are at
+/// their end.
+fn say(lines: &[u8], piece: usize, words: &[&str]) -> bool
+    requires { 0 < piece }
+{
+    let mut source = MemorySource::new(lines, piece);
+    let mut reader = DoorReader::new();
+    for word in words {
+        if !is_next(&mut reader, &mut source, word) {
+            return false;
+        }
+    }
+    matches!(reader.next_line(&mut source), Err(DoorEnd::Ended))
+}
+
 #[test]
 fn lines_are_read_in_any_pieces(rt: HostRuntime) {
     let lines = b"one\n\nstop\nstopped\n../x\na_b\nA-9\nlast";
+    let words = [
+        "one",
+        "(nothing)",
+        "(stop)",
+        "stopped",
+        "(nothing)",
+        "(nothing)",
+        "A-9",
+    ];
     for piece in 1..40 {
-        let mut source = MemorySource::new(lines, piece);
-        let mut reader = DoorReader::new();
-        assert!(rt; is_next(&mut reader, &mut source, "one"));
-        assert!(rt; is_next(&mut reader, &mut source, "(nothing)"));
-        assert!(rt; is_next(&mut reader, &mut source, "(stop)"));
-        assert!(rt; is_next(&mut reader, &mut source, "stopped"));
-        assert!(rt; is_next(&mut reader, &mut source, "(nothing)"));
-        assert!(rt; is_next(&mut reader, &mut source, "(nothing)"));
-        assert!(rt; is_next(&mut reader, &mut source, "A-9"));
-        assert!(rt; matches!(reader.next_line(&mut source), Err(DoorEnd::Ended)));
+        assert!(rt; say(lines, piece, &words), "pieces of {piece}");
     }
 }
+
+/// A name of 64 bytes, which no name is longer than.
+const LONGEST: &str = "xxxxxxxxxxxxxxxxxxxxxxxxxxxxxxxxxxxxxxxxxxxxxxxxxxxxxxxxxxxxxxxx";
 
 #[test]
 fn long_lines_are_passed_over(rt: HostRuntime) {
@@ -47,13 +65,5 @@ fn long_lines_are_passed_over(rt: HostRuntime) {
     lines[64] = b'\n';
     lines[130] = b'\n';
     lines[9_998] = b'\n';
-    let mut source = MemorySource::new(&lines, 512);
-    let mut reader = DoorReader::new();
-    match reader.next_line(&mut source) {
-        Ok(line) => assert_eq!(rt; word(&line).len(), 64),
-        Err(end) => assert!(rt; false, "{end}"),
-    }
-    assert!(rt; matches!(reader.next_line(&mut source), Ok(DoorLine::Nothing)));
-    assert!(rt; matches!(reader.next_line(&mut source), Ok(DoorLine::Nothing)));
-    assert!(rt; matches!(reader.next_line(&mut source), Err(DoorEnd::Ended)));
+    assert!(rt; say(&lines, 512, &[LONGEST, "(nothing)", "(nothing)"]));
 }

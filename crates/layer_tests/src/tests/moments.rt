@@ -1,84 +1,123 @@
 //! Worked moments. The dates beside the numbers are those of Python's `datetime`.
+use moment_words::MomentWord::{Before, Moment};
 use moment_words::{FIRST_DATED, MomentStyle, MomentWord, moment_of, moment_text, read, style_of};
 use std::test::Fail;
 
+/// Moments, and the words for them.
+static TEXTS: [(u64, MomentStyle, &str); 10] = [
+    (0, MomentStyle::Date, "1970-01-01T00:00:00.000000Z"),
+    (
+        946_684_799_999_999,
+        MomentStyle::Date,
+        "1999-12-31T23:59:59.999999Z",
+    ),
+    (
+        951_827_696_000_007,
+        MomentStyle::Date,
+        "2000-02-29T12:34:56.000007Z",
+    ),
+    (
+        FIRST_DATED,
+        MomentStyle::Date,
+        "2001-09-09T01:46:40.000000Z",
+    ),
+    (
+        1_795_785_482_000_123,
+        MomentStyle::Date,
+        "2026-11-27T13:18:02.000123Z",
+    ),
+    (
+        4_107_542_399_999_999,
+        MomentStyle::Date,
+        "2100-02-28T23:59:59.999999Z",
+    ),
+    (
+        4_107_542_400_000_000,
+        MomentStyle::Date,
+        "2100-03-01T00:00:00.000000Z",
+    ),
+    (
+        253_402_207_199_999_999,
+        MomentStyle::Date,
+        "9999-12-30T21:59:59.999999Z",
+    ),
+    (
+        1_795_785_482_000_123,
+        MomentStyle::Number,
+        "1795785482000123",
+    ),
+    (u64::MAX, MomentStyle::Date, "18446744073709551615"),
+];
+
+/// Each is printed so, and read again.
 #[test]
-fn prints_dates(rt: HostRuntime) -> Result<(), Fail> {
-    let cases: [(u64, &str); 8] = [
-        (0, "1970-01-01T00:00:00.000000Z"),
-        (946_684_799_999_999, "1999-12-31T23:59:59.999999Z"),
-        (951_827_696_000_007, "2000-02-29T12:34:56.000007Z"),
-        (FIRST_DATED, "2001-09-09T01:46:40.000000Z"),
-        (1_795_785_482_000_123, "2026-11-27T13:18:02.000123Z"),
-        (4_107_542_399_999_999, "2100-02-28T23:59:59.999999Z"),
-        (4_107_542_400_000_000, "2100-03-01T00:00:00.000000Z"),
-        (253_402_207_199_999_999, "9999-12-30T21:59:59.999999Z"),
-    ];
-    for (moment, date) in cases {
-        let text = moment_text(rt.alloc(), moment, MomentStyle::Date)?;
-        assert_eq!(rt; text.as_str(), date);
-        assert_eq!(rt; read(date), Some(MomentWord::Moment(moment)));
+fn prints_moments(rt: HostRuntime) -> Result<(), Fail> {
+    for (moment, style, words) in &TEXTS {
+        let text = moment_text(rt.alloc(), *moment, *style)?;
+        let is_so = text.as_str() == *words && read(words) == Some(Moment(*moment));
+        drop(text);
+        assert!(rt; is_so, "{words}");
     }
     Ok(())
 }
 
 #[test]
-fn prints_numbers(rt: HostRuntime) -> Result<(), Fail> {
-    let number = moment_text(rt.alloc(), 1_795_785_482_000_123, MomentStyle::Number)?;
-    assert_eq!(rt; number.as_str(), "1795785482000123");
-    let late = moment_text(rt.alloc(), u64::MAX, MomentStyle::Date)?;
-    assert_eq!(rt; late.as_str(), "18446744073709551615");
-    assert_eq!(rt; style_of(FIRST_DATED, false), MomentStyle::Date);
-    assert_eq!(rt; style_of(FIRST_DATED, true), MomentStyle::Number);
-    assert_eq!(rt; style_of(FIRST_DATED - 1, false), MomentStyle::Number);
-    Ok(())
+fn dates_begin_late(rt: HostRuntime) {
+    let styles = [
+        (FIRST_DATED, false, MomentStyle::Date),
+        (FIRST_DATED, true, MomentStyle::Number),
+        (FIRST_DATED - 1, false, MomentStyle::Number),
+    ];
+    for (clock, is_asked, style) in &styles {
+        assert!(rt; style_of(*clock, *is_asked) == *style, "{clock}");
+    }
 }
+
+/// Words, and what they say.
+static WORDS: [(&str, Option<MomentWord>); 22] = [
+    ("17", Some(Moment(17))),
+    ("+17", Some(Moment(17))),
+    ("18446744073709551615", Some(Moment(u64::MAX))),
+    ("2026-11-27T13:18:02Z", Some(Moment(1_795_785_482_000_000))),
+    (
+        "2026-11-27 15:18:02.0001239+02:00",
+        Some(Moment(1_795_785_482_000_123)),
+    ),
+    ("1970-01-01T00:00:00Z", Some(Moment(0))),
+    ("0s", Some(Before(0))),
+    ("90s", Some(Before(90_000_000))),
+    ("15m", Some(Before(900_000_000))),
+    ("2h", Some(Before(7_200_000_000))),
+    ("3d", Some(Before(259_200_000_000))),
+    ("1w", Some(Before(604_800_000_000))),
+    ("", None),
+    ("s", None),
+    ("-1", None),
+    ("1y", None),
+    ("1.5h", None),
+    ("2h30m", None),
+    ("2026-11-27", None),
+    ("1969-12-31T23:59:59Z", None),
+    ("18446744073709551616", None),
+    ("30500569w", None),
+];
 
 #[test]
 fn reads_words(rt: HostRuntime) {
-    let moments: [(&str, u64); 6] = [
-        ("17", 17),
-        ("+17", 17),
-        ("18446744073709551615", u64::MAX),
-        ("2026-11-27T13:18:02Z", 1_795_785_482_000_000),
-        ("2026-11-27 15:18:02.0001239+02:00", 1_795_785_482_000_123),
-        ("1970-01-01T00:00:00Z", 0),
-    ];
-    for (text, moment) in moments {
-        assert_eq!(rt; read(text), Some(MomentWord::Moment(moment)), "{text}");
-    }
-    let ages: [(&str, u64); 6] = [
-        ("0s", 0),
-        ("90s", 90_000_000),
-        ("15m", 900_000_000),
-        ("2h", 7_200_000_000),
-        ("3d", 259_200_000_000),
-        ("1w", 604_800_000_000),
-    ];
-    for (text, age) in ages {
-        assert_eq!(rt; read(text), Some(MomentWord::Before(age)), "{text}");
-    }
-    let others: [&str; 10] = [
-        "",
-        "s",
-        "-1",
-        "1y",
-        "1.5h",
-        "2h30m",
-        "2026-11-27",
-        "1969-12-31T23:59:59Z",
-        "18446744073709551616",
-        "30500569w",
-    ];
-    for text in others {
-        assert_eq!(rt; read(text), None, "{text}");
+    for (text, word) in &WORDS {
+        assert!(rt; read(text) == *word, "{text}");
     }
 }
 
 #[test]
 fn ages_count_from_the_clock(rt: HostRuntime) {
-    let hour = MomentWord::Before(3_600_000_000);
-    assert_eq!(rt; moment_of(hour, FIRST_DATED), FIRST_DATED - 3_600_000_000);
-    assert_eq!(rt; moment_of(hour, 13), 0);
-    assert_eq!(rt; moment_of(MomentWord::Moment(14), 13), 14);
+    let hour = Before(3_600_000_000);
+    let cases = [
+        (hour, FIRST_DATED, FIRST_DATED - 3_600_000_000),
+        (hour, 13, 0),
+        (Moment(14), 13, 14),
+    ];
+    for (word, clock, moment) in &cases {
+        assert!(rt; moment_of(*word, *clock) == *moment, "{moment}");
+    }
 }

@@ -4,6 +4,7 @@
 use migration::{migrate, migrated};
 use s4_types::{Cause, Refusal};
 use std::alloc::{AllocError, Global};
+use std::process::Abort;
 use std::test::Fail;
 use std::thread::Threads;
 use verifier::{Image, verify};
@@ -96,51 +97,49 @@ const NEW_DIGEST: [u8; 32] = [
     0xde, 0x6b, 0x6c, 0xd3, 0x38, 0x8b, 9, 7, 0x34, 0x0f, 0x9e, 0x62, 0xde, 0x7a, 0x1e, 0x35,
 ];
 
-/// Bytes of an image from a place on, after zeros.
-fn put(out: &mut Vec<u8>, at: usize, bytes: &[u8]) -> Result<(), AllocError> {
-    for _ in out.len()..at {
-        out.push(0)?;
-    }
-    out.extend_from_slice(bytes)
-}
+/// The parts of the earlier image: where each begins, how often its bytes are there, and the bytes.
+/// Before each are zeros.
+static OLD_PARTS: [(usize, usize, &[u8]); 10] = [
+    (0, 1, &OLD_HEADER),
+    (512, 1, &OPEN),
+    (520, 1, &OLD_SUMMARY),
+    (1_000, 1, &OLD_FRAME_DIGEST),
+    (1_032, 1, &UNNAMED),
+    (1_544, 1, b"abc"),
+    (2_056, 1, &OLD_JOURNAL),
+    (8_712, 15, &FREE),
+    (8_832, 1, &OLD_ROW),
+    (8_872, 1, &OLD_DIGEST),
+];
 
-/// The words of free frames, after zeros.
-fn put_free(out: &mut Vec<u8>, at: usize, count: usize) -> Result<(), AllocError> {
-    put(out, at, &[])?;
-    for _ in 0..count {
-        out.extend_from_slice(&FREE)?;
+/// Those of the one that it becomes.
+static NEW_PARTS: [(usize, usize, &[u8]); 9] = [
+    (0, 1, &NEW_HEADER),
+    (512, 1, &OPEN),
+    (520, 1, &NEW_SUMMARY),
+    (1_000, 1, &NEW_FRAME_DIGEST),
+    (1_032, 1, b"abc"),
+    (1_544, 1, &NEW_JOURNAL),
+    (8_712, 23, &FREE),
+    (8_896, 1, &NEW_ROW),
+    (8_936, 1, &NEW_DIGEST),
+];
+
+/// Bytes from a place on, this often, after zeros.
+fn put(out: &mut Vec<u8>, at: usize, times: usize, bytes: &[u8]) -> Result<(), AllocError> {
+    out.resize(at, 0)?;
+    for _ in 0..times {
+        out.extend_from_slice(bytes)?;
     }
     Ok(())
 }
 
-/// The earlier image.
-fn earlier_image(alloc: Global) -> Result<Vec<u8>, AllocError> {
+/// The image of these parts.
+fn image_of(alloc: Global, parts: &[(usize, usize, &[u8])]) -> Result<Vec<u8>, AllocError> {
     let mut out = Vec::new(alloc);
-    put(&mut out, 0, &OLD_HEADER)?;
-    put(&mut out, 512, &OPEN)?;
-    put(&mut out, 520, &OLD_SUMMARY)?;
-    put(&mut out, 1_000, &OLD_FRAME_DIGEST)?;
-    put(&mut out, 1_032, &UNNAMED)?;
-    put(&mut out, 1_544, b"abc")?;
-    put(&mut out, 2_056, &OLD_JOURNAL)?;
-    put_free(&mut out, 8_712, 15)?;
-    put(&mut out, 8_832, &OLD_ROW)?;
-    put(&mut out, 8_872, &OLD_DIGEST)?;
-    Ok(out)
-}
-
-/// The image that it becomes.
-fn new_image(alloc: Global) -> Result<Vec<u8>, AllocError> {
-    let mut out = Vec::new(alloc);
-    put(&mut out, 0, &NEW_HEADER)?;
-    put(&mut out, 512, &OPEN)?;
-    put(&mut out, 520, &NEW_SUMMARY)?;
-    put(&mut out, 1_000, &NEW_FRAME_DIGEST)?;
-    put(&mut out, 1_032, b"abc")?;
-    put(&mut out, 1_544, &NEW_JOURNAL)?;
-    put_free(&mut out, 8_712, 23)?;
-    put(&mut out, 8_896, &NEW_ROW)?;
-    put(&mut out, 8_936, &NEW_DIGEST)?;
+    for (at, times, bytes) in parts {
+        put(&mut out, *at, *times, bytes)?;
+    }
     Ok(out)
 }
 
@@ -153,12 +152,21 @@ fn are_alike(one: &Image, other: &Image) -> bool {
         && one.floor() == other.floor()
 }
 
-/// Why bytes become no image.
-fn refusal_of<R: Threads>(rt: &R, alloc: Global, bytes: &[u8]) -> Option<Refusal> {
-    match migrate(rt, alloc, bytes) {
-        Ok(_) => None,
-        Err(refusal) => Some(refusal),
-    }
+/// Why the image of these parts becomes none, once its last bytes, as many as `cut`, are replaced
+/// by `tail`.
+fn refusal_of<R: Threads>(
+    rt: &R,
+    alloc: Global,
+    parts: &[(usize, usize, &[u8])],
+    cut: usize,
+    tail: &[u8],
+) -> Result<Option<Refusal>, AllocError> {
+    let mut bytes = image_of(alloc, parts)?;
+    bytes.truncate(bytes.len().saturating_sub(cut));
+    bytes.extend_from_slice(tail)?;
+    let refusal = migrate(rt, alloc, bytes.as_slice()).err();
+    drop(bytes);
+    Ok(refusal)
 }
 
 /// Whether an image has the numbers of the earlier one, as its bytes do.
@@ -174,32 +182,43 @@ fn is_the_earlier<R: Threads>(rt: &R, alloc: Global, image: &Image, bytes: &[u8]
     }
 }
 
-#[test]
-fn an_earlier_image_becomes_another(rt: HostRuntime) -> Result<(), Fail> {
-    let old = earlier_image(rt.alloc())?;
-    let new = migrated(rt.alloc(), old.as_slice())?;
-    assert!(rt; old.len() == 8_904 && new.len() == 8_968);
-    assert!(rt; new == new_image(rt.alloc())?);
-    let image = migrate(&rt, rt.alloc(), old.as_slice())?;
-    let is_it = is_the_earlier(&rt, rt.alloc(), &image, new.as_slice());
+/// The one image becomes the other, whether it is opened or rewritten.
+fn check_moved<R: Abort + Threads>(
+    rt: &R,
+    alloc: Global,
+    old: &[u8],
+    new: &[u8],
+) -> Result<(), Refusal> {
+    let bytes = migrated(alloc, old)?;
+    let is_new = bytes.as_slice() == new;
+    drop(bytes);
+    assert!(rt; is_new);
+    let image = migrate(rt, alloc, old)?;
+    let is_it = is_the_earlier(rt, alloc, &image, new);
     drop(image);
     assert!(rt; is_it);
     Ok(())
 }
 
 #[test]
+fn an_earlier_image_becomes_another(rt: HostRuntime) -> Result<(), Fail> {
+    let old = image_of(rt.alloc(), &OLD_PARTS)?;
+    let new = image_of(rt.alloc(), &NEW_PARTS)?;
+    assert!(rt; old.len() == 8_904 && new.len() == 8_968);
+    let moved = check_moved(&rt, rt.alloc(), old.as_slice(), new.as_slice());
+    drop(new);
+    drop(old);
+    moved?;
+    Ok(())
+}
+
+#[test]
 fn other_bytes_are_refused(rt: HostRuntime) -> Result<(), Fail> {
-    let new = new_image(rt.alloc())?;
-    let header = Some(Refusal::Damaged(Cause::Header));
-    assert!(rt; refusal_of(&rt, rt.alloc(), new.as_slice()) == header);
-    let mut longer = earlier_image(rt.alloc())?;
-    longer.push(0)?;
-    let length = Some(Refusal::Damaged(Cause::Length));
-    assert!(rt; refusal_of(&rt, rt.alloc(), longer.as_slice()) == length);
-    let mut changed = earlier_image(rt.alloc())?;
-    changed.pop();
-    changed.push(0)?;
-    let digest = Some(Refusal::Damaged(Cause::Digest));
-    assert!(rt; refusal_of(&rt, rt.alloc(), changed.as_slice()) == digest);
+    let new = refusal_of(&rt, rt.alloc(), &NEW_PARTS, 0, b"")?;
+    assert!(rt; new == Some(Refusal::Damaged(Cause::Header)));
+    let longer = refusal_of(&rt, rt.alloc(), &OLD_PARTS, 0, b"\0")?;
+    assert!(rt; longer == Some(Refusal::Damaged(Cause::Length)));
+    let changed = refusal_of(&rt, rt.alloc(), &OLD_PARTS, 1, b"\0")?;
+    assert!(rt; changed == Some(Refusal::Damaged(Cause::Digest)));
     Ok(())
 }

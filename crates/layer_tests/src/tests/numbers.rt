@@ -1,44 +1,42 @@
 //! Numbers of accepted changes, in two threads.
 ghost use Rattle.std.specs.Prelude.{◌≡◌};
 
+use s4_types::Refusal;
 use segment_word::Naming;
 use segment_word::accepts::{Accepts, HistorySeat, SessionSeat, Sessions};
-use std::alloc::Global;
 use std::marker::Brand;
 use std::process::Abort;
 use std::sync::{Mutex, Wait};
-use std::test::Fail;
 use std::thread::{Threads, join};
 
 const EACH: usize = 100;
 
-// The number of a change accepted for the session, unless no number is left.
-fn accept_next<J: Naming>(drive: &mut HistorySeat<J>, session: &mut SessionSeat<J>) -> Option<u64> {
+// The number of a change accepted for the session, or 0 where no number is left.
+fn accept_next<J: Naming>(drive: &mut HistorySeat<J>, session: &mut SessionSeat<J>) -> u64 {
     if drive.count() == u64::MAX {
-        return None;
+        return 0;
     }
-    Some(drive.accept::<Brand>(session))
+    drive.accept::<Brand>(session)
 }
 
 #[test]
-fn two_threads(rt: HostRuntime) -> Result<(), Fail> {
-    share_a_lock::<Brand, _>(&rt, rt.alloc(), Accepts::new(rt.alloc())?)
+fn two_threads(rt: HostRuntime) -> Result<(), Refusal> {
+    share_a_lock::<Brand, _>(&rt, Accepts::new(rt.alloc())?)
 }
 
 // Each session accepts its changes, under the lock one by one, and then meets the drive.
 fn accept_all<J: Naming>(
     rt: &impl Wait,
-    alloc: Global,
     drive: &Mutex<HistorySeat<J>>,
     mut session: SessionSeat<J>,
-) -> Option<Vec<u64>> {
-    let mut numbers = Vec::new(alloc);
-    for _ in 0..EACH {
-        let number = accept_next(&mut *drive.lock(rt), &mut session)?;
-        numbers.push(number).ok()?;
+) -> [u64; EACH] {
+    let mut numbers = [0; EACH];
+    for number in numbers.iter_mut() {
+        *number = accept_next(&mut *drive.lock(rt), &mut session);
     }
     drive.lock(rt).meet(&mut session);
-    Some(numbers)
+    drop(session);
+    numbers
 }
 
 fn ascend(numbers: &[u64]) -> bool {
@@ -52,16 +50,14 @@ fn ascend(numbers: &[u64]) -> bool {
 
 fn share_a_lock<J: Naming + Send + Sync, R: Threads + Wait + Abort + Sync>(
     rt: &R,
-    alloc: Global,
     accepts: Accepts,
-) -> Result<(), Fail>
+) -> Result<(), Refusal>
     requires { accepts ≡ J.accepts }
 {
     let (sessions, drive) = accepts.named::<J>();
     let drive = Mutex::new(drive);
-    let shared = share(rt, alloc, &sessions, &drive);
+    let shared = share(rt, &sessions, &drive);
     drop(sessions);
-    assert!(rt; drive.lock(rt).count() == 200);
     drop(drive);
     shared
 }
@@ -69,23 +65,26 @@ fn share_a_lock<J: Naming + Send + Sync, R: Threads + Wait + Abort + Sync>(
 // Two sessions share the drive.
 fn share<J: Naming + Send + Sync, R: Threads + Wait + Abort + Sync>(
     rt: &R,
-    alloc: Global,
     sessions: &Sessions<J>,
     drive: &Mutex<HistorySeat<J>>,
-) -> Result<(), Fail> {
+) -> Result<(), Refusal> {
     let one = sessions.seat()?;
     let two = sessions.seat()?;
     let (one, two) = join(
         rt,
-        || accept_all(rt, alloc, drive, one),
-        || accept_all(rt, alloc, drive, two),
+        || accept_all(rt, drive, one),
+        || accept_all(rt, drive, two),
     );
-    let one = one.ok_or("one")?;
-    let two = two.ok_or("two")?;
-    assert!(rt; one.len() == EACH && two.len() == EACH);
-    assert!(rt; ascend(one.as_slice()) && ascend(two.as_slice()));
+    let count = drive.lock(rt).count();
+    check(rt, &one, &two, count);
+    Ok(())
+}
+
+// Each number was given to one of the two, and to each of them in ascending order.
+fn check(rt: &impl Abort, one: &[u64], two: &[u64], count: u64) {
+    assert!(rt; count == 200);
+    assert!(rt; ascend(one) && ascend(two));
     for number in 1..=2 * EACH as u64 {
         assert!(rt; one.contains(&number) != two.contains(&number));
     }
-    Ok(())
 }

@@ -7,8 +7,8 @@ ghost use Rattle.segment_word.specs.Counting.{pins_in};
 use s4_types::Refusal;
 use s4_types::limits::FEWEST_FRAMES;
 use segment_word::{DriveSeat, Frames, Pin};
-use std::test::Fail;
-use std::thread::join;
+use std::alloc::Global;
+use std::thread::{Threads, join};
 
 /// A pin that counts on frame 0, and was told so twice.
 fn pinned(frames: &Frames, drive: &mut DriveSeat) -> Result<Pin, Refusal>
@@ -116,14 +116,16 @@ fn is_intact(mut pin: Pin, frame: usize) -> bool
     true
 }
 
-#[test]
-fn reads_while_another_frame_is_written(rt: HostRuntime) -> Result<(), Fail> {
-    let (frames, mut drive) = Frames::new(rt.alloc(), FEWEST_FRAMES)?;
+/// A thread reads frame 0 while frame 1 is filled. Answers whether it read the pattern, whether
+/// both frames have theirs then, and their words.
+fn read_beside<R: Threads>(rt: &R, alloc: Global) -> Result<(bool, bool, [u64; 2]), Refusal> {
+    let (frames, mut drive) = Frames::new(alloc, FEWEST_FRAMES)?;
     fill(&mut drive, 0);
     let mut pin = frames.seat()?;
     pin.add(drive.frame(0))?;
-    let (intact, mut drive) = join(
-        &rt,
+    drop(frames);
+    let (is_intact, mut drive) = join(
+        rt,
         move || -> bool
             requires { 0 < pins_in 0 pin.pins }
         { is_intact(pin, 0) },
@@ -137,9 +139,18 @@ fn reads_while_another_frame_is_written(rt: HostRuntime) -> Result<(), Fail> {
             drive
         },
     );
-    assert!(rt; intact);
-    assert!(rt; drive.load(0, 15) == pattern(0, 15) && drive.load(1, 15) == pattern(1, 15));
-    assert!(rt; [drive.state(0), drive.state(1)] == [0x0000_0001_0000_0002; 2]);
+    let are_stored = drive.load(0, 15) == pattern(0, 15) && drive.load(1, 15) == pattern(1, 15);
+    let words = [drive.state(0), drive.state(1)];
+    drop(drive);
+    Ok((is_intact, are_stored, words))
+}
+
+#[test]
+fn reads_while_another_frame_is_written(rt: HostRuntime) -> Result<(), Refusal> {
+    let (is_intact, are_stored, words) = read_beside(&rt, rt.alloc())?;
+    assert!(rt; is_intact);
+    assert!(rt; are_stored);
+    assert!(rt; words == [0x0000_0001_0000_0002; 2]);
     Ok(())
 }
 

@@ -20,6 +20,10 @@ fn is_frame(frame: Result<Vec<u8>, Refusal>, bytes: &[u8]) -> bool {
     }
 }
 
+fn is_reply(alloc: Global, body: &[u8]) -> bool {
+    decode_reply(alloc, body).is_ok()
+}
+
 /// Whether the frame of the Flush is the only item of a stream.
 fn is_flush_read(alloc: Global) -> Result<bool, Refusal> {
     let stream = Vec::from_slice(alloc, &FLUSH)?;
@@ -30,14 +34,28 @@ fn is_flush_read(alloc: Global) -> Result<bool, Refusal> {
     ))
 }
 
-#[test]
-fn frames_are_written_and_read(rt: HostRuntime) {
+/// Whether the frame of a Flush is the one that was worked by hand.
+fn is_flush_written(alloc: Global) -> bool {
     let first = Moment::new(1);
     let last = Moment::new(2);
     let flush = Request::Control(AdminRequest::Flush { first, last });
-    assert!(rt; is_frame(encode_request(rt.alloc(), &flush), &FLUSH));
-    let changed = Reply::Changed(last);
-    assert!(rt; is_frame(encode_reply(rt.alloc(), &changed), &CHANGED));
-    assert!(rt; decode_reply(rt.alloc(), &CHANGED[4..]).is_ok());
+    let frame = encode_request(alloc, &flush);
+    drop(flush);
+    is_frame(frame, &FLUSH)
+}
+
+/// Whether that of a change is.
+fn is_change_written(alloc: Global) -> bool {
+    let changed = Reply::Changed(Moment::new(2));
+    let frame = encode_reply(alloc, &changed);
+    drop(changed);
+    is_frame(frame, &CHANGED)
+}
+
+#[test]
+fn frames_are_written_and_read(rt: HostRuntime) {
+    assert!(rt; is_flush_written(rt.alloc()));
+    assert!(rt; is_change_written(rt.alloc()));
+    assert!(rt; is_reply(rt.alloc(), &CHANGED[4..]));
     assert!(rt; matches!(is_flush_read(rt.alloc()), Ok(true)));
 }

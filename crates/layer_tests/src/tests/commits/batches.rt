@@ -7,7 +7,6 @@ use rpc::push_request;
 use s4_types::{AdminRequest, Moment, Refusal, Reply, Request};
 use serving::{Backend, MemorySink, MemorySource, Ticking};
 use std::alloc::Global;
-use std::test::Fail;
 
 /// A backend that refuses all, and counts it.
 #[derive(Clone, Copy)]
@@ -53,12 +52,14 @@ impl Keeping<Refusing> for Counting {
     }
 }
 
-/// What came of a session.
-#[derive(Drop)]
+/// What came of a session: how it ended, how often and after how many requests it was waited for,
+/// and how many bytes it was told.
+#[derive(Clone, Copy, PartialEq, Eq)]
 struct Came {
     end: BatchEnd,
-    keeping: Counting,
-    sink: MemorySink,
+    waits: u64,
+    asked: u64,
+    told: usize,
 }
 
 /// Serves a session whose input comes in pieces of at most this many bytes, or 1.
@@ -76,37 +77,57 @@ fn serve_counted(alloc: Global, frames: &[u8], piece: usize, fails: bool) -> Cam
         &mut clock,
         &mut keeping,
     );
-    Came { end, keeping, sink }
+    let told = sink.as_slice().len();
+    drop(sink);
+    Came {
+        end,
+        waits: keeping.waits,
+        asked: keeping.asked,
+        told,
+    }
+}
+
+/// Appends the frame of a request.
+fn push(frames: &mut Vec<u8>) -> Result<(), Refusal> {
+    let request = Request::Control(AdminRequest::SetWindow { window: 7 });
+    let pushed = push_request(frames, &request);
+    drop(request);
+    pushed
+}
+
+/// Serves a session that asks this many times.
+fn serve_requests(alloc: Global, count: usize, piece: usize, fails: bool) -> Result<Came, Refusal> {
+    let mut frames = Vec::new(alloc);
+    for _ in 0..count {
+        push(&mut frames)?;
+    }
+    let came = serve_counted(alloc, frames.as_slice(), piece, fails);
+    drop(frames);
+    Ok(came)
 }
 
 /// The bytes of a refusal: its length, 0 for refused, and its number.
 const REFUSED_BYTES: usize = 6;
 
 #[test]
-fn a_piece_is_waited_for_once(rt: HostRuntime) -> Result<(), Fail> {
-    let mut frames = Vec::new(rt.alloc());
-    let request = Request::Control(AdminRequest::SetWindow { window: 7 });
-    for _ in 0..3 {
-        assert!(rt; push_request(&mut frames, &request).is_ok());
-    }
-    for (piece, waits) in [(frames.len(), 1), (1, 3)] {
-        let came = serve_counted(rt.alloc(), frames.as_slice(), piece, false);
-        assert_eq!(rt; came.end, BatchEnd::Ended);
-        assert_eq!(rt; came.keeping.waits, waits);
-        assert_eq!(rt; came.keeping.asked, 3);
-        assert_eq!(rt; came.sink.as_slice().len(), 3 * REFUSED_BYTES);
+fn a_piece_is_waited_for_once(rt: HostRuntime) -> Result<(), Refusal> {
+    for (piece, waits) in &[(64, 1), (1, 3)] {
+        let wanted = Came {
+            end: BatchEnd::Ended,
+            waits: *waits,
+            asked: 3,
+            told: 3 * REFUSED_BYTES,
+        };
+        let came = serve_requests(rt.alloc(), 3, *piece, false)?;
+        assert!(rt; came == wanted, "{piece}");
     }
     Ok(())
 }
 
 #[test]
-fn nothing_goes_out_that_is_not_kept(rt: HostRuntime) -> Result<(), Fail> {
-    let mut frames = Vec::new(rt.alloc());
-    let request = Request::Control(AdminRequest::SetWindow { window: 7 });
-    assert!(rt; push_request(&mut frames, &request).is_ok());
-    let came = serve_counted(rt.alloc(), frames.as_slice(), 64, true);
-    assert_eq!(rt; came.end, BatchEnd::NotKept);
-    assert_eq!(rt; came.keeping.asked, 1);
-    assert!(rt; came.sink.as_slice().is_empty());
+fn nothing_goes_out_that_is_not_kept(rt: HostRuntime) -> Result<(), Refusal> {
+    let came = serve_requests(rt.alloc(), 1, 64, true)?;
+    assert!(rt; came.end == BatchEnd::NotKept);
+    assert!(rt; came.asked == 1 && came.told == 0);
     Ok(())
 }

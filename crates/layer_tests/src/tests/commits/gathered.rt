@@ -2,7 +2,7 @@
 //! that takes, and nobody waits for what doesn't come.
 ghost use Rattle.std.specs.Prelude.{◌≡◌};
 
-use crate::tests::commits::{Kept, Store, is_kept};
+use crate::tests::commits::{Kept, NOTHING, Store, is_kept};
 use group_commit::{CommitStep, Monitor, Open, Steps};
 use std::io;
 use std::process::Abort;
@@ -106,10 +106,7 @@ struct Pair {
 impl Pair {
     fn new() -> Self {
         Pair {
-            monitor: Monitor::new(Kept {
-                number: 0,
-                reach: 0,
-            }),
+            monitor: Monitor::new(NOTHING),
             store: Mutex::new(Store::new(0, false)),
             has_ended: AtomicBool::new(false),
         }
@@ -133,7 +130,20 @@ fn play_two<R: Threads + Wait + Sync>(rt: &R) -> (bool, u64) {
     let pair = Pair::new();
     let (first, second) = join(rt, || pair.play(rt), || pair.play(rt));
     let flushes = pair.store.lock(rt).flushes;
+    drop(pair);
     (first && second, flushes)
+}
+
+/// One session alone. Answers the same.
+fn play_alone<R: Wait>(rt: &R) -> (bool, u64) {
+    let pair = Pair::new();
+    let has_ended = &pair.has_ended;
+    let timed = Stopped::new(rt, has_ended);
+    let are_kept = are_kept(&timed, &pair.monitor, &pair.store, &Open, has_ended);
+    drop(timed);
+    let flushes = pair.store.lock(rt).flushes;
+    drop(pair);
+    (are_kept, flushes)
 }
 
 #[test]
@@ -145,9 +155,7 @@ fn whoever_comes_again_shares_the_next_flush(rt: HostRuntime) {
 
 #[test]
 fn who_is_alone_waits_for_nobody(rt: HostRuntime) {
-    let pair = Pair::new();
-    let has_ended = &pair.has_ended;
-    let timed = Stopped::new(&rt, has_ended);
-    assert!(rt; are_kept(&timed, &pair.monitor, &pair.store, &Open, has_ended));
-    assert_eq!(rt; pair.store.lock(&rt).flushes, CHANGES);
+    let (are_kept, flushes) = play_alone(&rt);
+    assert!(rt; are_kept);
+    assert!(rt; flushes == CHANGES, "{flushes} flushes");
 }

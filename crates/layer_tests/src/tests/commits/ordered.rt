@@ -1,6 +1,6 @@
 //! Two sessions that wait, one of which is held before a step until the other has come to another:
 //! every run ends, in whichever order they come.
-use crate::tests::commits::{Kept, Store, is_kept};
+use crate::tests::commits::{NOTHING, Store, is_kept};
 use group_commit::{CommitStep, Monitor, Steps};
 use std::process::Abort;
 use std::sync::{Condvar, CondvarTimeouts, Mutex, Wait};
@@ -26,6 +26,25 @@ struct Seen {
     has_come: bool,
 }
 
+impl Seen {
+    /// Whether the thread that has come to one of the two steps, or to another, is the first at the
+    /// one where it is held.
+    fn note(&mut self, is_held: bool, is_until: bool) -> bool {
+        if is_held && !self.was_held {
+            self.was_held = true;
+            return true;
+        }
+        self.has_come |= self.was_held && is_until;
+        false
+    }
+}
+
+/// Nothing came yet.
+const NOTHING_SEEN: Seen = Seen {
+    was_held: false,
+    has_come: false,
+};
+
 /// Steps at which whoever comes first to the one is held until somebody else has come to the
 /// other.
 #[derive(Drop)]
@@ -37,30 +56,15 @@ struct Order<'a, R: Wait + Clock> {
     news: Condvar,
 }
 
-impl<'a, R: Wait + Clock> Order<'a, R> {
-    fn new(rt: &'a R, held: CommitStep, until: CommitStep) -> Self {
-        Order {
-            rt,
-            held,
-            until,
-            seen: Mutex::new(Seen {
-                was_held: false,
-                has_come: false,
-            }),
-            news: Condvar::new(),
-        }
-    }
-
+impl<R: Wait + Clock> Order<'_, R> {
     /// Whether the thread that has come to this step is the one that is held.
     fn note(&self, step: CommitStep) -> bool {
-        let mut seen = self.seen.lock(self.rt);
-        if step == self.held && !seen.was_held {
-            seen.was_held = true;
-            return true;
-        }
-        seen.has_come |= seen.was_held && step == self.until;
+        let is_held = self
+            .seen
+            .lock(self.rt)
+            .note(step == self.held, step == self.until);
         self.news.notify_all();
-        false
+        is_held
     }
 }
 
@@ -85,29 +89,48 @@ fn play<R: Threads + Wait + Clock + Sync>(
     held: CommitStep,
     until: CommitStep,
 ) -> (bool, bool, Store) {
-    let nothing = Kept {
-        number: 0,
-        reach: 0,
-    };
-    let monitor = Monitor::new(nothing);
+    let monitor = Monitor::new(NOTHING);
     let store = Mutex::new(store);
-    let order = Order::new(rt, held, until);
+    let order = Order {
+        rt,
+        held,
+        until,
+        seen: Mutex::new(NOTHING_SEEN),
+        news: Condvar::new(),
+    };
     let (first, second) = join(
         rt,
         || is_kept(rt, &monitor, &store, &order),
         || is_kept(rt, &monitor, &store, &order),
     );
+    drop(order);
+    drop(monitor);
     let left = *store.lock(rt);
+    drop(store);
     (first, second, left)
+}
+
+/// Two sessions in this order, both of which are given a receipt, by two flushes at most.
+fn check_order<R: Abort + Threads + Wait + Clock + Sync>(
+    rt: &R,
+    held: CommitStep,
+    until: CommitStep,
+) {
+    let (first, second, left) = play(rt, Store::new(0, false), held, until);
+    let rows = [
+        (first && second, "both are kept"),
+        (left.flushes <= 2, "flushes"),
+    ];
+    for (is_so, what) in &rows {
+        assert!(rt; *is_so, "{held:?} until {until:?}: {what}");
+    }
 }
 
 #[test]
 fn sessions_go_on_in_whichever_order_they_come(rt: HostRuntime) {
     for held in &STEPS {
         for until in &STEPS {
-            let (first, second, left) = play(&rt, Store::new(0, false), *held, *until);
-            assert!(rt; first && second, "{held:?} until {until:?}: both are kept");
-            assert!(rt; left.flushes <= 2, "{held:?} until {until:?}: flushes");
+            check_order(&rt, *held, *until);
         }
     }
 }
@@ -117,15 +140,15 @@ fn a_flush_that_lacks_room_is_tried_again(rt: HostRuntime) {
     let store = Store::new(2, false);
     let (first, second, left) = play(&rt, store, CommitStep::PutsOff, CommitStep::Asks);
     assert!(rt; first && second);
-    assert_eq!(rt; left.short, 0);
-    assert_eq!(rt; left.announced, 1);
+    assert!(rt; left.short == 0);
+    assert!(rt; left.announced == 1);
 }
 
 #[test]
 fn a_failed_flush_is_nobodys_receipt(rt: HostRuntime) {
-    for until in [CommitStep::Asks, CommitStep::Flushes] {
-        let (first, second, left) = play(&rt, Store::new(0, true), CommitStep::Fails, until);
+    for until in &[CommitStep::Asks, CommitStep::Flushes] {
+        let (first, second, left) = play(&rt, Store::new(0, true), CommitStep::Fails, *until);
         assert!(rt; !first && !second);
-        assert_eq!(rt; left.flushes, 0);
+        assert!(rt; left.flushes == 0);
     }
 }
