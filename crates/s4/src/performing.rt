@@ -10,7 +10,7 @@ use s4_command::{Command, ExportAsked, NoCommand, RestoreAsked, SalvageAsked, co
 use s4_compact::compact_image;
 use s4_folders::{Folders, export_image, salvage_image};
 use s4_images::{DriveCommand, Failure, ImageCommand, Verdict, show_image};
-use s4_reading::{Auditing, Checking, Comparing, Listing, Logging, Numbering, Reading, Screens};
+use s4_reading::{Checking, Screens, Showing};
 use s4_report::Reporting;
 use s4_restore::{MapFault, RestoreFailure, perform_restore};
 use s4_types::Refusal;
@@ -99,14 +99,21 @@ fn perform_command<T: Threads, F: Files, D: Folders + Screens, W: Sink, E: Write
         command.now }
 {
     match command {
-        Command::List(list) => show_over(rt, alloc, files, &Listing(list), writer, errors),
-        Command::Log(log) => show_over(rt, alloc, files, &Logging(log), writer, errors),
-        Command::Audit(audit) => show_over(rt, alloc, files, &Auditing(audit), writer, errors),
-        Command::Cat(cat) => show_over(rt, alloc, files, &Reading(cat), writer, errors),
-        Command::Info(info) => show_over(rt, alloc, files, &Numbering(info), writer, errors),
+        Command::List(list) => show_over(rt, alloc, files, &Showing::List(list), writer, errors),
+        Command::Log(log) => show_over(rt, alloc, files, &Showing::Log(log), writer, errors),
+        Command::Audit(audit) => show_over(
+            rt,
+            alloc,
+            files,
+            &Showing::Audit(audit),
+            writer,
+            errors,
+        ),
+        Command::Cat(cat) => show_over(rt, alloc, files, &Showing::Cat(cat), writer, errors),
+        Command::Info(info) => show_over(rt, alloc, files, &Showing::Info(info), writer, errors),
         Command::Report(report) => show_over(rt, alloc, files, &Reporting(report), writer, errors),
         Command::Diff(diff) => compared(
-            show_image(rt, alloc, files, &Comparing(diff), writer),
+            show_image(rt, alloc, files, &Showing::Diff(diff), writer),
             diff.image,
             errors,
         ),

@@ -1,7 +1,9 @@
 pub mod Auditing
 pub mod Checking
 pub mod Comparing
+pub mod Forms
 pub mod Listing
 pub mod Logging
 pub mod Reading
+pub mod Showing
 pub mod Telling

@@ -1,6 +1,7 @@
 //! `check`: every version that can be read is read.
 ghost use Rattle.std.specs.Prelude.{◌≡◌, ◌+◌, ◌^◌, ◌<◌, false, OnOk, IfOk, string_bytes};
 ghost use Rattle.std.specs.Io.KnownBytes.{Appends};
+ghost use Rattle.hex.specs.Hex.{encode_lower};
 ghost use Rattle.serde_json.specs.View.{view};
 ghost use Rattle.serde_json.specs.Written.{has_float};
 ghost use Rattle.history_text.specs.Json.{json_line};
@@ -9,13 +10,13 @@ ghost use Rattle.s4_reading.specs.Checking.{Checks, counts_data, counts_text, pr
 use crate::watching::Meter;
 use drive::Drive;
 use history_export::{CheckReport, Checked, check_all};
-use history_text::json_line;
+use history_text::{json_line, no_members, object_of, with_hex, with_number};
 use image_commands::write_out;
 use s4_command::CheckAsked;
 use s4_images::{DriveCommand, Failure, ImageCommand, Verdict};
 use s4_types::Role;
 use segment_word::Naming;
-use serde_json::{Value, json};
+use serde_json::Value;
 use serving::Sink;
 use std::alloc::{AllocError, Global};
 
@@ -81,10 +82,10 @@ fn write_report<W: Sink>(
 fn printed_report(alloc: Global, report: &CheckReport, json: bool) -> Result<String, AllocError>
     ensures { IfOk result (λ text. string_bytes text ≡ printed_report json report.now) }
 {
-    let digits = hex::encode(alloc, report.digest.as_slice())?;
     if json {
-        return counts_json(alloc, report.checked, digits.as_str());
+        return report_json(alloc, report);
     }
+    let digits = hex::encode(alloc, report.digest.as_slice())?;
     counts_text(alloc, report.checked, digits.as_str())
 }
 
@@ -95,16 +96,27 @@ fn counts_text(alloc: Global, checked: Checked, digits: &str) -> Result<String, 
     format!(in alloc; "versions {versions}\nbytes {bytes}\nsha256 {digits}\n")
 }
 
-fn counts_value(alloc: Global, checked: Checked, digits: &str) -> Result<Value, AllocError>
-    ensures { IfOk result (λ value. view value ≡ counts_data checked digits.now) }
+fn report_value(alloc: Global, report: &CheckReport) -> Result<Value, AllocError>
+    ensures { IfOk result
+        (λ value. view value ≡ counts_data report.now.checked (encode_lower report.now.digest)) }
 {
-    let (bytes, versions) = (checked.bytes, checked.versions);
-    json!(in alloc; { "bytes": bytes, "versions": versions, "sha256": digits })
+    let made = with_number(
+        alloc,
+        no_members(alloc),
+        "versions",
+        report.checked.versions,
+    );
+    let made = with_hex(alloc, made, "sha256", report.digest.as_slice());
+    object_of(with_number(alloc, made, "bytes", report.checked.bytes))
 }
 
-fn counts_json(alloc: Global, checked: Checked, digits: &str) -> Result<String, AllocError>
-    ensures { IfOk result (λ line. string_bytes line ≡ json_line (counts_data checked digits.now)) }
+fn report_json(alloc: Global, report: &CheckReport) -> Result<String, AllocError>
+    ensures { IfOk result
+        (λ line. string_bytes line
+        ≡ json_line (counts_data report.now.checked (encode_lower report.now.digest))) }
 {
-    let value = counts_value(alloc, checked, digits)?;
-    json_line(alloc, &value)
+    let value = report_value(alloc, report)?;
+    let line = json_line(alloc, &value);
+    drop(value);
+    line
 }

@@ -1,11 +1,27 @@
-//! Which rows are printed.
-ghost use Rattle.std.specs.Prelude.{◌≡◌, ◌&&◌, nat_le, filter, IfOk};
+//! Which rows of an audit are printed.
+ghost use Rattle.std.specs.Prelude.{◌≡◌, ◌&&◌, Bool, nat_le, filter, IfErr, IfOk};
+ghost use Rattle.s4_types.specs.declared.audit_rows.AuditRow.{AuditRow as Row};
+ghost use Rattle.s4_types.specs.declared.refusals.Refusal.TheVariants.{NoMemory};
+ghost use Rattle.s4_model.specs.Audit.{audit_of};
+ghost use Rattle.drive.specs.Fields.{state_in};
 ghost use Rattle.s4_reading.specs.Auditing.{at_most, is_among, is_of_kind, is_of_object};
 
-use s4_types::{AuditKind, AuditRow, Moment};
+use drive::Drive;
+use s4_types::{AuditKind, AuditRow, Moment, Refusal};
+use segment_word::Naming;
 use std::alloc::{AllocError, Global};
 
-/// Which rows are asked for.
+/// What says of each row of an audit whether it is printed.
+pub(crate) trait Chooses {
+    // Whether a row is printed.
+    ghost chooses: { Self → Row → Bool };
+
+    /// Whether a row is printed.
+    fn chooses(&self, row: &AuditRow) -> bool
+        ensures { result ≡ chooses self.now row.now };
+}
+
+/// Which rows `audit` asks for.
 #[derive(Clone, Copy)]
 pub(crate) struct RowQuery {
     /// The one object, and none for all.
@@ -42,27 +58,42 @@ fn is_between(since: Moment, until: Moment, row: &AuditRow) -> bool
     since <= row.moment && row.moment <= until
 }
 
-fn is_among(query: &RowQuery, row: &AuditRow) -> bool
-    ensures { result ≡ is_among query.now.object query.now.since query.now.until query.now.kind
-        row.now }
-{
-    let (of_object, of_kind) = (is_of_object(query.object, row), is_of_kind(query.kind, row));
-    let between = is_between(query.since, query.until, row);
-    of_object && of_kind && between
+impl Chooses for RowQuery {
+    ghost chooses = { λ query. is_among query.object query.since query.until query.kind };
+
+    fn chooses(&self, row: &AuditRow) -> bool {
+        let (of_object, of_kind) = (is_of_object(self.object, row), is_of_kind(self.kind, row));
+        let between = is_between(self.since, self.until, row);
+        of_object && of_kind && between
+    }
 }
 
-/// The rows of these that are asked for, in their order.
-pub(crate) fn rows_among(
+/// The rows of a drive's audit that are chosen, in order of time. NoMemory alone.
+pub(crate) fn audit_rows_by<J: Naming, C: Chooses>(
+    alloc: Global,
+    drive: &Drive<J>,
+    by: &C,
+) -> Result<Vec<AuditRow>, Refusal>
+    ensures rows { IfOk result
+        (λ kept. kept.items ≡ filter (C.chooses by.now) (audit_of (state_in drive.now))) }
+    ensures refusal { IfErr result (λ e. e ≡ NoMemory) }
+{
+    let rows = drive.audit_rows()?;
+    let kept = rows_by(alloc, rows.as_slice(), by)?;
+    Ok(kept)
+}
+
+// Of these rows the chosen ones, in their order.
+fn rows_by<C: Chooses>(
     alloc: Global,
     rows: &[AuditRow],
-    query: &RowQuery,
+    by: &C,
 ) -> Result<Vec<AuditRow>, AllocError>
-    ensures { IfOk result (λ kept. kept.items ≡ filter
-        (is_among query.now.object query.now.since query.now.until query.now.kind) rows.now) }
+    ensures { IfOk result (λ kept. kept.items ≡ filter (C.chooses by.now) rows.now) }
 {
     let mut kept = Vec::new(alloc);
     for row in rows {
-        if is_among(query, row) {
+        if by.chooses(row) {
             kept.push(*row)?;
         }
     }

@@ -9,50 +9,33 @@ use history_diff::{Detail, DiffFault, Stop, write_differences};
 use moment_words::style_of;
 use s4_command::DiffAsked;
 use s4_images::{
-    DriveCommand, Failure, ImageCommand, Verdict, moment_given, moment_or_clock, moment_said,
-    object_in_either, unreadable,
+    Failure, Verdict, moment_given, moment_or_clock, moment_said, object_in_either, unreadable,
 };
 use s4_types::{ObjectId, Refusal};
 use segment_word::Naming;
 use serving::Sink;
 use std::alloc::Global;
 
-/// `diff`: prints what differs in a drive between two moments. `Differs` where anything does.
-#[derive(Clone, Copy)]
-pub struct Comparing<'a>(pub &'a DiffAsked<'a>);
-
-impl ImageCommand for Comparing<'_> {
-    ghost file = { λ it. it.0.now.image.now };
-
-    ghost as_numbers = { λ it. it.0.now.moments };
-
-    fn image(&self) -> &str {
-        self.0.image
-    }
-
-    fn has_numbers(&self) -> bool {
-        self.0.moments
-    }
-}
-
-impl DriveCommand for Comparing<'_> {
-    ghost shows = { λ it d verdict. Compares d it.0.now verdict };
-
-    fn perform<J: Naming, W: Sink>(
-        &self,
-        alloc: Global,
-        drive: &mut Drive<J>,
-        writer: &mut W,
-    ) -> Result<Verdict, Failure> {
-        let first = moment_said(drive, self.0.from);
-        let second = moment_or_clock(drive, self.0.to);
-        let object = object_in_either(drive, self.0.object, self.0.name, first, second)?;
-        write_compared(alloc, drive, object, self.0, writer)
-    }
+/// Prints what differs in a drive between two moments. `Differs` where anything does.
+pub(crate) fn write_compared<J: Naming, W: Sink>(
+    alloc: Global,
+    drive: &mut Drive<J>,
+    asked: &DiffAsked<'_>,
+    writer: &mut W,
+) -> Result<Verdict, Failure>
+    requires writer { W.failures writer.old + 1 < 2 ^ 64 }
+    ensures compares { IfOk result
+        (λ verdict. Compares drive.old asked.now verdict (W.passed writer.old)
+        (W.passed writer.new)) }
+{
+    let first = moment_said(drive, asked.from);
+    let second = moment_or_clock(drive, asked.to);
+    let object = object_in_either(drive, asked.object, asked.name, first, second)?;
+    write_differing(alloc, drive, object, asked, writer)
 }
 
 // Prints what differs of an object, or of all, between the two moments.
-fn write_compared<J: Naming, W: Sink>(
+fn write_differing<J: Naming, W: Sink>(
     alloc: Global,
     drive: &mut Drive<J>,
     object: Option<ObjectId>,

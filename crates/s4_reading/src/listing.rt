@@ -1,5 +1,5 @@
 //! `list`: the objects of a moment.
-ghost use Rattle.std.specs.Prelude.{◌+◌, ◌^◌, ◌<◌, OnOk};
+ghost use Rattle.std.specs.Prelude.{◌+◌, ◌^◌, ◌<◌, IfOk, OnOk};
 ghost use Rattle.drive.specs.Fields.{state_in, store_of};
 ghost use Rattle.s4_reading.specs.Listing.{Lists, ListsRows, line_of_listed};
 
@@ -8,50 +8,30 @@ use drive::Drive;
 use history_text::{list_head, listed_json, listed_line};
 use history_view::{Listed, next_listed};
 use image_commands::write_out;
-use moment_words::style_of;
 use s4_command::ListAsked;
-use s4_images::{DriveCommand, Failure, ImageCommand, Prints, Verdict, moment_asked, write_line};
+use s4_images::{Failure, Prints, Verdict, moment_asked, write_line};
 use s4_types::{Moment, ObjectId};
 use segment_word::Naming;
 use serving::Sink;
 use std::alloc::{AllocError, Global};
 
-/// `list`: prints the objects that a drive has at the moment that is asked for.
-#[derive(Clone, Copy)]
-pub struct Listing<'a>(pub &'a ListAsked<'a>);
-
-impl ImageCommand for Listing<'_> {
-    ghost file = { λ it. it.0.now.image.now };
-
-    ghost as_numbers = { λ it. it.0.now.moments };
-
-    fn image(&self) -> &str {
-        self.0.image
-    }
-
-    fn has_numbers(&self) -> bool {
-        self.0.moments
-    }
-}
-
-impl DriveCommand for Listing<'_> {
-    ghost shows = { λ it d verdict. Lists d it.0.now verdict };
-
-    fn perform<J: Naming, W: Sink>(
-        &self,
-        alloc: Global,
-        drive: &mut Drive<J>,
-        writer: &mut W,
-    ) -> Result<Verdict, Failure> {
-        let moment = moment_asked(drive, ObjectId::new(0), self.0.at)?;
-        let form = Form {
-            style: style_of(drive.clock().number(), self.0.moments),
-            json: self.0.json,
-        };
-        write_out(writer, form.head(list_head(form.style)).as_bytes())?;
-        write_listed(alloc, drive, moment, self.0.deleted, form, writer)?;
-        Ok(Verdict::Fine)
-    }
+/// Prints the objects that a drive has at the moment that is asked for.
+pub(crate) fn write_list<J: Naming, W: Sink>(
+    alloc: Global,
+    drive: &mut Drive<J>,
+    asked: &ListAsked<'_>,
+    writer: &mut W,
+) -> Result<Verdict, Failure>
+    requires writer { W.failures writer.old + 1 < 2 ^ 64 }
+    ensures lists { IfOk result
+        (λ verdict. Lists drive.old asked.now verdict (W.passed writer.old)
+        (W.passed writer.new)) }
+{
+    let moment = moment_asked(drive, ObjectId::new(0), asked.at)?;
+    let form = Form::over(drive, asked.moments, asked.json);
+    write_out(writer, form.head(list_head(form.style)).as_bytes())?;
+    write_listed(alloc, drive, moment, asked.deleted, form, writer)?;
+    Ok(Verdict::Fine)
 }
 
 // Writes the line of each object that is listed at a moment.

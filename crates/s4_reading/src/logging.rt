@@ -5,62 +5,40 @@ ghost use Rattle.s4_images.specs.Moments.{moment_said};
 ghost use Rattle.s4_reading.specs.Logging.{Logs, PrintsLog, PrintsStats, IsQuery, kind_asked};
 ghost use Rattle.s4_reading.specs.Logging.{line_of_row, line_of_stat};
 
-use crate::flushes::flushes_of;
-use crate::forms::Form;
+use crate::choosing::audit_rows_by;
+use crate::forms::{Form, write_table};
 use drive::Drive;
 use history_text::{log_head, log_json, log_line, stat_head, stat_json, stat_line};
 use history_view::{Kind, LogOrder, LogQuery, LogRow, ObjectStat, log_rows, log_stats};
-use image_commands::write_out;
-use moment_words::{MomentWord, style_of};
+use moment_words::MomentWord;
 use s4_command::{ChangeKind, LogAsked};
-use s4_images::{
-    DriveCommand, Failure, ImageCommand, Prints, Verdict, moment_said, object_asked, write_lines,
-};
+use s4_images::{Failure, Prints, Verdict, moment_said, object_asked, write_lines};
 use s4_types::Moment;
 use segment_word::Naming;
 use serving::Sink;
 use std::alloc::{AllocError, Global};
 
-/// `log`: prints what was changed in a drive between two moments, and when; or with `--stat` what
-/// that comes to, object by object.
-#[derive(Clone, Copy)]
-pub struct Logging<'a>(pub &'a LogAsked<'a>);
-
-impl ImageCommand for Logging<'_> {
-    ghost file = { λ it. it.0.now.image.now };
-
-    ghost as_numbers = { λ it. it.0.now.moments };
-
-    fn image(&self) -> &str {
-        self.0.image
+/// Prints what was changed in a drive between two moments, and when; or what that comes to, object
+/// by object, where that is asked for.
+pub(crate) fn write_log<J: Naming, W: Sink>(
+    alloc: Global,
+    drive: &mut Drive<J>,
+    asked: &LogAsked<'_>,
+    writer: &mut W,
+) -> Result<Verdict, Failure>
+    requires writer { W.failures writer.old + 1 < 2 ^ 64 }
+    ensures logs { IfOk result
+        (λ verdict. Logs drive.old asked.now verdict (W.passed writer.old)
+        (W.passed writer.new)) }
+{
+    let form = Form::over(drive, asked.moments, asked.json);
+    let query = query_of(drive, asked)?;
+    if asked.stat {
+        write_stats(alloc, drive, &query, &form, writer)?;
+        return Ok(Verdict::Fine);
     }
-
-    fn has_numbers(&self) -> bool {
-        self.0.moments
-    }
-}
-
-impl DriveCommand for Logging<'_> {
-    ghost shows = { λ it d verdict. Logs d it.0.now verdict };
-
-    fn perform<J: Naming, W: Sink>(
-        &self,
-        alloc: Global,
-        drive: &mut Drive<J>,
-        writer: &mut W,
-    ) -> Result<Verdict, Failure> {
-        let form = Form {
-            style: style_of(drive.clock().number(), self.0.moments),
-            json: self.0.json,
-        };
-        let query = query_of(drive, self.0)?;
-        if self.0.stat {
-            write_stats(alloc, drive, &query, &form, writer)?;
-            return Ok(Verdict::Fine);
-        }
-        write_log(alloc, drive, &query, &form, writer)?;
-        Ok(Verdict::Fine)
-    }
+    write_changes(alloc, drive, &query, &form, writer)?;
+    Ok(Verdict::Fine)
 }
 
 fn kind_asked(kind: ChangeKind) -> Kind
@@ -120,7 +98,7 @@ pub(crate) fn moment_or<J: Naming>(drive: &Drive<J>, word: Option<MomentWord>, o
 }
 
 // Prints the log that is asked for, and below it the flushes that hid what is asked for.
-fn write_log<J: Naming, W: Sink>(
+fn write_changes<J: Naming, W: Sink>(
     alloc: Global,
     drive: &mut Drive<J>,
     query: &LogQuery,
@@ -133,9 +111,9 @@ fn write_log<J: Naming, W: Sink>(
         (W.passed writer.old) (W.passed writer.new)) }
 {
     let rows = log_rows(alloc, drive, query)?;
-    let flushes = flushes_of(alloc, drive, query)?;
-    write_out(writer, form.head(log_head(form.style)).as_bytes())?;
-    write_lines(alloc, form, rows.as_slice(), writer)?;
+    let flushes = audit_rows_by(alloc, drive, query)?;
+    let head = form.head(log_head(form.style));
+    write_table(alloc, form, head, rows.as_slice(), writer)?;
     write_lines(alloc, form, flushes.as_slice(), writer)?;
     Ok(())
 }
@@ -165,9 +143,8 @@ fn write_stats<J: Naming, W: Sink>(
         (W.passed writer.old) (W.passed writer.new)) }
 {
     let stats = log_stats(alloc, drive, query)?;
-    write_out(writer, form.head(stat_head(form.style)).as_bytes())?;
-    write_lines(alloc, form, stats.as_slice(), writer)?;
-    Ok(())
+    let head = form.head(stat_head(form.style));
+    write_table(alloc, form, head, stats.as_slice(), writer)
 }
 
 impl Prints<ObjectStat> for Form {

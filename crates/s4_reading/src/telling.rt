@@ -1,5 +1,5 @@
 //! `info`: the numbers of an image.
-ghost use Rattle.std.specs.Prelude.{◌≡◌, if◌then◌else◌, IfOk, length, count_by};
+ghost use Rattle.std.specs.Prelude.{◌≡◌, ◌+◌, ◌^◌, ◌<◌, if◌then◌else◌, IfOk, length, count_by};
 ghost use Rattle.drive.specs.Fields.{state_in, store_of};
 ghost use Rattle.s4_reading.specs.Telling.{CountsHidden, CountsObjects, Informs, IsNumbersOf};
 ghost use Rattle.s4_reading.specs.Telling.{is_free_frame, is_of_all, objects_hidden};
@@ -9,50 +9,30 @@ use crate::forms::Form;
 use drive::Drive;
 use history_text::{DriveNumbers, numbers_json, numbers_lines};
 use history_view::next_listed;
-use moment_words::style_of;
 use s4_command::InfoAsked;
-use s4_images::{DriveCommand, Failure, ImageCommand, Prints, Verdict, write_line};
+use s4_images::{Failure, Prints, Verdict, write_line};
 use s4_types::{Moment, ObjectId, Span};
 use segment_table::OverFrames;
 use segment_word::Naming;
 use serving::Sink;
 use std::alloc::{AllocError, Global};
 
-/// `info`: prints the numbers of a drive.
-#[derive(Clone, Copy)]
-pub struct Numbering<'a>(pub &'a InfoAsked<'a>);
-
-impl ImageCommand for Numbering<'_> {
-    ghost file = { λ it. it.0.now.image.now };
-
-    ghost as_numbers = { λ it. it.0.now.moments };
-
-    fn image(&self) -> &str {
-        self.0.image
-    }
-
-    fn has_numbers(&self) -> bool {
-        self.0.moments
-    }
-}
-
-impl DriveCommand for Numbering<'_> {
-    ghost shows = { λ it d verdict. Informs d it.0.now verdict };
-
-    fn perform<J: Naming, W: Sink>(
-        &self,
-        alloc: Global,
-        drive: &mut Drive<J>,
-        writer: &mut W,
-    ) -> Result<Verdict, Failure> {
-        let form = Form {
-            style: style_of(drive.clock().number(), self.0.moments),
-            json: self.0.json,
-        };
-        let numbers = numbers_of(drive)?;
-        write_line(alloc, &form, &numbers, writer)?;
-        Ok(Verdict::Fine)
-    }
+/// Prints the numbers of a drive.
+pub(crate) fn write_numbers<J: Naming, W: Sink>(
+    alloc: Global,
+    drive: &mut Drive<J>,
+    asked: &InfoAsked<'_>,
+    writer: &mut W,
+) -> Result<Verdict, Failure>
+    requires writer { W.failures writer.old + 1 < 2 ^ 64 }
+    ensures informs { IfOk result
+        (λ verdict. Informs drive.old asked.now verdict (W.passed writer.old)
+        (W.passed writer.new)) }
+{
+    let form = Form::over(drive, asked.moments, asked.json);
+    let numbers = numbers_of(drive)?;
+    write_line(alloc, &form, &numbers, writer)?;
+    Ok(Verdict::Fine)
 }
 
 // The numbers of a drive.

@@ -1,10 +1,10 @@
-use Rattle.std.proofs.Common.{rules, ◌≡◌, ◌∙◌, List, ℕ, ap, subst}
+use Rattle.std.proofs.Common.{rules, ◌≡◌, ◌++◌, ◌∙◌, List, ℕ, ap, refl, subst}
 use Rattle.std.specs.List.{flat_map}
 use Rattle.std.specs.Io.KnownBytes.{Appends}
-use Rattle.std.proofs.KnownBytes.{Appends-trans}
 use Rattle.drive.specs.Fields.{state_in}
-use Rattle.moment_words.specs.Texts.{style_of}
-use Rattle.s4_reading.specs.Auditing.{head_of_audit, line_of_row, rows_shown}
+use Rattle.s4_reading.specs.Auditing.{audit_text, head_of_audit, line_of_row, text_of_rows}
+use Rattle.s4_reading.specs.Forms.{form_over}
+use Rattle.s4_reading.specs.declared.forms.Form.{Form}
 use Rattle.s4_reading.proofs.auditing.write_audit.Goals as goal
 
 pub returns : goal.returns
@@ -12,15 +12,12 @@ returns g c =
     let passed = g.W.Sink.passed in
     let s = state_in c.args.drive.now in
     let asked = c.args.asked.now in
-    let style = style_of s.clock asked.moments in
-    let head = head_of_audit asked.json style in
-    let lines = flat_map (line_of_row asked.json style) (rows_shown s asked) in
-    let first : Appends (passed c.args.writer.now) (passed c.write_out.new.writer) head = search rules in
-    let styled : c.style_of.result ≡ style = search rules in
-    let rows : c.as_slice.result.now ≡ rows_shown s asked = c.as_slice.ensures.value ∙ c.in_ok-shown.ensures.rows in
-    let is : flat_map (line_of_row asked.json c.style_of.result) c.as_slice.result.now ≡ lines =
-    ap (λ st. flat_map (line_of_row asked.json st) c.as_slice.result.now) styled ∙ ap (flat_map (line_of_row asked.json style)) rows in
-    record {
-      audit = Appends-trans (passed c.args.writer.now) (passed c.write_out.new.writer) (passed c.write_lines.new.writer) head lines first
-          (subst (λ (t : List ℕ). Appends (passed c.write_out.new.writer) (passed c.write_lines.new.writer) t) is c.in_ok-write_lines.ensures.lines);
-    }
+    let form = c.over-form.result in
+    let rows = c.as_slice.result.now in
+    let head : c.head-head.result.now ≡ head_of_audit form.json form.style = search rules in
+    let table : Appends (passed c.args.writer.now) (passed c.write_table.new.writer) (text_of_rows form.json form.style rows) =
+    subst (λ (above : List ℕ). Appends (passed c.args.writer.now) (passed c.write_table.new.writer) (above ++ flat_map (line_of_row form.json form.style) rows)) head c.in_ok-write_table.ensures.table in
+    let is : text_of_rows form.json form.style rows ≡ audit_text s asked =
+    ap (λ (f : Form). text_of_rows f.json f.style rows) c.over-form.ensures
+    ∙ ap (λ r. text_of_rows asked.json (form_over s asked.moments asked.json).style r) (c.as_slice.ensures.value ∙ c.in_ok-shown.ensures.rows) in
+    record { prints = (refl, subst (λ (t : List ℕ). Appends (passed c.args.writer.now) (passed c.write_table.new.writer) t) is table) }
