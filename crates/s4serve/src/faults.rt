@@ -1,5 +1,5 @@
 //! Why a service doesn't begin, or ends without being stopped.
-use image_commands::{Fault, Obstacle};
+use image_commands::Fault;
 use kept_files::KeepObstacle;
 use service_time::StartFault;
 use std::alloc::AllocError;
@@ -7,7 +7,7 @@ use std::io;
 use thiserror::Error;
 
 /// Why a door can't be opened. Each prints what is so, and what can be done.
-#[derive(Clone, Copy, Debug, PartialEq, Eq, Error)]
+#[derive(Clone, Copy, Debug, Error)]
 pub enum DoorObstacle {
     #[error("it is not there; make it with mkfifo")]
     NotThere,
@@ -32,17 +32,15 @@ impl DoorObstacle {
 }
 
 /// Why a service doesn't begin, or ends without being stopped. Each prints its line.
-#[derive(Debug, Drop, PartialEq, Eq, Error)]
+#[derive(Debug, Drop, Error)]
 pub enum ServeFault<'a> {
-    /// The image can't be made, claimed or read, or encodes no drive.
+    /// The image can't be made, claimed or read, encodes no drive, or may not be there where the
+    /// machine fails.
     #[error("{0}")]
     Image(Fault<'a>),
     /// What is in the image's file is of an earlier version, or no image at all.
     #[error("Damaged header; `s4d migrate` makes a new image of one of version 1 or 2")]
     NoHeader,
-    /// The image that was made is there, and may not be where the machine fails.
-    #[error("cannot write {0}: {cause}", cause = Obstacle::NotLasting)]
-    Unlasting(&'a str),
     /// No service begins over an image with this clock.
     #[error("cannot serve {0}: {1}")]
     Start(&'a str, StartFault),
@@ -64,9 +62,6 @@ pub enum ServeFault<'a> {
     /// The system gives too few threads.
     #[error("the system gives too few threads, or too little memory for them")]
     NoThreads,
-    /// Standard output can't be written.
-    #[error("WriteFailed")]
-    WriteFailed,
     /// A growth of memory was refused.
     #[error("NoMemory")]
     NoMemory,

@@ -7,7 +7,9 @@ ghost use Rattle.image_commands.specs.Verifying.{IsVerified};
 
 use crate::faults::ServeFault;
 use drive::OpenedDrive;
-use image_commands::{Fault, Files, Placed, make_file, read_image, remove_leftovers, writing};
+use image_commands::{
+    Fault, Files, Obstacle, Placed, make_file, read_image, remove_leftovers, writing,
+};
 use s4_types::{Cause, Moment, Refusal};
 use s4d_command::New;
 use s4serve_command::{Creation, ServiceAsked};
@@ -77,7 +79,7 @@ fn create<'a, F: Files>(
     );
     match made {
         Ok(Placed::Lasting) => Ok(()),
-        Ok(Placed::NotLasting) => Err(ServeFault::Unlasting(image)),
+        Ok(Placed::NotLasting) => Err(ServeFault::Image(writing(Obstacle::NotLasting, image))),
         Err(fault) => Err(ServeFault::Image(fault)),
     }
 }

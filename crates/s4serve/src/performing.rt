@@ -6,6 +6,7 @@ use crate::keeping::KeptFiles;
 use crate::starting::serve_image;
 use crate::telling::Telling;
 use door_files::Fifos;
+use image_commands::Fault;
 use s4serve_command::{NoCommand, service_of};
 use serving::Sink;
 use std::alloc::Global;
@@ -64,7 +65,7 @@ fn show<W: Sink, E: Write>(alloc: Global, text: clap::Error, writer: &mut W, err
     };
     match writer.put(text.as_bytes()) {
         Ok(()) => DONE,
-        Err(_) => fail(errors, ServeFault::WriteFailed),
+        Err(_) => fail(errors, Fault::WriteFailed),
     }
 }
 

@@ -58,37 +58,47 @@ pub fn start_threads<
 ) -> Result<(), AllocError>
     requires upkeep { J.has_upkeep ≡ true }
 {
-    for duty in duties(alloc, inputs)? {
-        let own = *rt;
-        let theirs = Arc::try_clone(service)?;
-        spawn_with_stack(
-            rt,
-            STACK_BYTES,
-            move ||
-                requires upkeep { J.has_upkeep ≡ true }
-                requires input { IsSend D.Input.row }
-                requires output { IsSend D.Output.row }
-            { perform(&own, alloc, &*theirs, &outside, duty) },
-        )?;
+    start(rt, alloc, service, outside, Duty::Clean)?;
+    start(rt, alloc, service, outside, Duty::Move)?;
+    for _ in 0..CLIENT_WORKERS {
+        start(rt, alloc, service, outside, Duty::Serve(Role::Client))?;
+    }
+    for _ in 0..ADMIN_WORKERS {
+        start(rt, alloc, service, outside, Duty::Serve(Role::Admin))?;
+    }
+    for (number, input) in inputs.into_iter().enumerate() {
+        start(rt, alloc, service, outside, Duty::Watch { number, input })?;
     }
     Ok(())
 }
 
-/// The duties of all threads, in the order in which they are started.
-fn duties<I: Drop>(alloc: Global, inputs: Vec<I>) -> Result<Vec<Duty<I>>, AllocError> {
-    let mut duties = Vec::new(alloc);
-    duties.push(Duty::Clean)?;
-    duties.push(Duty::Move)?;
-    for _ in 0..CLIENT_WORKERS {
-        duties.push(Duty::Serve(Role::Client))?;
-    }
-    for _ in 0..ADMIN_WORKERS {
-        duties.push(Duty::Serve(Role::Admin))?;
-    }
-    for (number, input) in inputs.into_iter().enumerate() {
-        duties.push(Duty::Watch { number, input })?;
-    }
-    Ok(duties)
+/// Starts the thread of a duty.
+fn start<
+    J: Running + Send + Sync + 'static,
+    C: Clock + Send + Drop + 'static,
+    K: Keeper + Send + Drop + 'static,
+    R: Threads + Wait + time::Clock + Copy + Send + Sync + Drop + 'static,
+    D: Fifos + Telling + Copy + Send + Sync + Drop + 'static,
+>(
+    rt: &R,
+    alloc: Global,
+    service: &Arc<Service<J, C, K>, Global>,
+    outside: D,
+    duty: Duty<D::Input>,
+) -> Result<(), AllocError>
+    requires upkeep { J.has_upkeep ≡ true }
+{
+    let own = *rt;
+    let theirs = Arc::try_clone(service)?;
+    spawn_with_stack(
+        rt,
+        STACK_BYTES,
+        move ||
+            requires upkeep { J.has_upkeep ≡ true }
+            requires input { IsSend D.Input.row }
+            requires output { IsSend D.Output.row }
+        { perform(&own, alloc, &*theirs, &outside, duty) },
+    )
 }
 
 /// Does what a duty says, for as long as that goes on.

@@ -26,7 +26,7 @@ use kept_drive::{KeptImage, KeptReceipt};
 use kept_files::KeepObstacle;
 use s4_types::{Moment, Role};
 use s4serve_command::ServiceAsked;
-use server::{Blanks, Pace, Running, SharedDrive};
+use server::{Blanks, Pace, Running, SharedDrive, enter};
 use service_time::{Monotonic, ServiceClock};
 use std::alloc::{AllocError, Global};
 use std::io;
@@ -46,6 +46,16 @@ struct Ready<'a, K, C> {
     clock: C,
     blanks: Blanks,
     doors: Vec<Door>,
+}
+
+/// What a service has besides once its drive was kept a first time.
+#[derive(Drop)]
+struct FirstKept<J: Running, K: Keeper> {
+    kept: KeptImage<J, K>,
+    receipt: KeptReceipt<J>,
+    lines: Lines,
+    /// The image's path.
+    path: String,
 }
 
 /// Serves the drive in an image until the service is stopped.
@@ -88,7 +98,7 @@ pub fn serve_image<
     )
 }
 
-/// Begins a service, and waits for its end.
+/// Names the drive of a service, keeps it a first time before any session, and serves it.
 fn serve_ready<
     'a,
     J: Running + Send + Sync + 'static,
@@ -115,38 +125,6 @@ fn serve_ready<
     requires parts { (ready.blanks.parts ≡ J.parts) × (J.parts ≡ ALL_PARTS) }
     requires usable { IsTrue (K.is_usable ready.keeper) }
 {
-    let image = ready.image;
-    let service = begin::<J, H, K, C>(rt, alloc, ready)?;
-    if start_threads(rt, alloc, &service, outside, inputs).is_err() {
-        return Err(ServeFault::NoThreads);
-    }
-    outside.tell(News::Serves(image));
-    await_end(rt, alloc, &service, &outside, image)
-}
-
-/// Names the drive of a service, and keeps it a first time, before any session.
-fn begin<
-    'a,
-    J: Running + Send + Sync + 'static,
-    H: Threads + Wait + Clock + Copy + Send + Sync + Drop + 'static,
-    K: Keeper + Explaining + Send + Drop + 'static,
-    C: serving::Clock + Send + Drop + 'static,
->(
-    rt: &H,
-    alloc: Global,
-    ready: Ready<'a, K, C>,
-) -> Result<Arc<Service<J, C, K>, Global>, ServeFault<'a>>
-    requires accepts { ready.drive.accepts ≡ J.accepts }
-    requires frames { ready.drive.store.table.seat.table ≡ J.frames }
-    requires base { base_of (fields_of log_of ready.drive.store) ready.drive.timeline ready.drive.next
-        ready.drive.audit ≡ J.base }
-    requires begins { (d : DriveFields) → J.begins d }
-    requires moments { (moments : List ℕ) (later : _) → Drawn C.draws ready.clock moments later
-        → J.moments moments }
-    requires ledgers { (ready.blanks.requests ≡ J.asked) × (ready.blanks.changes ≡ J.name) }
-    requires parts { (ready.blanks.parts ≡ J.parts) × (J.parts ≡ ALL_PARTS) }
-    requires usable { IsTrue (K.is_usable ready.keeper) }
-{
     let Ready {
         image,
         keeper,
@@ -156,69 +134,99 @@ fn begin<
         blanks,
         doors,
     } = ready;
-    let mut drive = drive.named::<J>();
-    let session = match drive.session(Role::Client) {
+    let (shared, rest) = SharedDrive::new(drive.named::<J>(), clock, blanks);
+    let drive = Mutex::new(shared);
+    let first = keep_first(rt, alloc, &drive, keeper, start, image)?;
+    let service = Service {
+        pace: Pace::new(rt, alloc, &drive),
+        drive,
+        monitor: Monitor::new(first.receipt),
+        kept: Mutex::new(first.kept),
+        parts: Mutex::new(Parts::new(rest)),
+        lines: first.lines,
+        doors,
+        image: first.path,
+    };
+    match Arc::new(alloc, service) {
+        Ok(service) => serve(rt, alloc, &service, outside, inputs, image),
+        Err(_) => Err(ServeFault::NoMemory),
+    }
+}
+
+/// Starts the threads of a service, and waits for its end.
+fn serve<
+    'a,
+    J: Running + Send + Sync + 'static,
+    H: Threads + Wait + Clock + Copy + Send + Sync + Drop + 'static,
+    K: Keeper + Explaining + Send + Drop + 'static,
+    C: serving::Clock + Send + Drop + 'static,
+    D: Fifos + Telling + Copy + Send + Sync + Drop + 'static,
+>(
+    rt: &H,
+    alloc: Global,
+    service: &Arc<Service<J, C, K>, Global>,
+    outside: D,
+    inputs: Vec<D::Input>,
+    image: &'a str,
+) -> Result<(), ServeFault<'a>>
+    requires upkeep { J.has_upkeep ≡ true }
+{
+    if start_threads(rt, alloc, service, outside, inputs).is_err() {
+        return Err(ServeFault::NoThreads);
+    }
+    outside.tell(News::Serves(image));
+    await_end(rt, alloc, service, &outside, image)
+}
+
+/// Has a session that meets the drive at each flush, and keeps the drive a first time.
+fn keep_first<'a, J: Running, C: serving::Clock, K: Keeper + Explaining + Drop, R: Threads + Wait>(
+    rt: &R,
+    alloc: Global,
+    drive: &Mutex<SharedDrive<J, C>>,
+    keeper: K,
+    start: Moment,
+    image: &'a str,
+) -> Result<FirstKept<J, K>, ServeFault<'a>>
+    requires usable { IsTrue (K.is_usable keeper) }
+{
+    let session = match enter(rt, drive, None, Role::Client) {
         Ok(session) => session,
         Err(refusal) => return Err(ServeFault::Image(Fault::Refused(refusal))),
     };
     // What is kept has seen the start: moments below are no times, as those of a new drive.
     let mut kept = KeptImage::new(keeper, session, start);
-    let (shared, rest) = SharedDrive::new(drive, clock, blanks);
-    let drive = Mutex::new(shared);
-    let receipt = keep_first(rt, alloc, &drive, &mut kept, image)?;
-    let pace = Pace::new(rt, alloc, &drive);
-    let books = Parts::new(rest);
-    match shared_service(alloc, drive, pace, receipt, kept, books, doors, image) {
-        Ok(service) => Ok(service),
-        Err(_) => Err(ServeFault::NoMemory),
-    }
-}
-
-/// All that the threads of a service share.
-fn shared_service<J: Running, C: serving::Clock + Drop, K: Keeper + Drop>(
-    alloc: Global,
-    drive: Mutex<SharedDrive<J, C>>,
-    pace: Pace,
-    receipt: KeptReceipt<J>,
-    kept: KeptImage<J, K>,
-    parts: Parts<J>,
-    doors: Vec<Door>,
-    image: &str,
-) -> Result<Arc<Service<J, C, K>, Global>, AllocError> {
-    let lines = Lines::new(alloc)?;
-    let image = String::from_str(alloc, image)?;
-    let service = Service {
-        drive,
-        pace,
-        monitor: Monitor::new(receipt),
-        kept: Mutex::new(kept),
-        parts: Mutex::new(parts),
+    let (receipt, lines, path) = flush_first(rt, alloc, drive, &mut kept, image)?;
+    Ok(FirstKept {
+        kept,
+        receipt,
         lines,
-        doors,
-        image,
-    };
-    let shared = Arc::new(alloc, service)?;
-    Ok(shared)
+        path,
+    })
 }
 
-/// Keeps a drive a first time.
-fn keep_first<'a, 'b, J: Running, C: serving::Clock, K: Keeper + Explaining, R: Threads + Wait>(
+/// Keeps a drive a first time. Gives the receipt, no lines, and the image's path.
+fn flush_first<'a, 'b, J: Running, C: serving::Clock, K: Keeper + Explaining, R: Threads + Wait>(
     rt: &'b R,
     alloc: Global,
     drive: &'b Mutex<SharedDrive<J, C>>,
     kept: &mut KeptImage<J, K>,
     image: &'a str,
-) -> Result<KeptReceipt<J>, ServeFault<'a>> {
+) -> Result<(KeptReceipt<J>, Lines, String), ServeFault<'a>> {
     let lock = UnderLock {
         rt,
         drive,
         pace: None,
     };
-    match kept.flush(rt, alloc, &lock) {
-        Ok(receipt) => Ok(receipt),
-        Err(FlushError::Short) => Err(ServeFault::Short(image)),
-        Err(FlushError::Failed) => Err(ServeFault::Unkept(image, kept.keeper().obstacle())),
-    }
+    let receipt = match kept.flush(rt, alloc, &lock) {
+        Ok(receipt) => receipt,
+        Err(FlushError::Short) => return Err(ServeFault::Short(image)),
+        Err(FlushError::Failed) => {
+            return Err(ServeFault::Unkept(image, kept.keeper().obstacle()));
+        }
+    };
+    let path = String::from_str(alloc, image)?;
+    let lines = Lines::new(alloc)?;
+    Ok((receipt, lines, path))
 }
 
 /// Waits until the service is to end. Then all that was accepted is kept.

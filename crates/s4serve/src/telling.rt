@@ -3,7 +3,7 @@ use std::io::Write;
 use thiserror::Error;
 
 /// What a service says. Each prints its line.
-#[derive(Clone, Copy, Debug, PartialEq, Eq, Error)]
+#[derive(Clone, Copy, Debug, Error)]
 pub enum News<'a> {
     /// Sessions can be asked for.
     #[error("serves {0}")]
