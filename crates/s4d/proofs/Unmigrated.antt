@@ -10,7 +10,7 @@ use Rattle.image_commands.specs.declared.verifying.Asked.TheVariants.{Earlier}
 use Rattle.s4d_command.specs.declared.Migrate.{Migrate}
 use Rattle.image_commands.specs.declared.faults.Fault.{Fault}
 use Rattle.image_commands.specs.declared.faults.Fault.TheVariants.{CannotRead, CannotWrite, HasBytes, KeptIn, Refused, WriteFailed}
-use Rattle.image_commands.specs.Faults.{KeepsNew, SaysUnplaced, SaysUnsplit, SaysUnwritable}
+use Rattle.image_commands.specs.Faults.{KeepsNew, SaysNoPlace, SaysUnplaced, SaysUnsplit, SaysUnwritable}
 use Rattle.image_commands.specs.Files.{AreKnown}
 use Rattle.image_commands.specs.Verifying.{IsUnsplit, image_line}
 use Rattle.image_commands.proofs.Fronts.{split_fault}
@@ -22,7 +22,7 @@ use Rattle.verifier.specs.Opened.{IsReadOf}
 use Rattle.earlier_images.specs.Grammar.{FirstEarlierFault}
 use Rattle.earlier_images.specs.Rows.{EarlierChainsStand}
 use Rattle.migration.specs.Migrated.{IsTooMuch, LaysOut, Migrates}
-use Rattle.s4d.specs.Migrating.{HasLine, IsDamagedEarlier, RefusesEarlier, SaysEarlierUnread, SaysNoPlace, SaysUnmigrated, SaysUntaken}
+use Rattle.s4d.specs.Migrating.{HasLine, IsDamagedEarlier, RefusesEarlier, SaysEarlierUnread, SaysUnmigrated, SaysUntaken}
 
 -- memory was short
 pub memory : (known : Option (List ℕ)) (refusal : Refusal) → refusal ≡ NoMemory → RefusesEarlier known refusal
@@ -87,33 +87,6 @@ untaken earlier (CannotWrite path obstacle) says = says
 untaken earlier (HasBytes path) says = absurd says
 untaken earlier (KeptIn path obstacle kept) says = absurd says
 untaken earlier WriteFailed says = absurd says
-
--- a place that can't be written is none
-pub no_place : (known : Option (List ℕ)) (image : List ℕ) (fault : Fault) → SaysUnwritable image fault → SaysNoPlace known image fault
-no_place known image (Refused refusal) says = says
-no_place known image (CannotRead path obstacle) says = absurd says
-no_place known image (CannotWrite path obstacle) says = says
-no_place known image (HasBytes path) says = absurd says
-no_place known image (KeptIn path obstacle kept) says = absurd says
-no_place known image WriteFailed says = absurd says
-
--- and an image that can't be written there isn't in it
-pub unplaced : (image : List ℕ) (fault : Fault) → SaysUnwritable image fault → SaysUnplaced image fault
-unplaced image (Refused refusal) says = says
-unplaced image (CannotRead path obstacle) says = absurd says
-unplaced image (CannotWrite path obstacle) says = says
-unplaced image (HasBytes path) says = absurd says
-unplaced image (KeptIn path obstacle kept) says = absurd says
-unplaced image WriteFailed says = absurd says
-
--- nor is it in another file
-pub names_none : (image bytes : List ℕ) (files : List ℕ → Option (List ℕ)) (fault : Fault) → SaysUnwritable image fault → KeepsNew files bytes fault
-names_none image bytes files (Refused refusal) says = tt
-names_none image bytes files (CannotRead path obstacle) says = tt
-names_none image bytes files (CannotWrite path obstacle) says = tt
-names_none image bytes files (HasBytes path) says = tt
-names_none image bytes files (KeptIn path obstacle kept) says = absurd says
-names_none image bytes files WriteFailed says = tt
 
 -- What is known of files, and what was asked for.
 module _ (files files' : List ℕ → Option (List ℕ)) (asked : Migrate) where

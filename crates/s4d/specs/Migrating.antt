@@ -67,13 +67,6 @@ SaysEarlierUnread known earlier (Refused refusal) = RefusesEarlier known refusal
 SaysEarlierUnread known earlier (CannotRead path obstacle) = path.now ≡ earlier
 SaysEarlierUnread known earlier _ = ⊥
 
--- why there is no place for a new image: what is there has bytes, or it can't be written; or memory was short
-abbrev pub SaysNoPlace : Option (List ℕ) → (image : List ℕ) → Fault → Type 0
-SaysNoPlace known image (Refused refusal) = refusal ≡ NoMemory
-SaysNoPlace known image (HasBytes path) = (path.now ≡ image) × HasSome known
-SaysNoPlace known image (CannotWrite path obstacle) = path.now ≡ image
-SaysNoPlace known image _ = ⊥
-
 -- Why no new image is in its place, by what is known of files before and after: the earlier one can't be read or claimed, or becomes none;
 -- what is in the new one's place has bytes; that can't be written or replaced, and a file that is named may have the new image.
 abbrev pub SaysUnmigrated : (files files' : List ℕ → Option (List ℕ)) → Migrate → Fault → Type 0

@@ -5,14 +5,14 @@ use serving::ServeEnd;
 use thiserror::Error;
 
 /// Why `run` has not left what it is to leave. Each prints its line.
-#[derive(Debug, Drop, PartialEq, Eq, Error)]
+#[derive(Debug, Drop, Error)]
 pub enum RunFault<'a> {
     /// No session was served. Each file that was there has its bytes, but for what was left beside
     /// the image and is no image.
-    #[error("{0}")]
+    #[error(transparent)]
     Unserved(Fault<'a>),
     /// The sessions were served, and their outputs are written. The image is as it was.
-    #[error("{0}")]
+    #[error(transparent)]
     Unsaved(Fault<'a>),
 }
 
@@ -26,16 +26,16 @@ pub enum Undone<'a> {
     #[error("NoMemory")]
     NoMemory,
     /// A session of a new drive had none. Nothing was read or written.
-    #[error("{0}")]
+    #[error(transparent)]
     NoDrive(Refusal),
     /// A session of a new drive came to this end, and not to that of its input.
-    #[error("{0}")]
+    #[error(transparent)]
     OtherEnd(ServeEnd),
     /// A command over an image failed.
-    #[error("{0}")]
+    #[error(transparent)]
     Failed(Fault<'a>),
     /// Sessions weren't served, or not saved.
-    #[error("{0}")]
+    #[error(transparent)]
     NotRun(RunFault<'a>),
     /// The image of this path is there, and may not be where the machine fails.
     #[error("cannot write {0}: {cause}", cause = Obstacle::NotLasting)]

@@ -7,18 +7,18 @@ ghost use Rattle.s4_types.specs.declared.refusals.Refusal.TheVariants.{Damaged, 
 ghost use Rattle.s4_types.specs.declared.refusals.Refusal.TheVariants.{NoRoom};
 ghost use Rattle.verifier.specs.Images.{ImageFields};
 ghost use Rattle.verifier.specs.Opened.{IsReadOf};
-ghost use Rattle.image_commands.specs.Faults.{KeepsNew, SaysUnplaced};
+ghost use Rattle.image_commands.specs.Faults.{KeepsNew, SaysNoPlace, SaysUnplaced};
 ghost use Rattle.image_commands.specs.Files.{AreKnown};
 ghost use Rattle.image_commands.specs.Verifying.{image_line};
 ghost use Rattle.image_parts.specs.Image.{image_in};
 ghost use Rattle.verifier.specs.Grammar.{SpellsDrive};
 ghost use Rattle.earlier_images.specs.Grammar.{FirstEarlierFault};
 ghost use Rattle.migration.specs.Migrated.{IsTooMuch, LaysOut, Migrates};
-ghost use Rattle.s4d.specs.Migrating.{HasLine, HasMigrated, SaysEarlierUnread, SaysNoPlace};
-ghost use Rattle.s4d.specs.Migrating.{SaysUnmigrated, SaysUntaken, parts_line};
+ghost use Rattle.s4d.specs.Migrating.{HasLine, HasMigrated, SaysEarlierUnread, SaysUnmigrated};
+ghost use Rattle.s4d.specs.Migrating.{SaysUntaken, parts_line};
 
 use image_commands::{
-    Asked, Fault, Files, Obstacle, Place, Placed, number_line, read_whole, writing,
+    Asked, Fault, Files, Obstacle, Placed, claim_empty, number_line, put_image, read_whole, writing,
 };
 use image_parts::split_parts;
 use migration::migrated;
@@ -74,7 +74,7 @@ pub fn migrate_file<'a, F: Files>(
 {
     what_has_no_fault_is_an_image();
     // It comes first: a name that is taken is refused at once, the earlier image's own too.
-    let place = match claim_empty(alloc, files, asked) {
+    let place = match claim_apart(alloc, files, asked) {
         Ok(place) => place,
         Err(fault) => return Err(fault),
     };
@@ -95,7 +95,8 @@ pub fn migrate_file<'a, F: Files>(
 
 // Claims the path of the new image, where no file is, or one without bytes. What is written to it
 // is never what the earlier image has.
-fn claim_empty<'a, F: Files>(
+#[tactic(auto, using(image_commands::proofs::Said::no_place))]
+fn claim_apart<'a, F: Files>(
     alloc: Global,
     files: &F,
     asked: Migrate<'a>,
@@ -106,19 +107,14 @@ fn claim_empty<'a, F: Files>(
     ensures fault { IfErr result
         (SaysNoPlace (F.contents files.now asked.entry.image.now) asked.entry.image.now) }
 {
-    let claim = match files.claim(alloc, asked.image) {
+    let claim = match claim_empty(alloc, files, asked.image) {
         Ok(claim) => claim,
-        Err(obstacle) => return Err(writing(obstacle, asked.image)),
+        Err(fault) => return Err(fault),
     };
-    match files.has_bytes(&claim) {
-        Ok(false) => {}
-        Ok(true) => return Err(Fault::HasBytes(asked.image)),
-        Err(error) => return Err(writing(Obstacle::of(error.kind()), asked.image)),
-    }
     match files.are_same(asked.image, asked.earlier) {
         Ok(false) => Ok(claim),
         Ok(true) => Err(Fault::CannotWrite(asked.image, Obstacle::Shared)),
-        Err(error) => Err(writing(Obstacle::of(error.kind()), asked.image)),
+        Err(error) => Err(writing(Obstacle::from(error), asked.image)),
     }
 }
 
@@ -215,11 +211,7 @@ fn put_new<'a, F: Files>(
     ensures named { IfErr result (KeepsNew (F.contents files.new) saved.bytes.items) }
 {
     let Saved { bytes, line } = saved;
-    let place = match Place::beside(alloc, files, path, claim, 0) {
-        Ok(place) => place,
-        Err(fault) => return Err(fault),
-    };
-    match place.put(files, bytes.as_slice()) {
+    match put_image(alloc, files, path, claim, bytes.as_slice()) {
         Ok(placed) => Ok(Migrated { placed, line }),
         Err(fault) => Err(fault),
     }

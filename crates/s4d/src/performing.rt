@@ -256,13 +256,11 @@ fn tell<E: Write>(errors: &mut E, why: Undone<'_>) -> u8
     ensures { result ≡ status_of why.entry }
 {
     let status = status_of(&why);
-    match why {
-        // Each session that failed has had its line.
-        Undone::Unended => {}
-        why => {
-            let _ = writeln!(errors, "s4d: {why}");
-        }
+    // Each session that failed has had its line.
+    if !matches!(why, Undone::Unended) {
+        let _ = writeln!(errors, "s4d: {why}");
     }
+    drop(why);
     status
 }
 
