@@ -1,5 +1,5 @@
 //! Scenes with one new drive each, and what they have in common.
-ghost use Rattle.std.specs.Prelude.{◌≡◌, ◌<◌, ℕ, List, true};
+ghost use Rattle.std.specs.Prelude.{◌≡◌, ◌+◌, ◌<◌, ℕ, List, true};
 ghost use Rattle.s4_model.specs.State.{new_base};
 ghost use Rattle.serving.specs.Drawing.{Drawn};
 
@@ -12,15 +12,17 @@ mod places;
 
 use drive::NewDrive;
 use s4_types::limits::FEWEST_FRAMES;
-use s4_types::{Bytes, Moment, ObjectRequest, Request, Role};
-use server::{Blanks, Client, Outcome, Part, Running, SharedDrive, UpkeepStep};
+use s4_types::{Bytes, Moment, ObjectRequest, Refusal, Request, Role};
+use server::{
+    Blanks, Client, Gate, Locked, Outcome, Part, Running, SharedDrive, UpkeepStep, give_parts,
+    run_with_upkeep,
+};
 use serving::{Backend, Clock, MemorySink, MemorySource, ServeEnd, Ticking};
-use std::alloc::Global;
+use std::alloc::{AllocError, Global};
 use std::marker::Brand;
 use std::process::Abort;
 use std::sync::atomic::{AtomicBool, Ordering};
 use std::sync::{Mutex, Wait};
-use std::test::Fail;
 use std::thread::{Threads, yield_now};
 use std::time;
 
@@ -28,8 +30,8 @@ use std::time;
 /// nothing else is said.
 #[derive(Clone, Copy)]
 enum Scene {
-    /// Two sessions in turn, over a clock with this start and tick.
-    Ticking(u64, u64),
+    /// Four changes of two sessions in turn, and the moments at which they are accepted.
+    InTurn([Option<Moment>; 4]),
     Held,
     Sixteen,
     Crowded,
@@ -39,8 +41,6 @@ enum Scene {
     FailsBelow(usize),
     /// Whoever comes to the first step is held until somebody has come to the second.
     Ordered(UpkeepStep, UpkeepStep),
-    /// Two sessions in turn, over a clock that goes on unevenly and back.
-    Uneven,
     /// What a session knows of where the drive has come to.
     Places,
     /// A full drive whose history ages, with a window of forty minutes in microseconds.
@@ -50,32 +50,48 @@ enum Scene {
 /// Parts of a run's books that there are: each session has one.
 const PARTS: u64 = 100;
 
+/// What a scene is played over: a drive that sessions share.
+#[derive(Drop)]
+struct Stage<'a, J: Running, C: Clock, R> {
+    rt: &'a R,
+    alloc: Global,
+    drive: &'a Mutex<SharedDrive<J, C>>,
+}
+
+/// A session of that number, with a part of the books.
+fn sit<'a, J: Running, C: Clock, R: Wait, G: Gate>(
+    stage: &Stage<'a, J, C, R>,
+    rest: &mut Part<J>,
+    role: Role,
+    gate: &'a G,
+    number: usize,
+) -> Result<Locked<'a, J, C, R, G>, Refusal>
+    requires { 1 < rest.old.parts }
+    ensures { rest.new.parts + 1 ≡ rest.old.parts }
+{
+    let part = rest.split();
+    Locked::new(stage.rt, stage.alloc, stage.drive, role, part, gate, number)
+}
+
 /// Plays a scene over a drive that sessions share.
 fn play_over_drive<
     J: Running + Send + Sync,
     C: Clock + Send,
     R: Abort + Threads + Wait + time::Clock + Sync,
->(
-    rt: &R,
-    alloc: Global,
-    drive: &Mutex<SharedDrive<J, C>>,
-    rest: &mut Part<J>,
-    scene: Scene,
-) -> Result<(), Fail>
+>(stage: &Stage<'_, J, C, R>, rest: &mut Part<J>, scene: Scene) -> Result<(), Refusal>
     requires upkeep { J.has_upkeep ≡ true }
     requires parts { 90 < rest.old.parts }
 {
     match scene {
-        Scene::Ticking(start, tick) => clocks::tick(rt, alloc, drive, rest, start, tick),
-        Scene::Held => held::hold(rt, alloc, drive, rest),
-        Scene::Sixteen => held::gather(rt, alloc, drive, rest),
-        Scene::Crowded => held::crowd_out(rt, alloc, drive, rest),
-        Scene::FailsAbove(room) => failing::fail_above(rt, alloc, drive, rest, room),
-        Scene::FailsBelow(room) => failing::fail_below(rt, alloc, drive, rest, room),
-        Scene::Ordered(held, until) => { ordered::run_ordered(rt, alloc, drive, rest, held, until) }
-        Scene::Uneven => clocks::draw_unevenly(rt, alloc, drive, rest),
-        Scene::Places => places::go(rt, alloc, drive, rest),
-        Scene::Paced => paced::age(rt, alloc, drive, rest),
+        Scene::InTurn(wanted) => clocks::change_in_turn(stage, rest, wanted),
+        Scene::Held => held::hold(stage, rest),
+        Scene::Sixteen => held::gather(stage, rest),
+        Scene::Crowded => held::crowd_out(stage, rest),
+        Scene::FailsAbove(room) => failing::fail_above(stage, rest, room),
+        Scene::FailsBelow(room) => failing::fail_below(stage, rest, room),
+        Scene::Ordered(held, until) => ordered::run_ordered(stage, rest, held, until),
+        Scene::Places => places::go(stage, rest),
+        Scene::Paced => paced::age(stage, rest),
     }
 }
 
@@ -85,7 +101,14 @@ fn play_named<
     J: Running + Send + Sync,
     C: Clock + Send + Drop,
     R: Abort + Threads + Wait + time::Clock + Sync,
->(rt: &R, alloc: Global, made: NewDrive, blanks: Blanks, clock: C, scene: Scene) -> Result<(), Fail>
+>(
+    rt: &R,
+    alloc: Global,
+    made: NewDrive,
+    blanks: Blanks,
+    clock: C,
+    scene: Scene,
+) -> Result<(), Refusal>
     requires frames { made.store.table.seat.table ≡ J.frames }
     requires accepts { made.accepts ≡ J.accepts }
     requires base { new_base made.window ≡ J.base }
@@ -98,9 +121,11 @@ fn play_named<
 {
     let drive = made.named::<J>();
     let (shared, mut rest) = SharedDrive::new(drive, clock, blanks);
-    let drive = Mutex::new(shared);
-    let played = play_over_drive(rt, alloc, &drive, &mut rest, scene);
-    drop(drive);
+    let shared = Mutex::new(shared);
+    let drive = &shared;
+    let played = play_over_drive(&Stage { rt, alloc, drive }, &mut rest, scene);
+    drop(rest);
+    drop(shared);
     played
 }
 
@@ -111,23 +136,54 @@ fn play_over<C: Clock + Send + Drop, R: Abort + Threads + Wait + time::Clock + S
     clock: C,
     window: u64,
     scene: Scene,
-) -> Result<(), Fail> {
+) -> Result<(), Refusal> {
     let made = NewDrive::new(alloc, FEWEST_FRAMES, window)?;
     let blanks = Blanks::new(PARTS);
     play_named::<Brand, C, R>(rt, alloc, made, blanks, clock, scene)
 }
 
-/// Plays a scene over a clock that ticks.
+/// Plays a scene over a clock that ticks by one.
 fn play<R: Abort + Threads + Wait + time::Clock + Sync>(
     rt: &R,
     alloc: Global,
     scene: Scene,
-) -> Result<(), Fail> {
-    let clock = match scene {
-        Scene::Ticking(start, tick) => Ticking::new(Moment::new(start), tick),
-        _ => Ticking::new(Moment::new(0), 1),
-    };
-    play_over(rt, alloc, clock, 100, scene)
+) -> Result<(), Refusal> {
+    play_over(rt, alloc, Ticking::new(Moment::new(0), 1), 100, scene)
+}
+
+/// A clock that ticks by one at first, and then has the moments of a list.
+#[derive(Drop)]
+struct Listed {
+    drawn: usize,
+    /// Which of its moments is the first of the list.
+    first: usize,
+    list: [u64; 4],
+}
+
+impl Listed {
+    fn new(first: usize, list: [u64; 4]) -> Self {
+        Listed {
+            drawn: 0,
+            first,
+            list,
+        }
+    }
+}
+
+impl Clock for Listed {
+    ghost use Rattle.std.specs.Prelude.{⊤};
+
+    ghost draws = { λ _ _ _. ⊤ };
+
+    fn draw(&mut self) -> Moment {
+        let drawn = self.drawn;
+        self.drawn = drawn.saturating_add(1);
+        let place = drawn.saturating_sub(self.first);
+        if drawn < self.first || place >= self.list.len() {
+            return Moment::new(drawn as u64);
+        }
+        Moment::new(self.list[place])
+    }
 }
 
 /// A client that reads these bytes.
@@ -155,23 +211,92 @@ fn ask<B: Backend>(session: &mut B, request: Request) {
 }
 
 /// A Create.
-fn create(alloc: Global) -> Result<Request, Fail> {
-    let attribute = Bytes::from_slice(alloc, b"")?;
-    Ok(Request::Update(ObjectRequest::Create { attribute }))
+fn create(alloc: Global) -> Request {
+    let attribute = Bytes::empty(alloc);
+    Request::Update(ObjectRequest::Create { attribute })
 }
 
-/// These parts, one after the other.
-fn joined(alloc: Global, parts: &[&[u8]]) -> Result<Vec<u8>, Fail> {
-    let mut all = Vec::new(alloc);
-    for part in parts {
-        all.extend_from_slice(part)?;
+/// The frame of a Create.
+static CREATE: [u8; 6] = *b"\0\0\0\x02\x01\0";
+
+/// Bytes of 13 blocks: with the creation's and one of the journal they fill a frame, which is
+/// sealed then.
+static SEALED: [u8; 6656] = [b'a'; 6656];
+
+/// The frame of a Write of as many bytes to object 1, up to those.
+static WRITE_ALL: [u8; 21] = *b"\0\0\x1a\x11\x04\0\0\0\0\0\0\0\x01\0\0\0\0\0\0\0\0";
+
+/// Appends these parts, one after the other, that many times.
+fn append(all: &mut Vec<u8>, times: usize, parts: &[&[u8]]) -> Result<(), AllocError> {
+    for _ in 0..times {
+        for part in parts {
+            all.extend_from_slice(part)?;
+        }
     }
-    Ok(all)
+    Ok(())
 }
 
-/// Whether a session ended well and wrote these bytes.
-fn has_written<J: Running>(client: &Client<J, MemorySource<'_>, MemorySink>, bytes: &[u8]) -> bool {
-    client.outcome == Outcome::Served(ServeEnd::Ended) && client.writer.as_slice() == bytes
+/// Whether bytes are these parts, one after the other.
+fn are_joined(bytes: &[u8], parts: &[&[u8]]) -> bool {
+    let mut rest = bytes;
+    for part in parts {
+        match rest.strip_prefix(*part) {
+            Some(after) => rest = after,
+            None => return false,
+        }
+    }
+    rest.is_empty()
+}
+
+/// Whether a session was served to its end and wrote these parts.
+fn has_written<J: Running>(
+    client: &Client<J, MemorySource<'_>, MemorySink>,
+    parts: &[&[u8]],
+) -> bool {
+    client.outcome == Outcome::Served(ServeEnd::Ended)
+        && are_joined(client.writer.as_slice(), parts)
+}
+
+/// What came of a session beside upkeep.
+#[derive(Clone, Copy)]
+struct Came {
+    /// It was served to its end.
+    is_served: bool,
+    /// What it wrote ends with the bytes that were wanted.
+    has_written: bool,
+    /// The last round of upkeep is known to be the last.
+    has_last_round: bool,
+}
+
+/// Serves a session that asks this beside upkeep; what it writes is wanted to end with `last`.
+fn serve_beside<
+    J: Running + Send + Sync,
+    C: Clock + Send,
+    R: Threads + Wait + time::Clock + Sync,
+    G: Gate + Sync,
+>(
+    stage: &Stage<'_, J, C, R>,
+    rest: &mut Part<J>,
+    gate: &G,
+    role: Role,
+    asked: &[u8],
+    last: &[u8],
+) -> Result<Came, AllocError>
+    requires upkeep { J.has_upkeep ≡ true }
+    requires part { 1 < rest.old.parts }
+{
+    let mut clients = Vec::with_capacity(stage.alloc, 1)?;
+    clients.push_reserved(client_of(stage.alloc, role, asked));
+    give_parts(rest, clients.as_mut_slice());
+    let (clients, upkeep) = run_with_upkeep(stage.rt, stage.alloc, stage.drive, gate, clients);
+    let is_served = clients[0].outcome == Outcome::Served(ServeEnd::Ended);
+    let has_written = clients[0].writer.as_slice().ends_with(last);
+    drop(clients);
+    Ok(Came {
+        is_served,
+        has_written,
+        has_last_round: upkeep.round.is_last,
+    })
 }
 
 /// How often a session looks whether it may go on, before the test is given up.

@@ -1,14 +1,12 @@
 //! The clock that sessions share.
 ghost use Rattle.std.specs.Prelude.{◌<◌};
 
-use crate::tests::{Scene, play, play_over};
-use s4_types::{AdminRequest, Moment, Reply, Request, Role};
-use server::{Locked, Open, Part, Running, SharedDrive};
-use serving::{Backend, Clock};
-use std::alloc::Global;
+use crate::tests::{Listed, Scene, Stage, play_over, sit};
+use s4_types::{AdminRequest, Moment, Refusal, Reply, Request, Role};
+use server::{Open, Part, Running};
+use serving::{Backend, Clock, Ticking};
 use std::process::Abort;
-use std::sync::{Mutex, Wait};
-use std::test::Fail;
+use std::sync::Wait;
 
 /// A change of a session that gives the moment at which it was accepted.
 fn moment_of<B: Backend>(session: &mut B) -> Option<Moment> {
@@ -22,16 +20,14 @@ fn moment_of<B: Backend>(session: &mut B) -> Option<Moment> {
 }
 
 /// The moments of four changes of this session and another in turn.
-fn moments_beside<J: Running, C: Clock, R: Abort + Wait, B: Backend>(
-    rt: &R,
-    alloc: Global,
-    drive: &Mutex<SharedDrive<J, C>>,
+fn moments_beside<J: Running, C: Clock, R: Wait, B: Backend>(
+    stage: &Stage<'_, J, C, R>,
     rest: &mut Part<J>,
     one: &mut B,
-) -> Result<[Option<Moment>; 4], Fail>
+) -> Result<[Option<Moment>; 4], Refusal>
     requires { 1 < rest.old.parts }
 {
-    let mut two = Locked::new(rt, alloc, drive, Role::Admin, rest.split(), &Open, 2)?;
+    let mut two = sit(stage, rest, Role::Admin, &Open, 2)?;
     let first = moment_of(one);
     let second = moment_of(&mut two);
     let third = moment_of(&mut two);
@@ -39,91 +35,46 @@ fn moments_beside<J: Running, C: Clock, R: Abort + Wait, B: Backend>(
     Ok([first, second, third, moment_of(one)])
 }
 
-/// The moments of four changes of two sessions in turn.
-fn four_moments<J: Running, C: Clock, R: Abort + Wait>(
-    rt: &R,
-    alloc: Global,
-    drive: &Mutex<SharedDrive<J, C>>,
+/// Four changes of two sessions in turn are accepted at these moments, and refused where there is
+/// none.
+pub(super) fn change_in_turn<J: Running, C: Clock, R: Abort + Wait>(
+    stage: &Stage<'_, J, C, R>,
     rest: &mut Part<J>,
-) -> Result<[Option<Moment>; 4], Fail>
+    wanted: [Option<Moment>; 4],
+) -> Result<(), Refusal>
     requires { 2 < rest.old.parts }
 {
-    let mut one = Locked::new(rt, alloc, drive, Role::Admin, rest.split(), &Open, 1)?;
-    let moments = moments_beside(rt, alloc, drive, rest, &mut one);
+    let mut one = sit(stage, rest, Role::Admin, &Open, 1)?;
+    let moments = moments_beside(stage, rest, &mut one);
     drop(one);
-    moments
+    let moments = moments?;
+    assert_eq!(stage.rt; moments, wanted);
+    Ok(())
+}
+
+/// The moment of that number.
+fn at(number: u64) -> Option<Moment> {
+    Some(Moment::new(number))
 }
 
 /// Two sessions draw from one count, which stops at the last moment: nothing is accepted after
 /// that.
-pub(super) fn tick<J: Running, C: Clock, R: Abort + Wait>(
-    rt: &R,
-    alloc: Global,
-    drive: &Mutex<SharedDrive<J, C>>,
-    rest: &mut Part<J>,
-    start: u64,
-    tick: u64,
-) -> Result<(), Fail>
-    requires { 2 < rest.old.parts }
-{
-    let mut last = start;
-    for moment in &four_moments(rt, alloc, drive, rest)? {
-        let next = last.saturating_add(tick);
-        let wanted = if next == last {
-            None
-        } else {
-            Some(Moment::new(next))
-        };
-        assert!(rt; *moment == wanted);
-        last = next;
-    }
-    Ok(())
-}
-
 #[test]
-fn all_sessions_draw_from_one_count(rt: HostRuntime) -> Result<(), Fail> {
-    play(&rt, rt.alloc(), Scene::Ticking(10, 5))?;
-    play(&rt, rt.alloc(), Scene::Ticking(u64::MAX - 1, 1))
-}
-
-/// A clock that goes on by uneven steps, stays, and goes back.
-#[derive(Drop)]
-struct Uneven {
-    drawn: usize,
-}
-
-impl Clock for Uneven {
-    ghost use Rattle.std.specs.Prelude.{⊤};
-
-    ghost draws = { λ _ _ _. ⊤ };
-
-    fn draw(&mut self) -> Moment {
-        let moments = [10, 10, 3, 50];
-        let moment = moments[self.drawn % 4];
-        self.drawn = self.drawn.saturating_add(1);
-        Moment::new(moment)
-    }
+fn all_sessions_draw_from_one_count(rt: HostRuntime) -> Result<(), Refusal> {
+    let clock = Ticking::new(Moment::new(10), 5);
+    let wanted = [at(15), at(20), at(25), at(30)];
+    play_over(&rt, rt.alloc(), clock, 100, Scene::InTurn(wanted))?;
+    let clock = Ticking::new(Moment::new(u64::MAX - 1), 1);
+    let wanted = [at(u64::MAX), None, None, None];
+    play_over(&rt, rt.alloc(), clock, 100, Scene::InTurn(wanted))
 }
 
 /// Each change is accepted at the moment that was drawn for it, or at the one after the drive's
 /// clock where that is later.
-pub(super) fn draw_unevenly<J: Running, C: Clock, R: Abort + Wait>(
-    rt: &R,
-    alloc: Global,
-    drive: &Mutex<SharedDrive<J, C>>,
-    rest: &mut Part<J>,
-) -> Result<(), Fail>
-    requires { 2 < rest.old.parts }
-{
-    let moments = four_moments(rt, alloc, drive, rest)?;
-    assert!(rt; moments[0] == Some(Moment::new(10)), "as it was drawn");
-    assert!(rt; moments[1] == Some(Moment::new(11)), "drawn again");
-    assert!(rt; moments[2] == Some(Moment::new(12)), "drawn before");
-    assert!(rt; moments[3] == Some(Moment::new(50)), "drawn later");
-    Ok(())
-}
-
 #[test]
-fn each_change_has_the_moment_that_was_drawn(rt: HostRuntime) -> Result<(), Fail> {
-    play_over(&rt, rt.alloc(), Uneven { drawn: 0 }, 100, Scene::Uneven)
+fn each_change_has_the_moment_that_was_drawn(rt: HostRuntime) -> Result<(), Refusal> {
+    // The clock goes on by uneven steps, stays, and goes back.
+    let clock = Listed::new(0, [10, 10, 3, 50]);
+    let wanted = [at(10), at(11), at(12), at(50)];
+    play_over(&rt, rt.alloc(), clock, 100, Scene::InTurn(wanted))
 }

@@ -1,33 +1,26 @@
 //! Sessions on threads, held at a gate until others have come so far.
-ghost use Rattle.std.specs.Prelude.{◌≡◌, ◌+◌, ◌-◌, ◌^◌, ◌<◌, ◌≤◌, All, IfOk, OnOk, length, vec_len};
+ghost use Rattle.std.specs.Prelude.{◌≡◌, ◌+◌, ◌^◌, ◌<◌, ◌≤◌, All, IfOk, OnOk, length, vec_len};
 
-use crate::tests::{Scene, TURNS, ask, await_flag, client_of, create, has_written, joined, play};
-use s4_types::Refusal::Busy;
-use s4_types::{Bytes, ObjectId, ObjectRequest, Request, Role};
-use server::{
-    Client, Gate, Locked, Open, Outcome, Part, Running, SharedDrive, UpkeepStep, give_parts,
-    run_sessions,
+use crate::tests::{
+    SEALED, Scene, Stage, TURNS, WRITE_ALL, append, ask, await_flag, client_of, create,
+    has_written, play, sit,
 };
-use serving::{Backend, Clock, MemorySink, MemorySource, ServeEnd, Sink, Source};
-use std::alloc::Global;
+use s4_types::{Bytes, ObjectId, ObjectRequest, Refusal, Request, Role};
+use server::{
+    Client, Gate, Locked, Open, Outcome, Part, Running, UpkeepStep, give_parts, run_sessions,
+};
+use serving::{Backend, Clock, MemorySink, MemorySource, ServeEnd};
+use std::alloc::{AllocError, Global};
 use std::process::Abort;
+use std::sync::Wait;
 use std::sync::atomic::{AtomicBool, AtomicUsize, Ordering};
-use std::sync::{Mutex, Wait};
-use std::test::Fail;
 use std::thread::{Threads, yield_now};
 
-/// Bytes of 13 blocks: with the creation's and one of the journal they fill a frame, which is
-/// sealed then.
-static SEALED: [u8; 6656] = [b'a'; 6656];
-
-/// What they are replaced by.
+/// What the sealed bytes are replaced by.
 static OTHERS: [u8; 6656] = [b'b'; 6656];
 
 /// The frame of a Read of all of them, of object 1.
 static READ_ALL: [u8; 26] = *b"\0\0\0\x16\x03\0\0\0\0\0\0\0\x01\0\0\0\0\0\0\0\0\0\0\x1a\0\0";
-
-/// The frame of a Write of as many bytes to object 1, up to those.
-static WRITE_ALL: [u8; 21] = *b"\0\0\x1a\x11\x04\0\0\0\0\0\0\0\x01\0\0\0\0\0\0\0\0";
 
 /// The frame of the reply to the Read, up to its bytes.
 static DATA: [u8; 5] = *b"\0\0\x1a\x01\x03";
@@ -71,6 +64,18 @@ struct Crowd {
     given_up: AtomicBool,
 }
 
+impl Crowd {
+    /// All have come, and each has passed the gate once and was answered once.
+    fn check(&self, rt: &impl Abort) {
+        let was_given_up = self.given_up.load(Ordering::SeqCst);
+        assert!(rt; !was_given_up, "all came");
+        let there = self.there.load(Ordering::SeqCst);
+        assert!(rt; there == 16, "each passed the gate once");
+        let answered = self.answered.load(Ordering::SeqCst);
+        assert!(rt; answered == 16, "and answered once");
+    }
+}
+
 impl Gate for Crowd {
     fn between(&self, _session: usize, _call: u64) {
         self.there.fetch_add(1, Ordering::SeqCst);
@@ -90,71 +95,56 @@ impl Gate for Crowd {
     fn upkeep(&self, _step: UpkeepStep) {}
 }
 
-/// A Write of the sealed bytes to object 1.
-fn write_sealed(alloc: Global) -> Result<Request, Fail> {
+/// The sealed bytes are made.
+fn make<B: Backend>(alloc: Global, writer: &mut B) -> Result<(), AllocError> {
+    ask(writer, create(alloc));
     let bytes = Bytes::from_slice(alloc, &SEALED)?;
-    Ok(Request::Update(ObjectRequest::Write {
+    let write = ObjectRequest::Write {
         object: ObjectId::new(1),
         offset: 0,
         bytes,
-    }))
-}
-
-/// The sealed bytes are made.
-fn make<B: Backend>(alloc: Global, writer: &mut B) -> Result<(), Fail> {
-    ask(writer, create(alloc)?);
-    ask(writer, write_sealed(alloc)?);
+    };
+    ask(writer, Request::Update(write));
     Ok(())
 }
 
 /// The sealed bytes are made, by a session at which nobody waits.
 fn fill<J: Running, C: Clock, R: Wait>(
-    rt: &R,
-    alloc: Global,
-    drive: &Mutex<SharedDrive<J, C>>,
+    stage: &Stage<'_, J, C, R>,
     rest: &mut Part<J>,
-) -> Result<(), Fail>
+) -> Result<(), Refusal>
     requires { 1 < rest.old.parts }
     ensures { rest.new.parts + 1 ≡ rest.old.parts }
 {
-    let mut writer = Locked::new(rt, alloc, drive, Role::Client, rest.split(), &Open, 1)?;
-    let made = make(alloc, &mut writer);
+    let mut writer = sit(stage, rest, Role::Client, &Open, 1)?;
+    let made = make(stage.alloc, &mut writer);
     drop(writer);
-    made
+    made?;
+    Ok(())
 }
 
 /// Serves sessions that have no part of the books yet.
-fn serve_all<
-    J: Running + Send + Sync,
-    C: Clock + Send,
-    R: Threads + Wait + Sync,
-    G: Gate + Sync,
-    S: Source + Send,
-    W: Sink + Send,
->(
-    rt: &R,
-    alloc: Global,
-    drive: &Mutex<SharedDrive<J, C>>,
+fn serve_all<J: Running + Send + Sync, C: Clock + Send, R: Threads + Wait + Sync, G: Gate + Sync>(
+    stage: &Stage<'_, J, C, R>,
     rest: &mut Part<J>,
     gate: &G,
-    clients: &mut [Client<J, S, W>],
+    clients: &mut [Client<J, MemorySource<'_>, MemorySink>],
 )
     requires count { length clients.old ≤ 16 }
     requires parts { length clients.old < rest.old.parts }
-    requires readers { All (λ c. S.failures c.reader + 1 < 2 ^ 64) clients.old }
-    requires writers { All (λ c. W.failures c.writer + 1 < 2 ^ 64) clients.old }
+    requires readers { All (λ c. c.reader.failures + 1 < 2 ^ 64) clients.old }
+    requires writers { All (λ c. c.writer.failures + 1 < 2 ^ 64) clients.old }
     ensures rest { rest.new.parts + length clients.old ≡ rest.old.parts }
 {
     give_parts(rest, clients);
-    run_sessions(rt, alloc, drive, gate, clients);
+    run_sessions(stage.rt, stage.alloc, stage.drive, gate, clients);
 }
 
-/// Clients that read these bytes, as many as that.
-fn clients_of<'a, J: Running>(
+/// Clients that read all bytes, as many as that.
+fn readers<J: Running>(
     alloc: Global,
-    input: &'a [u8],
     count: usize,
-) -> Result<Vec<Client<J, MemorySource<'a>, MemorySink>>, Fail>
+) -> Result<Vec<Client<J, MemorySource<'static>, MemorySink>>, Refusal>
     ensures count { IfOk result (λ clients. vec_len clients ≡ count) }
     ensures readers { IfOk result
         (λ clients. All (λ c. c.reader.failures + 1 < 2 ^ 64) clients.items) }
@@ -163,170 +153,172 @@ fn clients_of<'a, J: Running>(
 {
     let mut clients = Vec::new(alloc);
     for _ in 0..count {
-        clients.push(client_of(alloc, Role::Client, input))?;
+        clients.push(client_of(alloc, Role::Client, &READ_ALL))?;
     }
     Ok(clients)
 }
 
-/// A reader and a writer at once: the one is held until the other is answered.
-fn serve_held<'a, J: Running + Send + Sync, C: Clock + Send, R: Threads + Wait + Sync>(
-    rt: &R,
-    alloc: Global,
-    drive: &Mutex<SharedDrive<J, C>>,
+/// Clients that read all bytes, served at once.
+fn read_at_once<
+    J: Running + Send + Sync,
+    C: Clock + Send,
+    R: Threads + Wait + Sync,
+    G: Gate + Sync,
+>(
+    stage: &Stage<'_, J, C, R>,
     rest: &mut Part<J>,
-    turns: &Turns,
-    both: &'a [u8],
-) -> [Client<J, MemorySource<'a>, MemorySink>; 2]
-    requires { 2 < rest.old.parts }
+    gate: &G,
+    count: usize,
+) -> Result<Vec<Client<J, MemorySource<'static>, MemorySink>>, Refusal>
+    requires count { count ≤ 16 }
+    requires parts { count < rest.old.parts }
+    ensures { OnOk result (rest.new.parts + count ≡ rest.old.parts) }
 {
-    let mut clients = [
-        client_of(alloc, Role::Client, &READ_ALL),
-        client_of(alloc, Role::Client, both),
-    ];
-    serve_all(rt, alloc, drive, rest, turns, &mut clients);
-    clients
+    let mut clients = readers(stage.alloc, count)?;
+    serve_all(stage, rest, gate, clients.as_mut_slice());
+    Ok(clients)
 }
 
-/// Whether the reader had the old bytes, and the writer these and its change.
-fn had_the_old<J: Running>(
-    alloc: Global,
-    clients: &[Client<J, MemorySource<'_>, MemorySink>; 2],
-) -> Result<bool, Fail> {
-    let old = joined(alloc, &[&DATA, &SEALED])?;
-    let old_and_changed = joined(alloc, &[&DATA, &SEALED, &CHANGED])?;
-    let is_old = has_written(&clients[0], old.as_slice());
-    Ok(is_old && has_written(&clients[1], old_and_changed.as_slice()))
+/// A reader and a writer at once: the one is held until the other is answered. Answers whether the
+/// reader had the old bytes, and the writer these and its change.
+fn serve_held<J: Running + Send + Sync, C: Clock + Send, R: Threads + Wait + Sync>(
+    stage: &Stage<'_, J, C, R>,
+    rest: &mut Part<J>,
+    turns: &Turns,
+) -> Result<bool, Refusal>
+    requires { 2 < rest.old.parts }
+{
+    let mut both = Vec::new(stage.alloc);
+    append(&mut both, 1, &[&READ_ALL, &WRITE_ALL, &OTHERS])?;
+    let mut clients = [
+        client_of(stage.alloc, Role::Client, &READ_ALL),
+        client_of(stage.alloc, Role::Client, both.as_slice()),
+    ];
+    serve_all(stage, rest, turns, &mut clients);
+    let is_old = has_written(&clients[0], &[&DATA, &SEALED]);
+    let is_changed = has_written(&clients[1], &[&DATA, &SEALED, &CHANGED]);
+    drop(clients);
+    drop(both);
+    Ok(is_old && is_changed)
 }
 
 /// A read of sealed bytes is held until another session has changed them, and gives what was there.
 pub(super) fn hold<J: Running + Send + Sync, C: Clock + Send, R: Abort + Threads + Wait + Sync>(
-    rt: &R,
-    alloc: Global,
-    drive: &Mutex<SharedDrive<J, C>>,
+    stage: &Stage<'_, J, C, R>,
     rest: &mut Part<J>,
-) -> Result<(), Fail>
+) -> Result<(), Refusal>
     requires { 90 < rest.old.parts }
 {
-    fill(rt, alloc, drive, rest)?;
-    let both = joined(alloc, &[&READ_ALL, &WRITE_ALL, &OTHERS])?;
+    fill(stage, rest)?;
     let turns = Turns {
         planned: AtomicBool::new(false),
         changed: AtomicBool::new(false),
         given_up: AtomicBool::new(false),
     };
-    let clients = serve_held(rt, alloc, drive, rest, &turns, both.as_slice());
-    let had_the_old = had_the_old(alloc, &clients);
-    drop(clients);
-    assert!(rt; !turns.given_up.load(Ordering::SeqCst), "both came so far");
-    assert!(rt; had_the_old?, "as it was planned, and changed meanwhile");
+    let had_the_old = serve_held(stage, rest, &turns);
+    let was_given_up = turns.given_up.load(Ordering::SeqCst);
+    drop(turns);
+    assert!(stage.rt; !was_given_up, "both came so far");
+    assert!(stage.rt; had_the_old?, "as it was planned, and changed meanwhile");
     Ok(())
 }
 
 #[test]
-fn a_read_is_fetched_after_its_bytes_were_changed(rt: HostRuntime) -> Result<(), Fail> {
+fn a_read_is_fetched_after_its_bytes_were_changed(rt: HostRuntime) -> Result<(), Refusal> {
     play(&rt, rt.alloc(), Scene::Held)
 }
 
-/// Whether each session ended well and wrote these bytes.
-fn have_written<J: Running>(
-    clients: &[Client<J, MemorySource<'_>, MemorySink>],
-    bytes: &[u8],
-) -> bool {
-    for client in clients {
-        if !has_written(client, bytes) {
-            return false;
-        }
+/// 16 sessions at once, each held in its first read until all are there, and asked once. Answers
+/// whether each had all bytes.
+fn have_all_read<J: Running + Send + Sync, C: Clock + Send, R: Abort + Threads + Wait + Sync>(
+    stage: &Stage<'_, J, C, R>,
+    rest: &mut Part<J>,
+    crowd: &Crowd,
+) -> Result<bool, Refusal>
+    requires { 16 < rest.old.parts }
+{
+    let clients = read_at_once(stage, rest, crowd, 16)?;
+    crowd.check(stage.rt);
+    let mut have_read = true;
+    for client in clients.as_slice() {
+        have_read &= has_written(client, &[&DATA, &SEALED]);
     }
-    true
+    drop(clients);
+    Ok(have_read)
 }
 
-/// 16 sessions at once, each held in its first read until all are there. Each is asked once.
+/// As many sessions as there may be are held at once.
 pub(super) fn gather<J: Running + Send + Sync, C: Clock + Send, R: Abort + Threads + Wait + Sync>(
-    rt: &R,
-    alloc: Global,
-    drive: &Mutex<SharedDrive<J, C>>,
+    stage: &Stage<'_, J, C, R>,
     rest: &mut Part<J>,
-) -> Result<(), Fail>
+) -> Result<(), Refusal>
     requires { 90 < rest.old.parts }
 {
-    fill(rt, alloc, drive, rest)?;
+    fill(stage, rest)?;
     let crowd = Crowd {
         there: AtomicUsize::new(0),
         answered: AtomicUsize::new(0),
         given_up: AtomicBool::new(false),
     };
-    let old = joined(alloc, &[&DATA, &SEALED])?;
-    let mut clients = clients_of(alloc, &READ_ALL, 16)?;
-    serve_all(rt, alloc, drive, rest, &crowd, clients.as_mut_slice());
-    assert!(rt; !crowd.given_up.load(Ordering::SeqCst), "all came");
-    assert!(rt;
-        crowd.there.load(Ordering::SeqCst) == 16,
-        "each passed the gate once"
-    );
-    assert!(rt;
-        crowd.answered.load(Ordering::SeqCst) == 16,
-        "and answered once"
-    );
-    assert!(rt; have_written(clients.as_slice(), old.as_slice()));
+    let have_read = have_all_read(stage, rest, &crowd);
+    drop(crowd);
+    assert!(stage.rt; have_read?);
     Ok(())
 }
 
 #[test]
-fn sixteen_sessions_are_held_at_once(rt: HostRuntime) -> Result<(), Fail> {
+fn sixteen_sessions_are_held_at_once(rt: HostRuntime) -> Result<(), Refusal> {
     play(&rt, rt.alloc(), Scene::Sixteen)
+}
+
+/// One more session has a seat of the drive.
+fn keep_seat<'a, J: Running, C: Clock, R: Wait>(
+    stage: &Stage<'a, J, C, R>,
+    rest: &mut Part<J>,
+    seats: &mut Vec<Locked<'a, J, C, R, Open>>,
+    number: usize,
+) -> Result<(), Refusal>
+    requires { 1 < rest.old.parts }
+    ensures { rest.new.parts + 1 ≡ rest.old.parts }
+{
+    let session = sit(stage, rest, Role::Client, &Open, number)?;
+    seats.push(session)?;
+    Ok(())
 }
 
 /// Sessions that keep all seats of a drive.
 fn all_seats<'a, J: Running, C: Clock, R: Wait>(
-    rt: &'a R,
-    alloc: Global,
-    drive: &'a Mutex<SharedDrive<J, C>>,
+    stage: &Stage<'a, J, C, R>,
     rest: &mut Part<J>,
-) -> Result<Vec<Locked<'a, J, C, R, Open>>, Fail>
+) -> Result<Vec<Locked<'a, J, C, R, Open>>, Refusal>
     requires { 90 < rest.old.parts }
     ensures { OnOk result (rest.new.parts + 64 ≡ rest.old.parts) }
 {
-    let mut seats = Vec::new(alloc);
+    let mut seats = Vec::new(stage.alloc);
     for number in 0..64 {
-        let part = rest.split();
-        seats.push(Locked::new(rt, alloc, drive, Role::Client, part, &Open, number + 1)?)?;
+        keep_seat(stage, rest, &mut seats, number + 1)?;
     }
     Ok(seats)
 }
 
-/// Two sessions that read all bytes, served at once.
-fn serve_two<J: Running + Send + Sync, C: Clock + Send, R: Threads + Wait + Sync>(
-    rt: &R,
-    alloc: Global,
-    drive: &Mutex<SharedDrive<J, C>>,
+/// Whether two sessions that read all bytes have this outcome, and were told something or nothing.
+fn end_with<J: Running + Send + Sync, C: Clock + Send, R: Threads + Wait + Sync>(
+    stage: &Stage<'_, J, C, R>,
     rest: &mut Part<J>,
-) -> Result<Vec<Client<J, MemorySource<'static>, MemorySink>>, Fail>
+    outcome: Outcome,
+    is_told: bool,
+) -> Result<bool, Refusal>
     requires { 2 < rest.old.parts }
     ensures { OnOk result (rest.new.parts + 2 ≡ rest.old.parts) }
 {
-    let mut clients = clients_of(alloc, &READ_ALL, 2)?;
-    serve_all(rt, alloc, drive, rest, &Open, clients.as_mut_slice());
-    Ok(clients)
-}
-
-/// Whether each session was refused as Busy, and nothing was written to it.
-fn are_refused<J: Running>(clients: &[Client<J, MemorySource<'_>, MemorySink>]) -> bool {
-    for client in clients {
-        if client.outcome != Outcome::Refused(Busy) || !client.writer.as_slice().is_empty() {
-            return false;
-        }
+    let clients = read_at_once(stage, rest, &Open, 2)?;
+    let mut are_so = true;
+    for client in clients.as_slice() {
+        let has_written = !client.writer.as_slice().is_empty();
+        are_so &= client.outcome == outcome && has_written == is_told;
     }
-    true
-}
-
-/// Whether each session was served to its end.
-fn are_served<J: Running>(clients: &[Client<J, MemorySource<'_>, MemorySink>]) -> bool {
-    for client in clients {
-        if client.outcome != Outcome::Served(ServeEnd::Ended) {
-            return false;
-        }
-    }
-    true
+    drop(clients);
+    Ok(are_so)
 }
 
 /// A session that the drive refuses is told so, and nothing of it is read or written.
@@ -334,19 +326,19 @@ pub(super) fn crowd_out<
     J: Running + Send + Sync,
     C: Clock + Send,
     R: Abort + Threads + Wait + Sync,
->(rt: &R, alloc: Global, drive: &Mutex<SharedDrive<J, C>>, rest: &mut Part<J>) -> Result<(), Fail>
+>(stage: &Stage<'_, J, C, R>, rest: &mut Part<J>) -> Result<(), Refusal>
     requires { 90 < rest.old.parts }
 {
-    let seats = all_seats(rt, alloc, drive, rest)?;
-    let refused = serve_two(rt, alloc, drive, rest)?;
-    assert!(rt; are_refused(refused.as_slice()), "no seat is free");
+    let seats = all_seats(stage, rest)?;
+    let are_refused = end_with(stage, rest, Outcome::Refused(Refusal::Busy), false);
     drop(seats);
-    let served = serve_two(rt, alloc, drive, rest)?;
-    assert!(rt; are_served(served.as_slice()), "all seats are free");
+    assert!(stage.rt; are_refused?, "no seat is free");
+    let ended = Outcome::Served(ServeEnd::Ended);
+    assert!(stage.rt; end_with(stage, rest, ended, true)?, "all seats are free");
     Ok(())
 }
 
 #[test]
-fn a_session_without_a_seat_is_refused(rt: HostRuntime) -> Result<(), Fail> {
+fn a_session_without_a_seat_is_refused(rt: HostRuntime) -> Result<(), Refusal> {
     play(&rt, rt.alloc(), Scene::Crowded)
 }

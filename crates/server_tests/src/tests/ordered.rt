@@ -2,14 +2,12 @@
 //! its own: every run ends, in whichever order they come.
 ghost use Rattle.std.specs.Prelude.{◌≡◌, ◌<◌, true};
 
-use crate::tests::{Scene, client_of, joined, play};
-use s4_types::Role;
-use server::{Gate, Outcome, Part, Running, SharedDrive, UpkeepStep, give_parts, run_with_upkeep};
-use serving::{Clock, ServeEnd};
-use std::alloc::Global;
+use crate::tests::{Came, Scene, Stage, play, serve_beside};
+use s4_types::{Refusal, Role};
+use server::{Gate, Part, Running, UpkeepStep};
+use serving::Clock;
 use std::process::Abort;
 use std::sync::{Condvar, CondvarTimeouts, Mutex, Wait};
-use std::test::Fail;
 use std::thread::Threads;
 use std::time;
 
@@ -38,11 +36,10 @@ const MOST_MILLISECONDS: u64 = 20_000;
 const FORBIDDEN_MILLISECONDS: u64 = 300;
 
 /// The frames of a Create, a Write of a byte to object 1, and a Flush of all moments.
-static REQUESTS: [&[u8]; 3] = [
-    b"\0\0\0\x02\x01\0",
-    b"\0\0\0\x12\x04\0\0\0\0\0\0\0\x01\0\0\0\0\0\0\0\0a",
-    b"\0\0\0\x11\x0a\0\0\0\0\0\0\0\0\0\0\0\0\0\0\0\0",
-];
+static REQUESTS: [u8; 49] = *b"\
+    \0\0\0\x02\x01\0\
+    \0\0\0\x12\x04\0\0\0\0\0\0\0\x01\0\0\0\0\0\0\0\0a\
+    \0\0\0\x11\x0a\0\0\0\0\0\0\0\0\0\0\0\0\0\0\0\0";
 
 /// Whether an order can't come: the copier ends only once the sessions have.
 fn is_forbidden(held: UpkeepStep, until: UpkeepStep) -> bool {
@@ -61,6 +58,21 @@ struct Seen {
     has_begun: bool,
     /// The first was held for too long.
     gave_up: bool,
+}
+
+impl Seen {
+    /// Somebody has come to a step.
+    fn note(&mut self, step: UpkeepStep, until: UpkeepStep) {
+        self.has_come |= step == until;
+        self.has_begun |= step == UpkeepStep::FirstTurn;
+    }
+
+    /// Somebody is to be held, unless another one was. Answers whether that is so.
+    fn begin(&mut self) -> bool {
+        let is_first = !self.was_held;
+        self.was_held = true;
+        is_first
+    }
 }
 
 /// A gate at which whoever comes first to the one step is held until somebody has come to the
@@ -102,11 +114,11 @@ impl<'a, R: Wait + time::Clock> Order<'a, R> {
 
     /// Holds the thread that is here until the other one has come, or gives up.
     fn hold(&self) {
-        let mut seen = self.seen.lock(self.rt);
-        if seen.was_held {
+        let is_first = self.seen.lock(self.rt).begin();
+        if !is_first {
             return;
         }
-        seen.was_held = true;
+        let seen = self.seen.lock(self.rt);
         let (mut seen, _) = self
             .news
             .wait_timeout_while(self.rt, seen, self.bound(), |seen| !seen.has_come);
@@ -128,9 +140,7 @@ impl<'a, R: Wait + time::Clock> Order<'a, R> {
 
     /// Notes who has come to which step.
     fn note(&self, step: UpkeepStep) {
-        let mut seen = self.seen.lock(self.rt);
-        seen.has_come |= step == self.until;
-        seen.has_begun |= step == UpkeepStep::FirstTurn;
+        self.seen.lock(self.rt).note(step, self.until);
         self.news.notify_all();
     }
 }
@@ -158,41 +168,39 @@ pub(super) fn run_ordered<
     C: Clock + Send,
     R: Abort + Threads + Wait + time::Clock + Sync,
 >(
-    rt: &R,
-    alloc: Global,
-    drive: &Mutex<SharedDrive<J, C>>,
+    stage: &Stage<'_, J, C, R>,
     rest: &mut Part<J>,
     held: UpkeepStep,
     until: UpkeepStep,
-) -> Result<(), Fail>
+) -> Result<(), Refusal>
     requires upkeep { J.has_upkeep ≡ true }
     requires part { 1 < rest.old.parts }
 {
-    let gate = Order::new(rt, held, until);
-    let asked = joined(alloc, &REQUESTS)?;
-    let mut clients = Vec::new(alloc);
-    clients.push(client_of(alloc, Role::Admin, asked.as_slice()))?;
-    give_parts(rest, clients.as_mut_slice());
-    let (clients, upkeep) = run_with_upkeep(rt, alloc, drive, &gate, clients);
-    let is_served = clients[0].outcome == Outcome::Served(ServeEnd::Ended);
-    assert!(rt; is_served, "{held:?} until {until:?}: served to its end");
-    assert!(rt;
-        upkeep.round.is_last,
-        "{held:?} until {until:?}: a last round"
-    );
-    let seen = gate.seen.lock(rt);
-    assert!(rt; seen.was_held, "{held:?} until {until:?}: the one has come");
-    let is_as_listed = seen.gave_up == is_forbidden(held, until);
-    assert!(rt;
-        is_as_listed,
-        "{held:?} until {until:?}: given up after a bound, or not"
-    );
+    let gate = Order::new(stage.rt, held, until);
+    let came = serve_beside(stage, rest, &gate, Role::Admin, &REQUESTS, b"");
+    let seen = *gate.seen.lock(stage.rt);
+    drop(gate);
+    check(stage.rt, came?, seen, held, until);
     Ok(())
+}
+
+/// What is so at the end of each run.
+fn check(rt: &impl Abort, came: Came, seen: Seen, held: UpkeepStep, until: UpkeepStep) {
+    let is_as_listed = seen.gave_up == is_forbidden(held, until);
+    let rows = [
+        (came.is_served, "served to its end"),
+        (came.has_last_round, "a last round"),
+        (seen.was_held, "the one has come"),
+        (is_as_listed, "given up after a bound, or not"),
+    ];
+    for (is_so, what) in &rows {
+        assert!(rt; *is_so, "{held:?} until {until:?}: {what}");
+    }
 }
 
 /// Each step of one of the threads before each of another.
 #[test]
-fn runs_end_in_whichever_order_threads_come(rt: HostRuntime) -> Result<(), Fail> {
+fn runs_end_in_whichever_order_threads_come(rt: HostRuntime) -> Result<(), Refusal> {
     for ours in 0..STEPS.len() {
         for theirs in 0..STEPS.len() {
             for held in STEPS[ours] {

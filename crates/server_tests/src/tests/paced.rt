@@ -1,15 +1,17 @@
 //! How soon a full drive accepts again once its history has aged, where the window is long.
 ghost use Rattle.std.specs.Prelude.{◌≡◌, ◌<◌, true};
 
-use crate::tests::{Scene, await_flag, client_of, play_over};
-use s4_types::{Moment, Role};
-use server::{Gate, Outcome, Part, Running, SharedDrive, UpkeepStep, give_parts, run_with_upkeep};
-use serving::{Clock, ServeEnd};
-use std::alloc::Global;
+use crate::tests::{
+    CREATE, Came, Listed, SEALED, Scene, Stage, WRITE_ALL, append, await_flag, play_over,
+    serve_beside,
+};
+use s4_types::{Refusal, Role};
+use server::{Gate, Part, Running, UpkeepStep};
+use serving::Clock;
+use std::alloc::{AllocError, Global};
 use std::process::Abort;
+use std::sync::Wait;
 use std::sync::atomic::{AtomicBool, Ordering};
-use std::sync::{Mutex, Wait};
-use std::test::Fail;
 use std::thread::Threads;
 use std::time;
 
@@ -20,39 +22,10 @@ const WINDOW: u64 = 2_400_000_000;
 const WRITES: usize = 40;
 
 /// Moments after the requests that fill the drive: just before the first of its history has aged,
-/// and two minutes later.
-static LATER: [u64; 4] = [2_399_000_000, 2_399_000_001, 2_519_000_000, 2_519_000_001];
+/// and two minutes later. Until then the clock ticks by one.
+const LATER: [u64; 4] = [2_399_000_000, 2_399_000_001, 2_519_000_000, 2_519_000_001];
 
-/// A clock that ticks by one while the drive is filled, and then has the moments of `LATER`.
-#[derive(Drop)]
-struct Leaping {
-    drawn: usize,
-}
-
-impl Clock for Leaping {
-    ghost use Rattle.std.specs.Prelude.{⊤};
-
-    ghost draws = { λ _ _ _. ⊤ };
-
-    fn draw(&mut self) -> Moment {
-        let drawn = self.drawn;
-        self.drawn = drawn.saturating_add(1);
-        let place = drawn.saturating_sub(WRITES + 1);
-        if drawn <= WRITES || place >= LATER.len() {
-            return Moment::new(drawn as u64);
-        }
-        Moment::new(LATER[place])
-    }
-}
-
-/// The frame of a Create, of a Write of 13 blocks to object 1 up to its bytes, and of a Read of one
-/// byte of it.
-static CREATE: [u8; 6] = *b"\0\0\0\x02\x01\0";
-
-static WRITE: [u8; 21] = *b"\0\0\x1a\x11\x04\0\0\0\0\0\0\0\x01\0\0\0\0\0\0\0\0";
-
-static BYTES: [u8; 6656] = [b'a'; 6656];
-
+/// The frame of a Read of one byte of object 1.
 static READ: [u8; 26] = *b"\0\0\0\x16\x03\0\0\0\0\0\0\0\x01\0\0\0\0\0\0\0\0\0\0\0\x01\0";
 
 /// The frames of the last replies: to a Read, to a Write for which there is no room, to a Read, and
@@ -84,18 +57,11 @@ impl Gate for Begins {
 }
 
 /// What the session asks.
-fn requests(alloc: Global) -> Result<Vec<u8>, Fail> {
+fn requests(alloc: Global) -> Result<Vec<u8>, AllocError> {
     let mut all = Vec::new(alloc);
-    all.extend_from_slice(&CREATE)?;
-    for _ in 0..WRITES {
-        all.extend_from_slice(&WRITE)?;
-        all.extend_from_slice(&BYTES)?;
-    }
-    for _ in 0..2 {
-        all.extend_from_slice(&READ)?;
-        all.extend_from_slice(&WRITE)?;
-        all.extend_from_slice(&BYTES)?;
-    }
+    append(&mut all, 1, &[&CREATE])?;
+    append(&mut all, WRITES, &[&WRITE_ALL, &SEALED])?;
+    append(&mut all, 2, &[&READ, &WRITE_ALL, &SEALED])?;
     Ok(all)
 }
 
@@ -105,32 +71,35 @@ pub(super) fn age<
     J: Running + Send + Sync,
     C: Clock + Send,
     R: Abort + Threads + Wait + time::Clock + Sync,
->(rt: &R, alloc: Global, drive: &Mutex<SharedDrive<J, C>>, rest: &mut Part<J>) -> Result<(), Fail>
+>(stage: &Stage<'_, J, C, R>, rest: &mut Part<J>) -> Result<(), Refusal>
     requires upkeep { J.has_upkeep ≡ true }
     requires part { 1 < rest.old.parts }
 {
+    let asked = requests(stage.alloc)?;
     let gate = Begins {
         has_begun: AtomicBool::new(false),
         given_up: AtomicBool::new(false),
     };
-    let asked = requests(alloc)?;
-    let mut clients = Vec::new(alloc);
-    clients.push(client_of(alloc, Role::Client, asked.as_slice()))?;
-    give_parts(rest, clients.as_mut_slice());
-    let (clients, _) = run_with_upkeep(rt, alloc, drive, &gate, clients);
-    assert!(rt; !gate.given_up.load(Ordering::SeqCst), "the cleaner began");
-    assert!(rt; clients[0].outcome == Outcome::Served(ServeEnd::Ended));
-    let said = clients[0].writer.as_slice();
-    let last: &[u8] = &said[said.len().saturating_sub(REPLIES.len())..];
-    let wanted: &[u8] = &REPLIES;
-    assert!(rt;
-        last == wanted,
-        "refused before, and accepted a minute after"
-    );
+    let came = serve_beside(stage, rest, &gate, Role::Client, asked.as_slice(), &REPLIES);
+    let was_given_up = gate.given_up.load(Ordering::SeqCst);
+    drop(gate);
+    drop(asked);
+    check(stage.rt, came?, was_given_up);
     Ok(())
 }
 
+/// The session came so far, and its last replies are those.
+fn check(rt: &impl Abort, came: Came, was_given_up: bool) {
+    assert!(rt; !was_given_up, "the cleaner began");
+    assert!(rt; came.is_served);
+    assert!(rt;
+        came.has_written,
+        "refused before, and accepted a minute after"
+    );
+}
+
 #[test]
-fn a_full_drive_accepts_a_minute_after_its_history_aged(rt: HostRuntime) -> Result<(), Fail> {
-    play_over(&rt, rt.alloc(), Leaping { drawn: 0 }, WINDOW, Scene::Paced)
+fn a_full_drive_accepts_a_minute_after_its_history_aged(rt: HostRuntime) -> Result<(), Refusal> {
+    let clock = Listed::new(WRITES + 1, LATER);
+    play_over(&rt, rt.alloc(), clock, WINDOW, Scene::Paced)
 }

@@ -1,5 +1,5 @@
 use Rattle.std.proofs.Common.{◌≡◌, ◌<◌, ◌+◌, ◌^◌, All, length}
-use Rattle.server_tests.proofs.tests.held.clients_of.Given as goal
+use Rattle.server_tests.proofs.tests.held.readers.Given as goal
 
 -- the clients so far
 abbrev pub invariant-loop : goal.invariant-loop
