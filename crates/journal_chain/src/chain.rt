@@ -33,7 +33,7 @@ use std::marker::Model;
 use undo_redo::{EntriesBetween, OtherEntries};
 
 /// What is kept of an object's chain of journal blocks beside the object's row.
-#[derive(Clone, Copy, PartialEq, Eq)]
+#[derive(Clone, Copy)]
 pub struct Chain {
     object: ObjectId,
     head: Option<Ptr>,

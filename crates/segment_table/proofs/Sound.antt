@@ -184,20 +184,25 @@ let_go_there [] i all = refl
 let_go_there (x ∷ s) zero all = all.0
 let_go_there (x ∷ s) (suc i) all = let_go_there s i all.1
 
-fit_gone : (f : ℕ) (k : Frame) (s : List Slot) (i : ℕ) → IsFit f k s → IsFit f k (let_go s i)
-fit_gone f k s i fit =
-    let slot : Slot = fewer_names (get_or s i no_slot) in
+-- a frame fits where one of its slots has other names
+pub fit_put : (f : ℕ) (k : Frame) (s : List Slot) (i : ℕ) (slot : Slot) → slot.role ≡ (get_or s i no_slot).role → IsFit f k s → (k.phase ≡ Draining → AllByRecursion IsLetGo (set s i slot)) → IsFit f k (set s i slot)
+fit_put f k s i slot same fit draining =
     let P : List BlockRole → Type 0 = λ roles. SpellsSummary (payload_of k.contents) (block_bytes k.contents 0) (record { frame = f; generation = k.generation; roles = roles }) in
-    let roles : map (λ (x : Slot). x.role) (set s i slot) ≡ map (λ (x : Slot). x.role) s = map-set_same (λ (x : Slot). x.role) s i slot no_slot refl in
+    let roles : map (λ (x : Slot). x.role) (set s i slot) ≡ map (λ (x : Slot). x.role) s = map-set_same (λ (x : Slot). x.role) s i slot no_slot same in
     record {
       lives = fit.lives;
       few = omega (arith, length-set s i slot, fit.few);
-      owned = gone_owned s i slot fit.owned (λ low. owned_at s i fit.owned low);
+      owned = gone_owned s i slot fit.owned (λ low. subst (λ (role : BlockRole). 1 ≤ role.object) (sym same) (owned_at s i fit.owned low));
       whole = λ b low high. fit.whole b low (omega (arith, length-set s i slot));
       free = λ e. ap (λ (l : List Slot). set l i slot) (fit.free e);
       summed = λ h. subst P (sym roles) (fit.summed h);
-      draining = λ e. gone_let_go s i slot (fit.draining e) (none_named (get_or s i no_slot) (let_go_there s i (fit.draining e)));
+      draining = draining;
     }
+
+fit_gone : (f : ℕ) (k : Frame) (s : List Slot) (i : ℕ) → IsFit f k s → IsFit f k (let_go s i)
+fit_gone f k s i fit =
+    let slot : Slot = fewer_names (get_or s i no_slot) in
+    fit_put f k s i slot refl fit (λ e. gone_let_go s i slot (fit.draining e) (none_named (get_or s i no_slot) (let_go_there s i (fit.draining e))))
 
 pub used_gone : (old : List (List Slot)) (f i g : ℕ) → f < length old → length (slots_at (set old f (let_go (slots_at old f) i)) g) ≡ length (slots_at old g)
 used_gone old f i g inside = elim (cases_eq g f) [

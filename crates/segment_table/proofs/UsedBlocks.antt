@@ -1,14 +1,12 @@
 -- The used blocks of open and sealed frames: what they are, and what holding one changes.
 use Rattle.std.proofs.Common.{◌≡◌, ◌≢◌, inl, inr, ◌⊎◌, ℕ, zero, suc, ◌+◌, ◌-◌, ◌^◌, ◌<◌, ◌≤◌, ltb, Bool, true, false, ◌==◌, ◌&&◌, ◌||◌, if◌then◌else◌, List, [], ◌∷◌, length, map, set, get_or, slice_get, Option, Some, None, IsSome, IfSome, option_map, refl, sym, ap, subst, ◌∙◌, arith}
-use Rattle.std.proofs.lemmas.List.{get_or-set_same, get_or-set_other, get_or_past, length-set}
+use Rattle.std.proofs.lemmas.List.{get_or-set_same, get_or-set_other, get_or_past}
 use Rattle.std.proofs.lemmas.Option.{slice_get-get_or, slice_get_past}
 use Rattle.std.proofs.lemmas.Bool.{cases_Bool, cases_eq, cases_lt, cond-true, cond-false, eq-eqb, ne_eqb, eqb-true, lt-ltb, le-ltb}
 use Rattle.std.proofs.Math.Seq.{map-set_same}
 use Rattle.s4_types.specs.Pointer.{Place}
 use Rattle.lemmas.proofs.Option.{none_not_some}
 use Rattle.block_log.specs.Log.{Stored, same_place, is_data}
-use Rattle.codec.specs.declared.summaries.BlockRole.{BlockRole}
-use Rattle.codec.specs.Summary.{SpellsSummary}
 use Rattle.segment_word.specs.Frames.{Phase, Free, Open, Sealed, Draining, Frame, is_open, is_sealed}
 use Rattle.segment_word.specs.Layout.{frame_at, block_bytes}
 use Rattle.segment_word.specs.Handles.{Drive}
@@ -16,8 +14,8 @@ use Rattle.segment_table.specs.declared.slots.Slot.{Slot}
 use Rattle.segment_table.specs.Slots.{no_slot, is_held, capped, data_names, with_names, hold_on}
 use Rattle.segment_table.specs.Table.{Table, slots_at, block_slot, stored, held_block, held_at, named_at}
 use Rattle.segment_table.specs.Used.{used_slot, with_bytes, is_named, used_block, used_at, HasWholeBlocks, HoldsUsedBlocks}
-use Rattle.segment_table.specs.Sealing.{payload_of, AreWhole, IsFit, IsSoundTable}
-use Rattle.segment_table.proofs.Sound.{gone_owned, owned_at}
+use Rattle.segment_table.specs.Sealing.{AreWhole, IsFit, IsSoundTable}
+use Rattle.segment_table.proofs.Sound.{fit_put}
 use Rattle.segment_table.proofs.Viewing.{view_changed}
 use Rattle.segment_table.proofs.Reading.{IsUsed, held_used, held_frame}
 use Rattle.segment_table.proofs.Naming.{slot_before}
@@ -204,19 +202,7 @@ roles_still old f i n g inside = elim (cases_eq g f) [
 
 -- the frame of a block that this many places name fits
 pub fit_named : (f : ℕ) (k : Frame) (s : List Slot) (i n : ℕ) → IsFit f k s → k.phase ≢ Draining → IsFit f k (with_names s i n)
-fit_named f k s i n fit ne =
-    let slot : Slot = record (get_or s i no_slot) { named = n } in
-    let P : List BlockRole → Type 0 = λ roles. SpellsSummary (payload_of k.contents) (block_bytes k.contents 0) (record { frame = f; generation = k.generation; roles = roles }) in
-    let roles : map (λ (x : Slot). x.role) (set s i slot) ≡ map (λ (x : Slot). x.role) s = map-set_same (λ (x : Slot). x.role) s i slot no_slot refl in
-    record {
-      lives = fit.lives;
-      few = omega (arith, length-set s i slot, fit.few);
-      owned = gone_owned s i slot fit.owned (λ low. owned_at s i fit.owned low);
-      whole = λ b low high. fit.whole b low (omega (arith, length-set s i slot));
-      free = λ e. ap (λ (l : List Slot). set l i slot) (fit.free e);
-      summed = λ h. subst P (sym roles) (fit.summed h);
-      draining = λ e. absurd (ne e);
-    }
+fit_named f k s i n fit ne = fit_put f k s i (record (get_or s i no_slot) { named = n }) refl fit (λ e. absurd (ne e))
 
 -- ---- what holds of all
 

@@ -20,7 +20,7 @@ use std::marker::Model;
 
 /// A used payload block: what it is for, whose it is, and how many places name it. It is held while
 /// some place does.
-#[derive(Clone, Copy, PartialEq, Eq)]
+#[derive(Clone, Copy)]
 pub struct Slot {
     pub role: BlockRole,
     pub named: u32,

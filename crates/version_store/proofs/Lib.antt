@@ -24,6 +24,7 @@ pub mod ReadByInode
 pub mod Needed
 pub mod Cached
 pub mod Beside
+pub mod Inside
 pub mod Costing
 pub mod Turning
 pub mod Making

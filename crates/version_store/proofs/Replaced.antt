@@ -92,6 +92,13 @@ known done end s o row present entries m store there can is =
       stamp = store.stamps o row there;
     }
 
+-- what a store that was passed is asked, of it as it was opened: the names of the row are these pointers
+pub record Asked (s : StoreFields) (o : ℕ) (row : Row) (present : Inode) (entries : List EntryFields) (m : ℕ) (pointers : List (Option Place)) : Type 0 where
+  pub store : IsStore s
+  pub can : CanReplace s o row present entries
+  pub know : Known s o row present entries m
+  pub are : pointers ≡ pointers_named s.log.held o row
+
 -- ---- the blocks
 
 -- what became of a table's blocks: of an object's data what the new row refers to stays, and no other is held

@@ -26,12 +26,14 @@ use Rattle.time_read.specs.Orderly.{IsOrderly}
 use Rattle.row_changes.specs.Recent.{IsBy}
 use Rattle.object_map.specs.declared.sides.Side.{Side}
 use Rattle.row_changes.proofs.Pushing.{same_checkpoint}
-use Rattle.version_store.specs.Store.{IsLed, StoreFields, named_of, pointers_aside, pointers_kept, pointers_named, pointers_of, pointers_of_sides, sides_told, times_led}
+use Rattle.version_store.specs.Store.{IsLed, StoreFields, StoreOf, fields_of, named_of, pointers_aside, pointers_kept, pointers_named, pointers_of, pointers_of_sides, sides_told, times_led}
 use Rattle.version_store.specs.Costs.{row_or_fresh, subject_row}
 use Rattle.version_store.specs.Taking.{RowChanges}
 use Rattle.version_store.specs.private.Turning.{CanTurn, IsOpenFor, Turns, blocks_turned, times_given}
 use Rattle.version_store.specs.private.Recounting.{Counts, Recounts}
 use Rattle.version_store.specs.private.Below.{ChangesStand, OnePlace, OrderlyStays, IsByLater, LastInodeStays, EntriesAreAt}
+use Rattle.version_store.specs.declared.store.Store.TheInside.{Inside}
+use Rattle.version_store.proofs.Inside.{opened, seen}
 use Rattle.version_store.proofs.Telling.{Grows, between_led, grown_sides, inode_told, leads_later}
 use Rattle.version_store.proofs.Named.{contained_times, named_alike, named_there, recounts_all, there_named, times_contained, times_few, times_joined}
 use Rattle.version_store.proofs.Recounted.{names_few, pointers_few, same_aside, told_led}
@@ -64,6 +66,19 @@ known by last s o i j hand m row can there =
       stamp = omega (arith, bound, most);
       last = last;
     }
+
+-- what is asked of a store as it was passed, of it as it was opened
+pub record Asked (s : StoreFields) (o : ℕ) (i j : Inode) (hand : List (Option Place)) (m : ℕ) (row : Row) : Type 0 where
+  pub can : CanTurn s o i j hand m
+  pub there : row_of s.rows o ≡ Some row
+  pub know : Known s o i j m row
+
+pub asked : {T : Type 0} → IsByLater → LastInodeStays → (log : T → Log) (old : Inside T) (v : StoreOf T) (o : ℕ) (i j : Inode) (hand : List (Option Place)) (m : ℕ) (row : Row)
+    → seen old ≡ v → CanTurn (fields_of log v) o i j hand m → row_of v.rows o ≡ Some row → Asked (opened log old) o i j hand m row
+asked by last log old v o i j hand m row is able here =
+    let can = subst (λ (x : StoreOf _). CanTurn (fields_of log x) o i j hand m) (sym is) able in
+    let there = subst (λ (x : StoreOf _). row_of x.rows o ≡ Some row) (sym is) here in
+    record { can = can; there = there; know = known by last (opened log old) o i j hand m row can there }
 
 -- what was recorded of it: its journal has the entries between the two inodes besides, whose pointers are theirs
 pub records_of : (s : StoreFields) (later : Place → Option Stored) (o : ℕ) (i j : Inode) (hand : List (Option Place)) (m : ℕ) (row next : Row)

@@ -97,25 +97,6 @@ pub(crate) fn pointers_by<B: Blocks>(
     Ok(pointers)
 }
 
-/// All pointers to data that an object's row refers to.
-///
-/// NoMemory alone, where the memory for them or for the entries of its journal is refused.
-pub(crate) fn pointers_of<B: Blocks>(
-    alloc: Global,
-    table: &mut B,
-    object: ObjectId,
-    row: &Row,
-) -> Result<Vec<Option<Ptr>>, Refusal>
-    requires { IsRow (B.log table.old).held object row.now }
-    ensures pointers { IfOk result
-        (λ pointers. pointers.items ≡ pointers_of (B.log table.old).held object row.now) }
-    ensures refusal { IfErr result (λ e. e ≡ NoMemory) }
-    ensures same { B.log table.new ≡ B.log table.old }
-{
-    let entries = time_read::entries(alloc, table, object, row)?;
-    pointers_by(alloc, table, object, row, entries.as_slice())
-}
-
 /// All pointers of an inode, and after them both sides of each triple of entries.
 ///
 /// NoMemory alone, where the memory for them is refused.

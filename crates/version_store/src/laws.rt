@@ -136,14 +136,22 @@ pub fn a_step_that_leaves_a_stamp_leaves_the_blocks()
     ensures { EachStepTells }
 {}
 
+// What both laws of a cut journal are shown by.
+fn a_journal_is_cut()
+    ensures can { AJournalCanBeCut }
+    ensures shows { ACutJournalShowsTheSame }
+{
+    entries_determine_a_run();
+    groups_part_at_a_moment();
+    a_row_keeps_the_making();
+}
+
 /// An object's journal can be replaced by its own later entries, where there are some, with the
 /// present inode as it is.
 pub fn a_journal_can_be_cut()
     ensures { AJournalCanBeCut }
 {
-    entries_determine_a_run();
-    groups_part_at_a_moment();
-    a_row_keeps_the_making();
+    a_journal_is_cut();
 }
 
 /// From a moment on an object's inodes are those that its later entries lead to, ending with the
@@ -151,9 +159,7 @@ pub fn a_journal_can_be_cut()
 pub fn a_cut_journal_shows_the_same()
     ensures { ACutJournalShowsTheSame }
 {
-    entries_determine_a_run();
-    groups_part_at_a_moment();
-    a_row_keeps_the_making();
+    a_journal_is_cut();
 }
 
 // That the present stays, and what the crates below say of an object's inodes, for the functions

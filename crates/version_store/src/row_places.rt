@@ -14,7 +14,7 @@ ghost use Rattle.version_store.specs.Store.{pointers_kept, pointers_named, point
 ghost use Rattle.version_store.specs.private.Tallying.{pointers_to, number_of, times_on, IsWithin};
 ghost use Rattle.version_store.specs.private.Tallying.{Grows};
 
-use crate::data_blocks::{pointers_by, pointers_of};
+use crate::data_blocks::pointers_by;
 use block_log::Blocks;
 use checkpoint::laws::a_checkpoint_is_in_its_blocks;
 use checkpoint::{add_places, read_checkpoint};
@@ -135,28 +135,6 @@ fn add_aside<B: Blocks>(
     Ok(())
 }
 
-/// Adds all pointers by which an object's row names data.
-fn add_data<B: Blocks>(
-    alloc: Global,
-    table: &mut B,
-    object: ObjectId,
-    row: &Row,
-    pointers: &mut Vec<Option<Ptr>>,
-) -> Result<(), Refusal>
-    requires { IsRow (B.log table.old).held object row.now }
-    ensures added { OnOk result
-        (pointers.new.items
-        ≡ pointers.old.items ++ pointers_named (B.log table.old).held object row.now) }
-    ensures refusal { IfErr result (λ e. e ≡ NoMemory) }
-    ensures same { B.log table.new ≡ B.log table.old }
-{
-    a_checkpoint_is_in_its_blocks();
-    let led = pointers_of(alloc, table, object, row)?;
-    pointers.extend_from_slice(led.as_slice())?;
-    add_aside(table, object, row.sides.as_slice(), pointers)?;
-    Ok(())
-}
-
 /// All pointers by which an object's row names data, by these entries, which are those of its
 /// journal.
 ///
@@ -179,6 +157,27 @@ pub(crate) fn names_by<B: Blocks>(
     let mut names = pointers_by(alloc, table, object, row, entries)?;
     add_aside(table, object, row.sides.as_slice(), &mut names)?;
     Ok(names)
+}
+
+/// Adds all pointers by which an object's row names data.
+fn add_data<B: Blocks>(
+    alloc: Global,
+    table: &mut B,
+    object: ObjectId,
+    row: &Row,
+    pointers: &mut Vec<Option<Ptr>>,
+) -> Result<(), Refusal>
+    requires { IsRow (B.log table.old).held object row.now }
+    ensures added { OnOk result
+        (pointers.new.items
+        ≡ pointers.old.items ++ pointers_named (B.log table.old).held object row.now) }
+    ensures refusal { IfErr result (λ e. e ≡ NoMemory) }
+    ensures same { B.log table.new ≡ B.log table.old }
+{
+    let entries = time_read::entries(alloc, table, object, row)?;
+    let names = names_by(alloc, table, object, row, entries.as_slice())?;
+    pointers.extend_from_slice(names.as_slice())?;
+    Ok(())
 }
 
 /// Adds the places of the blocks of all checkpoints that an object's row names.

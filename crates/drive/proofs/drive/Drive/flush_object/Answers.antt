@@ -32,10 +32,7 @@ returns-in_err-check_span g c =
     rw (p.1, p.2) (refuses_bad (later_refusal (state_in c.args.self.now) (Control (FlushO c.args.object c.args.first c.args.last))) c.args.self.now c.args.session.now (Control (FlushO c.args.object c.args.first c.args.last)) c.args.now _ (object_bad (state_in c.args.self.now) (span_at c.args.object c.args.first c.args.last) (of_one ∙ bad.1)) bad.0)
 
 pub accept-requires : goal.accept-requires
-accept-requires g c =
-    let clock : c.self.inside.window.clock ≡ (state_of c.self.inside.history.history).clock = c.self.invariant.1.window.clock in
-    let lt : c.self.inside.window.clock < last_number = c.in_ok-plan.ensures.clock in
-    can_count c.self.inside.history c.self.invariant.1.sound (omega arith)
+accept-requires g c = can_count c.self.inside.history c.self.invariant.1.sound (subst (λ (t : ℕ). t < last_number) c.self.invariant.1.window.clock c.in_ok-plan.ensures.clock)
 
 pub returns-in_err-reserve : goal.returns-in_err-reserve
 returns-in_err-reserve g c =

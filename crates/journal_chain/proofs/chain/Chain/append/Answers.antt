@@ -10,61 +10,41 @@ use Rattle.journal_chain.specs.Writing.{reopened}
 use Rattle.journal_chain.proofs.Calls.{Pushed, pushed, pushed_names, pushed_holds, takes_last}
 use Rattle.journal_chain.proofs.Adding.{joined-packed}
 use Rattle.journal_chain.proofs.Rule.{few_packed}
+use Rattle.journal_chain.proofs.chain.Chain.append.Given.{Over}
+use Rattle.journal_chain.proofs.chain.Chain.append.Goals.{After-finish-head}
 use Rattle.journal_chain.proofs.chain.Chain.append.Goals as goal
+
+-- all entries stand
+all : (g : Over) (c : After-finish-head g) → Pushed (g.B.Blocks.log c.args.table.now).held (g.B.Blocks.log c.finish-head.new.table).held (g.B.Blocks.log c.take_others.new.table).held c.args.self.now.object
+    (option_to_list c.reopened-stale.result) c.take_others.new.block c.finish-head.result (entries_held (g.B.Blocks.log c.args.table.now).held c.args.self.now ++ c.args.first.now ∷ c.args.later)
+all g c =
+    let chain = c.args.self.now in
+    let log = g.B.Blocks.log c.args.table.now in
+    pushed log (g.B.Blocks.log c.begun-block.new.table) (g.B.Blocks.log c.take_others.new.table) (g.B.Blocks.log c.finish-head.new.table) chain (entries_held log.held chain) c.args.first.now c.args.later
+    c.begun-block.result c.take_others.new.block c.finish-head.result c.reopened-stale.result
+    c.begun-block.ensures.same c.begun-block.ensures.unfinished c.begun-block.ensures.object
+    (c.reopened-stale.ensures.value ∙ ap (reopened chain) c.byte_count.ensures.exact)
+    c.take_others.ensures.unfinished c.take_others.ensures.others c.take_others.ensures.object c.finish-head.ensures.finished c.finish-head.ensures.others
 
 pub returns-clause-holds : goal.returns-clause-holds
 returns-clause-holds g c =
     let chain = c.args.self.now in
-    let log = g.B.Blocks.log c.args.table.now in
-    let log1 = g.B.Blocks.log c.begun-block.new.table in
-    let log2 = g.B.Blocks.log c.take_others.new.table in
-    let log3 = g.B.Blocks.log c.finish-head.new.table in
-    let old = entries_held log.held chain in
-    let first = c.args.first.now in
-    let later = c.args.later in
-    let p : Pushed log.held log3.held log2.held chain.object (option_to_list c.reopened-stale.result) c.take_others.new.block c.finish-head.result (old ++ first ∷ later) =
-    pushed log log1 log2 log3 chain old first later c.begun-block.result c.take_others.new.block c.finish-head.result c.reopened-stale.result
-    c.begun-block.ensures.same c.begun-block.ensures.unfinished c.begun-block.ensures.object
-    (c.reopened-stale.ensures.value ∙ ap (reopened chain) c.byte_count.ensures.exact)
-    c.take_others.ensures.unfinished c.take_others.ensures.others c.take_others.ensures.object c.finish-head.ensures.finished c.finish-head.ensures.others in
-    pushed_holds log.held log2.held log3.held chain c.set_head.new.self old (first ∷ later) (option_to_list c.reopened-stale.result) c.take_others.new.block c.finish-head.result
-    c.args.bytes c.entry_bytes.result c.requires.held p c.requires.fit c.requires.bytes c.requires.limit c.entry_bytes.ensures.exact c.set_head.ensures
+    let held = (g.B.Blocks.log c.args.table.now).held in
+    pushed_holds held (g.B.Blocks.log c.take_others.new.table).held (g.B.Blocks.log c.finish-head.new.table).held chain c.set_head.new.self (entries_held held chain) (c.args.first.now ∷ c.args.later)
+    (option_to_list c.reopened-stale.result) c.take_others.new.block c.finish-head.result c.args.bytes c.entry_bytes.result
+    c.requires.held (all g (goal.at.returns-clause-holds g c).After-finish-head) c.requires.fit c.requires.bytes c.requires.limit c.entry_bytes.ensures.exact c.set_head.ensures
     joined-packed entries_append few_packed
 
 pub returns-clause-others : goal.returns-clause-others
-returns-clause-others g c =
-    let chain = c.args.self.now in
-    let log = g.B.Blocks.log c.args.table.now in
-    let log1 = g.B.Blocks.log c.begun-block.new.table in
-    let log2 = g.B.Blocks.log c.take_others.new.table in
-    let log3 = g.B.Blocks.log c.finish-head.new.table in
-    let old = entries_held log.held chain in
-    let first = c.args.first.now in
-    let later = c.args.later in
-    let p : Pushed log.held log3.held log2.held chain.object (option_to_list c.reopened-stale.result) c.take_others.new.block c.finish-head.result (old ++ first ∷ later) =
-    pushed log log1 log2 log3 chain old first later c.begun-block.result c.take_others.new.block c.finish-head.result c.reopened-stale.result
-    c.begun-block.ensures.same c.begun-block.ensures.unfinished c.begun-block.ensures.object
-    (c.reopened-stale.ensures.value ∙ ap (reopened chain) c.byte_count.ensures.exact)
-    c.take_others.ensures.unfinished c.take_others.ensures.others c.take_others.ensures.object c.finish-head.ensures.finished c.finish-head.ensures.others in
-    p.others
+returns-clause-others g c = (all g (goal.at.returns-clause-others g c).After-finish-head).others
 
 pub returns-clause-named : goal.returns-clause-named
 returns-clause-named g c =
     let chain = c.args.self.now in
     let log = g.B.Blocks.log c.args.table.now in
-    let log1 = g.B.Blocks.log c.begun-block.new.table in
-    let log2 = g.B.Blocks.log c.take_others.new.table in
-    let log3 = g.B.Blocks.log c.finish-head.new.table in
-    let old = entries_held log.held chain in
-    let first = c.args.first.now in
-    let later = c.args.later in
-    let p : Pushed log.held log3.held log2.held chain.object (option_to_list c.reopened-stale.result) c.take_others.new.block c.finish-head.result (old ++ first ∷ later) =
-    pushed log log1 log2 log3 chain old first later c.begun-block.result c.take_others.new.block c.finish-head.result c.reopened-stale.result
-    c.begun-block.ensures.same c.begun-block.ensures.unfinished c.begun-block.ensures.object
-    (c.reopened-stale.ensures.value ∙ ap (reopened chain) c.byte_count.ensures.exact)
-    c.take_others.ensures.unfinished c.take_others.ensures.others c.take_others.ensures.object c.finish-head.ensures.finished c.finish-head.ensures.others in
-    pushed_names log log1 log2 log3 chain c.take_others.new.block c.finish-head.result c.reopened-stale.result (old ++ first ∷ later)
-    c.begun-block.ensures.same c.take_others.ensures.named (c.take_others.ensures.object ∙ c.begun-block.ensures.object) c.finish-head.ensures.named p
+    pushed_names log (g.B.Blocks.log c.begun-block.new.table) (g.B.Blocks.log c.take_others.new.table) (g.B.Blocks.log c.finish-head.new.table) chain
+    c.take_others.new.block c.finish-head.result c.reopened-stale.result (entries_held log.held chain ++ c.args.first.now ∷ c.args.later)
+    c.begun-block.ensures.same c.take_others.ensures.named (c.take_others.ensures.object ∙ c.begun-block.ensures.object) c.finish-head.ensures.named (all g (goal.at.returns-clause-named g c).After-finish-head)
 
 pub returns-clause-takes : goal.returns-clause-takes
 returns-clause-takes g c =
