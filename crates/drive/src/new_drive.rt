@@ -23,15 +23,9 @@ use window::Window;
 
 /// A new drive that has no name yet: an opened one of no objects. Contracts see the table of its
 /// accept word, its objects and its window.
+#[derive(Drop)]
 pub struct NewDrive {
     opened: OpenedDrive,
-}
-
-// Written by hand, so that an owner lets it go by one call.
-impl Drop for NewDrive {
-    fn drop(self) {
-        let NewDrive { opened: _ } = self;
-    }
 }
 
 impl Model for NewDrive {

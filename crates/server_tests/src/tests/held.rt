@@ -247,7 +247,7 @@ fn have_all_read<J: Running + Send + Sync, C: Clock + Send, R: Abort + Threads +
     Ok(have_read)
 }
 
-/// As many sessions as there may be are held at once.
+/// Sixteen sessions at once, each held in its first read until all of them are there.
 pub(super) fn gather<J: Running + Send + Sync, C: Clock + Send, R: Abort + Threads + Wait + Sync>(
     stage: &Stage<'_, J, C, R>,
     rest: &mut Part<J>,
