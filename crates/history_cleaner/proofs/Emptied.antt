@@ -1,5 +1,5 @@
 -- Frames that hold nothing are marked and released, one after the other.
-use Rattle.std.proofs.Common.{◌≡◌, ◌⊎◌, ℕ, zero, suc, ◌+◌, ◌<◌, ◌≤◌, Bool, true, false, Result, Ok, Err, inl, inr, List, [], ◌∷◌, length, Option, refl, sym, ap, subst, ◌∙◌, arith}
+use Rattle.std.proofs.Common.{◌≡◌, ◌⊎◌, ℕ, zero, suc, ◌+◌, ◌-◌, ◌<◌, ◌≤◌, Bool, true, false, Result, Ok, Err, inl, inr, List, [], ◌∷◌, length, Option, refl, sym, ap, subst, ◌∙◌, arith}
 use Rattle.std.specs.Prelude.{OnOk, OnErr, IfErr, slice_set, count_by}
 use Rattle.std.specs.List.{range_with_len}
 use Rattle.std.proofs.lemmas.Bool.{cases_eq, false≢true}
@@ -21,7 +21,7 @@ use Rattle.drive.specs.Fields.{DriveFields, store_of}
 use Rattle.drive.specs.Upkeep.{Marks}
 use Rattle.version_store.specs.Upkeep.{KeepsObjects}
 use Rattle.history_cleaner.specs.Emptying.{AllVacated, HasFoundReader, MarkedBelow, FreesFrame, MeetsReader, EndsAtReader, StopsAtReader}
-use Rattle.history_cleaner.specs.private.Emptying.{ReleasedFrom, ReleasedBelow}
+use Rattle.history_cleaner.specs.private.Emptying.{ReleasedFrom, ReleasedBelow, HasVacated}
 
 -- ---- frames
 
@@ -192,6 +192,16 @@ count_more p q n alike =
     ∙ ap (λ (m : ℕ). m + tally (p (0 + n))) (count_alike p q 0 n (λ k low high. alike k (omega arith)))
     ∙ ap (λ (m : ℕ). count_by q (range_with_len 0 n) + m) here
 
+-- ---- from the highest frame down
+
+-- the frame of an index is the one before those that are done
+pub next_down : (count index : ℕ) → index < count → count - index ≡ (count - 1 - index) + 1
+next_down count index below = omega (arith, below)
+
+-- and the first of those that are done then
+pub one_down : (Done : ℕ → Type 0) (count index : ℕ) → index < count → Done (count - 1 - index) → Done (count - (index + 1))
+one_down Done count index below = subst Done (omega (arith, below))
+
 -- ---- releasing
 
 -- how far releasing has come in a drive: down to frame first, and with the frames below that it ends at a reader if they do
@@ -361,14 +371,6 @@ found_since old d new same found = record {
   some_reader = found.some_reader;
   found = found.found;
 }
-
--- all that is promised of the answer
-pub record HasVacated (r : Result (Unit {0}) Refusal) (old new : DriveFields) : Type 0 where
-  pub vacated : OnOk r (AllVacated new.store.table)
-  pub refusal : IfErr r (λ e. (e ≡ InUse) × StopsAtReader old.store.table new.store.table)
-  pub frames : length new.store.table.seat.frames ≡ length old.store.table.seat.frames
-  pub objects : KeepsObjects (store_of old) (store_of new)
-  pub ledger : new.ledger ≡ old.ledger
 
 pub has_vacated : (r : Result (Unit {0}) Refusal) (count : ℕ) (old d new : DriveFields) → count ≡ length old.store.table.seat.frames → MarksSoFar count old d
     → OnOk r (ReleasedBelow count d.store.table new.store.table) → IfErr r (λ e. (e ≡ InUse) × HasFoundReader d.store.table.seat new.store.table.seat)

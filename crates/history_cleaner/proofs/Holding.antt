@@ -19,26 +19,14 @@ use Rattle.s4_model.specs.Visible.{IsVisible}
 use Rattle.version_store.specs.Store.{StoreFields, IsStore, IsNamed, Names, pointers_of}
 use Rattle.version_store.specs.Versions.{inode_by, inode_in}
 use Rattle.version_store.specs.Replacing.{CanReplace, IsRemoved, IsReplaced, inode_led, pointers_told}
-use Rattle.version_store.specs.Laws.{HeldIsWhatRowsName, InodesPointToWhatRowsName}
 use Rattle.chain_rewriting.specs.Cleaned.{KeptChain}
 use Rattle.chain_rewriting.specs.CleaningLaws.{IsSeenPlaceOf}
-use Rattle.history_cleaner.specs.Laws.{WhatIsLeftCanStand, AnEmptyJournalStaysEmpty}
 use Rattle.history_cleaner.specs.Sight.{is_visible, is_seen_between}
-use Rattle.history_cleaner.specs.Reaching.{IsReached, HoldsWhatIsReached, TellsOfSeenPlaces, RowTellsOfSeenPlaces, HeldIsWhatIsReached, WhatIsLeftTellsOfSeenPlaces, WhatIsLeftPointsToSeenPlaces, WhatIsLeftBeginsTheSame}
+use Rattle.history_cleaner.specs.Reaching.{IsReached, HoldsWhatIsReached, TellsOfSeenPlaces, RowTellsOfSeenPlaces}
+use Rattle.history_cleaner.specs.private.Putting.{PuttingLaws}
 use Rattle.history_cleaner.specs.private.Reading.{IsLeft}
 use Rattle.history_cleaner.proofs.Seeing.{true_visible}
 use Rattle.history_cleaner.proofs.Putting.{sight_of, may_replace}
-
--- the laws of what is held and what is reached
-pub record Laws : Type 0 where
-  pub exact : HeldIsWhatRowsName
-  pub points : InodesPointToWhatRowsName
-  pub reached : HeldIsWhatIsReached
-  pub tells : WhatIsLeftTellsOfSeenPlaces
-  pub seen : WhatIsLeftPointsToSeenPlaces
-  pub begins : WhatIsLeftBeginsTheSame
-  pub stands : WhatIsLeftCanStand
-  pub empty : AnEmptyJournalStaysEmpty
 
 -- an object without a row reaches nothing
 none_reached : (s : StoreFields) (state : State) (o : ℕ) (p : Place) → row_of s.rows o ≡ None → IsReached s state o p → ⊥
@@ -53,7 +41,7 @@ holds_removed s later state o removed p =
     )
 
 -- nothing was written
-pub nothing_holds : Laws → (s : StoreFields) (state : State) (o : ℕ) (entries : List EntryFields) (left : Option KeptChain) (chain : KeptChain) → left ≡ Some chain → IsVisible state o state.clock → IsLeft s state o entries left → chain.entries ≡ entries → HoldsWhatIsReached s state o
+pub nothing_holds : PuttingLaws → (s : StoreFields) (state : State) (o : ℕ) (entries : List EntryFields) (left : Option KeptChain) (chain : KeptChain) → left ≡ Some chain → IsVisible state o state.clock → IsLeft s state o entries left → chain.entries ≡ entries → HoldsWhatIsReached s state o
 nothing_holds laws s state o entries left chain some now l same =
     let is : chain.entries ≡ entries_of s.log.held o l.row = same ∙ l.told in
     let start : Inode = undone_all chain.entries chain.last in
@@ -75,9 +63,9 @@ seen_put later state o last entries p inodes seen = record {
 }
 
 -- what is reached there was held before, and stays
-put_held : Laws → (s later : StoreFields) (state : State) (o : ℕ) (row : Row) (last : Inode) (entries : List EntryFields) (p : Place) → IsStore s → row_of s.rows o ≡ Some row → CanReplace s o row last entries → IsReplaced s o row last entries later → IsReached later state o p → IsSome (of_kind Data o later.log.held p)
+put_held : PuttingLaws → (s later : StoreFields) (state : State) (o : ℕ) (row : Row) (last : Inode) (entries : List EntryFields) (p : Place) → IsStore s → row_of s.rows o ≡ Some row → CanReplace s o row last entries → IsReplaced s o row last entries later → IsReached later state o p → IsSome (of_kind Data o later.log.held p)
 put_held laws s later state o row last entries p store there can done reached =
-    let named : IsNamed later o Data p = laws.points later o reached.moment reached.index reached.inode p reached.current reached.at in
+    let named : IsNamed later o Data p = laws.named later o reached.moment reached.index reached.inode p reached.current reached.at in
     let here : row_of later.rows o ≡ Some done.next = done.put o ∙ cond-true (o == o) (Some done.next) (row_of s.rows o) (eq-eqb o o refl) in
     let same : named.row ≡ done.next = same_Some named.row done.next (sym named.there ∙ here) in
     let points : Contains (pointers_of later.log.held o done.next) (Some p) = subst (λ (r : Row). Names later.log.held o r Data p) same named.names in
@@ -86,13 +74,13 @@ put_held laws s later state o row last entries p store there can done reached =
     subst (λ (block : Option (List ℕ)). IsSome block) (sym (done.kept p told)) was
 
 -- the chain was replaced
-holds_replaced : Laws → (s later : StoreFields) (state : State) (o : ℕ) (entries : List EntryFields) (left : Option KeptChain) (chain : KeptChain) → left ≡ Some chain → IsVisible state o state.clock → IsLeft s state o entries left → (chain.entries ≡ entries → ⊥)
+holds_replaced : PuttingLaws → (s later : StoreFields) (state : State) (o : ℕ) (entries : List EntryFields) (left : Option KeptChain) (chain : KeptChain) → left ≡ Some chain → IsVisible state o state.clock → IsLeft s state o entries left → (chain.entries ≡ entries → ⊥)
     → IfSome (row_of s.rows o) (λ row. IsReplaced s o row chain.last chain.entries later) → ((t : ℕ) → inode_in later o t ≡ Some (inode_led chain.last chain.entries t)) → HoldsWhatIsReached later state o
 holds_replaced laws s later state o entries left chain some now l other replaced inodes p =
     let row : Row = l.row in
     let done : IsReplaced s o row chain.last chain.entries later = subst (λ (r : Option Row). IfSome r (λ x. IsReplaced s o x chain.last chain.entries later)) l.has.there replaced in
     let can : CanReplace s o row chain.last chain.entries = subst (λ (r : Option Row). IfSome r (λ x. CanReplace s o x chain.last chain.entries)) l.has.there (may_replace laws.stands laws.empty s state o entries left chain some l other) in (
-      λ held. seen_put later state o chain.last chain.entries p inodes (laws.seen (is_seen_between state o) (is_visible state o) s o state.clock row chain p l.has (sight_of state o now) (l.left ∙ some) (done.named p held)),
+      λ held. seen_put later state o chain.last chain.entries p inodes (laws.points (is_seen_between state o) (is_visible state o) s o state.clock row chain p l.has (sight_of state o now) (l.left ∙ some) (done.named p held)),
       λ reached. put_held laws s later state o row chain.last chain.entries p l.has.store l.has.there can done reached,
     )
 
@@ -102,7 +90,7 @@ pub removal_holds : (r : Result (Unit {0}) Refusal) (s later : StoreFields) (sta
 removal_holds (Ok u) s later state o removed = holds_removed s later state o removed
 removal_holds (Err e) s later state o removed = tt
 
-pub replacing_holds : Laws → (r : Result (Unit {0}) Refusal) (s later : StoreFields) (state : State) (o : ℕ) (entries : List EntryFields) (left : Option KeptChain) (chain : KeptChain) → left ≡ Some chain → IsVisible state o state.clock → IsLeft s state o entries left → (chain.entries ≡ entries → ⊥)
+pub replacing_holds : PuttingLaws → (r : Result (Unit {0}) Refusal) (s later : StoreFields) (state : State) (o : ℕ) (entries : List EntryFields) (left : Option KeptChain) (chain : KeptChain) → left ≡ Some chain → IsVisible state o state.clock → IsLeft s state o entries left → (chain.entries ≡ entries → ⊥)
     → OnOk r (IfSome (row_of s.rows o) (λ row. IsReplaced s o row chain.last chain.entries later))
     → OnOk r ((q t : ℕ) → inode_in later q t ≡ (if o == q then Some (inode_led chain.last chain.entries t) else inode_in s q t)) → OnOk r (HoldsWhatIsReached later state o)
 replacing_holds laws (Ok u) s later state o entries left chain some now l other replaced inodes =

@@ -7,6 +7,7 @@ pub mod Putting
 pub mod Emptied
 pub mod Reached
 pub mod Holding
+pub mod Left
 pub mod Sweeping
 pub mod Few
 pub mod Passing

@@ -325,3 +325,13 @@ stopped_at_reader d mid later e all ledger needed frames kept found = inr (recor
 pub all_same : (d begun done later : DriveFields) → begun ≡ d → later ≡ done → ((o : ℕ) → IsCleaned (store_of begun) (store_of done) (state_in begun) o) → (o : ℕ) → IsCleaned (store_of d) (store_of later) (state_in d) o
 all_same d begun done later first last all o =
     subst (λ (x : DriveFields). IsCleaned (store_of x) (store_of later) (state_in x) o) first (subst (λ (x : DriveFields). IsCleaned (store_of begun) (store_of x) (state_in begun) o) (sym last) (all o))
+
+-- a test of rows holds of as many objects
+pub count_same : (test : List (ℕ × Row) → List (ℕ × Row) → ℕ → Bool) (d begun done later : DriveFields) (n : ℕ) → begun ≡ d → later ≡ done → IsCount (test begun.store.rows done.store.rows) n → IsCount (test d.store.rows later.store.rows) n
+count_same test d begun done later n first last is =
+    subst (λ (x : DriveFields). IsCount (test x.store.rows later.store.rows) n) first (subst (λ (x : DriveFields). IsCount (test begun.store.rows x.store.rows) n) (sym last) is)
+
+-- the versions stay that can be read
+pub kept_same : (d begun done later : DriveFields) → begun ≡ d → later ≡ done → KeepsVersions (state_in begun) (store_of begun) (store_of done) → KeepsVersions (state_in d) (store_of d) (store_of later)
+kept_same d begun done later first last kept =
+    subst (λ (x : DriveFields). KeepsVersions (state_in x) (store_of x) (store_of later)) first (subst (λ (x : DriveFields). KeepsVersions (state_in begun) (store_of begun) (store_of x)) (sym last) kept)

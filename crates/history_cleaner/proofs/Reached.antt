@@ -23,12 +23,13 @@ use Rattle.version_store.specs.Versions.{inode_by}
 use Rattle.version_store.specs.Laws.{HeldIsWhatRowsName, InodesPointToWhatRowsName}
 use Rattle.chain_rewriting.specs.Chains.{IsChain}
 use Rattle.chain_rewriting.specs.Cleaned.{KeptChain, cleaned}
-use Rattle.chain_rewriting.specs.CleaningLaws.{IsSeenPlaceOf, TellsOfPlacesWithin, AKeptChainIsARun, AKeptChainTellsOfSeenPlacesAlone, AnUnchangedChainIsTheKeptOne, AChainIsOneLater}
+use Rattle.chain_rewriting.specs.CleaningLaws.{IsSeenPlaceOf, TellsOfPlacesWithin, AKeptChainTellsOfSeenPlacesAlone, AnUnchangedChainIsTheKeptOne}
 use Rattle.history_cleaner.specs.Laws.{HasChain, first_stored, left_of}
 use Rattle.history_cleaner.specs.Sight.{is_visible}
 use Rattle.history_cleaner.specs.Reaching.{IsReached, TellsOfSeenPlaces, RowTellsOfSeenPlaces, HeldIsWhatIsReached, WhatIsLeftTellsOfSeenPlaces, WhatIsLeftPointsToSeenPlaces, WhatIsLeftBeginsTheSame}
-use Rattle.history_cleaner.proofs.Stored.{RunLaws, at_moment, first_is, stored_chain}
-use Rattle.history_cleaner.proofs.Standing.{some_of, if_is, told_are}
+use Rattle.history_cleaner.specs.private.Chains.{ChainLaws}
+use Rattle.history_cleaner.proofs.Stored.{at_moment, first_is, stored_chain}
+use Rattle.history_cleaner.proofs.Standing.{some_of, left_run, left_begins, if_is, told_are}
 use Rattle.history_cleaner.proofs.Seeing.{true_visible}
 
 -- ---- what a row names
@@ -90,35 +91,26 @@ held_is_reached exact points s state o store tells p = (
 -- ---- what is left of a chain
 
 pub record Laws : Type 0 where
-  pub run : RunLaws
-  pub later : AChainIsOneLater
-  pub is_run : AKeptChainIsARun
+  pub chain : ChainLaws
   pub tells : AKeptChainTellsOfSeenPlacesAlone
   pub unchanged : AnUnchangedChainIsTheKeptOne
-
-left_begins : Laws → (sees : ℕ → ℕ → Bool) (s : StoreFields) (o clock : ℕ) (row : Row) (chain : KeptChain) → HasChain s o row clock → left_of sees s o row clock ≡ Some chain → chain.first ≡ undone_all chain.entries chain.last
-left_begins laws sees s o clock row chain h left =
-    let first : Inode = first_stored s o row clock in
-    let entries : List EntryFields = entries_of s.log.held o row in
-    let base : IsChain row.created clock first entries = (stored_chain laws.run laws.later s o clock row h).1 in
-    laws.run.begins chain.first chain.last chain.entries (some_of (cleaned sees clock first entries) (λ c. Run c.first c.entries c.last) chain left (laws.is_run sees row.created clock clock first entries base))
 
 pub left_tells : Laws → WhatIsLeftTellsOfSeenPlaces
 left_tells laws sees visible s o clock row chain h sight left =
     let first : Inode = first_stored s o row clock in
     let entries : List EntryFields = entries_of s.log.held o row in
-    let base : IsChain row.created clock first entries = (stored_chain laws.run laws.later s o clock row h).1 in
-    subst (λ (i : Inode). TellsOfSeenPlaces visible i chain.entries) (left_begins laws sees s o clock row chain h left)
+    let base : IsChain row.created clock first entries = (stored_chain laws.chain s o clock row h).1 in
+    subst (λ (i : Inode). TellsOfSeenPlaces visible i chain.entries) (left_begins laws.chain sees s o clock row chain h left)
     (some_of (cleaned sees clock first entries) (λ c. TellsOfSeenPlaces visible c.first c.entries) chain left (laws.tells visible sees row.created clock clock first entries sight.fits sight.now (omega arith) base))
 
 pub left_points : Laws → WhatIsLeftPointsToSeenPlaces
 left_points laws sees visible s o clock row chain p h sight left there =
     let first : Inode = first_stored s o row clock in
     let entries : List EntryFields = entries_of s.log.held o row in
-    let base : IsChain row.created clock first entries = (stored_chain laws.run laws.later s o clock row h).1 in
+    let base : IsChain row.created clock first entries = (stored_chain laws.chain s o clock row h).1 in
     let start : Inode = undone_all chain.entries chain.last in
-    let run : Run chain.first chain.entries chain.last = some_of (cleaned sees clock first entries) (λ c. Run c.first c.entries c.last) chain left (laws.is_run sees row.created clock clock first entries base) in
-    let end : redone_all chain.entries start ≡ chain.last = ap (redone_all chain.entries) (sym (laws.run.begins chain.first chain.last chain.entries run)) ∙ sym (laws.run.ends chain.first chain.last chain.entries run) in
+    let run : Run chain.first chain.entries chain.last = left_run laws.chain sees s o clock row chain h left in
+    let end : redone_all chain.entries start ≡ chain.last = ap (redone_all chain.entries) (sym (laws.chain.run.begins chain.first chain.last chain.entries run)) ∙ sym (laws.chain.run.ends chain.first chain.last chain.entries run) in
     let tells : TellsOfSeenPlaces visible start chain.entries = left_tells laws sees visible s o clock row chain h sight left in
     let Is : Place → Type 0 = IsSeenPlaceOf visible start chain.entries in
     elim (Contains-append_cases chain.last.pointers (sides_told chain.entries) (Some p) there) [
@@ -132,7 +124,7 @@ pub left_same : Laws → WhatIsLeftBeginsTheSame
 left_same laws sees visible s o clock row chain h sight left same =
     let first : Inode = first_stored s o row clock in
     let entries : List EntryFields = entries_of s.log.held o row in
-    let base : IsChain row.created clock first entries = (stored_chain laws.run laws.later s o clock row h).1 in
-    sym (left_begins laws sees s o clock row chain h left)
+    let base : IsChain row.created clock first entries = (stored_chain laws.chain s o clock row h).1 in
+    sym (left_begins laws.chain sees s o clock row chain h left)
     ∙ ((some_of (cleaned sees clock first entries) (λ c. c.entries ≡ entries → (c.first ≡ first) × (c.last ≡ redone_all entries first)) chain left (laws.unchanged visible sees row.created clock clock first entries sight.fits sight.now (omega arith) base)) same).0
-    ∙ first_is laws.run s o clock row h
+    ∙ first_is laws.chain.run s o clock row h

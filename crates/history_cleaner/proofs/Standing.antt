@@ -26,14 +26,25 @@ use Rattle.version_store.specs.Laws.{InodesPointToWhatRowsName}
 use Rattle.version_store.specs.Checkpointing.{last_entry}
 use Rattle.chain_rewriting.specs.Chains.{IsChain}
 use Rattle.chain_rewriting.specs.Cleaned.{KeptChain, cleaned}
-use Rattle.chain_rewriting.specs.CleaningLaws.{IsOneShown, IsPlaceOf, TellsWithin, HasPlacesWithin, AKeptChainIsARun, AKeptChainIsGrouped, AKeptChainHasOldMoments, TheMomentsOfAKeptChainAreOld, AKeptChainIsInOrder, AKeptChainShowsOldInodes, AKeptChainPointsToOldPlaces, AChainIsOneLater, AKeptChainTakesNoMoreBytes}
+use Rattle.chain_rewriting.specs.CleaningLaws.{IsOneShown, IsPlaceOf, TellsWithin, HasPlacesWithin, AKeptChainIsGrouped, AKeptChainHasOldMoments, TheMomentsOfAKeptChainAreOld, AKeptChainIsInOrder, AKeptChainShowsOldInodes, AKeptChainPointsToOldPlaces, AKeptChainTakesNoMoreBytes}
 use Rattle.version_store.proofs.CheckpointSteps.{last_moment_least}
-use Rattle.history_cleaner.specs.Laws.{HasChain, first_stored, WhatIsLeftCanStand, AnEmptyJournalStaysEmpty}
-use Rattle.history_cleaner.proofs.Stored.{RunLaws, first_is, shown_is, stored_chain}
+use Rattle.history_cleaner.specs.Laws.{HasChain, first_stored, left_of, WhatIsLeftCanStand, AnEmptyJournalStaysEmpty}
+use Rattle.history_cleaner.specs.private.Chains.{RunLaws, ChainLaws}
+use Rattle.history_cleaner.proofs.Stored.{first_is, shown_is, stored_chain}
 
 -- what holds of an answer holds of what it answers
 pub some_of : (o : Option KeptChain) (P : KeptChain → Type 0) (chain : KeptChain) → o ≡ Some chain → IfSome o P → P chain
 some_of o P chain is h = subst (λ (x : Option KeptChain). IfSome x P) is h
+
+-- what is left of an object's chain is a run
+pub left_run : ChainLaws → (sees : ℕ → ℕ → Bool) (s : StoreFields) (o clock : ℕ) (row : Row) (chain : KeptChain) → HasChain s o row clock → left_of sees s o row clock ≡ Some chain → Run chain.first chain.entries chain.last
+left_run laws sees s o clock row chain h left =
+    let first : Inode = first_stored s o row clock in
+    some_of (left_of sees s o row clock) (λ c. Run c.first c.entries c.last) chain left (laws.is_run sees row.created clock clock first (entries_of s.log.held o row) (stored_chain laws s o clock row h).1)
+
+-- which begins where its entries are all undone
+pub left_begins : ChainLaws → (sees : ℕ → ℕ → Bool) (s : StoreFields) (o clock : ℕ) (row : Row) (chain : KeptChain) → HasChain s o row clock → left_of sees s o row clock ≡ Some chain → chain.first ≡ undone_all chain.entries chain.last
+left_begins laws sees s o clock row chain h left = laws.run.begins chain.first chain.last chain.entries (left_run laws sees s o clock row chain h left)
 
 -- ---- moments
 
@@ -90,9 +101,8 @@ place_named laws points s o clock row p h place =
 -- ---- the whole
 
 pub record Laws : Type 0 where
-  pub run : RunLaws
+  pub chain : ChainLaws
   pub ascend : (entries : List EntryFields) → grouped entries ≡ true → moments_ascend_from 0 entries ≡ true
-  pub is_run : AKeptChainIsARun
   pub is_grouped : AKeptChainIsGrouped
   pub old : AKeptChainHasOldMoments
   pub moments : TheMomentsOfAKeptChainAreOld
@@ -101,7 +111,6 @@ pub record Laws : Type 0 where
   pub places : AKeptChainPointsToOldPlaces
   pub points : InodesPointToWhatRowsName
   pub making : (held : Place → Option Stored) (o : ℕ) (row : Row) (t : ℕ) → IsRow held o row → (inode_of held o row t).created ≡ row.created
-  pub later : AChainIsOneLater
   pub bytes : AKeptChainTakesNoMoreBytes
 
 pub can_stand : Laws → WhatIsLeftCanStand
@@ -112,14 +121,14 @@ can_stand laws sees s o clock row chain h some left =
     let last : ℕ = last_entry held o row in
     let answer : Option KeptChain = cleaned sees clock first entries in
     let object = h.store.objects o row h.there in
-    let base : IsChain row.created clock first entries = (stored_chain laws.run laws.later s o clock row h).1 in
+    let base : IsChain row.created clock first entries = (stored_chain laws.chain s o clock row h).1 in
     let now : HasChain s o row s.latest = record { store = h.store; there = h.there; latest = omega arith; rules = h.rules; few = h.few } in
-    let early : IsChain row.created s.latest first entries = subst (λ (i : Inode). IsChain row.created s.latest i entries) (first_is laws.run s o s.latest row now ∙ sym (first_is laws.run s o clock row h)) (stored_chain laws.run laws.later s o s.latest row now).1 in
-    let run : Run chain.first chain.entries chain.last = some_of answer (λ c. Run c.first c.entries c.last) chain left (laws.is_run sees row.created clock clock first entries base) in
-    let start : chain.first ≡ undone_all chain.entries chain.last = laws.run.begins chain.first chain.last chain.entries run in
+    let early : IsChain row.created s.latest first entries = subst (λ (i : Inode). IsChain row.created s.latest i entries) (first_is laws.chain.run s o s.latest row now ∙ sym (first_is laws.chain.run s o clock row h)) (stored_chain laws.chain s o s.latest row now).1 in
+    let run : Run chain.first chain.entries chain.last = left_run laws.chain sees s o clock row chain h left in
+    let start : chain.first ≡ undone_all chain.entries chain.last = left_begins laws.chain sees s o clock row chain h left in
     let by : AllBy last chain.entries = some_of answer (λ c. AllBy last c.entries) chain left (laws.old (λ m. leb m last) sees clock first entries (by_last 0 entries (laws.ascend entries object.stands.groups))) in
     let shown : (t : ℕ) → IsOneShown first entries (inode_after chain.first chain.entries t) = λ t. some_of answer (λ c. IsOneShown first entries (inode_after c.first c.entries t)) chain left (laws.shown sees row.created clock clock t first entries base) in
-    let end : chain.last ≡ inode_after chain.first chain.entries last = laws.run.ends chain.first chain.last chain.entries run ∙ sym (laws.run.done chain.first chain.entries last by) in
+    let end : chain.last ≡ inode_after chain.first chain.entries last = laws.chain.run.ends chain.first chain.last chain.entries run ∙ sym (laws.chain.run.done chain.first chain.entries last by) in
     let places : HasPlacesWithin (IsPlaceOf first entries) chain = some_of answer (HasPlacesWithin (IsPlaceOf first entries)) chain left (laws.places sees row.created clock clock first entries base) in
     let bytes : entries_length chain.entries ≤ entries_length entries = some_of answer (λ c. entries_length c.entries ≤ entries_length entries) chain left (laws.bytes sees row.created clock clock first entries base h.few) in
     let limit : entries_length entries ≤ CHAIN_ENTRY_BYTES = object.stands.chain.limit in
@@ -131,11 +140,11 @@ can_stand laws sees s o clock row chain h some left =
       moments = some_of answer (λ c. (e : EntryFields) → Contains c.entries e → (f : EntryFields) × (Contains entries f × (f.moment ≡ e.moment))) chain left (laws.moments sees clock first entries);
       bytes = omega (arith, bytes, limit);
       made = ap (λ (i : Inode). i.created) end
-          ∙ old_holds (λ i. i.created ≡ row.created) first entries (inode_after chain.first chain.entries last) (λ u. ap (λ (i : Inode). i.created) (shown_is laws.run s o clock u row h) ∙ laws.making held o row u object.stands) (λ p is. is) (shown last);
+          ∙ old_holds (λ i. i.created ≡ row.created) first entries (inode_after chain.first chain.entries last) (λ u. ap (λ (i : Inode). i.created) (shown_is laws.chain.run s o clock u row h) ∙ laws.making held o row u object.stands) (λ p is. is) (shown last);
       order = subst (λ (i : Inode). IsOrderlyChain row.created s.latest i chain.entries) start (some_of answer (λ c. IsOrderlyChain row.created s.latest c.first c.entries) chain left (laws.order sees row.created s.latest clock first entries early));
       tidy = λ t. subst (λ (i : Inode). Tidy (contents_of held) (inode_after i chain.entries t)) start
-          (old_holds (Tidy (contents_of held)) first entries (inode_after chain.first chain.entries t) (λ u. subst (Tidy (contents_of held)) (sym (shown_is laws.run s o clock u row h)) (object.tidy u)) (dark_tidy (contents_of held)) (shown t));
-      pointers = λ p told. place_named laws.run laws.points s o clock row p h (elim (Contains-append_cases chain.last.pointers (sides_told chain.entries) (Some p) told) [
+          (old_holds (Tidy (contents_of held)) first entries (inode_after chain.first chain.entries t) (λ u. subst (Tidy (contents_of held)) (sym (shown_is laws.chain.run s o clock u row h)) (object.tidy u)) (dark_tidy (contents_of held)) (shown t));
+      pointers = λ p told. place_named laws.chain.run laws.points s o clock row p h (elim (Contains-append_cases chain.last.pointers (sides_told chain.entries) (Some p) told) [
         | inl kept ↦ let (n, below, at) = kept in if_is (IsPlaceOf first entries) (get_or chain.last.pointers n None) p (get_or_default chain.last.pointers n None (Some p) below ∙ at) (places.last n)
         | inr sides ↦ told_are (IsPlaceOf first entries) chain.entries p places.entries sides
       ]);

@@ -7,6 +7,7 @@ ghost use Rattle.drive.specs.Fields.{state_in, store_of};
 ghost use Rattle.drive.specs.Keeping.{KeepsVersions};
 ghost use Rattle.history_cleaner.specs.Cleaning.{Cleans, OthersStay, IsClean, IsUnseen, HasNoRoom};
 ghost use Rattle.history_cleaner.specs.Reaching.{HoldsWhatIsReached};
+ghost use Rattle.history_cleaner.specs.private.Putting.{PutsLeft};
 ghost use Rattle.history_cleaner.specs.private.Reading.{IsLeft};
 
 use crate::entries::{are_same, each_is_an_entry};
@@ -53,21 +54,7 @@ fn put<J: Naming>(
 ) -> Result<(), Refusal>
     requires entries { entries.now ≡ entries_of_object (store_of drive.old) object }
     requires left { IsLeft (store_of drive.old) (state_in drive.old) object entries.now left }
-    ensures cleaned { OnOk result
-        (Cleans (store_of drive.old) (state_in drive.old) object (store_of drive.new)) }
-    ensures clean { OnOk result (IsClean (store_of drive.new) (state_in drive.old) object) }
-    ensures held { OnOk result
-        (HoldsWhatIsReached (store_of drive.new) (state_in drive.old) object) }
-    ensures gone { OnOk result
-        (IsUnseen (store_of drive.old) (state_in drive.old) object
-        → row_of drive.new.store.rows object ≡ None) }
-    ensures answer { MatchResult result (λ _. HasNoRoom (store_of drive.old) (state_in drive.old) object → ⊥)
-        (λ e. (e ≡ NoMemory)
-        ⊎ ((e ≡ NoRoom) × HasNoRoom (store_of drive.old) (state_in drive.old) object)) }
-    ensures others { OthersStay (store_of drive.old) object (store_of drive.new) }
-    ensures unchanged { OnErr result (store_of drive.new ≡ store_of drive.old) }
-    ensures ledger { drive.new.ledger ≡ drive.old.ledger }
-    ensures needed { KeepsVersions (state_in drive.old) (store_of drive.old) (store_of drive.new) }
+    ensures { PutsLeft object drive.old result drive.new }
 {
     what_is_left_can_be_put();
     drive.rules();

@@ -8,7 +8,8 @@ ghost use Rattle.drive.specs.Fields.{store_of};
 ghost use Rattle.version_store.specs.Upkeep.{KeepsObjects};
 ghost use Rattle.history_cleaner.specs.Emptying.{AllVacated, frames_risen, HasFoundReader};
 ghost use Rattle.history_cleaner.specs.Emptying.{MarkedBelow, EndsAtReader, StopsAtReader};
-ghost use Rattle.history_cleaner.specs.private.Emptying.{ReleasedBelow, generations_in, is_later};
+ghost use Rattle.history_cleaner.specs.private.Emptying.{ReleasedBelow, HasVacated, generations_in};
+ghost use Rattle.history_cleaner.specs.private.Emptying.{is_later};
 
 use arrayvec::ArrayVec;
 use drive::Drive;
@@ -59,13 +60,7 @@ fn release_all<J: Naming>(drive: &mut Drive<J>, count: u16) -> Result<(), Refusa
 /// Marks each frame that is sealed and holds nothing, and then releases each that is being emptied,
 /// the highest first. At the first that has a reader it stops.
 pub(crate) fn vacate<J: Naming>(drive: &mut Drive<J>) -> Result<(), Refusal>
-    ensures vacated { OnOk result (AllVacated drive.new.store.table) }
-    ensures refusal { IfErr result
-        (λ e. (e ≡ InUse) × StopsAtReader drive.old.store.table drive.new.store.table) }
-    ensures frames { length drive.new.store.table.seat.frames
-        ≡ length drive.old.store.table.seat.frames }
-    ensures objects { KeepsObjects (store_of drive.old) (store_of drive.new) }
-    ensures ledger { drive.new.ledger ≡ drive.old.ledger }
+    ensures { HasVacated result drive.old drive.new }
 {
     let count = drive.frame_count();
     mark_all(drive, count);

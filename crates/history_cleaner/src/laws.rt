@@ -7,8 +7,8 @@ ghost use Rattle.history_cleaner.specs.Laws.{WhatIsLeftIsSeenThroughout};
 ghost use Rattle.history_cleaner.specs.Reaching.{HeldIsWhatIsReached, WhatIsLeftTellsOfSeenPlaces};
 ghost use Rattle.history_cleaner.specs.Reaching.{WhatIsLeftPointsToSeenPlaces};
 ghost use Rattle.history_cleaner.specs.Reaching.{WhatIsLeftBeginsTheSame};
-ghost use Rattle.s4_model.specs.Laws.{ThePresentClockIsVisible};
-ghost use Rattle.version_store.specs.Laws.{HeldIsWhatRowsName, InodesPointToWhatRowsName};
+ghost use Rattle.history_cleaner.specs.private.Chains.{ChainLaws};
+ghost use Rattle.history_cleaner.specs.private.Putting.{PuttingLaws};
 
 use chain_rewriting::cleaning_laws::{
     a_chain_is_one_later, a_kept_chain_has_old_moments, a_kept_chain_has_seen_inodes_alone,
@@ -23,12 +23,20 @@ use s4_model::laws::clock_and_floor_never_fall;
 use undo_redo::laws::{entries_determine_a_run, groups_part_at_a_moment};
 use version_store::laws::{inodes_point_to_what_rows_name, what_is_held_is_what_rows_name};
 
+// What the laws below rest on.
+fn chains_are_runs()
+    ensures { ChainLaws }
+{
+    entries_determine_a_run();
+    a_chain_is_one_later();
+    a_kept_chain_is_a_run();
+}
+
 /// The chain of a stored object is one that can be cleaned.
 pub fn a_stored_chain_is_a_chain()
     ensures { AStoredChainIsAChain }
 {
-    entries_determine_a_run();
-    a_chain_is_one_later();
+    chains_are_runs();
 }
 
 /// What is left of an object's chain can be in the place of its journal.
@@ -36,9 +44,8 @@ pub fn what_is_left_can_stand()
     ensures stands { WhatIsLeftCanStand }
     ensures empty { AnEmptyJournalStaysEmpty }
 {
-    entries_determine_a_run();
+    chains_are_runs();
     groups_part_at_a_moment();
-    a_kept_chain_is_a_run();
     a_kept_chain_is_grouped();
     a_kept_chain_has_old_moments();
     the_moments_of_a_kept_chain_are_old();
@@ -47,7 +54,6 @@ pub fn what_is_left_can_stand()
     a_kept_chain_points_to_old_places();
     inodes_point_to_what_rows_name();
     a_row_keeps_the_making();
-    a_chain_is_one_later();
     a_kept_chain_takes_no_more_bytes();
 }
 
@@ -60,9 +66,7 @@ pub fn what_is_left_shows_the_same()
     ensures seen { WhatIsLeftIsSeen }
     ensures throughout { WhatIsLeftIsSeenThroughout }
 {
-    entries_determine_a_run();
-    a_chain_is_one_later();
-    a_kept_chain_is_a_run();
+    chains_are_runs();
     a_kept_chain_has_old_moments();
     a_kept_chain_shows_the_same();
     a_kept_chain_is_seen_alive();
@@ -77,9 +81,7 @@ pub fn what_is_left_tells_of_seen_places()
     ensures points { WhatIsLeftPointsToSeenPlaces }
     ensures same { WhatIsLeftBeginsTheSame }
 {
-    entries_determine_a_run();
-    a_chain_is_one_later();
-    a_kept_chain_is_a_run();
+    chains_are_runs();
     a_kept_chain_tells_of_seen_places_alone();
     an_unchanged_chain_is_the_kept_one();
 }
@@ -95,19 +97,7 @@ pub fn held_is_what_is_reached()
 
 // All that the putting of what is left rests on.
 pub(crate) fn what_is_left_can_be_put()
-    ensures stands { WhatIsLeftCanStand }
-    ensures empty { AnEmptyJournalStaysEmpty }
-    ensures same { WhatIsLeftShowsTheSame }
-    ensures none { NothingIsLeftOfTheAbsent }
-    ensures seen { WhatIsLeftIsSeen }
-    ensures throughout { WhatIsLeftIsSeenThroughout }
-    ensures tells { WhatIsLeftTellsOfSeenPlaces }
-    ensures points { WhatIsLeftPointsToSeenPlaces }
-    ensures begins { WhatIsLeftBeginsTheSame }
-    ensures reached { HeldIsWhatIsReached }
-    ensures exact { HeldIsWhatRowsName }
-    ensures named { InodesPointToWhatRowsName }
-    ensures present { ThePresentClockIsVisible }
+    ensures { PuttingLaws }
 {
     what_is_left_can_stand();
     what_is_left_shows_the_same();

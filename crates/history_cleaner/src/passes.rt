@@ -1,7 +1,6 @@
 //! A pass over all objects, and then over all frames.
 ghost use Rattle.std.specs.Prelude.{◌≡◌, ◌⊎◌, ℕ, ◌+◌, ◌^◌, ◌<◌, if◌then◌else◌, IfSome, IsSome};
 ghost use Rattle.std.specs.Prelude.{IfOk, IfErr, OnOk, OnErr};
-ghost use Rattle.s4_types.specs.declared.refusals.Refusal.TheVariants.{NoMemory, NoRoom};
 ghost use Rattle.s4_model.specs.Audit.{audit_of};
 ghost use Rattle.s4_model.specs.Promise.{IsCleanedUp};
 ghost use Rattle.block_log.specs.declared.kinds.BlockKind.TheVariants.{Data};
@@ -10,11 +9,12 @@ ghost use Rattle.object_map.specs.Rows.{row_of};
 ghost use Rattle.version_store.specs.Versions.{version_in};
 ghost use Rattle.drive.specs.Fields.{history_of, state_in, store_of};
 ghost use Rattle.drive.specs.Keeping.{KeepsVersions};
-ghost use Rattle.history_cleaner.specs.Cleaning.{OthersStay, HasNoRoom};
+ghost use Rattle.history_cleaner.specs.Cleaning.{OthersStay};
 ghost use Rattle.history_cleaner.specs.Emptying.{AllVacated, frames_risen};
 ghost use Rattle.history_cleaner.specs.Passing.{is_other, is_gone, has_other_row, has_lost_row};
 ghost use Rattle.history_cleaner.specs.Passing.{IsCount, IsCleaned, StoppedAt, StoppedAtReader};
 ghost use Rattle.history_cleaner.specs.Reaching.{PointsTo};
+ghost use Rattle.history_cleaner.specs.Rounds.{IsPutOff};
 ghost use Rattle.history_cleaner.specs.private.Counting.{NamesPlaces};
 
 use crate::cleaning::clean_object;
@@ -81,9 +81,7 @@ fn clean_counted<J: Naming>(
         ≡ (if is_other (row_of drive.old.store.rows object) (row_of drive.new.store.rows object) then cleanings.old.rewritten + 1 else cleanings.old.rewritten)) }
     ensures removed { OnOk result (cleanings.new.removed
         ≡ (if is_gone (row_of drive.old.store.rows object) (row_of drive.new.store.rows object) then cleanings.old.removed + 1 else cleanings.old.removed)) }
-    ensures refusal { IfErr result
-        (λ e. (e ≡ NoMemory)
-        ⊎ ((e ≡ NoRoom) × HasNoRoom (store_of drive.old) (state_in drive.old) object)) }
+    ensures refusal { IfErr result (IsPutOff drive.old object) }
     ensures others { OthersStay (store_of drive.old) object (store_of drive.new) }
     ensures unchanged { OnErr result (store_of drive.new ≡ store_of drive.old) }
     ensures ledger { drive.new.ledger ≡ drive.old.ledger }
@@ -154,40 +152,6 @@ fn clean_and_empty<J: Naming>(alloc: Global, drive: &mut Drive<J>) -> Result<Cle
     Ok(cleanings)
 }
 
-/// [`full_pass`], but for the rows of the audit.
-fn pass<J: Naming>(alloc: Global, drive: &mut Drive<J>) -> Result<PassReport, Refusal>
-    ensures cleaned { OnOk result
-        ((o : ℕ) → IsCleaned (store_of drive.old) (store_of drive.new) (state_in drive.old) o) }
-    // In the words of the model: the history and what can be read stay, and exactly the data blocks
-    // are held that this reaches.
-    ensures promise { OnOk result (IsCleanedUp (history_of drive.old) (history_of drive.new) (version_in (store_of drive.new))
-        (λ o p. IsSome (of_kind Data o (store_of drive.new).log.held p)) (PointsTo (store_of drive.new))) }
-    ensures vacated { OnOk result (AllVacated drive.new.store.table) }
-    ensures rewritten { IfOk result
-        (λ report. IsCount (has_other_row drive.old.store.rows drive.new.store.rows)
-        report.rewritten) }
-    ensures removed { IfOk result
-        (λ report. IsCount (has_lost_row drive.old.store.rows drive.new.store.rows)
-        report.removed) }
-    ensures released { IfOk result
-        (λ report. report.released
-        ≡ frames_risen drive.old.store.table.seat drive.new.store.table.seat) }
-    ensures refusal { IfErr result
-        (λ e. StoppedAt (store_of drive.old) (store_of drive.new) (state_in drive.old) e
-        ⊎ StoppedAtReader drive.old drive.new e) }
-    ensures ledger { drive.new.ledger ≡ drive.old.ledger }
-    ensures needed { KeepsVersions (state_in drive.old) (store_of drive.old) (store_of drive.new) }
-{
-    drive.rules();
-    let before = note_generations(drive);
-    let cleanings = clean_and_empty(alloc, drive)?;
-    Ok(PassReport {
-        rewritten: cleanings.rewritten,
-        removed: cleanings.removed,
-        released: count_risen(drive, before.as_slice()),
-    })
-}
-
 /// Drops the rows of the audit that are below the floor. It takes no memory and refuses nothing,
 /// and no answer depends on it: the history, the objects and what is answered stay as they are.
 pub fn clean_audit<J: Naming>(drive: &mut Drive<J>)
@@ -241,7 +205,14 @@ pub fn full_pass<J: Naming>(alloc: Global, drive: &mut Drive<J>) -> Result<PassR
     // No row of the audit is kept that is below the floor.
     ensures audit { OnOk result (drive.new.audit ≡ audit_of (state_in drive.new)) }
 {
-    let report = pass(alloc, drive)?;
+    drive.rules();
+    let before = note_generations(drive);
+    let cleanings = clean_and_empty(alloc, drive)?;
+    let released = count_risen(drive, before.as_slice());
     clean_audit(drive);
-    Ok(report)
+    Ok(PassReport {
+        rewritten: cleanings.rewritten,
+        removed: cleanings.removed,
+        released,
+    })
 }

@@ -1,14 +1,10 @@
-use Rattle.history_cleaner.proofs.Stored.{RunLaws, run_laws}
 use Rattle.history_cleaner.proofs.Showing.{Laws, left_same, none_absent, left_seen, left_throughout}
 use Rattle.history_cleaner.proofs.laws.what_is_left_shows_the_same.Goals as goal
 
 pub returns : goal.returns
 returns c =
-    let run : RunLaws = run_laws c.entries_determine_a_run.ensures.end c.entries_determine_a_run.ensures.beginning c.entries_determine_a_run.ensures.done c.entries_determine_a_run.ensures.since in
     let laws : Laws = record {
-      run = run;
-      later = c.a_chain_is_one_later.ensures;
-      is_run = c.a_kept_chain_is_a_run.ensures;
+      chain = c.chains_are_runs.ensures;
       old = c.a_kept_chain_has_old_moments.ensures;
       same = c.a_kept_chain_shows_the_same.ensures.same;
       none = c.a_kept_chain_shows_the_same.ensures.none;

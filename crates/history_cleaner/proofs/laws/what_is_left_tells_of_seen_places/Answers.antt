@@ -1,14 +1,10 @@
-use Rattle.history_cleaner.proofs.Stored.{RunLaws, run_laws}
 use Rattle.history_cleaner.proofs.Reached.{Laws, left_tells, left_points, left_same}
 use Rattle.history_cleaner.proofs.laws.what_is_left_tells_of_seen_places.Goals as goal
 
 pub returns : goal.returns
 returns c =
-    let run : RunLaws = run_laws c.entries_determine_a_run.ensures.end c.entries_determine_a_run.ensures.beginning c.entries_determine_a_run.ensures.done c.entries_determine_a_run.ensures.since in
     let laws : Laws = record {
-      run = run;
-      later = c.a_chain_is_one_later.ensures;
-      is_run = c.a_kept_chain_is_a_run.ensures;
+      chain = c.chains_are_runs.ensures;
       tells = c.a_kept_chain_tells_of_seen_places_alone.ensures.places;
       unchanged = c.an_unchanged_chain_is_the_kept_one.ensures;
     } in

@@ -1,14 +1,10 @@
-use Rattle.std.proofs.Common.{◌≡◌, ℕ, ◌+◌, ◌-◌, ◌<◌, subst, arith}
+use Rattle.std.proofs.Common.{ℕ, ◌-◌}
+use Rattle.history_cleaner.proofs.Emptied.{next_down, one_down}
 use Rattle.history_cleaner.proofs.Sweeping.{TriesSoFar, try_step}
 use Rattle.history_cleaner.proofs.rounds.try_releases.Goals as goal
 
 pub loop-index-preserved : goal.loop-index-preserved
 loop-index-preserved g c =
-    let count = c.args.count in
-    let index = c.loop-index.index in
-    let frame = count - 1 - index in
-    let below : index < count = c.loop-index-test.true in
-    let next : count - index ≡ frame + 1 = omega (arith, below) in
-    let here : frame ≡ count - (index + 1) = omega (arith, below) in
-    let step : TriesSoFar frame count c.args.drive.now c.release.new.self = try_step c.release.result (count - index) frame count c.args.drive.now c.loop-index.drive c.release.new.self next c.loop-index.invariant c.release.ensures in
-    subst (λ (first : ℕ). TriesSoFar first count c.args.drive.now c.release.new.self) here step
+    one_down (λ (first : ℕ). TriesSoFar first c.args.count c.args.drive.now c.release.new.self) c.args.count c.loop-index.index c.loop-index-test.true
+    (try_step c.release.result (c.args.count - c.loop-index.index) (c.args.count - 1 - c.loop-index.index) c.args.count c.args.drive.now c.loop-index.drive c.release.new.self
+    (next_down c.args.count c.loop-index.index c.loop-index-test.true) c.loop-index.invariant c.release.ensures)
