@@ -22,7 +22,7 @@ use std::alloc::Global;
 pub const MOST_TURNS: u32 = (MOST_FRAMES * PAYLOAD_BLOCKS) as u32;
 
 /// How a compaction ended.
-#[derive(Clone, Copy, Debug, PartialEq, Eq)]
+#[derive(Clone, Copy)]
 pub enum Ending {
     /// A whole turn freed nothing: no frame is left that can be freed at a gain.
     Done,
@@ -33,7 +33,7 @@ pub enum Ending {
 }
 
 /// What the turns of a compaction did in all.
-#[derive(Clone, Copy, PartialEq, Eq)]
+#[derive(Clone, Copy)]
 pub struct Work {
     /// How often the cleaner wrote an object anew.
     pub rewritten: u64,

@@ -64,10 +64,10 @@ fetched (Some bytes) r s x h = ap (λ (q : Reader). q.role) h.1
 -- what an act of a client comes to
 acted : (c : Act) (h after : History) (r s : Reader) (x : Answer) → r.role ≡ Client → ActTells c h r x after s → IsMoved h after × (s.role ≡ Client)
 acted (act.Request request now) h after r s x client is = (moved h after r request now is.reply client is.step, ap (λ (q : Reader). q.role) is.same ∙ client)
-acted (act.Resolve object offset len at now) h after r s x client (inl is) =
-    (moved h after r (Query (Read object offset len at)) now (reply.Data is.bytes) client is.step, ap (λ (q : Reader). q.role) is.reader ∙ client)
-acted (act.Resolve object offset len at now) h after r s x client (inr is) =
-    (moved h after r (Query (Read object offset len at)) now (reply.Refused is.refusal) client is.step, ap (λ (q : Reader). q.role) is.same ∙ client)
+acted (act.Resolve of) h after r s x client (inl is) =
+    (moved h after r (Query (Read of.object of.offset of.length of.at)) of.now (reply.Data is.bytes) client is.step, ap (λ (q : Reader). q.role) is.reader ∙ client)
+acted (act.Resolve of) h after r s x client (inr is) =
+    (moved h after r (Query (Read of.object of.offset of.length of.at)) of.now (reply.Refused is.refusal) client is.step, ap (λ (q : Reader). q.role) is.same ∙ client)
 acted act.Fetch h after r s x client is = (stayed h after is.0, fetched r.named r s x is.1 ∙ client)
 acted act.Meet h after r s x client is = (stayed h after is.0, ap (λ (q : Reader). q.role) is.1 ∙ client)
 acted (act.Plan frame object) h after r s x client is = (stayed h after is.0, ap (λ (q : Reader). q.role) is.1 ∙ client)

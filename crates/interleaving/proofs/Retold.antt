@@ -64,8 +64,8 @@ module _ (commits : Move → DriveFields → Result (Unit {0}) Refusal → Drive
   -- what an act tells
   act_tells : (c : Act) (d later : DriveFields) (a b : ActorFields) (x : Answer) → Acts commits c d a x later b → ActTells c (history_of d) (reader_of a) x (history_of later) (reader_of b)
   act_tells (act.Request request now) d later a b x h = record { reply = h.reply; answer = h.answer; step = h.step; same = ap reader_of h.actor }
-  act_tells (act.Resolve object offset len at now) d later a b x h =
-      resolved_so object offset len at now h.planned (history_of d) (history_of later) (reader_of a) (reader_of b) x a.plan h.answer h.step refl (ap reader_of h.actor)
+  act_tells (act.Resolve of) d later a b x h =
+      resolved_so of.object of.offset of.length of.at of.now h.planned (history_of d) (history_of later) (reader_of a) (reader_of b) x a.plan h.answer h.step refl (ap reader_of h.actor)
   act_tells act.Fetch d later a b x h = (ap history_of h.0, fetched_so a.plan a b x refl h.1)
   act_tells act.Meet d later a b x h = (ap history_of h.drive, ap reader_of h.actor)
   act_tells (act.Plan frame object) d later a b x h = (same_history d later h.ledger, ap reader_of h.actor)

@@ -166,7 +166,7 @@ module _ (commits : Move → DriveFields → Result (Unit {0}) Refusal → Drive
   -- What an act of an actor is answered, and what it leaves.
   abbrev pub Acts : Act → DriveFields → ActorFields → Answer → DriveFields → ActorFields → Type 0
   Acts (act.Request request now) d a x later b = Requests request now d a x later b
-  Acts (act.Resolve object offset len at now) d a x later b = Resolves object offset len at now d a x later b
+  Acts (act.Resolve r) d a x later b = Resolves r.object r.offset r.length r.at r.now d a x later b
   Acts act.Fetch d a x later b = (later ≡ d) × Fetches a x b
   Acts act.Meet d a x later b = Meets d a x later b
   Acts (act.Plan frame object) d a x later b = Plans frame object d a x later b

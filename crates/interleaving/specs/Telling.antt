@@ -62,7 +62,7 @@ GivesBy (Some bytes) r x s = ((x ≡ answer.Bytes bytes) ⊎ (x ≡ answer.Refus
 -- What an actor's act is answered, and what it leaves: all but requests and resolved reads leave the history.
 abbrev pub ActTells : Act → History → Reader → Answer → History → Reader → Type 0
 ActTells (act.Request request now) h r x after s = Asks request now h r x after s
-ActTells (act.Resolve object offset len at now) h r x after s = Names (Query (Read object offset len at)) now h r x after s ⊎ NamesNothing (Query (Read object offset len at)) now h r x after s
+ActTells (act.Resolve of) h r x after s = Names (Query (Read of.object of.offset of.length of.at)) of.now h r x after s ⊎ NamesNothing (Query (Read of.object of.offset of.length of.at)) of.now h r x after s
 ActTells act.Fetch h r x after s = (after ≡ h) × GivesBy r.named r x s
 ActTells act.Meet h r x after s = (after ≡ h) × (s ≡ r)
 ActTells (act.Plan frame object) h r x after s = (after ≡ h) × (s ≡ r)

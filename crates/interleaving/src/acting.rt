@@ -3,7 +3,7 @@ ghost use Rattle.interleaving.specs.Acting.{Requests, Resolves, Fetches, Meets, 
 ghost use Rattle.interleaving.specs.Acting.{Puts, Acts};
 
 use crate::actors::{Actor, Carried};
-use crate::acts::Act;
+use crate::acts::{Act, Reading};
 use crate::answers::{Answer, answer_to};
 use crate::moves::Moves;
 use drive::Drive;
@@ -21,19 +21,18 @@ impl<J: Naming, M: Moves<J>> Actor<J, M> {
     }
 
     /// A plan of a read: once the new one is had, the older one ends.
-    fn resolve(
-        &mut self,
-        drive: &mut Drive<J>,
-        object: ObjectId,
-        offset: u64,
-        length: u32,
-        at: Option<Moment>,
-        now: Moment,
-    ) -> Answer
-        ensures { Resolves object offset length at now drive.old self.old result drive.new
-            self.new }
+    fn resolve(&mut self, drive: &mut Drive<J>, reading: Reading) -> Answer
+        ensures { Resolves reading.object reading.offset reading.length reading.at reading.now drive.old
+            self.old result drive.new self.new }
     {
-        match drive.resolve(&mut self.session, object, offset, length, at, now) {
+        match drive.resolve(
+            &mut self.session,
+            reading.object,
+            reading.offset,
+            reading.length,
+            reading.at,
+            reading.now,
+        ) {
             Ok(plan) => {
                 self.plan = Some(plan);
                 Answer::Done
@@ -114,13 +113,7 @@ impl<J: Naming, M: Moves<J>> Actor<J, M> {
     {
         match act {
             Act::Request { request, now } => self.request(drive, request, now),
-            Act::Resolve {
-                object,
-                offset,
-                length,
-                at,
-                now,
-            } => self.resolve(drive, object, offset, length, at, now),
+            Act::Resolve(reading) => self.resolve(drive, reading),
             Act::Fetch => self.fetch(alloc),
             Act::Meet => self.meet(drive),
             Act::Plan { frame, object } => self.plan(alloc, drive, frame, object),

@@ -4,32 +4,32 @@ ghost use Rattle.s4_types.specs.declared.refusals.Refusal.TheVariants.{NoMemory}
 
 use s4_types::{Moment, ObjectId, ObjectRequest, Refusal, Request};
 
-/// A step of an actor. Frames are numbered from 0 on; offsets and lengths are in bytes.
+/// A read of an object. Offset and length are in bytes.
+#[derive(Clone, Copy)]
+pub struct Reading {
+    pub object: ObjectId,
+    pub offset: u64,
+    pub length: u32,
+    /// The moment that is read; none for the present.
+    pub at: Option<Moment>,
+    /// The moment of the server's clock.
+    pub now: Moment,
+}
+
+/// A step of an actor. Frames are numbered from 0 on.
 #[derive(Drop)]
 pub enum Act {
     /// A request of the actor's session, at a moment of the server's clock.
-    Request {
-        request: Request,
-        now: Moment,
-    },
+    Request { request: Request, now: Moment },
     /// A plan of a read, which takes the place of one that the actor has.
-    Resolve {
-        object: ObjectId,
-        offset: u64,
-        length: u32,
-        at: Option<Moment>,
-        now: Moment,
-    },
+    Resolve(Reading),
     /// The bytes of the actor's plan, which is spent.
     Fetch,
     /// The actor's session sees all accepted changes.
     Meet,
     /// A plan to move an object's blocks out of a frame, which takes the place of a move that the
     /// actor has.
-    Plan {
-        frame: u16,
-        object: ObjectId,
-    },
+    Plan { frame: u16, object: ObjectId },
     /// A copy of what the actor has planned to move; the plan is spent.
     Copy,
     /// What the actor has copied is put in place, and spent.
@@ -92,19 +92,7 @@ pub(crate) fn copy_act(act: &Act) -> Result<Act, Refusal>
             request: copy_request(request)?,
             now: *now,
         }),
-        Act::Resolve {
-            object,
-            offset,
-            length,
-            at,
-            now,
-        } => Ok(Act::Resolve {
-            object: *object,
-            offset: *offset,
-            length: *length,
-            at: *at,
-            now: *now,
-        }),
+        Act::Resolve(reading) => Ok(Act::Resolve(*reading)),
         Act::Fetch => Ok(Act::Fetch),
         Act::Meet => Ok(Act::Meet),
         Act::Plan { frame, object } => Ok(Act::Plan {

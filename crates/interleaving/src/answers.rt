@@ -5,7 +5,7 @@ ghost use Rattle.interleaving.specs.Acting.{answer_to};
 use s4_types::{Bytes, Refusal, Reply};
 
 /// The answer to a step.
-#[derive(Drop, PartialEq, Eq)]
+#[derive(Drop)]
 pub enum Answer {
     /// To a request: its reply.
     Reply(Reply),

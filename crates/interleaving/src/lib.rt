@@ -17,7 +17,7 @@ mod replay;
 mod steps;
 
 pub use actors::Actor;
-pub use acts::Act;
+pub use acts::{Act, Reading};
 pub use answers::Answer;
 pub use moves::{Cleans, Moves};
 pub use replay::run;

@@ -1,11 +1,10 @@
 //! Steps of sessions and of the drive.
 use crate::commands::{Acting, Asked, Asking, Tidying, Upkeep};
-use crate::party::{Played, Reading};
-use crate::stage::{Stage, tell_answer};
-use crate::text::Text;
+use crate::party::Played;
+use crate::stage::{Stage, question_by, tell_answer};
 use crate::words::frame_of;
 use history_cleaner::Turn;
-use interleaving::{Act, Answer, Step};
+use interleaving::{Act, Answer, Reading, Step};
 use s4_types::{
     AdminRequest, Bytes, Moment, ObjectId, ObjectRequest, Question, Refusal, Reply, Request, Role,
 };
@@ -70,7 +69,7 @@ fn request_without(asking: Asking, asked: &Asked<'_>) -> Request {
             from: Moment::new(number),
             max: u16::try_from(second).unwrap_or(u16::MAX),
         }),
-        _ => Request::Query(reading_of(asked).question()),
+        _ => Request::Query(question_by(&reading_of(asked))),
     }
 }
 
@@ -86,20 +85,10 @@ fn reading_of(asked: &Asked<'_>) -> Reading {
     }
 }
 
-fn resolve_of(reading: &Reading) -> Act {
-    Act::Resolve {
-        object: reading.object,
-        offset: reading.offset,
-        length: reading.length,
-        at: reading.at,
-        now: reading.now,
-    }
-}
-
 /// The act that a command encodes, which is no request.
 fn act_of(acting: Acting, asked: &Asked<'_>) -> Act {
     match acting {
-        Acting::Resolve => resolve_of(&reading_of(asked)),
+        Acting::Resolve => Act::Resolve(reading_of(asked)),
         Acting::Fetch => Act::Fetch,
         Acting::Meet => Act::Meet,
         Acting::Plan => Act::Plan {
@@ -158,14 +147,9 @@ pub(crate) fn act_by<D: Played>(
 }
 
 /// Takes a step.
-fn take<D: Played>(
-    stage: &mut Stage,
-    drive: &mut D,
-    step: Step,
-    text: &mut Text,
-) -> Result<(), Refusal> {
+fn take<D: Played>(stage: &mut Stage, drive: &mut D, step: Step) -> Result<(), Refusal> {
     match answered(stage, drive, &step) {
-        Ok(answer) => settle(stage, step, answer, text),
+        Ok(answer) => settle(stage, step, answer),
         Err(refusal) => {
             drop(step);
             Err(refusal)
@@ -174,11 +158,11 @@ fn take<D: Played>(
 }
 
 /// Compares the answer to a step that was taken with the plain drive's.
-fn settle(stage: &mut Stage, step: Step, answer: Answer, text: &mut Text) -> Result<(), Refusal> {
+fn settle(stage: &mut Stage, step: Step, answer: Answer) -> Result<(), Refusal> {
     // (what was done isn't done once more where memory to tell of it is refused)
     stage.is_spent = true;
     let compared = stage.compare(step, &answer);
-    tell_answer(text, &answer);
+    tell_answer(&mut stage.answer, &answer);
     drop(answer);
     compared
 }
@@ -189,13 +173,12 @@ pub(crate) fn perform_asking<D: Played>(
     drive: &mut D,
     asking: Asking,
     asked: &Asked<'_>,
-    text: &mut Text,
 ) -> Result<(), Refusal> {
     let actor = stage.place_of(asked.name);
     let now = asked.now;
     let request = request_of(stage.alloc, asking, asked)?;
     let act = Act::Request { request, now };
-    take(stage, drive, Step::By { actor, act }, text)
+    take(stage, drive, Step::By { actor, act })
 }
 
 /// Somebody fetches, copies or commits. Where the drive refuses memory the plan is spent, so that
@@ -205,12 +188,11 @@ fn spend<D: Played>(
     drive: &mut D,
     step: Step,
     is_move: bool,
-    text: &mut Text,
 ) -> Result<(), Refusal> {
     match drive.take(&step) {
         Ok(answer) => {
             stage.excuse(is_move, &answer);
-            settle(stage, step, answer, text)
+            settle(stage, step, answer)
         }
         Err(refusal) => {
             drop(step);
@@ -225,15 +207,14 @@ pub(crate) fn perform_acting<D: Played>(
     drive: &mut D,
     acting: Acting,
     asked: &Asked<'_>,
-    text: &mut Text,
 ) -> Result<(), Refusal> {
     let actor = stage.place_of(asked.name);
     let act = act_of(acting, asked);
     let step = Step::By { actor, act };
     match acting {
-        Acting::Fetch => spend(stage, drive, step, false, text),
-        Acting::Copy | Acting::Commit => spend(stage, drive, step, true, text),
-        _ => take(stage, drive, step, text),
+        Acting::Fetch => spend(stage, drive, step, false),
+        Acting::Copy | Acting::Commit => spend(stage, drive, step, true),
+        _ => take(stage, drive, step),
     }
 }
 
@@ -243,14 +224,13 @@ pub(crate) fn perform_upkeep<D: Played>(
     drive: &mut D,
     upkeep: Upkeep,
     asked: &Asked<'_>,
-    text: &mut Text,
 ) -> Result<(), Refusal> {
-    take(stage, drive, step_of(upkeep, asked), text)
+    take(stage, drive, step_of(upkeep, asked))
 }
 
 /// A full pass of the cleaner. Where memory is refused it is done once more, and counts what the
 /// first one left.
-fn pass<D: Played>(stage: &mut Stage, drive: &mut D, text: &mut Text) -> Result<(), Refusal> {
+fn pass<D: Played>(stage: &mut Stage, drive: &mut D) -> Result<(), Refusal> {
     stage.is_spent = true;
     let report = match drive.pass() {
         Err(Refusal::NoMemory) => {
@@ -261,9 +241,12 @@ fn pass<D: Played>(stage: &mut Stage, drive: &mut D, text: &mut Text) -> Result<
         }
         report => report?,
     };
-    text.named("Passed", report.rewritten as u64);
-    text.number(report.removed as u64);
-    text.number(report.released as u64);
+    let numbers = [
+        report.rewritten as u64,
+        report.removed as u64,
+        report.released as u64,
+    ];
+    stage.answer.numbers("Passed", &numbers);
     Ok(())
 }
 
@@ -278,7 +261,7 @@ fn turn_again<D: Played>(drive: &mut D) -> Turn {
 }
 
 /// A turn of the cleaner's rounds. Where memory is refused the next round's first one is told.
-fn turn<D: Played>(stage: &mut Stage, drive: &mut D, text: &mut Text) -> Result<(), Refusal> {
+fn turn<D: Played>(stage: &mut Stage, drive: &mut D) -> Result<(), Refusal> {
     stage.is_spent = true;
     let turn = match drive.turn() {
         Turn::PassedOver(_, Refusal::NoMemory) => {
@@ -289,30 +272,26 @@ fn turn<D: Played>(stage: &mut Stage, drive: &mut D, text: &mut Text) -> Result<
     };
     match turn {
         Turn::Cleaned(object) => {
-            text.named("Cleaned", object.number());
+            stage.answer.named("Cleaned", object.number());
             Ok(())
         }
         Turn::PassedOver(_, refusal) => Err(refusal),
         Turn::Ended => {
-            text.word("Ended");
+            stage.answer.word("Ended");
             Ok(())
         }
     }
 }
 
 /// What the copier chooses is moved by a session that comes for it and leaves.
-fn move_chosen<D: Played>(
-    stage: &mut Stage,
-    drive: &mut D,
-    text: &mut Text,
-) -> Result<(), Refusal> {
+fn move_chosen<D: Played>(stage: &mut Stage, drive: &mut D) -> Result<(), Refusal> {
     let Some(chosen) = drive.chosen()? else {
-        text.done(false);
+        stage.answer.done(false);
         return Ok(());
     };
     drive.come(Role::Admin)?;
     let actor = stage.seats.len();
-    let moved = move_by(stage, drive, actor, chosen, text);
+    let moved = move_by(stage, drive, actor, chosen);
     drive.leave(actor);
     moved
 }
@@ -321,10 +300,10 @@ fn move_chosen<D: Played>(
 static MOVE: [Acting; 3] = [Acting::Plan, Acting::Copy, Acting::Commit];
 
 /// Whether an answer is Done. Another one is put into the text.
-fn is_done(text: &mut Text, answer: Answer) -> bool {
+fn is_done(stage: &mut Stage, answer: Answer) -> bool {
     let is_done = matches!(answer, Answer::Done);
     if !is_done {
-        tell_answer(text, &answer);
+        tell_answer(&mut stage.answer, &answer);
     }
     drop(answer);
     is_done
@@ -336,16 +315,17 @@ fn move_by<D: Played>(
     drive: &mut D,
     actor: usize,
     chosen: Candidate,
-    text: &mut Text,
 ) -> Result<(), Refusal> {
     let asked = Asked::of_move(chosen.frame, chosen.object);
     for acting in &MOVE {
         let answer = act_by(stage, drive, actor, act_of(*acting, &asked))?;
-        if !is_done(text, answer) {
+        if !is_done(stage, answer) {
             return Ok(());
         }
     }
-    text.numbers("Moved", &[chosen.frame as u64, chosen.object.number()]);
+    stage
+        .answer
+        .numbers("Moved", &[chosen.frame as u64, chosen.object.number()]);
     Ok(())
 }
 
@@ -368,23 +348,18 @@ fn keep_by<D: Played>(
 }
 
 /// A plan of a read is laid on the pile.
-fn keep<D: Played>(
-    stage: &mut Stage,
-    drive: &mut D,
-    asked: &Asked<'_>,
-    text: &mut Text,
-) -> Result<(), Refusal> {
+fn keep<D: Played>(stage: &mut Stage, drive: &mut D, asked: &Asked<'_>) -> Result<(), Refusal> {
     let place = stage.place_of(asked.name);
     let is_there = place < stage.seats.len();
     if is_there {
         keep_by(stage, drive, place, &reading_of(asked))?;
     }
-    text.done(is_there);
+    stage.answer.done(is_there);
     Ok(())
 }
 
 /// The last plan of the pile is fetched. It is spent then, also where memory is refused.
-fn take_last<D: Played>(stage: &mut Stage, drive: &mut D, text: &mut Text) -> Result<(), Refusal> {
+fn take_last<D: Played>(stage: &mut Stage, drive: &mut D) -> Result<(), Refusal> {
     stage.is_spent = true;
     let planned = stage.pile.pop().unwrap_or(None);
     let answer = match drive.fetch() {
@@ -395,27 +370,27 @@ fn take_last<D: Played>(stage: &mut Stage, drive: &mut D, text: &mut Text) -> Re
     stage.excuse(false, &answer);
     stage.compare_fetched(&planned, &answer);
     drop(planned);
-    tell_answer(text, &answer);
+    tell_answer(&mut stage.answer, &answer);
     drop(answer);
     Ok(())
 }
 
 /// Frames that hold nothing are marked and released.
-fn empty<D: Played>(drive: &mut D, text: &mut Text) -> Result<(), Refusal> {
+fn empty<D: Played>(stage: &mut Stage, drive: &mut D) -> Result<(), Refusal> {
     let count = drive.empty()?;
-    text.named("Emptied", count as u64);
+    stage.answer.named("Emptied", count as u64);
     Ok(())
 }
 
 /// The last plan of the pile, or all, are given up.
-fn drop_plans<D: Played>(stage: &mut Stage, drive: &mut D, is_all: bool, text: &mut Text) {
+fn drop_plans<D: Played>(stage: &mut Stage, drive: &mut D, is_all: bool) {
     drive.drop_plans(is_all);
     if is_all {
         stage.pile.clear();
     } else {
         drop(stage.pile.pop());
     }
-    text.done(true);
+    stage.answer.done(true);
 }
 
 /// What is done in more than one step, and with the pile.
@@ -424,26 +399,25 @@ pub(crate) fn perform_tidying<D: Played>(
     drive: &mut D,
     tidying: Tidying,
     asked: &Asked<'_>,
-    text: &mut Text,
 ) -> Result<(), Refusal> {
     match tidying {
-        Tidying::Pass => pass(stage, drive, text),
-        Tidying::Turn => turn(stage, drive, text),
-        Tidying::Empty => empty(drive, text),
-        Tidying::Move => move_chosen(stage, drive, text),
-        Tidying::Keep => keep(stage, drive, asked, text),
-        Tidying::Take => take_last(stage, drive, text),
+        Tidying::Pass => pass(stage, drive),
+        Tidying::Turn => turn(stage, drive),
+        Tidying::Empty => empty(stage, drive),
+        Tidying::Move => move_chosen(stage, drive),
+        Tidying::Keep => keep(stage, drive, asked),
+        Tidying::Take => take_last(stage, drive),
         Tidying::Drop => {
-            drop_plans(stage, drive, false, text);
+            drop_plans(stage, drive, false);
             Ok(())
         }
         Tidying::DropAll => {
-            drop_plans(stage, drive, true, text);
+            drop_plans(stage, drive, true);
             Ok(())
         }
         Tidying::CleanAudit => {
             drive.clean_audit();
-            text.done(true);
+            stage.answer.done(true);
             Ok(())
         }
     }

@@ -1,5 +1,5 @@
 //! The commands of a script.
-use crate::words::{bytes_of, count_of, parts_of};
+use crate::words::{byte_at, bytes_of, count_from, count_of, parts_of, piece, place_of};
 use s4_types::{Moment, ObjectId, Refusal, Role};
 use std::alloc::Global;
 
@@ -259,9 +259,9 @@ impl Number {
 
 /// The number that a word encodes.
 fn number_of(word: &[u8]) -> Option<Number> {
-    match word {
-        [b'-', digits @ ..] => Some(Number::Before(count_of(digits)?)),
-        [b'+', digits @ ..] => Some(Number::After(count_of(digits)?)),
+    match byte_at(word, 0) {
+        b'-' => Some(Number::Before(count_from(word, 1)?)),
+        b'+' => Some(Number::After(count_from(word, 1)?)),
         _ => Some(Number::Plain(count_of(word)?)),
     }
 }
@@ -327,6 +327,13 @@ impl<'a> Asked<'a> {
             now: Moment::new(0),
         }
     }
+
+    /// The first number as a place, and the one that is so many places after it.
+    pub(crate) fn places(&self) -> (usize, usize) {
+        let [begin, count, _] = self.numbers;
+        let begin = place_of(begin);
+        (begin, begin.saturating_add(place_of(count)))
+    }
 }
 
 impl<'a> Command<'a> {
@@ -352,11 +359,11 @@ fn moment_at(number: Option<Number>, clock: u64) -> Option<Moment> {
 }
 
 impl<'a> Given<'a> {
-    fn new(verb: Verb, times: u64) -> Self {
+    fn new(verb: Verb, times: u64, taken: usize) -> Self {
         Given {
             verb,
             times,
-            taken: 0,
+            taken,
             name: b"",
             other: b"",
             coded: b"",
@@ -400,10 +407,10 @@ impl<'a> Given<'a> {
     }
 
     /// Takes what a part of a pattern represents. Whether it is there.
-    fn take(&mut self, part: &[u8], words: &[&'a [u8]]) -> bool {
+    fn take(&mut self, part: &str, words: &[&'a [u8]]) -> bool {
         match part {
-            [b'[', b'a', ..] => self.at = self.take_after("at", words),
-            [b'[', ..] => self.now = self.take_after("now", words),
+            "[at]" => self.at = self.take_after("at", words),
+            "[now]" => self.now = self.take_after("now", words),
             _ => return self.take_word(part, word_at(words, self.taken)),
         }
         true
@@ -411,13 +418,13 @@ impl<'a> Given<'a> {
 
     /// Takes a word as a part of a pattern says. Whether it fits. No part fits where no word is
     /// left.
-    fn take_word(&mut self, part: &[u8], word: &'a [u8]) -> bool {
+    fn take_word(&mut self, part: &str, word: &'a [u8]) -> bool {
         self.taken = self.taken.saturating_add(1);
         match part {
-            [b'#'] => return self.take_number(word),
-            [b'$'] => self.take_name(word),
-            [b'%'] => self.coded = word,
-            _ => return part == word,
+            "#" => return self.take_number(word),
+            "$" => self.take_name(word),
+            "%" => self.coded = word,
+            _ => return part.as_bytes() == word,
         }
         !word.is_empty()
     }
@@ -425,7 +432,7 @@ impl<'a> Given<'a> {
     /// Takes all words as a pattern says. Whether they fit it.
     fn take_all(&mut self, pattern: &str, words: &[&'a [u8]]) -> bool {
         for part in pattern.split_whitespace() {
-            if !self.take(part.as_bytes(), words) {
+            if !self.take(part, words) {
                 return false;
             }
         }
@@ -433,10 +440,11 @@ impl<'a> Given<'a> {
     }
 }
 
-/// What words give that are done so often, if they encode a command.
-fn find<'a>(words: &[&'a [u8]], times: u64) -> Option<Given<'a>> {
+/// What words give, if they encode a command.
+fn find<'a>(words: &[&'a [u8]]) -> Option<Given<'a>> {
+    let (times, taken) = times_of(words);
     for (pattern, verb) in &COMMANDS {
-        let mut given = Given::new(*verb, times);
+        let mut given = Given::new(*verb, times, taken);
         if given.take_all(pattern, words) {
             return Some(given);
         }
@@ -452,19 +460,18 @@ fn word_at<'a>(words: &[&'a [u8]], place: usize) -> &'a [u8] {
     }
 }
 
-/// How often a command is done, and its words after that.
-fn times_of<'a, 'b>(words: &'b [&'a [u8]]) -> (u64, &'b [&'a [u8]]) {
-    match (count_of(word_at(words, 0)), words.get(2..)) {
-        (Some(count), Some(rest)) if word_at(words, 1) == "times".as_bytes() => (count, rest),
-        _ => (1, words),
+/// How often a command is done, and how many words say so.
+fn times_of(words: &[&[u8]]) -> (u64, usize) {
+    match count_of(word_at(words, 0)) {
+        Some(count) if word_at(words, 1) == "times".as_bytes() => (count, 2),
+        _ => (1, 0),
     }
 }
 
 /// What a text gives, if it encodes a command.
 fn given_by<'a>(alloc: Global, text: &'a [u8]) -> Result<Option<Given<'a>>, Refusal> {
     let words = parts_of(alloc, text, b' ')?;
-    let (times, words) = times_of(words.as_slice());
-    Ok(find(words, times))
+    Ok(find(words.as_slice()))
 }
 
 /// The command that a part of a line encodes, with its answer, if it encodes one. Only the first
@@ -517,7 +524,7 @@ fn find_arrow(part: &[u8]) -> Option<usize> {
     let mut is_quoted = false;
     for place in 0..part.len() {
         is_quoted = is_quoted != (part[place] == b'"');
-        if !is_quoted && part.get(place..).unwrap_or(&[]).starts_with(ARROW) {
+        if !is_quoted && piece(part, place, place.saturating_add(ARROW.len())) == ARROW {
             return Some(place);
         }
     }
@@ -529,11 +536,8 @@ fn cut_answer(part: &[u8]) -> (&[u8], Option<&[u8]>) {
     let Some(place) = find_arrow(part) else {
         return (part, None);
     };
-    let (text, rest) = part.split_at(place.min(part.len()));
-    match rest.get(ARROW.len()..) {
-        Some(answer) => (text, Some(answer.trim_ascii())),
-        None => (text, None),
-    }
+    let answer = piece(part, place.saturating_add(ARROW.len()), part.len());
+    (piece(part, 0, place), Some(answer.trim_ascii()))
 }
 
 /// Puts the commands of parts after others. Whether all are commands.
@@ -555,8 +559,7 @@ fn put_commands<'a>(
 fn without_answer<'a>(line: &'a [u8], last: &[u8]) -> &'a [u8] {
     let (text, _) = cut_answer(last);
     let answer = last.len().saturating_sub(text.len());
-    line.get(..line.len().saturating_sub(answer))
-        .unwrap_or(line)
+    piece(line, 0, line.len().saturating_sub(answer))
 }
 
 /// What a line says, if it has commands.

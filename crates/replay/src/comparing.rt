@@ -5,7 +5,6 @@ use crate::commands::Beside;
 use crate::counting::find_miscount;
 use crate::party::Played;
 use crate::stage::{Stage, is_reply};
-use crate::text::Text;
 use interleaving::{Act, Answer};
 use s4_types::limits::READ_BYTES;
 use s4_types::{Moment, ObjectId, Question, Refusal, Reply, Request, Role};
@@ -156,14 +155,14 @@ fn find_unlike<D: Played>(stage: &mut Stage, drive: &mut D) -> Result<Option<(u6
 }
 
 /// Says whether all is alike, where there is a plain drive.
-fn tell_alike<D: Played>(stage: &mut Stage, drive: &mut D, text: &mut Text) -> Result<(), Refusal> {
+fn tell_alike<D: Played>(stage: &mut Stage, drive: &mut D) -> Result<(), Refusal> {
     if stage.plain.is_none() {
-        text.done(false);
+        stage.answer.done(false);
         return Ok(());
     }
     match find_unlike(stage, drive)? {
-        None => text.word("alike"),
-        Some((object, at)) => text.numbers("unlike", &[object, at]),
+        None => stage.answer.word("alike"),
+        Some((object, at)) => stage.answer.numbers("unlike", &[object, at]),
     }
     Ok(())
 }
@@ -214,13 +213,12 @@ pub(crate) fn perform_comparing<D: Played>(
     stage: &mut Stage,
     drive: &mut D,
     beside: Beside,
-    text: &mut Text,
 ) -> Result<(), Refusal> {
     match beside {
-        Beside::Alike => tell_alike(stage, drive, text),
+        Beside::Alike => tell_alike(stage, drive),
         Beside::Watch => {
             stage.is_watched = true;
-            text.done(true);
+            stage.answer.done(true);
             Ok(())
         }
     }

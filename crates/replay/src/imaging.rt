@@ -3,7 +3,7 @@ use crate::commands::{Asked, Imaging};
 use crate::party::Played;
 use crate::stage::Stage;
 use crate::text::Text;
-use crate::words::place_of;
+use crate::words::{byte_at, piece, place_of};
 use s4_types::Refusal;
 use sha2::{Digest, Sha256};
 use std::alloc::Global;
@@ -34,9 +34,9 @@ fn put(image: &mut [u8], place: usize, new: &[u8]) -> bool {
     if end > image.len() {
         return false;
     }
-    for (offset, byte) in new.iter().enumerate() {
+    for offset in 0..new.len() {
         if let Some(old) = image.get_mut(place.saturating_add(offset)) {
-            *old = *byte;
+            *old = new[offset];
         }
     }
     true
@@ -71,40 +71,31 @@ pub(crate) fn new_image(
 /// Makes the digest of the whole image anew.
 fn sign(image: &mut [u8]) {
     let end = image.len().saturating_sub(DIGEST_BYTES);
-    if let Some(front) = image.get(..end) {
-        let digest = Sha256::digest(front);
-        put(image, end, &digest);
-    }
+    let digest = Sha256::digest(piece(image, 0, end));
+    put(image, end, &digest);
 }
 
 /// Makes the digest of the summary anew of the frame whose blocks begin here.
 fn sign_frame(image: &mut [u8], begin: usize) {
     let end = begin.saturating_add(CONTENTS_BYTES);
-    let Some(blocks) = image.get(begin..end) else {
+    if end > image.len() {
         return;
-    };
+    }
     let mut hasher = Sha256::new();
-    hasher.update(blocks.get(..SUMMARY_DIGEST).unwrap_or(&[]));
-    hasher.update(blocks.get(PAYLOAD..).unwrap_or(&[]));
+    hasher.update(piece(image, begin, begin.saturating_add(SUMMARY_DIGEST)));
+    hasher.update(piece(image, begin.saturating_add(PAYLOAD), end));
     let digest = hasher.finalize();
     put(image, begin.saturating_add(SUMMARY_DIGEST), &digest);
 }
 
 /// Makes the digests of the summaries of all frames with blocks anew, and then the image's.
 fn sign_all(image: &mut [u8]) {
-    let count = match image.get(8..10) {
-        Some([high, low]) => u16::from_be_bytes([*high, *low]),
-        _ => 0,
-    };
+    let count = u16::from_be_bytes([byte_at(image, 8), byte_at(image, 9)]);
     let mut place = FRAMES;
     for _ in 0..count {
         let begin = place.saturating_add(WORD_BYTES);
-        let is_free = match image.get(begin.saturating_sub(1)) {
-            Some(byte) => *byte % 4 == 0,
-            None => true,
-        };
         place = begin;
-        if !is_free {
+        if byte_at(image, begin.saturating_sub(1)) % 4 != 0 {
             sign_frame(image, begin);
             place = begin.saturating_add(CONTENTS_BYTES);
         }
@@ -112,29 +103,23 @@ fn sign_all(image: &mut [u8]) {
     sign(image);
 }
 
-fn tell_named(text: &mut Text, name: &str, number: u64) {
-    text.word(name);
-    text.mark("=");
-    text.digits(number);
-}
-
 fn tell_image(text: &mut Text, image: &Image) {
-    text.word("ok");
-    tell_named(text, "frames", image.frames() as u64);
-    tell_named(text, "objects", image.objects() as u64);
-    tell_named(text, "clock", image.clock().number());
-    tell_named(text, "window", image.window());
-    tell_named(text, "floor", image.floor().number());
+    let fields = [
+        ("ok frames=", image.frames() as u64),
+        ("objects=", image.objects() as u64),
+        ("clock=", image.clock().number()),
+        ("window=", image.window()),
+        ("floor=", image.floor().number()),
+    ];
+    for (name, number) in &fields {
+        text.word(name);
+        text.digits(*number);
+    }
 }
 
-fn tell_verified<R: Threads>(
-    rt: &R,
-    alloc: Global,
-    bytes: &[u8],
-    text: &mut Text,
-) -> Result<(), Refusal> {
-    let image = verify(rt, alloc, bytes)?;
-    tell_image(text, &image);
+fn tell_verified<R: Threads>(rt: &R, stage: &mut Stage) -> Result<(), Refusal> {
+    let image = verify(rt, stage.alloc, stage.image.as_slice())?;
+    tell_image(&mut stage.answer, &image);
     drop(image);
     Ok(())
 }
@@ -196,24 +181,25 @@ fn find_other<R: Threads>(
 /// Tells what the image is once each of this many bytes is turned, if that is the same of all.
 fn tell_turned<R: Threads>(
     rt: &R,
-    alloc: Global,
-    image: &[u8],
+    stage: &mut Stage,
     asked: &Asked<'_>,
     is_signed: bool,
-    text: &mut Text,
 ) -> Result<(), Refusal> {
-    let begin = place_of(asked.numbers[0]);
-    let end = begin.saturating_add(place_of(asked.numbers[1]));
+    let alloc = stage.alloc;
+    let (begin, end) = asked.places();
+    let image = stage.image.as_slice();
     if begin >= end || end > image.len() {
-        text.done(false);
+        stage.answer.done(false);
         return Ok(());
     }
     let fault = fault_with(rt, alloc, image, begin, is_signed)?;
-    let other = find_other(rt, alloc, image, begin, end, is_signed, fault)?;
-    match (other, fault) {
-        (Some(place), _) => text.named("differ at", place as u64),
-        (None, Some(refusal)) => text.refusal(refusal),
-        (None, None) => text.word("ok"),
+    match (
+        find_other(rt, alloc, image, begin, end, is_signed, fault)?,
+        fault,
+    ) {
+        (Some(place), _) => stage.answer.named("differ at", place as u64),
+        (None, Some(refusal)) => stage.answer.refusal(refusal),
+        (None, None) => stage.answer.word("ok"),
     }
     Ok(())
 }
@@ -276,25 +262,26 @@ fn change_whole(stage: &mut Stage, imaging: Imaging, asked: &Asked<'_>) -> Resul
     }
 }
 
-fn tell_bytes(text: &mut Text, image: &[u8], asked: &Asked<'_>) {
-    let begin = place_of(asked.numbers[0]);
-    let end = begin.saturating_add(place_of(asked.numbers[1]));
-    match image.get(begin..end) {
-        Some(bytes) => text.bytes(bytes),
-        None => text.word("Idle"),
+fn tell_bytes(stage: &mut Stage, asked: &Asked<'_>) {
+    let (begin, end) = asked.places();
+    let image = stage.image.as_slice();
+    if end > image.len() {
+        stage.answer.done(false);
+    } else {
+        stage.answer.bytes(piece(image, begin, end));
     }
 }
 
-fn save<D: Played>(stage: &mut Stage, drive: &mut D, text: &mut Text) -> Result<(), Refusal> {
+fn save<D: Played>(stage: &mut Stage, drive: &mut D) -> Result<(), Refusal> {
     stage.image = drive.save()?;
-    text.named("Saved", stage.image.len() as u64);
+    stage.answer.named("Saved", stage.image.len() as u64);
     Ok(())
 }
 
-fn tell_saved<D: Played>(stage: &Stage, drive: &mut D, text: &mut Text) -> Result<(), Refusal> {
+fn tell_saved<D: Played>(stage: &mut Stage, drive: &mut D) -> Result<(), Refusal> {
     let saved = drive.save()?;
     let is_same = saved.as_slice() == stage.image.as_slice();
-    text.word(if is_same { "same" } else { "other" });
+    stage.answer.word(if is_same { "same" } else { "other" });
     Ok(())
 }
 
@@ -305,28 +292,25 @@ pub(crate) fn perform_imaging<D: Played, R: Threads>(
     drive: &mut D,
     imaging: Imaging,
     asked: &Asked<'_>,
-    text: &mut Text,
 ) -> Result<(), Refusal> {
-    let alloc = stage.alloc;
     match imaging {
-        Imaging::Save => save(stage, drive, text),
-        Imaging::Saved => tell_saved(stage, drive, text),
+        Imaging::Save => save(stage, drive),
+        Imaging::Saved => tell_saved(stage, drive),
         Imaging::Bytes => {
-            tell_bytes(text, stage.image.as_slice(), asked);
+            tell_bytes(stage, asked);
             Ok(())
         }
-        Imaging::Verify => tell_verified(rt, alloc, stage.image.as_slice(), text),
-        Imaging::Turned | Imaging::TurnedSigned => {
-            let is_signed = matches!(imaging, Imaging::TurnedSigned);
-            tell_turned(rt, alloc, stage.image.as_slice(), asked, is_signed, text)
-        }
+        Imaging::Verify => tell_verified(rt, stage),
+        Imaging::Turned => tell_turned(rt, stage, asked, false),
+        Imaging::TurnedSigned => tell_turned(rt, stage, asked, true),
         Imaging::Zeros | Imaging::Keep | Imaging::Back | Imaging::Add => {
             change_whole(stage, imaging, asked)?;
-            text.done(true);
+            stage.answer.done(true);
             Ok(())
         }
         _ => {
-            text.done(change_within(&mut stage.image, imaging, asked));
+            let is_done = change_within(&mut stage.image, imaging, asked);
+            stage.answer.done(is_done);
             Ok(())
         }
     }

@@ -12,24 +12,23 @@ fn tell_row<D: Played>(text: &mut Text, drive: &mut D, object: u64) {
         text.word("none");
         return;
     };
-    text.named("created", row.created.number());
-    text.named("bytes", row.journal_bytes as u64);
+    text.fields(&[
+        ("created", row.created.number()),
+        ("bytes", row.journal_bytes as u64),
+    ]);
     match row.checkpoint {
         Some(_) => text.named("checkpoint", row.checkpoint_moment.number()),
         None => text.word("checkpoint none"),
     }
-    text.word("head");
     tell_head(text, row.head);
     text.named("stamp", row.stamp);
 }
 
 fn tell_head(text: &mut Text, head: Option<Ptr>) {
+    text.word("head ");
     match head {
-        Some(_) => {
-            text.word("");
-            text.place(head);
-        }
-        None => text.word("none"),
+        Some(_) => text.place(head),
+        None => text.mark("none"),
     }
 }
 
@@ -65,8 +64,7 @@ fn tell_status(text: &mut Text, before: Status, after: Status) {
 }
 
 fn tell_pair(text: &mut Text, pair: &Pair) {
-    text.word("attribute");
-    text.bytes(pair.before.as_slice());
+    text.named_bytes("attribute", pair.before.as_slice());
     text.mark(">");
     text.joined_bytes(pair.after.as_slice());
 }
@@ -113,11 +111,12 @@ fn tell_inode<D: Played>(text: &mut Text, drive: &mut D, object: u64, at: u64) {
 
 fn tell_fields(text: &mut Text, inode: &Inode) {
     text.word(if inode.alive { "live" } else { "dead" });
-    text.named("size", inode.size as u64);
-    text.named("created", inode.created.number());
-    text.named("changed", inode.changed.number());
-    text.word("attribute");
-    text.bytes(inode.attribute.as_slice());
+    text.fields(&[
+        ("size", inode.size as u64),
+        ("created", inode.created.number()),
+        ("changed", inode.changed.number()),
+    ]);
+    text.named_bytes("attribute", inode.attribute.as_slice());
     tell_pointers(text, &inode.pointers);
 }
 

@@ -88,21 +88,24 @@ fn play<T: Threads>(
     }
 }
 
-/// Plays the scripts of these files, or the standard input.
+/// Plays the scripts of the files that the words name from a place on, or the standard input.
 fn play_all<T: Threads>(
     threads: &T,
     rt: &HostRuntime,
     sum: &mut Sum,
-    files: &[String],
+    words: &[String],
+    first: usize,
     manner: Manner,
 ) -> Result<(), Fault> {
-    if files.is_empty() {
+    if first >= words.len() {
         let script = io::read_to_string(rt.alloc(), rt.stdin());
         return play(threads, rt, sum, "-", script, 0, manner);
     }
-    for (number, file) in files.iter().enumerate() {
-        let script = fs::read_to_string(rt, file.as_str());
-        play(threads, rt, sum, file.as_str(), script, number, manner)?;
+    for place in first..words.len() {
+        let file = words[place].as_str();
+        let script = fs::read_to_string(rt, file);
+        let number = place.saturating_sub(first);
+        play(threads, rt, sum, file, script, number, manner)?;
     }
     Ok(())
 }
@@ -118,53 +121,55 @@ fn status_of(sum: &Sum) -> u8 {
     }
 }
 
-/// Whether a word comes first, and the words after it.
-fn take_word<'a>(words: &'a [String], name: &str) -> (bool, &'a [String]) {
-    match words {
-        [first, others @ ..] if first.as_str() == name => (true, others),
-        _ => (false, words),
+/// The word at a place; an empty one where there is none.
+fn word_at(words: &[String], place: usize) -> &str {
+    match words.get(place) {
+        Some(word) => word.as_str(),
+        None => "",
     }
 }
 
-/// How many inodes a drive keeps by the words, and those after them.
-fn take_inodes(words: &[String]) -> Result<(usize, &[String]), Fault> {
-    let (is_given, words) = take_word(words, "--inodes");
-    if !is_given {
-        return Ok((CACHED_INODES, words));
+/// Takes a word where it comes next. Whether it does.
+fn take_word(words: &[String], next: &mut usize, name: &str) -> bool {
+    let is_there = word_at(words, *next) == name;
+    if is_there {
+        *next = next.saturating_add(1);
     }
-    let [number, others @ ..] = words else {
-        return Err(Fault::NoInodes);
-    };
-    match count_of(number.as_bytes()) {
-        Some(number) if (1..=CACHED_INODES as u64).contains(&number) => {
-            Ok((number as usize, others))
-        }
+    is_there
+}
+
+/// How many inodes a drive keeps by the words that come next.
+fn take_inodes(words: &[String], next: &mut usize) -> Result<usize, Fault> {
+    if !take_word(words, next, "--inodes") {
+        return Ok(CACHED_INODES);
+    }
+    let number = count_of(word_at(words, *next).as_bytes());
+    *next = next.saturating_add(1);
+    match number {
+        Some(number) if (1..=CACHED_INODES as u64).contains(&number) => Ok(number as usize),
         _ => Err(Fault::NoInodes),
     }
 }
 
-/// How scripts are played by the words, and the files that they name.
-fn manner_of(words: &[String]) -> Result<(Manner, &[String]), Fault> {
-    let (is_printed, words) = take_word(words, "--print");
-    let (is_counted, words) = take_word(words, "--recount");
-    let (inodes, files) = take_inodes(words)?;
-    let manner = Manner {
-        is_printed,
-        is_counted,
-        inodes,
-    };
-    Ok((manner, files))
+/// How scripts are played by the words that come next.
+fn take_manner(words: &[String], next: &mut usize) -> Result<Manner, Fault> {
+    Ok(Manner {
+        is_printed: take_word(words, next, "--print"),
+        is_counted: take_word(words, next, "--recount"),
+        inodes: take_inodes(words, next)?,
+    })
 }
 
 /// Plays the scripts that the words name, and prints what they came to.
 fn perform<T: Threads>(threads: &T, rt: &HostRuntime, words: &[String]) -> Result<u8, Fault> {
-    let (manner, files) = manner_of(words.get(1..).unwrap_or(&[]))?;
+    let mut next = 1;
+    let manner = take_manner(words, &mut next)?;
     let mut sum = Sum {
         lines: 0,
         differing: 0,
         is_broken: false,
     };
-    play_all(threads, rt, &mut sum, files, manner)?;
+    play_all(threads, rt, &mut sum, words, next, manner)?;
     let mark = if manner.is_printed { "# " } else { "" };
     match println!(rt; "{mark}{} lines, {} differ", sum.lines, sum.differing) {
         Ok(()) => Ok(status_of(&sum)),

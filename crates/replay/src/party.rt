@@ -12,9 +12,9 @@ use crate::player::{Player, Start};
 use codec::{Entry, Inode};
 use drive::{Drive, NewDrive, OpenedDrive, Session};
 use history_cleaner::{Cleaner, PassReport, Rounds, Turn, clean_audit, empty_frames, full_pass};
-use interleaving::{Actor, Answer, Step, run};
+use interleaving::{Actor, Answer, Reading, Step, run};
 use object_map::Row;
-use s4_types::{Moment, ObjectId, Ptr, Question, Refusal, Role};
+use s4_types::{Moment, ObjectId, Ptr, Refusal, Role};
 use segment_copier::{Candidate, Copier, candidate};
 use segment_table::OverFrames;
 use segment_word::Naming;
@@ -24,28 +24,6 @@ use std::slice::from_ref;
 use std::thread::Threads;
 use time_read::ReadPlan;
 use verifier::{open, save, verify};
-
-/// A read of an object.
-#[derive(Clone, Copy)]
-pub(crate) struct Reading {
-    pub(crate) object: ObjectId,
-    pub(crate) offset: u64,
-    pub(crate) length: u32,
-    pub(crate) at: Option<Moment>,
-    pub(crate) now: Moment,
-}
-
-impl Reading {
-    /// What it asks for.
-    pub(crate) fn question(&self) -> Question {
-        Question::Read {
-            object: self.object,
-            offset: self.offset,
-            length: self.length,
-            at: self.at,
-        }
-    }
-}
 
 /// The numbers of a drive.
 #[derive(Clone, Copy)]

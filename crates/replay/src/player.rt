@@ -13,7 +13,7 @@ use crate::party::{Played, play_image, play_new};
 use crate::sitting::{come, perform_sitting};
 use crate::stage::Stage;
 use crate::text::Text;
-use crate::words::is_said;
+use crate::words::{byte_at, is_said};
 use checkpoint::CACHED_INODES;
 use s4_types::limits::{FEWEST_FRAMES, MOST_FRAMES};
 use s4_types::{Refusal, Role};
@@ -74,17 +74,20 @@ impl Drop for Report {
 }
 
 /// A script that is played.
-#[derive(Drop)]
 pub(crate) struct Player<'a> {
-    alloc: Global,
     name: &'a str,
     lines: &'a [&'a [u8]],
     next: usize,
     manner: Manner,
     stage: Stage,
-    /// What the last command was answered.
-    answer: Text,
     report: Report,
+}
+
+// Written by hand, so that an owner lets it go by one call.
+impl<'a> Drop for Player<'a> {
+    fn drop(self) {
+        drop(self.into_report());
+    }
 }
 
 /// Whether a drive can be made of this many frames, which keeps this many inodes of checkpoints at
@@ -103,22 +106,21 @@ fn perform<D: Played, R: Threads>(
     stage: &mut Stage,
     drive: &mut D,
     command: &Command<'_>,
-    text: &mut Text,
 ) -> Result<(), Refusal> {
     let asked = command.asked(drive.numbers().clock);
     match command.given.verb {
         Verb::Begin(_) => {
-            text.done(false);
+            stage.answer.done(false);
             Ok(())
         }
-        Verb::Look(look) => perform_look(drive, look, &asked, text),
-        Verb::Compare(beside) => perform_comparing(stage, drive, beside, text),
-        Verb::Hold(imaging) => perform_imaging(rt, stage, drive, imaging, &asked, text),
-        Verb::Sit(sitting) => perform_sitting(stage, drive, sitting, &asked, text),
-        Verb::Ask(asking) => perform_asking(stage, drive, asking, &asked, text),
-        Verb::Act(acting) => perform_acting(stage, drive, acting, &asked, text),
-        Verb::Step(upkeep) => perform_upkeep(stage, drive, upkeep, &asked, text),
-        Verb::Tidy(tidying) => perform_tidying(stage, drive, tidying, &asked, text),
+        Verb::Look(look) => perform_look(drive, look, &asked, &mut stage.answer),
+        Verb::Compare(beside) => perform_comparing(stage, drive, beside),
+        Verb::Hold(imaging) => perform_imaging(rt, stage, drive, imaging, &asked),
+        Verb::Sit(sitting) => perform_sitting(stage, drive, sitting, &asked),
+        Verb::Ask(asking) => perform_asking(stage, drive, asking, &asked),
+        Verb::Act(acting) => perform_acting(stage, drive, acting, &asked),
+        Verb::Step(upkeep) => perform_upkeep(stage, drive, upkeep, &asked),
+        Verb::Tidy(tidying) => perform_tidying(stage, drive, tidying, &asked),
     }
 }
 
@@ -131,14 +133,13 @@ fn is_step(verb: Verb) -> bool {
 }
 
 /// Puts a refusal into the answer, but NoMemory, which stays one.
-fn put_refusal(text: &mut Text, performed: Result<(), Refusal>) -> Result<(), Refusal> {
+fn put_refusal(answer: &mut Text, performed: Result<(), Refusal>) -> Result<(), Refusal> {
     match performed {
-        Err(Refusal::NoMemory) => Err(Refusal::NoMemory),
-        Err(refusal) => {
-            text.refusal(refusal);
+        Err(refusal) if refusal != Refusal::NoMemory => {
+            answer.refusal(refusal);
             Ok(())
         }
-        Ok(()) => Ok(()),
+        performed => performed,
     }
 }
 
@@ -148,16 +149,14 @@ fn try_command<D: Played, R: Threads>(
     stage: &mut Stage,
     drive: &mut D,
     command: &Command<'_>,
-    text: &mut Text,
 ) -> Result<(), Refusal> {
-    stage.begin_command();
-    text.begin()?;
-    let performed = perform(rt, stage, drive, command, text);
-    put_refusal(text, performed)?;
+    stage.begin_command()?;
+    let performed = perform(rt, stage, drive, command);
+    put_refusal(&mut stage.answer, performed)?;
     if is_step(command.given.verb) {
         watch(stage, drive)?;
     }
-    text.check()
+    stage.answer.check()
 }
 
 /// The same; what is refused memory is done once more where it can be. All is compared before that.
@@ -166,13 +165,12 @@ fn do_command<D: Played, R: Threads>(
     stage: &mut Stage,
     drive: &mut D,
     command: &Command<'_>,
-    text: &mut Text,
 ) -> Result<(), Refusal> {
-    match try_command(rt, stage, drive, command, text) {
+    match try_command(rt, stage, drive, command) {
         Err(Refusal::NoMemory) if !stage.is_spent => {
             stage.has_lacked = true;
             watch_line(stage, drive)?;
-            try_command(rt, stage, drive, command, text)
+            try_command(rt, stage, drive, command)
         }
         done => done,
     }
@@ -200,14 +198,10 @@ struct Outcome<'a> {
 }
 
 /// Whether an answer is the one that is expected, or passes where none is.
-fn judged<'a>(
-    alloc: Global,
-    text: &Text,
-    expected: Option<&'a [u8]>,
-) -> Result<Outcome<'a>, Refusal> {
-    let answer = text.whole()?;
+fn judged<'a>(stage: &Stage, expected: Option<&'a [u8]>) -> Result<Outcome<'a>, Refusal> {
+    let answer = stage.answer.whole()?;
     let is_right = match expected {
-        Some(expected) => is_expected(alloc, answer, expected)?,
+        Some(expected) => is_expected(stage.alloc, answer, expected)?,
         None => is_good(answer),
     };
     Ok(Outcome { expected, is_right })
@@ -221,15 +215,14 @@ fn judge_command<'a, D: Played, R: Threads>(
     drive: &mut D,
     command: &Command<'a>,
     is_awaited: bool,
-    text: &mut Text,
 ) -> Result<Outcome<'a>, Refusal> {
-    do_command(rt, stage, drive, command, text)?;
+    do_command(rt, stage, drive, command)?;
     let expected = if is_awaited { command.expected } else { None };
     let is_excused = match expected {
         Some(_) => stage.is_partial,
         None => stage.is_excused,
     };
-    let mut outcome = judged(stage.alloc, text, expected)?;
+    let mut outcome = judged(stage, expected)?;
     outcome.is_right = outcome.is_right || is_excused;
     Ok(outcome)
 }
@@ -240,20 +233,20 @@ fn do_line<'a, D: Played, R: Threads>(
     stage: &mut Stage,
     drive: &mut D,
     line: &Line<'a>,
-    text: &mut Text,
 ) -> Result<Outcome<'a>, Refusal> {
-    text.begin()?;
-    text.done(true);
+    stage.answer.begin()?;
+    stage.answer.done(true);
     let mut outcome = Outcome {
         expected: None,
         is_right: true,
     };
+    let commands = line.commands.as_slice();
     let times = line.times();
-    let last = line.commands.len().saturating_sub(1);
+    let last = commands.len().saturating_sub(1);
     for time in 1..=times {
-        for (number, command) in line.commands.iter().enumerate() {
+        for number in 0..commands.len() {
             let is_awaited = number < last || time == times;
-            outcome = judge_command(rt, stage, drive, command, is_awaited, text)?;
+            outcome = judge_command(rt, stage, drive, &commands[number], is_awaited)?;
             if !outcome.is_right || !stage.remark.is_empty() {
                 return Ok(outcome);
             }
@@ -264,6 +257,19 @@ fn do_line<'a, D: Played, R: Threads>(
 }
 
 impl<'a> Player<'a> {
+    /// What came of its script.
+    fn into_report(self) -> Report {
+        let Player {
+            name: _,
+            lines: _,
+            next: _,
+            manner: _,
+            stage: _,
+            report,
+        } = self;
+        report
+    }
+
     /// Prints some of a script.
     fn print(&mut self, bytes: &[u8]) {
         if let Ok(text) = from_utf8(bytes) {
@@ -301,7 +307,7 @@ impl<'a> Player<'a> {
     fn print_answer(&mut self, line: &Line<'_>) {
         self.print(line.text);
         self.report.text.mark(" -> ");
-        self.report.text.join(&self.answer);
+        self.report.text.join(&self.stage.answer);
     }
 
     /// Says how a line differs.
@@ -367,7 +373,7 @@ impl<'a> Player<'a> {
         if !matches!(beginning, Beginning::Open) {
             return Ok(self.making_of(beginning, command));
         }
-        drop(verify(rt, self.alloc, self.stage.image.as_slice())?);
+        drop(verify(rt, self.stage.alloc, self.stage.image.as_slice())?);
         Ok(Some(Start::Image))
     }
 
@@ -378,12 +384,12 @@ impl<'a> Player<'a> {
         command: &Command<'_>,
         started: Result<Option<Start>, Refusal>,
     ) -> Result<Option<Start>, Refusal> {
-        self.answer.begin()?;
+        self.stage.answer.begin()?;
         match started {
-            Ok(_) => self.answer.done(true),
-            Err(refusal) => self.answer.refusal(refusal),
+            Ok(_) => self.stage.answer.done(true),
+            Err(refusal) => self.stage.answer.refusal(refusal),
         }
-        let outcome = judged(self.alloc, &self.answer, command.expected)?;
+        let outcome = judged(&self.stage, command.expected)?;
         self.judge(line, outcome);
         Ok(started.unwrap_or(None))
     }
@@ -419,7 +425,7 @@ impl<'a> Player<'a> {
         {
             return self.begin(rt, beginning, line, command);
         }
-        let outcome = do_line(rt, &mut self.stage, drive, line, &mut self.answer)?;
+        let outcome = do_line(rt, &mut self.stage, drive, line)?;
         self.judge(line, outcome);
         Ok(None)
     }
@@ -431,11 +437,11 @@ impl<'a> Player<'a> {
         drive: &mut D,
         text: &[u8],
     ) -> Result<Option<Start>, Refusal> {
-        if text.is_empty() || text.starts_with(b"#") {
+        if text.is_empty() || byte_at(text, 0) == b'#' {
             self.pass_over(text);
             return Ok(None);
         }
-        match read_line(self.alloc, text)? {
+        match read_line(self.stage.alloc, text)? {
             Some(line) => {
                 let start = self.play_commands(rt, drive, &line);
                 drop(line);
@@ -454,20 +460,27 @@ impl<'a> Player<'a> {
         };
         self.stage.begin(window);
         if let Some(retired) = made.retired {
-            let image = new_image(self.alloc, made.frames, made.window, retired)?;
-            return play_image(rt, self.alloc, image.as_slice(), self);
+            let image = new_image(self.stage.alloc, made.frames, made.window, retired)?;
+            return play_image(rt, self.stage.alloc, image.as_slice(), self);
         }
         if !can_be_made(made.frames, made.inodes) {
             return Ok(Start::End);
         }
-        play_new(rt, self.alloc, made.frames, made.window, made.inodes, self)
+        play_new(
+            rt,
+            self.stage.alloc,
+            made.frames,
+            made.window,
+            made.inodes,
+            self,
+        )
     }
 
     /// Opens the image that is kept and plays on over its drive, and gives what comes then.
     fn play_kept<R: Threads>(&mut self, rt: &R) -> Result<Start, Refusal> {
         self.stage.begin(None);
-        let image = Vec::from_slice(self.alloc, self.stage.image.as_slice())?;
-        play_image(rt, self.alloc, image.as_slice(), self)
+        let image = Vec::from_slice(self.stage.alloc, self.stage.image.as_slice())?;
+        play_image(rt, self.stage.alloc, image.as_slice(), self)
     }
 
     /// Plays on over the next drive, and gives what comes then.
@@ -558,13 +571,11 @@ pub(crate) fn play_script<R: Threads>(
 ) -> Result<Report, Refusal> {
     let lines = lines_of(alloc, script)?;
     let mut player = Player {
-        alloc,
         name,
         lines: lines.as_slice(),
         next: 0,
         manner,
         stage: Stage::new(alloc, manner.is_counted),
-        answer: Text::new(alloc),
         report: Report {
             text: Text::new(alloc),
             lines: 0,
@@ -572,10 +583,12 @@ pub(crate) fn play_script<R: Threads>(
             is_broken: false,
         },
     };
-    match player.play_all(rt) {
-        Ok(()) => Ok(player.report),
+    let played = player.play_all(rt);
+    let report = player.into_report();
+    match played {
+        Ok(()) => Ok(report),
         Err(refusal) => {
-            drop(player);
+            drop(report);
             Err(refusal)
         }
     }

@@ -2,7 +2,6 @@
 use crate::commands::{Asked, Sitting};
 use crate::party::Played;
 use crate::stage::Stage;
-use crate::text::Text;
 use s4_types::{Refusal, Role};
 use std::alloc::Global;
 
@@ -77,7 +76,6 @@ pub(crate) fn perform_sitting<D: Played>(
     drive: &mut D,
     sitting: Sitting,
     asked: &Asked<'_>,
-    text: &mut Text,
 ) -> Result<(), Refusal> {
     let is_done = match sitting {
         Sitting::Come(role) => {
@@ -91,6 +89,6 @@ pub(crate) fn perform_sitting<D: Played>(
         Sitting::End => leave(stage, drive, asked.name),
         Sitting::EndBeside => end_beside(stage, drive, asked)?,
     };
-    text.done(is_done);
+    stage.answer.done(is_done);
     Ok(())
 }

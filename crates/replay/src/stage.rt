@@ -1,8 +1,7 @@
 //! What is beside the drive while a script is played: who sits at it, the plain drive, and an
 //! image.
-use crate::party::Reading;
 use crate::text::Text;
-use interleaving::{Act, Answer, Step};
+use interleaving::{Act, Answer, Reading, Step};
 use s4_model::PlainDrive;
 use s4_types::{AuditRow, Moment, ObjectId, Question, Refusal, Reply, Request, Role};
 use std::alloc::Global;
@@ -48,6 +47,8 @@ pub(crate) struct Stage {
     /// Whether a move was lost since memory was refused, so that nothing may be left to copy or
     /// commit.
     has_lost: bool,
+    /// What the last command was answered.
+    pub(crate) answer: Text,
     /// What is wrong beside the answer; nothing where all is right.
     pub(crate) remark: Text,
     pub(crate) image: Vec<u8>,
@@ -69,6 +70,7 @@ impl Drop for Stage {
             is_excused: _,
             is_partial: _,
             has_lost: _,
+            answer: _,
             remark: _,
             image: _,
             kept: _,
@@ -90,6 +92,7 @@ impl Stage {
             is_excused: false,
             is_partial: false,
             has_lost: false,
+            answer: Text::new(alloc),
             remark: Text::new(alloc),
             image: Vec::new(alloc),
             kept: Vec::new(alloc),
@@ -111,10 +114,11 @@ impl Stage {
     }
 
     /// A command begins.
-    pub(crate) fn begin_command(&mut self) {
+    pub(crate) fn begin_command(&mut self) -> Result<(), Refusal> {
         self.is_spent = false;
         self.is_excused = false;
         self.is_partial = false;
+        self.answer.begin()
     }
 
     /// Excuses what a plan was answered, where that comes of memory that was refused.
@@ -181,7 +185,7 @@ impl Stage {
         match step {
             Step::By {
                 actor,
-                act: Act::Request { now, .. } | Act::Resolve { now, .. },
+                act: Act::Request { now, .. } | Act::Resolve(Reading { now, .. }),
             } => self.see(*actor, *now),
             _ => Ok(()),
         }
@@ -246,19 +250,6 @@ impl Stage {
         Ok(())
     }
 
-    /// Compares a plan that was made or refused with what the plain drive replied to the read.
-    fn compare_plan(&mut self, told: &Reply, answer: &Answer) {
-        let is_told = match (answer, told) {
-            (Answer::Done, Reply::Data(_)) => true,
-            (Answer::Refused(Refusal::Busy), _) => true,
-            (Answer::Refused(given), Reply::Refused(refusal)) => given == refusal,
-            _ => false,
-        };
-        if !is_told {
-            self.remark_reply(told);
-        }
-    }
-
     /// Compares what a plan gave with what it was to give.
     fn compare_bytes(&mut self, told: &Reply, given: &[u8]) {
         let is_told = match told {
@@ -270,17 +261,19 @@ impl Stage {
         }
     }
 
-    /// What a plan of a read is to give, which was made or refused by this answer: what the plain
-    /// drive replies to the read, and is compared with the answer.
+    /// What a plan of a read is to give that was made, or refused: what the plain drive replies to
+    /// the read, and is compared with that.
     fn planned(
         &mut self,
         place: usize,
         reading: &Reading,
-        answer: &Answer,
+        made: Result<(), Refusal>,
     ) -> Result<Option<Reply>, Refusal> {
-        let reply = self.reply(place, Request::Query(reading.question()), reading.now)?;
-        if let Some(reply) = &reply {
-            self.compare_plan(reply, answer);
+        let reply = self.reply(place, Request::Query(question_by(reading)), reading.now)?;
+        if let Some(reply) = &reply
+            && !is_planned(made, reply)
+        {
+            self.remark_reply(reply);
         }
         Ok(reply)
     }
@@ -292,10 +285,11 @@ impl Stage {
         reading: &Reading,
         answer: &Answer,
     ) -> Result<(), Refusal> {
-        let planned = self.planned(place, reading, answer)?;
-        match answer {
-            Answer::Done => self.plan(place, planned),
-            _ => drop(planned),
+        let made = made_by(answer);
+        let planned = self.planned(place, reading, made)?;
+        match made {
+            Ok(()) => self.plan(place, planned),
+            Err(_) => drop(planned),
         }
         Ok(())
     }
@@ -308,13 +302,7 @@ impl Stage {
         made: Result<(), Refusal>,
     ) -> Result<(), Refusal> {
         self.is_spent = true;
-        let answer = match made {
-            Ok(()) => Answer::Done,
-            Err(refusal) => Answer::Refused(refusal),
-        };
-        let planned = self.planned(place, reading, &answer);
-        drop(answer);
-        let planned = planned?;
+        let planned = self.planned(place, reading, made)?;
         match made {
             Ok(()) => self.pile.push(planned)?,
             Err(_) => drop(planned),
@@ -349,22 +337,7 @@ impl Stage {
     fn compare_act(&mut self, place: usize, act: Act, answer: &Answer) -> Result<(), Refusal> {
         match act {
             Act::Request { request, now } => self.compare_reply(place, request, now, answer),
-            Act::Resolve {
-                object,
-                offset,
-                length,
-                at,
-                now,
-            } => {
-                let reading = Reading {
-                    object,
-                    offset,
-                    length,
-                    at,
-                    now,
-                };
-                self.compare_resolve(place, &reading, answer)
-            }
+            Act::Resolve(reading) => self.compare_resolve(place, &reading, answer),
             Act::Fetch => {
                 self.compare_fetch(place, answer);
                 Ok(())
@@ -394,6 +367,34 @@ fn question_of(request: &Request) -> Option<Question> {
     match request {
         Request::Query(question) => Some(*question),
         _ => None,
+    }
+}
+
+/// What a plan came to by its answer. (No plain drive tells of NoMemory.)
+fn made_by(answer: &Answer) -> Result<(), Refusal> {
+    match answer {
+        Answer::Done => Ok(()),
+        Answer::Refused(refusal) => Err(*refusal),
+        _ => Err(Refusal::NoMemory),
+    }
+}
+
+/// Whether a plan of a read that was made, or refused, is as the plain drive replies to the read.
+fn is_planned(made: Result<(), Refusal>, told: &Reply) -> bool {
+    match (made, told) {
+        (Ok(()), Reply::Data(_)) | (Err(Refusal::Busy), _) => true,
+        (Err(given), Reply::Refused(refusal)) => given == *refusal,
+        _ => false,
+    }
+}
+
+/// The question that a read asks.
+pub(crate) fn question_by(reading: &Reading) -> Question {
+    Question::Read {
+        object: reading.object,
+        offset: reading.offset,
+        length: reading.length,
+        at: reading.at,
     }
 }
 
@@ -434,10 +435,7 @@ pub(crate) fn tell_reply(text: &mut Text, reply: &Reply) {
         Reply::Created(object, moment) => {
             text.numbers("Created", &[object.number(), moment.number()]);
         }
-        Reply::Data(bytes) => {
-            text.word("Data");
-            text.bytes(bytes.as_slice());
-        }
+        Reply::Data(bytes) => text.named_bytes("Data", bytes.as_slice()),
         Reply::Attr {
             size,
             created,
@@ -448,32 +446,33 @@ pub(crate) fn tell_reply(text: &mut Text, reply: &Reply) {
             text.numbers("Attr", &numbers);
             text.bytes(attribute.as_slice());
         }
-        Reply::AuditRows(rows) => {
-            text.word("AuditRows");
-            for row in rows.as_slice() {
-                tell_row(text, row);
-            }
-        }
+        Reply::AuditRows(rows) => tell_rows(text, rows.as_slice()),
+    }
+}
+
+fn tell_rows(text: &mut Text, rows: &[AuditRow]) {
+    text.word("AuditRows");
+    for row in rows {
+        tell_row(text, row);
     }
 }
 
 /// Tells a row of an audit: moment, number of the kind, object, and two numbers.
 fn tell_row(text: &mut Text, row: &AuditRow) {
-    text.number(row.moment.number());
-    text.number(u64::from(row.kind.number()));
-    text.number(row.object.number());
-    text.number(row.first);
-    text.number(row.second);
+    text.list(&[
+        row.moment.number(),
+        u64::from(row.kind.number()),
+        row.object.number(),
+        row.first,
+        row.second,
+    ]);
 }
 
 /// Tells an answer.
 pub(crate) fn tell_answer(text: &mut Text, answer: &Answer) {
     match answer {
         Answer::Reply(reply) => tell_reply(text, reply),
-        Answer::Bytes(bytes) => {
-            text.word("Bytes");
-            text.bytes(bytes.as_slice());
-        }
+        Answer::Bytes(bytes) => text.named_bytes("Bytes", bytes.as_slice()),
         Answer::Done => text.word("Done"),
         Answer::Refused(refusal) => text.refusal(*refusal),
         Answer::Idle => text.word("Idle"),

@@ -1,4 +1,5 @@
 //! What is told, put together word by word.
+use crate::words::{byte_at, piece};
 use s4_types::{Ptr, Refusal};
 use std::alloc::Global;
 use std::fmt::Write;
@@ -101,12 +102,24 @@ impl Text {
         self.number(number);
     }
 
-    /// A word and numbers.
-    pub(crate) fn numbers(&mut self, name: &str, numbers: &[u64]) {
-        self.word(name);
+    /// Words, each with a number after it.
+    pub(crate) fn fields(&mut self, fields: &[(&str, u64)]) {
+        for (name, number) in fields {
+            self.named(name, *number);
+        }
+    }
+
+    /// Numbers, one after the other.
+    pub(crate) fn list(&mut self, numbers: &[u64]) {
         for number in numbers {
             self.number(*number);
         }
+    }
+
+    /// A word and numbers.
+    pub(crate) fn numbers(&mut self, name: &str, numbers: &[u64]) {
+        self.word(name);
+        self.list(numbers);
     }
 
     /// Whether something could be done.
@@ -148,14 +161,12 @@ impl Text {
 
     /// One piece of bytes: a run, text, or others.
     fn piece(&mut self, piece: &[u8]) {
-        let Some(first) = piece.first() else {
-            return;
-        };
-        if run_length(piece) >= LEAST_RUN {
-            self.hex(*first);
+        let first = byte_at(piece, 0);
+        if is_run(piece, 0) {
+            self.hex(first);
             self.mark("*");
             self.digits(piece.len() as u64);
-        } else if is_text(*first) {
+        } else if is_text(first) {
             self.mark("\"");
             self.joined_signs(piece);
             self.mark("\"");
@@ -185,17 +196,23 @@ impl Text {
         self.joined_bytes(bytes);
     }
 
+    /// A word and bytes.
+    pub(crate) fn named_bytes(&mut self, name: &str, bytes: &[u8]) {
+        self.word(name);
+        self.bytes(bytes);
+    }
+
     /// Bytes after what was told, without a space.
     pub(crate) fn joined_bytes(&mut self, bytes: &[u8]) {
         if bytes.is_empty() {
             self.mark("\"\"");
         }
-        let mut rest = bytes;
+        let mut begin = 0;
         for _ in 0..bytes.len() {
-            let (piece, behind) = rest.split_at(piece_length(rest).min(rest.len()));
-            self.piece(piece);
-            rest = behind;
-            if rest.is_empty() {
+            let end = piece_end(bytes, begin);
+            self.piece(piece(bytes, begin, end));
+            begin = end;
+            if begin >= bytes.len() {
                 return;
             }
             self.mark("+");
@@ -208,42 +225,30 @@ pub(crate) fn is_text(byte: u8) -> bool {
     (b' '..=b'~').contains(&byte) && byte != b'"' && byte != b'\\'
 }
 
-/// How many of the first bytes are equal.
-fn run_length(bytes: &[u8]) -> usize {
-    let Some(first) = bytes.first() else {
-        return 0;
-    };
-    for place in 0..bytes.len() {
-        if bytes[place] != *first {
+/// Where the bytes end that are equal, from a place on.
+fn run_end(bytes: &[u8], begin: usize) -> usize {
+    let first = byte_at(bytes, begin);
+    for place in begin..bytes.len() {
+        if bytes[place] != first {
             return place;
         }
     }
     bytes.len()
 }
 
-/// Whether a run begins with the first byte.
-fn is_run(bytes: &[u8]) -> bool {
-    match bytes.get(..LEAST_RUN) {
-        Some(first) => run_length(first) == LEAST_RUN,
-        None => false,
-    }
+/// Whether a run begins at a place.
+fn is_run(bytes: &[u8], begin: usize) -> bool {
+    run_end(bytes, begin) >= begin.saturating_add(LEAST_RUN)
 }
 
-/// How many of the first bytes are encoded as one piece.
-fn piece_length(bytes: &[u8]) -> usize {
-    if is_run(bytes) {
-        return run_length(bytes);
+/// Where the bytes end that are encoded as one piece, from a place on.
+fn piece_end(bytes: &[u8], begin: usize) -> usize {
+    if is_run(bytes, begin) {
+        return run_end(bytes, begin);
     }
-    let Some(first) = bytes.first() else {
-        return 0;
-    };
-    for place in 1..bytes.len() {
-        let rest = bytes.get(place..).unwrap_or(&[]);
-        let goes_on = match rest.first() {
-            Some(byte) => is_text(*byte) == is_text(*first) && !is_run(rest),
-            None => false,
-        };
-        if !goes_on {
+    let is_words = is_text(byte_at(bytes, begin));
+    for place in begin.saturating_add(1)..bytes.len() {
+        if is_text(bytes[place]) != is_words || is_run(bytes, place) {
             return place;
         }
     }

@@ -17,30 +17,44 @@ pub(crate) fn parts_of<'a>(
         let byte = bytes[place];
         is_quoted = is_quoted != (byte == b'"');
         if byte == separator && !is_quoted {
-            push_part(&mut parts, bytes.get(begin..place))?;
+            push_part(&mut parts, piece(bytes, begin, place))?;
             begin = place + 1;
         }
     }
-    push_part(&mut parts, bytes.get(begin..))?;
+    push_part(&mut parts, piece(bytes, begin, bytes.len()))?;
     Ok(parts)
 }
 
-fn push_part<'a>(parts: &mut Vec<&'a [u8]>, part: Option<&'a [u8]>) -> Result<(), Refusal> {
-    if let Some(part) = part
-        && !part.is_empty()
-    {
+fn push_part<'a>(parts: &mut Vec<&'a [u8]>, part: &'a [u8]) -> Result<(), Refusal> {
+    if !part.is_empty() {
         parts.push(part)?;
     }
     Ok(())
 }
 
+/// The bytes from a place to before another; none where these are no places.
+pub(crate) fn piece(bytes: &[u8], begin: usize, end: usize) -> &[u8] {
+    bytes.get(begin..end).unwrap_or(&[])
+}
+
+/// The byte at a place; 0 where there is none.
+pub(crate) fn byte_at(bytes: &[u8], place: usize) -> u8 {
+    if place < bytes.len() { bytes[place] } else { 0 }
+}
+
 /// The decimal number that a word encodes.
 pub(crate) fn count_of(word: &[u8]) -> Option<u64> {
-    if word.is_empty() {
+    count_from(word, 0)
+}
+
+/// The decimal number that a word encodes from a place on.
+pub(crate) fn count_from(word: &[u8], begin: usize) -> Option<u64> {
+    if begin >= word.len() {
         return None;
     }
     let mut number = 0u64;
-    for byte in word {
+    for place in begin..word.len() {
+        let byte = word[place];
         if !byte.is_ascii_digit() {
             return None;
         }
@@ -72,27 +86,22 @@ fn digit_of(sign: u8) -> Option<u8> {
     u8::try_from(digit).ok()
 }
 
-/// The byte that two hex digits tell.
-fn byte_of(high: u8, low: u8) -> Option<u8> {
-    Some(
-        digit_of(high)?
-            .wrapping_mul(16)
-            .wrapping_add(digit_of(low)?),
-    )
+/// The byte that the two hex digits at a place tell.
+fn byte_told(part: &[u8], place: usize) -> Option<u8> {
+    let high = digit_of(byte_at(part, place))?;
+    let low = digit_of(byte_at(part, place.saturating_add(1)))?;
+    Some(high.wrapping_mul(16).wrapping_add(low))
 }
 
 /// Puts the bytes of hex digits after others. Whether they are ones.
 fn put_hex(bytes: &mut Vec<u8>, part: &[u8]) -> Result<bool, Refusal> {
-    for pair in part.chunks(2) {
-        let [high, low] = pair else {
-            return Ok(false);
-        };
-        let Some(byte) = byte_of(*high, *low) else {
-            return Ok(false);
-        };
-        bytes.push(byte)?;
+    for pair in 0..part.len() / 2 {
+        match byte_told(part, pair.saturating_mul(2)) {
+            Some(byte) => bytes.push(byte)?,
+            None => return Ok(false),
+        }
     }
-    Ok(true)
+    Ok(part.len() % 2 == 0)
 }
 
 /// Puts this many bytes after others, each greater by one than the one before, and 0 after the
@@ -116,47 +125,53 @@ fn put_times(bytes: &mut Vec<u8>, byte: u8, count: u64) -> Result<bool, Refusal>
 
 /// Puts the bytes between quotes after others. Whether they are text.
 fn put_text(bytes: &mut Vec<u8>, part: &[u8]) -> Result<bool, Refusal> {
-    let [b'"', signs @ .., b'"'] = part else {
-        return Ok(false);
-    };
-    bytes.extend_from_slice(signs)?;
-    for sign in signs {
-        if !is_text(*sign) {
+    let last = part.len().saturating_sub(1);
+    for place in 1..last {
+        let sign = byte_at(part, place);
+        if !is_text(sign) {
             return Ok(false);
         }
+        bytes.push(sign)?;
     }
-    Ok(true)
+    Ok(last > 0 && byte_at(part, last) == b'"')
 }
 
 /// Puts the bytes that a part encodes after others. Whether it encodes any.
 fn put_part(bytes: &mut Vec<u8>, part: &[u8]) -> Result<bool, Refusal> {
-    match part {
-        [b'"', ..] => put_text(bytes, part),
-        [high, low, b'.', b'.', b'*', count @ ..] => {
-            put_from(bytes, byte_of(*high, *low), Some(u8::MAX), count)
-        }
-        [high, low, b'.', b'.', top, end, b'*', count @ ..] => {
-            put_from(bytes, byte_of(*high, *low), byte_of(*top, *end), count)
-        }
-        [high, low, b'*', count @ ..] => put_many(bytes, byte_of(*high, *low), count),
+    if byte_at(part, 0) == b'"' {
+        return put_text(bytes, part);
+    }
+    match byte_at(part, 2) {
+        b'.' => put_from(bytes, part),
+        b'*' => put_many(bytes, part),
         _ => put_hex(bytes, part),
     }
 }
 
-fn put_from(
-    bytes: &mut Vec<u8>,
-    first: Option<u8>,
-    last: Option<u8>,
-    count: &[u8],
-) -> Result<bool, Refusal> {
-    match (first, last, count_of(count)) {
+/// The last byte before those that ascend begin anew, where one is told, and how many they are.
+fn last_of(part: &[u8]) -> (Option<u8>, Option<u64>) {
+    if byte_at(part, 4) == b'*' {
+        return (Some(u8::MAX), count_from(part, 5));
+    }
+    if byte_at(part, 6) == b'*' {
+        return (byte_told(part, 4), count_from(part, 7));
+    }
+    (None, None)
+}
+
+fn put_from(bytes: &mut Vec<u8>, part: &[u8]) -> Result<bool, Refusal> {
+    if byte_at(part, 3) != b'.' {
+        return Ok(false);
+    }
+    let (last, count) = last_of(part);
+    match (byte_told(part, 0), last, count) {
         (Some(first), Some(last), Some(count)) => put_ascending(bytes, first, last, count),
         _ => Ok(false),
     }
 }
 
-fn put_many(bytes: &mut Vec<u8>, byte: Option<u8>, count: &[u8]) -> Result<bool, Refusal> {
-    match (byte, count_of(count)) {
+fn put_many(bytes: &mut Vec<u8>, part: &[u8]) -> Result<bool, Refusal> {
+    match (byte_told(part, 0), count_from(part, 3)) {
         (Some(byte), Some(count)) => put_times(bytes, byte, count),
         _ => Ok(false),
     }

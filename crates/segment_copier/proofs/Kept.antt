@@ -6,7 +6,7 @@ use Rattle.std.proofs.lemmas.List.{take_more, map-append}
 use Rattle.s4_types.specs.Pointer.{Place}
 use Rattle.segment_word.specs.Frames.{Pinned}
 use Rattle.atomic_table.specs.Seated.{TableId}
-use Rattle.segment_word.specs.Handles.{Held, Remembered, IsAmong, pin_of}
+use Rattle.segment_word.specs.Handles.{Held, Remembered, pin_of}
 use Rattle.segment_word.specs.Layout.{block_bytes}
 use Rattle.segment_word.specs.Counting.{pins_in}
 use Rattle.time_read.specs.Plans.{contents_pinned}
@@ -17,13 +17,6 @@ use Rattle.segment_copier.specs.Moves.{IsPlaceIn, IsCopyFrom, IsPinOver, IsMemor
 use Rattle.segment_copier.proofs.Listed.{one_at, data_inside}
 
 -- ---- pins
-
--- one of the pins is of this frame, and has these contents
-record IsThere (f : ℕ) (pins : List Pinned) : Type 0 where
-  pub pin : Pinned
-  pub among : IsAmong pin pins
-  pub frame : pin.number ≡ f
-  pub contents : contents_pinned f pins ≡ pin.contents
 
 -- the one pin is of its frame
 one_counted : (q : Pinned) (f : ℕ) → f ≡ q.number → 0 < pins_in f (q ∷ [])
