@@ -10,7 +10,7 @@ use Rattle.serving.specs.Drawing.{Drawn}
 use Rattle.serving.specs.Answering.{Answered, reply_frame, said}
 use Rattle.serving.proofs.AnsweringLemmas.{Answered-append, Answered-nil, said-append}
 use Rattle.batch_serving.specs.Batches.{AllKept, AreBatches, ComesTo, IsBatch, IsSmall, LeftBy}
-use Rattle.batch_serving.specs.private.Holding.{Adds, Breaks, Holds, IsFinished, IsWritten, NotWritten, StopsAmong}
+use Rattle.batch_serving.specs.private.Holding.{Adds, Breaks, Holds, IsWritten, NotWritten, StopsAmong}
 use Rattle.batch_serving.specs.declared.batches.TheConstants.{BATCH_BYTES}
 use Rattle.batch_serving.specs.declared.ends.BatchEnd.{BatchEnd}
 use Rattle.batch_serving.specs.declared.ends.BatchEnd.TheVariants.{NoMemory}
@@ -128,10 +128,10 @@ module _ {B C K : Type 0} (steps : B → Request → ℕ → Reply → B → Typ
     few = none_few bytes is;
   }
 
-  -- one more item is among those of which replies are held
-  more_held : (items : List (Item Request)) (item : Item Request) (held : List ℕ) (b b1 : B) (c c1 : C) (k k1 : K) (o o1 : Option (List ℕ))
-      → (h : Holds steps draws waits items b c k o b1 c1 k1 o1 held) → items ++ item ∷ [] ≡ h.kept ++ (h.last ++ item ∷ [])
-  more_held items item held b b1 c c1 k k1 o o1 h = ap (λ x. x ++ item ∷ []) h.all ∙ append_assoc h.kept h.last (item ∷ [])
+  -- more items are among those of which replies are held
+  more_held : (items more : List (Item Request)) (held : List ℕ) (b b1 : B) (c c1 : C) (k k1 : K) (o o1 : Option (List ℕ))
+      → (h : Holds steps draws waits items b c k o b1 c1 k1 o1 held) → items ++ more ≡ h.kept ++ (h.last ++ more)
+  more_held items more held b b1 c c1 k k1 o o1 h = ap (λ x. x ++ more) h.all ∙ append_assoc h.kept h.last more
 
   held_by : (items : List (Item Request)) (item : Item Request) (reply : Reply) (held held' : List ℕ) (b b1 b2 : B) (c c1 c2 : C) (k k1 k2 : K) (o o1 o2 : Option (List ℕ))
       → Holds steps draws waits items b c k o b1 c1 k1 o1 held → Answered steps draws (item ∷ []) (reply ∷ []) b1 c1 b2 c2
@@ -140,7 +140,7 @@ module _ {B C K : Type 0} (steps : B → Request → ℕ → Reply → B → Typ
   held_by items item reply held held' b b1 b2 c c1 c2 k k1 k2 o o1 o2 h a (inl d) = record {
     kept = h.kept;
     last = h.last ++ item ∷ [];
-    all = more_held items item held b b1 c c1 k k1 o o1 h;
+    all = more_held items (item ∷ []) held b b1 c c1 k k1 o o1 h;
     mid = h.mid;
     drawn = h.drawn;
     whole = record {
@@ -163,7 +163,7 @@ module _ {B C K : Type 0} (steps : B → Request → ℕ → Reply → B → Typ
       record {
         kept = h.kept ++ (h.last ++ item ∷ []);
         last = [];
-        all = more_held items item held b b1 c c1 k k1 o o1 h ∙ sym (append-nil (h.kept ++ (h.last ++ item ∷ [])));
+        all = more_held items (item ∷ []) held b b1 c c1 k k1 o o1 h ∙ sym (append-nil (h.kept ++ (h.last ++ item ∷ [])));
         mid = b2;
         drawn = c2;
         whole = AllKept-append h.kept (h.last ++ item ∷ []) b h.mid b2 c h.drawn c2 k k1 k2 o o1 o2 h.whole
@@ -179,6 +179,27 @@ module _ {B C K : Type 0} (steps : B → Request → ℕ → Reply → B → Typ
       → Holds steps draws waits (items ++ item ∷ []) b c k o b2 c2 k2 o2 held'
   holds_more items item held held' b b1 b2 c c1 c2 k k1 k2 o o1 o2 h m = held_by items item m.reply held held' b b1 b2 c c1 c2 k k1 k2 o o1 o2 h m.answered m.done
 
+  -- the replies that are held aren't written, nor is one to an item more
+  held_left : (end : BatchEnd) (items more : List (Item Request)) (replies : List Reply) (held bytes : List ℕ) (b b1 b2 : B) (c c1 c2 : C) (k k1 k2 : K) (o o1 o2 : Option (List ℕ)) → length replies ≤ 1
+      → (h : Holds steps draws waits items b c k o b1 c1 k1 o1 held) → Answered steps draws more replies b1 c1 b2 c2 → bytes ≡ said (h.replies ++ replies) → LeftBy waits end bytes b2 k1 o1 k2 o2
+      → ComesTo steps draws waits end (items ++ more) b c k o b2 c2 k2 o2
+  held_left end items more replies held bytes b b1 b2 c c1 c2 k k1 k2 o o1 o2 single h answered is left = record {
+    kept = h.kept;
+    last = h.last ++ more;
+    all = more_held items more held b b1 c c1 k k1 o o1 h;
+    mid = h.mid;
+    drawn = h.drawn;
+    waited = k1;
+    written = o1;
+    whole = h.whole;
+    rest = record {
+      replies = h.replies ++ replies;
+      answered = Answered-append steps draws h.last more h.replies replies h.mid b1 b2 h.drawn c1 c2 h.answered answered;
+      small = small_with held h.replies replies single h.bytes h.few;
+      left = subst (λ (x : List ℕ). LeftBy waits end x b2 k1 o1 k2 o2) is left;
+    };
+  }
+
   -- the last item whose replies are held breaks the session
   pub holds_breaks : (end : BatchEnd) (all items later : List (Item Request)) (item : Item Request) (held : List ℕ) (b b1 b2 : B) (c c1 c2 : C) (k k1 k2 : K) (o o1 o2 : Option (List ℕ))
       → all ≡ items ++ (item ∷ later) → Holds steps draws waits items b c k o b1 c1 k1 o1 held → Breaks steps draws waits end item held b1 c1 k1 o1 b2 c2 k2 o2
@@ -188,66 +209,36 @@ module _ {B C K : Type 0} (steps : B → Request → ℕ → Reply → B → Typ
     met = items ++ item ∷ [];
     others = later;
     all = is ∙ sym (append_assoc items (item ∷ []) later);
-    comes = record {
-      kept = h.kept;
-      last = h.last ++ item ∷ [];
-      all = more_held items item held b b1 c c1 k k1 o o1 h;
-      mid = h.mid;
-      drawn = h.drawn;
-      waited = k1;
-      written = o1;
-      whole = h.whole;
-      rest = record {
-        replies = h.replies ++ m.reply ∷ [];
-        answered = Answered-append steps draws h.last (item ∷ []) h.replies (m.reply ∷ []) h.mid b1 b2 h.drawn c1 c2 h.answered m.answered;
-        small = small_with held h.replies (m.reply ∷ []) (lit≤ tt) h.bytes h.few;
-        left = subst (λ (x : List ℕ). LeftBy waits end x b2 k1 o1 k2 o2) (said_more held h.replies m.reply h.bytes) m.unwritten.1;
-      };
-    };
+    comes = held_left end items (item ∷ []) (m.reply ∷ []) held _ b b1 b2 c c1 c2 k k1 k2 o o1 o2 (lit≤ tt) h m.answered (said_more held h.replies m.reply h.bytes) m.unwritten.1;
   }
 
-  all_written : (items : List (Item Request)) (held : List ℕ) (b b1 : B) (c c1 : C) (k k1 k2 : K) (o o1 o2 : Option (List ℕ))
-      → Holds steps draws waits items b c k o b1 c1 k1 o1 held → IsFinished waits held b1 k1 o1 k2 o2 → AllKept steps draws waits items b c k o b1 c1 k2 o2
-  all_written items held b b1 c c1 k k1 k2 o o1 o2 h (inl d) =
-      let none = answered_none h.last h.replies h.mid b1 h.drawn c1 (nothing_said h.replies (sym h.bytes ∙ d.0)) h.answered in
+  -- no replies are held
+  pub none_held : (items : List (Item Request)) (held : List ℕ) (b b1 : B) (c c1 : C) (k k1 : K) (o o1 : Option (List ℕ)) → held ≡ []
+      → Holds steps draws waits items b c k o b1 c1 k1 o1 held → AllKept steps draws waits items b c k o b1 c1 k1 o1
+  none_held items held b b1 c c1 k k1 o o1 is h =
+      let none = answered_none h.last h.replies h.mid b1 h.drawn c1 (nothing_said h.replies (sym h.bytes ∙ is)) h.answered in
       record {
         batches = h.whole.batches;
         all = h.all ∙ ap (λ x. h.kept ++ x) none.0 ∙ append-nil h.kept ∙ h.whole.all;
-        run = batches_at h.whole.batches b h.mid b1 c h.drawn c1 k k1 k2 o o1 o2 none.1 none.2 d.1 d.2 h.whole.run;
+        run = batches_at h.whole.batches b h.mid b1 c h.drawn c1 k k1 k1 o o1 o1 none.1 none.2 refl refl h.whole.run;
       }
-  all_written items held b b1 c c1 k k1 k2 o o1 o2 h (inr d) =
-      let batch : IsBatch steps draws waits h.last h.mid h.drawn k1 o1 b1 c1 k2 o2 =
-      record { replies = h.replies; answered = h.answered; waited = d.0; wrote = subst (Appends o1 o2) h.bytes d.1 } in
-      let joined = AllKept-append h.kept h.last b h.mid b1 c h.drawn c1 k k1 k2 o o1 o2 h.whole (AllKept-one h.last h.mid b1 h.drawn c1 k1 k2 o1 o2 batch) in
-      record { batches = joined.batches; all = h.all ∙ joined.all; run = joined.run }
 
   -- what is held is written, or isn't
-  pub held_finished : (r : Result (Unit {0}) BatchEnd) (items : List (Item Request)) (held : List ℕ) (b b1 : B) (c c1 : C) (k k1 k2 : K) (o o1 o2 : Option (List ℕ))
+  pub held_written : (r : Result (Unit {0}) BatchEnd) (items : List (Item Request)) (held : List ℕ) (b b1 : B) (c c1 : C) (k k1 k2 : K) (o o1 o2 : Option (List ℕ))
       → Holds steps draws waits items b c k o b1 c1 k1 o1 held
-      → MatchResult r (λ _. IsFinished waits held b1 k1 o1 k2 o2) (λ end. NotWritten waits end held b1 k1 o1 k2 o2)
+      → MatchResult r (λ _. IsWritten waits held b1 k1 o1 k2 o2) (λ end. NotWritten waits end held b1 k1 o1 k2 o2)
       → MatchResult r (λ _. AllKept steps draws waits items b c k o b1 c1 k2 o2) (λ end. StopsAmong steps draws waits end items b c k o b1 c1 k2 o2)
-  held_finished (Ok u) items held b b1 c c1 k k1 k2 o o1 o2 h m = all_written items held b b1 c c1 k k1 k2 o o1 o2 h m
-  held_finished (Err end) items held b b1 c c1 k k1 k2 o o1 o2 h m = record {
+  held_written (Ok u) items held b b1 c c1 k k1 k2 o o1 o2 h m =
+      let batch : IsBatch steps draws waits h.last h.mid h.drawn k1 o1 b1 c1 k2 o2 =
+      record { replies = h.replies; answered = h.answered; waited = m.0; wrote = subst (Appends o1 o2) h.bytes m.1 } in
+      let joined = AllKept-append h.kept h.last b h.mid b1 c h.drawn c1 k k1 k2 o o1 o2 h.whole (AllKept-one h.last h.mid b1 h.drawn c1 k1 k2 o1 o2 batch) in
+      record { batches = joined.batches; all = h.all ∙ joined.all; run = joined.run }
+  held_written (Err end) items held b b1 c c1 k k1 k2 o o1 o2 h m = record {
     broken = m.0;
-    met = items;
+    met = items ++ [];
     others = [];
-    all = sym (append-nil items);
-    comes = record {
-      kept = h.kept;
-      last = h.last;
-      all = h.all;
-      mid = h.mid;
-      drawn = h.drawn;
-      waited = k1;
-      written = o1;
-      whole = h.whole;
-      rest = record {
-        replies = h.replies;
-        answered = h.answered;
-        small = subst IsSmall (append-nil h.replies) (small_with held h.replies [] (lit≤ tt) h.bytes h.few);
-        left = subst (λ (x : List ℕ). LeftBy waits end x b1 k1 o1 k2 o2) h.bytes m.1;
-      };
-    };
+    all = sym (append-nil (items ++ []) ∙ append-nil items);
+    comes = held_left end items [] [] held held b b1 b1 c c1 c1 k k1 k2 o o1 o2 (lit≤ tt) h (Answered-nil steps draws b1 c1) (h.bytes ∙ ap said (sym (append-nil h.replies))) m.1;
   }
 
   -- a reply is held with those before it
@@ -270,11 +261,3 @@ module _ {B C K : Type 0} (steps : B → Request → ℕ → Reply → B → Typ
       record { reply = reply; answered = a; done = inr (none, subst (λ (x : List ℕ). IsWritten waits x b1 k o k1 o1) is h) }
   adds_or_breaks (Err end) item reply held bytes held' b b1 c c1 k k1 o o1 a is none h =
       record { reply = reply; answered = a; unwritten = (h.0, subst (λ (x : List ℕ). LeftBy waits end x b1 k o k1 o1) is h.1) }
-
-module _ {B K : Type 0} (waits : K → B → Bool → K → Type 0) where
-  -- replies that are written are finished
-  pub finishes : (r : Result (Unit {0}) BatchEnd) (bytes : List ℕ) (b : B) (k k1 : K) (o o1 : Option (List ℕ))
-      → MatchResult r (λ _. IsWritten waits bytes b k o k1 o1) (λ end. NotWritten waits end bytes b k o k1 o1)
-      → MatchResult r (λ _. IsFinished waits bytes b k o k1 o1) (λ end. NotWritten waits end bytes b k o k1 o1)
-  finishes (Ok u) bytes b k k1 o o1 h = inr h
-  finishes (Err end) bytes b k k1 o o1 h = h

@@ -1,5 +1,5 @@
 -- Parts of a session join whose replies go out in batches.
-use Rattle.std.proofs.Common.{◌≡◌, ◌≢◌, take, ℕ, Bool, ◌<◌, List, [], ◌∷◌, ◌++◌, length, Option, Some, None, ◌⊎◌, inl, inr, refl, sym, ap, subst, append_assoc, append-nil, arith, IfSome, MatchResult, Result, Ok, Err}
+use Rattle.std.proofs.Common.{◌≡◌, ◌≢◌, take, ℕ, Bool, ◌<◌, List, [], ◌∷◌, ◌++◌, length, Option, Some, None, ◌⊎◌, inl, inr, refl, sym, ap, subst, arith, IfSome, MatchResult, Result, Ok, Err}
 use Rattle.std.specs.Io.KnownBytes.{Consumes, Keeps, IsAtEnd}
 use Rattle.std.proofs.KnownBytes.{Consumes-nil, Consumes-trans, Consumes-kept}
 use Rattle.s4_types.specs.declared.requests.Request.{Request}
@@ -7,48 +7,13 @@ use Rattle.s4_types.specs.declared.replies.Reply.{Reply}
 use Rattle.rpc.specs.declared.items.Item.{Item}
 use Rattle.rpc.specs.Spelling.{SpellsRequest}
 use Rattle.rpc.specs.Stream.{ReadsItems}
-use Rattle.serving.specs.Answering.{IsBreak}
-use Rattle.serving.specs.Session.{IsBegun, IsOver, TakenUp, begun_of}
-use Rattle.serving.proofs.SessionLemmas.{ReadsItems-more, ReadsItems-partial, TakenUp-behind, TakenUp-break, fed}
+use Rattle.serving.specs.Session.{IsBegun, TakenUp, begun_of}
+use Rattle.serving.proofs.SessionLemmas.{IsBreak-late, IsLate-over, ReadsItems-after, ReadsItems-held, ReadsItems-partial, TakenUp-after, TakenUp-break, fed, none_taken}
 use Rattle.batch_serving.specs.Batches.{AllKept, Continues, Finishes, Goes, IsLate, LeftBy, Serves, serve_end_of}
 use Rattle.batch_serving.specs.private.Holding.{StopsAmong}
 use Rattle.batch_serving.specs.declared.ends.BatchEnd.{BatchEnd}
-use Rattle.batch_serving.specs.declared.ends.BatchEnd.TheVariants.{Ended, CutFrame, Oversized, ReadFailed, WriteFailed, NotKept, NoMemory}
+use Rattle.batch_serving.specs.declared.ends.BatchEnd.TheVariants.{Ended, CutFrame, Oversized, ReadFailed, NoMemory}
 use Rattle.batch_serving.proofs.BatchLemmas.{AllKept-append, AllKept-nil, ComesTo-after, all_kept}
-
--- the items of two pieces of a stream, where the beginning of a frame came before
-ReadsItems-pieces : (begun first second rest : List ℕ) (items more : List (Item Request)) (end : Option (List ℕ))
-    → ReadsItems SpellsRequest (begun ++ first) items (Some rest) → ReadsItems SpellsRequest (rest ++ second) more end → ReadsItems SpellsRequest (begun ++ (first ++ second)) (items ++ more) end
-ReadsItems-pieces begun first second rest items more end h k =
-    subst (λ (s : List ℕ). ReadsItems SpellsRequest s (items ++ more) end) (append_assoc begun first second) (ReadsItems-more (begun ++ first) second rest items more end h k)
-
--- nothing is read after what is held of a frame
-ReadsItems-held : (held : Option (List ℕ)) → IsBegun held → ReadsItems SpellsRequest (begun_of held ++ []) [] (Some (begun_of held))
-ReadsItems-held None h = absurd h
-ReadsItems-held (Some begun) h = (append-nil begun, h)
-
--- no item is taken up, of a stream that breaks off
-none_taken : (held : Option (List ℕ)) (stream : List ℕ) → IsBegun held
-    → (others : List (Item Request)) × (front : List ℕ) × (unread : List ℕ) × (e : Option (List ℕ)) × (stream ≡ front ++ unread) × ReadsItems SpellsRequest (begun_of held ++ front) ([] ++ others) e
-none_taken held stream h = ([], [], stream, Some (begun_of held), refl, ReadsItems-held held h)
-
-IsBreak-late : (end : BatchEnd) → IsBreak (serve_end_of end) → IsLate end
-IsBreak-late Ended h = absurd h
-IsBreak-late CutFrame h = absurd h
-IsBreak-late Oversized h = absurd h
-IsBreak-late ReadFailed h = absurd h
-IsBreak-late WriteFailed h = tt
-IsBreak-late NotKept h = tt
-IsBreak-late NoMemory h = tt
-
-IsLate-over : (end : BatchEnd) (input : Option (List ℕ)) → IsLate end → IsOver (serve_end_of end) input
-IsLate-over Ended input h = absurd h
-IsLate-over CutFrame input h = absurd h
-IsLate-over Oversized input h = tt
-IsLate-over ReadFailed input h = absurd h
-IsLate-over WriteFailed input h = tt
-IsLate-over NotKept input h = tt
-IsLate-over NoMemory input h = tt
 
 module _ {B C K : Type 0} (steps : B → Request → ℕ → Reply → B → Type 0) (draws : C → ℕ → C → Type 0) (waits : K → B → Bool → K → Type 0) where
   -- nothing is asked and nothing written
@@ -77,7 +42,7 @@ module _ {B C K : Type 0} (steps : B → Request → ℕ → Reply → B → Typ
       → IfSome held (λ begun. ReadsItems SpellsRequest (begun ++ piece) items new) → StopsAmong steps draws waits end items b c k o b' c' k' o'
       → IsLate end × Finishes steps draws waits end (begun_of held) piece b c k o b' c' k' o'
   stopped held new piece items end b b' c c' k k' o o' begun items_are h = (
-    IsBreak-late end h.broken,
+    IsBreak-late (serve_end_of end) h.broken,
     record {
       items = h.met;
       taken_up = TakenUp-break (serve_end_of end) (begun_of held) piece items h.met h.others new h.broken (fed held new piece items begun items_are) h.all;
@@ -140,7 +105,7 @@ module _ {B C K : Type 0} (steps : B → Request → ℕ → Reply → B → Typ
       → MatchResult r (λ _. Continues steps draws waits (begun_of held) piece held' b c k o b' c' k' o') (λ end. IsLate end × Finishes steps draws waits end (begun_of held) piece b c k o b' c' k' o')
       → MatchResult r (λ _. Goes steps draws waits (begun_of held) held' b c k i o b' c' k' i' o') (λ end. Serves steps draws waits (begun_of held) end b c k i o b' c' k' i' o')
   piece_answered held held' piece (Ok u) b b' c c' k k' i i' o o' read h = record { stream = piece; read = read; continues = h }
-  piece_answered held held' piece (Err end) b b' c c' k k' i i' o o' read h = record { stream = piece; read = read; over = IsLate-over end i' h.0; finishes = h.1 }
+  piece_answered held held' piece (Err end) b b' c c' k k' i i' o o' read h = record { stream = piece; read = read; over = IsLate-over (serve_end_of end) i' h.0; finishes = h.1 }
 
   -- a session begins
   begins : (b : B) (c : C) (k : K) (i o : Option (List ℕ)) → Goes steps draws waits [] (Some []) b c k i o b c k i o
@@ -167,7 +132,6 @@ module _ {B C K : Type 0} (steps : B → Request → ℕ → Reply → B → Typ
   Goes-trans begun held held' b b' b'' c c' c'' k k' k'' i i' i'' o o' o'' h m =
       let first = h.continues in
       let second = m.continues in
-      let rest : begun_of held ≡ first.rest = ap begun_of first.is in
       record {
         stream = h.stream ++ m.stream;
         read = Consumes-trans i i' i'' h.stream m.stream h.read m.read;
@@ -175,8 +139,7 @@ module _ {B C K : Type 0} (steps : B → Request → ℕ → Reply → B → Typ
           rest = second.rest;
           is = second.is;
           items = first.items ++ second.items;
-          reading = ReadsItems-pieces begun h.stream m.stream first.rest first.items second.items (Some second.rest) first.reading
-              (subst (λ (x : List ℕ). ReadsItems SpellsRequest (x ++ m.stream) second.items (Some second.rest)) rest second.reading);
+          reading = ReadsItems-after begun h.stream m.stream first.rest held first.items second.items (Some second.rest) first.is first.reading second.reading;
           kept = AllKept-append steps draws waits first.items second.items b b' b'' c c' c'' k k' k'' o o' o'' first.kept second.kept;
         };
       }
@@ -187,15 +150,13 @@ module _ {B C K : Type 0} (steps : B → Request → ℕ → Reply → B → Typ
   Goes-serves begun held end b b' b'' c c' c'' k k' k'' i i' i'' o o' o'' h m =
       let first = h.continues in
       let second = m.finishes in
-      let rest : begun_of held ≡ first.rest = ap begun_of first.is in
       record {
         stream = h.stream ++ m.stream;
         read = Consumes-trans i i' i'' h.stream m.stream h.read m.read;
         over = m.over;
         finishes = record {
           items = first.items ++ second.items;
-          taken_up = TakenUp-behind (serve_end_of end) begun h.stream m.stream first.rest first.items second.items first.reading
-              (subst (λ (x : List ℕ). TakenUp (serve_end_of end) x m.stream second.items) rest second.taken_up);
+          taken_up = TakenUp-after (serve_end_of end) begun h.stream m.stream first.rest held first.items second.items first.is first.reading second.taken_up;
           comes = ComesTo-after steps draws waits end first.items second.items b b' b'' c c' c'' k k' k'' o o' o'' first.kept second.comes;
         };
       }

@@ -1,5 +1,5 @@
 -- What a session does whose replies go out in batches, each once what it shows is kept.
-use Rattle.std.specs.Prelude.{◌≡◌, ℕ, ◌≤◌, ◌<◌, ⊤, Bool, true, false, List, [], ◌∷◌, ◌++◌, length, Option, Some, Result, Ok, Err}
+use Rattle.std.specs.Prelude.{◌≡◌, ℕ, ◌≤◌, ◌<◌, Bool, true, false, List, [], ◌∷◌, ◌++◌, length, Option, Some}
 use Rattle.std.specs.List.{flat_map}
 use Rattle.std.specs.Io.KnownBytes.{Appends, Consumes}
 use Rattle.s4_types.specs.declared.requests.Request.{Request}
@@ -8,6 +8,7 @@ use Rattle.rpc.specs.declared.items.Item.{Item}
 use Rattle.rpc.specs.Spelling.{SpellsRequest}
 use Rattle.rpc.specs.Stream.{ReadsItems}
 use Rattle.serving.specs.Answering.{Answered, said}
+use Rattle.serving.specs.Session as session
 use Rattle.serving.specs.Session.{IsOver, TakenUp}
 use Rattle.serving.specs.Streams.{AppendsPart}
 use Rattle.serving.specs.declared.ends.ServeEnd.{ServeEnd}
@@ -28,26 +29,16 @@ serve_end_of NoMemory = serve_end.NoMemory
 
 -- how often the reader has failed in a session that ends so
 abbrev pub reading_failures : BatchEnd → ℕ
-reading_failures ReadFailed = 1
-reading_failures _ = 0
+reading_failures end = session.reading_failures (serve_end_of end)
 
 -- how often the writer has
 abbrev pub writing_failures : BatchEnd → ℕ
 writing_failures WriteFailed = 1
 writing_failures _ = 0
 
--- how often, after a part of a session that may have ended it
-abbrev pub failures_by : (BatchEnd → ℕ) → Result (Unit {0}) BatchEnd → ℕ
-failures_by count (Ok _) = 0
-failures_by count (Err end) = count end
-
 -- the end comes after bytes were read
 abbrev pub IsLate : BatchEnd → Type 0
-IsLate Oversized = ⊤
-IsLate WriteFailed = ⊤
-IsLate NotKept = ⊤
-IsLate NoMemory = ⊤
-IsLate _ = ⊥
+IsLate end = session.IsLate (serve_end_of end)
 
 -- The replies of one batch: all but the last have fewer bytes than replies that go out at once.
 pub record IsSmall (replies : List Reply) : Type 0 where

@@ -1,15 +1,14 @@
 ghost use Rattle.std.specs.Prelude.{◌≡◌, ◌+◌, ◌^◌, ◌<◌, ◌++◌, [], ◌∷◌, MatchResult, length};
-ghost use Rattle.s4_types.specs.Sizes.{ReplyFits};
-ghost use Rattle.serving.specs.Answering.{Answered};
-ghost use Rattle.batch_serving.specs.Batches.{AllKept, failures_by, writing_failures};
-ghost use Rattle.batch_serving.specs.private.Holding.{Adds, Breaks, Holds, IsFinished, IsWritten};
-ghost use Rattle.batch_serving.specs.private.Holding.{NotWritten, StopsAmong};
+ghost use Rattle.serving.specs.Session.{failures_by};
+ghost use Rattle.batch_serving.specs.Batches.{AllKept, writing_failures};
+ghost use Rattle.batch_serving.specs.private.Holding.{Adds, Breaks, Holds, IsWritten, NotWritten};
+ghost use Rattle.batch_serving.specs.private.Holding.{StopsAmong};
 
 use crate::ends::BatchEnd;
 use crate::keeping::Keeping;
 use rpc::{Item, push_reply};
-use s4_types::{Refusal, Reply, Request};
-use serving::{Backend, Clock, Sink};
+use s4_types::Request;
+use serving::{Backend, Clock, Sink, reply_to};
 
 /// Replies go out once they have this many bytes, though more requests came with them.
 pub const BATCH_BYTES: usize = 65_536;
@@ -36,7 +35,8 @@ pub(crate) fn answer_all<W: Sink, B: Backend, C: Clock, K: Keeping<B>>(
 {
     out.clear();
     match answer_items(items, writer, backend, clock, keeping, out) {
-        Ok(()) => finish(writer, backend, keeping, out),
+        Ok(()) if out.is_empty() => Ok(()),
+        Ok(()) => write_out(writer, backend, keeping, out),
         Err(end) => Err(end),
     }
 }
@@ -96,42 +96,6 @@ fn answer<W: Sink, B: Backend, C: Clock, K: Keeping<B>>(
         return Err(BatchEnd::NoMemory);
     };
     if out.len() < BATCH_BYTES {
-        return Ok(());
-    }
-    write_out(writer, backend, keeping, out)
-}
-
-fn reply_to<B: Backend, C: Clock>(item: Item<Request>, backend: &mut B, clock: &mut C) -> Reply
-    ensures answered { Answered B.steps C.draws (item ∷ []) (result ∷ [])
-        backend.old clock.old backend.new clock.new }
-    ensures fits { ReplyFits result }
-{
-    match item {
-        Item::Whole(request) => {
-            let now = clock.draw();
-            backend.request(request, now)
-        }
-        Item::BadFrame => Reply::Refused(Refusal::BadFrame),
-    }
-}
-
-// Writes the replies that are left, if there are any.
-fn finish<W: Sink, B: Backend, K: Keeping<B>>(
-    writer: &mut W,
-    backend: &B,
-    keeping: &mut K,
-    out: &mut Vec<u8>,
-) -> Result<(), BatchEnd>
-    requires { W.failures writer.old + 1 < 2 ^ 64 }
-    ensures written { MatchResult result
-        (λ _. IsFinished K.waits out.old.items
-        backend.now keeping.old (W.passed writer.old) keeping.new (W.passed writer.new))
-        (λ end. NotWritten K.waits end out.old.items
-        backend.now keeping.old (W.passed writer.old) keeping.new (W.passed writer.new)) }
-    ensures writing { W.failures writer.new
-        ≡ W.failures writer.old + failures_by writing_failures result }
-{
-    if out.is_empty() {
         return Ok(());
     }
     write_out(writer, backend, keeping, out)

@@ -1,8 +1,8 @@
 ghost use Rattle.std.specs.Prelude.{◌≡◌, ◌≢◌, ◌+◌, ◌^◌, ◌<◌, [], ◌⊎◌, MatchResult, OnOk, Some};
 ghost use Rattle.std.specs.Prelude.{length};
-ghost use Rattle.serving.specs.Session.{IsBegun, begun_of};
+ghost use Rattle.serving.specs.Session.{IsBegun, begun_of, failures_by};
 ghost use Rattle.batch_serving.specs.Batches.{Continues, Finishes, Goes, IsLate, Serves};
-ghost use Rattle.batch_serving.specs.Batches.{failures_by, reading_failures, writing_failures};
+ghost use Rattle.batch_serving.specs.Batches.{reading_failures, writing_failures};
 
 use crate::batches::answer_all;
 use crate::ends::BatchEnd;

@@ -1,5 +1,10 @@
 -- Runs of a backend join, and so do what is written of their replies.
-use Rattle.std.proofs.Common.{◌≡◌, ℕ, ◌<◌, List, [], ◌∷◌, ◌++◌, length, Option, Result, Ok, Err, refl, sym, ap, ◌∙◌, subst, append_assoc, append-nil, lit≤, MatchResult, take, drop, get_or, suc, map, drop-cons, take-append-drop, ap₂}
+use Rattle.std.proofs.Common.{◌≡◌, ℕ, List, [], ◌∷◌, ◌++◌, length, Option, Some, Result, Ok, Err, refl, sym, ap, ◌∙◌, subst, append_assoc, append-nil, lit≤, MatchResult, drop, suc, drop-cons, take-append-drop, ap₂}
+use Rattle.std.specs.Iterator.{Yields}
+use Rattle.std.specs.Vec.Iter.{into_iter_items, into_iter_len, into_iter_steps}
+use Rattle.std.specs.declared.vec.IntoIter.{IntoIter}
+use Rattle.std.proofs.lemmas.Iterator.Adapters.{YieldsList-from_vec}
+use Rattle.std.proofs.lemmas.Iterator.Consumers.{YieldsList-so_far, YieldsList-turn}
 use Rattle.std.proofs.lemmas.Grind.{flat_map-append}
 use Rattle.std.specs.Io.KnownBytes.{Appends}
 use Rattle.std.proofs.KnownBytes.{Appends-nil, Appends-trans, Appends-kept}
@@ -11,7 +16,7 @@ use Rattle.s4_types.specs.declared.refusals.Refusal.TheVariants as refusal
 use Rattle.rpc.specs.declared.items.Item.{Item}
 use Rattle.rpc.specs.declared.items.Item.TheVariants.{Whole, BadFrame}
 use Rattle.serving.specs.Drawing.{Drawn}
-use Rattle.serving.specs.Answering.{Answered, AnswersAll, Run, Said, SaidBy, StopsAmong, reply_frame, said}
+use Rattle.serving.specs.Answering.{Answered, AnswersAll, IsBreak, Run, Said, SaidBy, StopsAmong, reply_frame, said}
 use Rattle.serving.specs.declared.ends.ServeEnd.{ServeEnd}
 use Rattle.serving.specs.declared.ends.ServeEnd.TheVariants.{Ended, CutFrame, Oversized, ReadFailed, WriteFailed, NoMemory}
 
@@ -129,6 +134,21 @@ module _ {B C : Type 0} (steps : B → Request → ℕ → Reply → B → Type 
     saying = k.saying;
   }
 
+  -- the session breaks at one item
+  stops_at : (item : Item Request) (reply : Reply) (end : ServeEnd) (b b' : B) (c c' : C) (o o' : Option (List ℕ)) (written : List ℕ) → IsBreak end
+      → Answered steps draws (item ∷ []) (reply ∷ []) b c b' c' → Appends o o' written → SaidBy end (reply ∷ []) written → StopsAmong steps draws (item ∷ []) end b c o b' c' o'
+  stops_at item reply end b b' c c' o o' written broken answered wrote saying = record {
+    broken = broken;
+    met = item ∷ [];
+    others = [];
+    all = refl;
+    replies = reply ∷ [];
+    answered = answered;
+    written = written;
+    wrote = wrote;
+    saying = saying;
+  }
+
   -- one item is answered, and its reply written as far as the writing goes
   pub one_item : (item : Item Request) (reply : Reply) (b b' : B) (c c' : C) (o o' : Option (List ℕ)) (r : Result (Unit {0}) ServeEnd)
       → Answered steps draws (item ∷ []) (reply ∷ []) b c b' c' → Said o o' reply r
@@ -138,36 +158,23 @@ module _ {B C : Type 0} (steps : B → Request → ℕ → Reply → B → Type 
     answered = answered;
     wrote = subst (Appends o o') (sym (append-nil (reply_frame reply))) h;
   }
-  one_item item reply b b' c c' o o' (Err WriteFailed) answered h = record {
-    broken = tt;
-    met = item ∷ [];
-    others = [];
-    all = refl;
-    replies = reply ∷ [];
-    answered = answered;
-    written = h.0;
-    wrote = h.3;
-    saying = record { before = []; last = reply; all = refl; part = h.0; unsaid = h.1; cut = h.2; bytes = refl };
-  }
-  one_item item reply b b' c c' o o' (Err NoMemory) answered h = record {
-    broken = tt;
-    met = item ∷ [];
-    others = [];
-    all = refl;
-    replies = reply ∷ [];
-    answered = answered;
-    written = [];
-    wrote = Appends-kept o o o' [] (Appends-nil o) h;
-    saying = record { before = []; last = reply ∷ []; single = lit≤ tt; all = refl; bytes = refl };
-  }
+  one_item item reply b b' c c' o o' (Err WriteFailed) answered h =
+      stops_at item reply WriteFailed b b' c c' o o' h.0 tt answered h.3 (record { before = []; last = reply; all = refl; part = h.0; unsaid = h.1; cut = h.2; bytes = refl })
+  one_item item reply b b' c c' o o' (Err NoMemory) answered h =
+      stops_at item reply NoMemory b b' c c' o o' [] tt answered (Appends-kept o o o' [] (Appends-nil o) h)
+      (record { before = []; last = reply ∷ []; single = lit≤ tt; all = refl; bytes = refl })
   one_item item reply b b' c c' o o' (Err Ended) answered h = absurd h
   one_item item reply b b' c c' o o' (Err CutFrame) answered h = absurd h
   one_item item reply b b' c c' o o' (Err Oversized) answered h = absurd h
   one_item item reply b b' c c' o o' (Err ReadFailed) answered h = absurd h
 
--- a loop over a list has passed a beginning of it, and is at the next item
-pub passed_items : {X : Type 0} (all passed : List X) (x : X) → map (λ y. y) passed ≡ take (length passed) all → (length passed < length all) × (x ≡ get_or all (length passed) x)
-    → all ≡ passed ++ (x ∷ drop (suc (length passed)) all)
-passed_items all passed x front here =
+-- a loop over a vector has passed a beginning of it, and is at the next item
+pub passed_items : {X Z : Type 0} (s : IntoIter X Z) (all : List X) → into_iter_items s ≡ all → into_iter_len s ≡ length all
+    → (passed : List X) (at : IntoIter X Z) → Yields into_iter_steps s passed at
+    → (r : Option X) (after : IntoIter X Z) (x : X) → r ≡ Some x → into_iter_steps at r after → all ≡ passed ++ (x ∷ drop (suc (length passed)) all)
+passed_items s all items len passed at yielded r after x is step =
+    let road = YieldsList-from_vec {s = s} all items len in
+    let here = YieldsList-turn road passed at yielded r after x is step in
     sym (take-append-drop (length passed) all)
-    ∙ ap₂ (λ a b. a ++ b) (sym front ∙ map-id passed) (drop-cons all (length passed) x here.0 ∙ ap (λ y. y ∷ drop (suc (length passed)) all) (sym here.1))
+    ∙ ap₂ (λ a b. a ++ b) (sym (YieldsList-so_far road passed at yielded) ∙ map-id passed)
+    (drop-cons all (length passed) x here.0 ∙ ap (λ y. y ∷ drop (suc (length passed)) all) (sym here.1))

@@ -20,7 +20,7 @@ ReadsItems-partial stream rest (item ∷ items) (inl h) = ReadsItems-partial h.1
 ReadsItems-partial stream rest (item ∷ items) (inr h) = let none : Some rest ≡ None = h.3 in absurd cc
 
 -- a stream that goes on after what was left is read as the items so far and those after
-pub ReadsItems-more : (stream piece rest : List ℕ) (items more : List (Item Request)) (end : Option (List ℕ))
+ReadsItems-more : (stream piece rest : List ℕ) (items more : List (Item Request)) (end : Option (List ℕ))
     → ReadsItems SpellsRequest stream items (Some rest) → ReadsItems SpellsRequest (rest ++ piece) more end → ReadsItems SpellsRequest (stream ++ piece) (items ++ more) end
 ReadsItems-more stream piece rest [] more end h k = subst (λ (s : List ℕ). ReadsItems SpellsRequest (s ++ piece) more end) (sym h.0) k
 ReadsItems-more stream piece rest (item ∷ items) more end (inl h) k = inl (
@@ -38,6 +38,12 @@ ReadsItems-pieces : (begun first second rest : List ℕ) (items more : List (Ite
 ReadsItems-pieces begun first second rest items more end h k =
     subst (λ (s : List ℕ). ReadsItems SpellsRequest s (items ++ more) end) (append_assoc begun first second) (ReadsItems-more (begun ++ first) second rest items more end h k)
 
+-- the same, by what a reader of frames held between them
+pub ReadsItems-after : (begun first second rest : List ℕ) (held : Option (List ℕ)) (items more : List (Item Request)) (end : Option (List ℕ)) → held ≡ Some rest
+    → ReadsItems SpellsRequest (begun ++ first) items (Some rest) → ReadsItems SpellsRequest (begun_of held ++ second) more end → ReadsItems SpellsRequest (begun ++ (first ++ second)) (items ++ more) end
+ReadsItems-after begun first second rest held items more end is h k =
+    ReadsItems-pieces begun first second rest items more end h (subst (λ (x : List ℕ). ReadsItems SpellsRequest (x ++ second) more end) (ap begun_of is) k)
+
 TakenUp-left : (end : ServeEnd) (begun first second rest : List ℕ) (items more others : List (Item Request)) (front unread : List ℕ) (e : Option (List ℕ)) → second ≡ front ++ unread
     → ReadsItems SpellsRequest (begun ++ first) items (Some rest) → ReadsItems SpellsRequest (rest ++ front) (more ++ others) e
     → (left : List (Item Request)) × (front' : List ℕ) × (unread' : List ℕ) × (e' : Option (List ℕ)) × (first ++ second ≡ front' ++ unread') × ReadsItems SpellsRequest (begun ++ front') ((items ++ more) ++ left) e'
@@ -51,7 +57,7 @@ TakenUp-left end begun first second rest items more others front unread e cut h 
 )
 
 -- what is taken up after items that were read
-pub TakenUp-behind : (end : ServeEnd) (begun first second rest : List ℕ) (items more : List (Item Request))
+TakenUp-behind : (end : ServeEnd) (begun first second rest : List ℕ) (items more : List (Item Request))
     → ReadsItems SpellsRequest (begun ++ first) items (Some rest) → TakenUp end rest second more → TakenUp end begun (first ++ second) (items ++ more)
 TakenUp-behind Ended begun first second rest items more h k = ReadsItems-pieces begun first second rest items more (Some []) h k
 TakenUp-behind CutFrame begun first second rest items more h k = (k.0, ReadsItems-pieces begun first second rest items more (Some k.0) h k.1, k.2)
@@ -59,6 +65,12 @@ TakenUp-behind Oversized begun first second rest items more h k = ReadsItems-pie
 TakenUp-behind ReadFailed begun first second rest items more h k = (k.0, ReadsItems-pieces begun first second rest items more (Some k.0) h k.1)
 TakenUp-behind WriteFailed begun first second rest items more h k = TakenUp-left WriteFailed begun first second rest items more k.0 k.1 k.2 k.3 k.4 h k.5
 TakenUp-behind NoMemory begun first second rest items more h k = TakenUp-left NoMemory begun first second rest items more k.0 k.1 k.2 k.3 k.4 h k.5
+
+-- the same, by what a reader of frames held between them
+pub TakenUp-after : (end : ServeEnd) (begun first second rest : List ℕ) (held : Option (List ℕ)) (items more : List (Item Request)) → held ≡ Some rest
+    → ReadsItems SpellsRequest (begun ++ first) items (Some rest) → TakenUp end (begun_of held) second more → TakenUp end begun (first ++ second) (items ++ more)
+TakenUp-after end begun first second rest held items more is h k =
+    TakenUp-behind end begun first second rest items more h (subst (λ (x : List ℕ). TakenUp end x second more) (ap begun_of is) k)
 
 -- the items of a stream that are met where the session breaks
 pub TakenUp-break : (end : ServeEnd) (begun stream : List ℕ) (items met others : List (Item Request)) (e : Option (List ℕ))
@@ -75,12 +87,12 @@ idle_for_memory : SaidBy NoMemory [] []
 idle_for_memory = record { before = []; last = []; single = lit≤ tt; all = refl; bytes = refl }
 
 -- nothing is read after what is held of a frame
-ReadsItems-held : (held : Option (List ℕ)) → IsBegun held → ReadsItems SpellsRequest (begun_of held ++ []) [] (Some (begun_of held))
+pub ReadsItems-held : (held : Option (List ℕ)) → IsBegun held → ReadsItems SpellsRequest (begun_of held ++ []) [] (Some (begun_of held))
 ReadsItems-held None h = absurd h
 ReadsItems-held (Some begun) h = (append-nil begun, h)
 
 -- no item is taken up, of a stream that breaks off
-none_taken : (held : Option (List ℕ)) (stream : List ℕ) → IsBegun held
+pub none_taken : (held : Option (List ℕ)) (stream : List ℕ) → IsBegun held
     → (others : List (Item Request)) × (front : List ℕ) × (unread : List ℕ) × (e : Option (List ℕ)) × (stream ≡ front ++ unread) × ReadsItems SpellsRequest (begun_of held ++ front) ([] ++ others) e
 none_taken held stream h = ([], [], stream, Some (begun_of held), refl, ReadsItems-held held h)
 
@@ -90,7 +102,7 @@ pub fed : (held new : Option (List ℕ)) (piece : List ℕ) (items : List (Item 
 fed None new piece items h k = absurd h
 fed (Some begun) new piece items h k = k
 
-IsBreak-late : (end : ServeEnd) → IsBreak end → IsLate end
+pub IsBreak-late : (end : ServeEnd) → IsBreak end → IsLate end
 IsBreak-late Ended h = absurd h
 IsBreak-late CutFrame h = absurd h
 IsBreak-late Oversized h = absurd h
@@ -98,7 +110,7 @@ IsBreak-late ReadFailed h = absurd h
 IsBreak-late WriteFailed h = tt
 IsBreak-late NoMemory h = tt
 
-IsLate-over : (end : ServeEnd) (input : Option (List ℕ)) → IsLate end → IsOver end input
+pub IsLate-over : (end : ServeEnd) (input : Option (List ℕ)) → IsLate end → IsOver end input
 IsLate-over Ended input h = absurd h
 IsLate-over CutFrame input h = absurd h
 IsLate-over Oversized input h = tt
@@ -236,7 +248,6 @@ module _ {B C : Type 0} (steps : B → Request → ℕ → Reply → B → Type 
   Goes-trans begun held held' b b' b'' c c' c'' i i' i'' o o' o'' h k =
       let first = h.continues in
       let second = k.continues in
-      let rest : begun_of held ≡ first.rest = ap begun_of first.is in
       record {
         stream = h.stream ++ k.stream;
         read = Consumes-trans i i' i'' h.stream k.stream h.read k.read;
@@ -244,8 +255,7 @@ module _ {B C : Type 0} (steps : B → Request → ℕ → Reply → B → Type 
           rest = second.rest;
           is = second.is;
           items = first.items ++ second.items;
-          reading = ReadsItems-pieces begun h.stream k.stream first.rest first.items second.items (Some second.rest) first.reading
-              (subst (λ (x : List ℕ). ReadsItems SpellsRequest (x ++ k.stream) second.items (Some second.rest)) rest second.reading);
+          reading = ReadsItems-after begun h.stream k.stream first.rest held first.items second.items (Some second.rest) first.is first.reading second.reading;
           answers = AnswersAll-append steps draws first.items second.items b b' b'' c c' c'' o o' o'' first.answers second.answers;
         };
       }
@@ -256,15 +266,13 @@ module _ {B C : Type 0} (steps : B → Request → ℕ → Reply → B → Type 
   Goes-serves begun held end b b' b'' c c' c'' i i' i'' o o' o'' h k =
       let first = h.continues in
       let second = k.finishes in
-      let rest : begun_of held ≡ first.rest = ap begun_of first.is in
       record {
         stream = h.stream ++ k.stream;
         read = Consumes-trans i i' i'' h.stream k.stream h.read k.read;
         over = k.over;
         finishes = record {
           items = first.items ++ second.items;
-          taken_up = TakenUp-behind end begun h.stream k.stream first.rest first.items second.items first.reading
-              (subst (λ (x : List ℕ). TakenUp end x k.stream second.items) rest second.taken_up);
+          taken_up = TakenUp-after end begun h.stream k.stream first.rest held first.items second.items first.is first.reading second.taken_up;
           replies = first.answers.replies ++ second.replies;
           answered = Answered-append steps draws first.items second.items first.answers.replies second.replies b b' b'' c c' c'' first.answers.answered second.answered;
           written = said first.answers.replies ++ second.written;

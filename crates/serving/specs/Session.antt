@@ -38,7 +38,7 @@ writing_failures WriteFailed = 1
 writing_failures _ = 0
 
 -- how often, after a part of a session that may have ended it
-abbrev pub failures_by : (ServeEnd → ℕ) → Result (Unit {0}) ServeEnd → ℕ
+abbrev pub failures_by : {E : Type 0} → (E → ℕ) → Result (Unit {0}) E → ℕ
 failures_by count (Ok _) = 0
 failures_by count (Err end) = count end
 

@@ -23,6 +23,6 @@ pub use backend::Backend;
 pub use clock::{Clock, Ticking};
 pub use ends::ServeEnd;
 pub use memory::{MemorySink, MemorySource};
-pub use serving::serve;
+pub use serving::{reply_to, serve};
 pub use std_streams::{ReadSource, WriteSink};
 pub use streams::{Sink, Source, StreamFailed};

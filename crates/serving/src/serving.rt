@@ -188,7 +188,8 @@ fn answer<W: Sink, B: Backend, C: Clock>(
     say(&reply, writer, out)
 }
 
-fn reply_to<B: Backend, C: Clock>(item: Item<Request>, backend: &mut B, clock: &mut C) -> Reply
+/// The reply to an item: a request is asked of the backend at the clock's next moment.
+pub fn reply_to<B: Backend, C: Clock>(item: Item<Request>, backend: &mut B, clock: &mut C) -> Reply
     ensures answered { Answered B.steps C.draws (item ∷ []) (result ∷ [])
         backend.old clock.old backend.new clock.new }
     ensures fits { ReplyFits result }

@@ -3,11 +3,8 @@ ghost use Rattle.std.specs.Prelude.{OnErr};
 ghost use Rattle.std.specs.Io.KnownBytes.{Appends, ReadConsumes};
 ghost use Rattle.serving.specs.Streams.{AppendsPart, failures_after};
 
-use thiserror::Error;
-
 /// A reader or a writer failed, and counted it.
-#[derive(Clone, Copy, Debug, PartialEq, Eq, Error)]
-#[error("the stream failed")]
+#[derive(Clone, Copy)]
 pub struct StreamFailed;
 
 /// What a session reads from. It counts its failures.

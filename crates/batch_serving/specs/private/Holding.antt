@@ -14,10 +14,6 @@ module _ {B K : Type 0} (waits : K → B → Bool → K → Type 0) where
   abbrev pub IsWritten : List ℕ → B → K → Option (List ℕ) → K → Option (List ℕ) → Type 0
   IsWritten bytes new from output to output' = waits from new true to × Appends output output' bytes
 
-  -- the same, where there were any
-  abbrev pub IsFinished : List ℕ → B → K → Option (List ℕ) → K → Option (List ℕ) → Type 0
-  IsFinished bytes new from output to output' = ((bytes ≡ []) × (to ≡ from) × (output' ≡ output)) ⊎ IsWritten bytes new from output to output'
-
   -- the wait for the backend failed, or writing did
   abbrev pub NotWritten : BatchEnd → List ℕ → B → K → Option (List ℕ) → K → Option (List ℕ) → Type 0
   NotWritten end bytes new from output to output' = IsBreak (serve_end_of end) × LeftBy waits end bytes new from output to output'

@@ -1,6 +1,4 @@
-use Rattle.std.proofs.Common.{drop, length, suc, arith, ◌∙◌, refl}
-use Rattle.std.proofs.lemmas.Iterator.Adapters.{YieldsList-from_vec}
-use Rattle.std.proofs.lemmas.Iterator.Consumers.{YieldsList-so_far, YieldsList-turn}
+use Rattle.std.proofs.Common.{arith, ◌∙◌, refl}
 use Rattle.serving.proofs.AnsweringLemmas.{passed_items}
 use Rattle.batch_serving.proofs.BatchLemmas.{holds_breaks, holds_more, holds_none}
 use Rattle.batch_serving.proofs.batches.answer_items.Goals as goal
@@ -19,12 +17,7 @@ loop-item-preserved g c = record {
 
 pub returns-in-Err-clause-answers : goal.returns-in-Err-clause-answers
 returns-in-Err-clause-answers g c =
-    let all = c.args.items.items in
-    let made = c.into_iter-item-iterator.ensures.into_iter_gives in
-    let road = YieldsList-from_vec {s = c.into_iter-item-iterator.result} all made.0 (made.1 ∙ c.args.items.ok.0) in
-    let here = YieldsList-turn road c.loop-item.yielded c.loop-item.item-iterator c.loop-item.yielded_by c.next.result c.next.new.self c.in-Some.item c.in-Some.is c.next.ensures.steps in
-    let front = YieldsList-so_far road c.loop-item.yielded c.loop-item.item-iterator c.loop-item.yielded_by in
-    let later = drop (suc (length c.loop-item.yielded)) all in
-    let is = passed_items all c.loop-item.yielded c.in-Some.item front here in
-    holds_breaks g.B.Backend.steps g.C.Clock.draws g.K.Keeping.waits c.in-Err.end all c.loop-item.yielded later c.in-Some.item _ _ _ _ _ _ _ _ _ _ _ _ _
+    let is = passed_items c.into_iter-item-iterator.result c.args.items.items c.into_iter-item-iterator.ensures.into_iter_gives.0 (c.into_iter-item-iterator.ensures.into_iter_gives.1 ∙ c.args.items.ok.0)
+    c.loop-item.yielded c.loop-item.item-iterator c.loop-item.yielded_by c.next.result c.next.new.self c.in-Some.item c.in-Some.is c.next.ensures.steps in
+    holds_breaks g.B.Backend.steps g.C.Clock.draws g.K.Keeping.waits c.in-Err.end c.args.items.items c.loop-item.yielded _ c.in-Some.item _ _ _ _ _ _ _ _ _ _ _ _ _
     is c.loop-item.invariant.held c.in-Err.ensures.answers

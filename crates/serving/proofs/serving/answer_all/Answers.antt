@@ -1,6 +1,4 @@
 use Rattle.std.proofs.Common.{◌∷◌, [], List, drop, length, suc, arith, sym, ◌∙◌, subst}
-use Rattle.std.proofs.lemmas.Iterator.Adapters.{YieldsList-from_vec}
-use Rattle.std.proofs.lemmas.Iterator.Consumers.{YieldsList-so_far, YieldsList-turn}
 use Rattle.s4_types.specs.declared.requests.Request.{Request}
 use Rattle.rpc.specs.declared.items.Item.{Item}
 use Rattle.serving.specs.Answering.{StopsAmong}
@@ -15,13 +13,9 @@ loop-item-preserved g c = record {
 
 pub returns-in-Err-clause-answers : goal.returns-in-Err-clause-answers
 returns-in-Err-clause-answers g c =
-    let all = c.args.items.items in
-    let made = c.into_iter-item-iterator.ensures.into_iter_gives in
-    let road = YieldsList-from_vec {s = c.into_iter-item-iterator.result} all made.0 (made.1 ∙ c.args.items.ok.0) in
-    let here = YieldsList-turn road c.loop-item.yielded c.loop-item.item-iterator c.loop-item.yielded_by c.next.result c.next.new.self c.in-Some.item c.in-Some.is c.next.ensures.steps in
-    let front = YieldsList-so_far road c.loop-item.yielded c.loop-item.item-iterator c.loop-item.yielded_by in
-    let later = drop (suc (length c.loop-item.yielded)) all in
-    let is = passed_items all c.loop-item.yielded c.in-Some.item front here in
+    let is = passed_items c.into_iter-item-iterator.result c.args.items.items c.into_iter-item-iterator.ensures.into_iter_gives.0 (c.into_iter-item-iterator.ensures.into_iter_gives.1 ∙ c.args.items.ok.0)
+    c.loop-item.yielded c.loop-item.item-iterator c.loop-item.yielded_by c.next.result c.next.new.self c.in-Some.item c.in-Some.is c.next.ensures.steps in
+    let later = drop (suc (length c.loop-item.yielded)) c.args.items.items in
     let stop = StopsAmong-behind g.B.Backend.steps g.C.Clock.draws c.loop-item.yielded (c.in-Some.item ∷ later) _ _ _ _ _ _ _ _ _ _
     c.loop-item.invariant.answered (StopsAmong-before g.B.Backend.steps g.C.Clock.draws (c.in-Some.item ∷ []) later _ _ _ _ _ _ _ c.in-Err.ensures.answers) in
     subst (λ (items : List (Item Request)). StopsAmong g.B.Backend.steps g.C.Clock.draws items c.in-Err.end c.args.backend.now c.args.clock.now (g.W.Sink.passed c.args.writer.now)
