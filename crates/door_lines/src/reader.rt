@@ -8,19 +8,16 @@ ghost use Rattle.door_lines.specs.private.Scanning.{Finishes, IsScanned};
 use crate::line::{Begun, DoorLine};
 use serving::Source;
 use std::marker::Model;
-use thiserror::Error;
 
 /// Bytes that are asked of the source at once: what a system passes in one piece.
 pub const PIECE_BYTES: usize = 512;
 
 /// Why there is no next line.
-#[derive(Clone, Copy, Debug, PartialEq, Eq, Error)]
+#[derive(Clone, Copy)]
 pub enum DoorEnd {
     /// The source has ended. What it had after its last whole line says nothing.
-    #[error("Ended")]
     Ended,
     /// The source failed.
-    #[error("ReadFailed")]
     ReadFailed,
 }
 

@@ -21,7 +21,7 @@ pub trait Receipt {
 }
 
 /// Why a flush gave no receipt.
-#[derive(Clone, Copy, Debug, PartialEq, Eq)]
+#[derive(Clone, Copy)]
 pub enum FlushError {
     /// Memory or space was short. What was kept still is, and another flush may be tried.
     Short,
@@ -38,11 +38,11 @@ pub trait Flush<T> {
 }
 
 /// Nothing is kept any more, since a flush has failed.
-#[derive(Clone, Copy, Debug, PartialEq, Eq)]
+#[derive(Clone, Copy)]
 pub struct NotKept;
 
 /// A step of a session that waits, which is about to be taken.
-#[derive(Clone, Copy, Debug, PartialEq, Eq)]
+#[derive(Clone, Copy, PartialEq, Eq)]
 pub enum CommitStep {
     /// It asks whether it may go on.
     Asks,

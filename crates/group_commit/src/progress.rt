@@ -6,7 +6,7 @@ ghost use Rattle.group_commit.specs.Commit.{covers, later_of, turn_of};
 use crate::flush::Receipt;
 
 /// What a session is to do that waits until its change is kept.
-#[derive(Clone, Copy, Debug, PartialEq, Eq)]
+#[derive(Clone, Copy, PartialEq, Eq)]
 pub(crate) enum Turn {
     /// What is kept covers it: it goes on.
     Covered,

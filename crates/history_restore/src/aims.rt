@@ -18,14 +18,14 @@ use segment_word::Naming;
 use std::alloc::{AllocError, Global};
 
 /// What an earlier restore says of an object: it was made anew under this number.
-#[derive(Clone, Copy, PartialEq, Eq)]
+#[derive(Clone, Copy)]
 pub struct StandIn {
     pub object: ObjectId,
     pub number: ObjectId,
 }
 
 /// An object, and the number under which it is compared and restored.
-#[derive(Clone, Copy, PartialEq, Eq)]
+#[derive(Clone, Copy)]
 pub struct Aim {
     /// The object, whose version at the moment is wanted.
     pub object: ObjectId,

@@ -8,7 +8,7 @@ use crate::aims::Aim;
 use s4_types::{Moment, ObjectId, Refusal, Span, Version};
 
 /// Why an object wasn't restored.
-#[derive(Clone, Copy, PartialEq, Eq)]
+#[derive(Clone, Copy)]
 pub struct Failure {
     /// The object, and the number under which it was to be restored.
     pub aim: Aim,

@@ -17,7 +17,7 @@ use segment_word::Naming;
 use std::alloc::{AllocError, Global};
 
 /// What would be done to an object.
-#[derive(Clone, Copy, PartialEq, Eq)]
+#[derive(Clone, Copy)]
 pub struct ObjectPlan {
     /// The object, and the number under which that is done.
     pub aim: Aim,

@@ -7,14 +7,14 @@ use crate::differences::{end_of_difference, first_difference, front};
 use s4_types::Version;
 
 /// Bytes that are written in one request, by their place in the object as it was, in bytes.
-#[derive(Clone, Copy, PartialEq, Eq)]
+#[derive(Clone, Copy)]
 pub struct Patch {
     pub offset: u64,
     pub length: u64,
 }
 
 /// What is done to an object that was there and is there, in this order and in one request each.
-#[derive(Clone, Copy, PartialEq, Eq)]
+#[derive(Clone, Copy)]
 pub struct Changes {
     /// It is cut to this size, in bytes.
     pub cut: Option<u64>,
@@ -25,7 +25,7 @@ pub struct Changes {
 }
 
 /// What is done to an object, so that it is what it was.
-#[derive(Clone, Copy, PartialEq, Eq)]
+#[derive(Clone, Copy)]
 pub enum Plan {
     /// Nothing: it is what it was.
     Keep,

@@ -23,7 +23,7 @@ use segment_word::Naming;
 use std::alloc::Global;
 
 /// What was done to an object.
-#[derive(Clone, Copy, PartialEq, Eq)]
+#[derive(Clone, Copy)]
 pub struct Restored {
     /// The object, and the number under which it was compared.
     pub aim: Aim,

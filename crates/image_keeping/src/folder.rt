@@ -2,16 +2,12 @@
 ghost use Rattle.std.specs.Prelude.{◌≡◌, ℕ, Bool, List, IsErrOf, IsTrue, OnOk, is_ok};
 ghost use Rattle.image_keeping.specs.Leaving.{Adds, AddsNothing, LeavesAll, Only};
 
-use thiserror::Error;
-
 /// Why a call of a folder didn't do what it is for.
-#[derive(Clone, Copy, Debug, PartialEq, Eq, Error)]
+#[derive(Clone, Copy)]
 pub enum FolderError {
     /// There is no room for it, in memory or on the disk.
-    #[error("there is no room")]
     NoRoom,
     /// Something else.
-    #[error("the system refused it")]
     Failed,
 }
 

@@ -2,16 +2,12 @@
 ghost use Rattle.std.specs.Prelude.{◌≡◌, ℕ, Bool, List, IsErrOf, IsFalse, IsTrue, OnOk};
 ghost use Rattle.image_keeping.specs.Leaving.{AddsNothing, IsBeforeOrAfter, Only};
 
-use thiserror::Error;
-
 /// Why an image isn't kept.
-#[derive(Clone, Copy, Debug, PartialEq, Eq, Error)]
+#[derive(Clone, Copy, PartialEq, Eq)]
 pub enum KeepError {
     /// There was no room for it. What was kept still is, and it may be tried again.
-    #[error("there is no room to keep what was changed")]
     Short,
     /// What was kept before may be lost, or this be kept all the same. Nothing more may be asked.
-    #[error("what was changed can't be kept")]
     Failed,
 }
 

@@ -6,7 +6,7 @@ use thiserror::Error;
 
 /// What is in the way of an image that is to be kept in files. Each prints what is so, and what can
 /// be done.
-#[derive(Clone, Copy, Debug, PartialEq, Eq, Error)]
+#[derive(Clone, Copy, Debug, Error)]
 pub enum KeepObstacle {
     /// The files refuse it.
     #[error("{0}")]

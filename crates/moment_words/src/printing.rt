@@ -23,7 +23,7 @@ const NANOS: i128 = 1_000;
 const PLACES: u8 = 6;
 
 /// How moments are printed.
-#[derive(Clone, Copy, Debug, PartialEq, Eq)]
+#[derive(Clone, Copy, Debug)]
 pub enum MomentStyle {
     /// As numbers.
     Number,
@@ -33,7 +33,7 @@ pub enum MomentStyle {
 
 /// A moment as it is printed. It displays as the text that `moment_text` gives, and takes no memory
 /// for it.
-#[derive(Clone, Copy, Debug, PartialEq, Eq)]
+#[derive(Clone, Copy, Debug)]
 pub struct ShownMoment {
     pub moment: u64,
     pub style: MomentStyle,

@@ -10,7 +10,7 @@ use jiff_fmt::temporal;
 const NANOS: u128 = 1_000;
 
 /// What a text says of a moment.
-#[derive(Clone, Copy, Debug, PartialEq, Eq)]
+#[derive(Clone, Copy, PartialEq, Eq)]
 pub enum MomentWord {
     /// The moment.
     Moment(u64),
@@ -19,7 +19,7 @@ pub enum MomentWord {
 }
 
 /// The units of an age.
-#[derive(Clone, Copy, Debug, PartialEq, Eq)]
+#[derive(Clone, Copy)]
 pub enum AgeUnit {
     /// `s`.
     Second,
