@@ -7,7 +7,8 @@ use Rattle.clap.specs.Takes.{takes}
 use Rattle.clap.specs.Walk.{Text}
 use Rattle.clap.specs.Simple.{subcommand_of}
 use Rattle.clap.specs.declared.error.kind.ErrorKind.{ErrorKind}
-use Rattle.s4_command.specs.CommandLine.{line, is_asked_for, Spells, SpellsNone}
+use Rattle.s4_command.specs.CommandLine.{line, Spells, SpellsNone}
+use Rattle.refused_lines.specs.Refusals.{is_asked_for}
 use Rattle.s4_command.specs.declared.Command.{Command}
 use Rattle.s4_command.specs.declared.Command.TheVariants as command
 use Rattle.s4_command.specs.declared.contents.ExportAsked.{ExportAsked}

@@ -1,3 +1,2 @@
-mod Refusals
 mod Numbers
 mod Simple

@@ -1,13 +1,9 @@
 -- The program's command line in clap's own words, and which command the matches of a line encode.
-use Rattle.std.specs.Prelude.{◌≡◌, ◌↔◌, ◌⊎◌, ℕ, Bool, false, List, [], Option, Some, None, true, codes, option_map, unwrap_or}
+use Rattle.std.specs.Prelude.{◌≡◌, ◌↔◌, ◌⊎◌, ℕ, List, [], Option, Some, None, true, codes, option_map, unwrap_or}
 use Rattle.std.specs.Borrow.{Bor}
 use Rattle.std.specs.List.{AllZip}
 use Rattle.clap.specs.Walk.{Row, Rule, Text, all_of, first_of, one_of}
 use Rattle.clap.specs.Simple.{App, new_app, new_rule, on_top, with_rule, with_subcommand}
-use Rattle.clap.specs.Kinds.{Kinds, IsAmong}
-use Rattle.clap.specs.Values.{kind_of}
-use Rattle.clap.specs.declared.error.kind.ErrorKind.{ErrorKind}
-use Rattle.clap.specs.declared.error.kind.ErrorKind.TheVariants as kind
 use Rattle.clap.specs.declared.builder.action.ArgAction.TheVariants.{Set, Append}
 use Rattle.s4_types.specs.declared.audit_rows.AuditKind.{AuditKind}
 use Rattle.s4_types.specs.declared.audit_rows.AuditKind.TheVariants.{Create, Delete, Write, Truncate, SetAttr, SetWindow, Flush, FlushO}
@@ -16,8 +12,6 @@ use Rattle.moment_words.specs.declared.words.MomentWord.{MomentWord}
 use Rattle.s4d_command.specs.CommandLine.{flag_rule, needed_rule, value_rule, IsGiven, IsNumber}
 use Rattle.s4_command.specs.declared.Command.{Command}
 use Rattle.s4_command.specs.declared.Command.TheVariants as command
-use Rattle.s4_command.specs.declared.NoCommand.{NoCommand}
-use Rattle.s4_command.specs.declared.NoCommand.TheVariants as refusal
 use Rattle.s4_command.specs.declared.auditing.AuditAsked.{AuditAsked}
 use Rattle.s4_command.specs.declared.contents.ListAsked.{ListAsked}
 use Rattle.s4_command.specs.declared.contents.CatAsked.{CatAsked}
@@ -367,27 +361,3 @@ Spells (Some named) (command.Report report) = (named.0 ≡ codes "report") × Sp
 -- They encode none.
 abbrev pub SpellsNone : Option (Text × List Row) → Type 0
 SpellsNone named = (c : Command) → Spells named c → ⊥
-
--- the kinds of a text that was asked for: help, or the version
-abbrev pub is_asked_for : ErrorKind → Bool
-is_asked_for kind.DisplayHelp = true
-is_asked_for kind.DisplayVersion = true
-is_asked_for _ = false
-
--- The parser refuses the words for one of these reasons: help and the version were asked for, and any other says what is wrong with them.
-abbrev pub IsRefusedBy : Kinds → NoCommand → Type 0
-IsRefusedBy kinds (refusal.Asked error) = IsAmong (kind_of error) kinds × (is_asked_for (kind_of error) ≡ true)
-IsRefusedBy kinds (refusal.Refused error) = IsAmong (kind_of error) kinds × (is_asked_for (kind_of error) ≡ false)
-IsRefusedBy kinds refusal.NoMemory = Unit {0}
-IsRefusedBy kinds _ = ⊥
-
--- A refusal is of the matches, and not the parser's.
-abbrev pub IsOwn : NoCommand → Type 0
-IsOwn (refusal.Asked error) = ⊥
-IsOwn (refusal.Refused error) = ⊥
-IsOwn _ = Unit {0}
-
--- Help or the version comes as asked for only where the parser finds that asked for.
-abbrev pub IsAskedAmong : Kinds → NoCommand → Type 0
-IsAskedAmong kinds (refusal.Asked error) = IsAmong (kind_of error) kinds × (is_asked_for (kind_of error) ≡ true)
-IsAskedAmong kinds _ = Unit {0}

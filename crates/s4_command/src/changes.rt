@@ -12,7 +12,7 @@ use moment_words::MomentWord;
 use s4d_command::reading::{is_given, text_in};
 
 /// The kinds of change that `log` prints.
-#[derive(Clone, Copy, Debug, PartialEq, Eq)]
+#[derive(Clone, Copy)]
 pub enum ChangeKind {
     Made,
     Deleted,

@@ -11,12 +11,10 @@ ghost use Rattle.std.specs.Prelude.{true};
 ghost use Rattle.clap.specs.Walk.{rows_of};
 ghost use Rattle.clap.specs.Takes.{takes};
 ghost use Rattle.clap.specs.Faults.{fault_of};
-ghost use Rattle.clap.specs.Kinds.{Kinds, HasKind};
-ghost use Rattle.clap.specs.Values.{kind_of};
 ghost use Rattle.clap.specs.Matches.{found_of};
 ghost use Rattle.clap.specs.Simple.{subcommand_of, subcommand_rows_of};
-ghost use Rattle.s4_command.specs.CommandLine.{line, IsAskedAmong, IsOwn, IsRefusedBy};
-ghost use Rattle.s4_command.specs.CommandLine.{Spells, SpellsNone};
+ghost use Rattle.refused_lines.specs.Refusals.{IsAskedAmong, IsOwn, IsRefusedBy};
+ghost use Rattle.s4_command.specs.CommandLine.{line, Spells, SpellsNone};
 
 mod auditing;
 mod changes;
@@ -34,16 +32,16 @@ use auditing::audit_asked;
 pub use changes::{ChangeKind, DiffAsked, LogAsked, ReportAsked};
 use changes::{diff_asked, log_asked, report_asked};
 use clap::ArgMatches;
-use clap::error::ErrorKind;
 pub use contents::{CatAsked, ExportAsked, ListAsked};
 use contents::{cat_asked, export_asked, list_asked};
 pub use faults::WordFault;
 use line::command_line;
+pub use refused_lines::NoCommand;
+use refused_lines::refused;
 pub use restoring::RestoreAsked;
 use restoring::restore_asked;
-use std::alloc::{AllocError, Global};
+use std::alloc::Global;
 use std::convert::AsStr;
-use thiserror::Error;
 pub use whole::{CheckAsked, CompactAsked, InfoAsked, SalvageAsked};
 use whole::{check_asked, compact_asked, info_asked, salvage_asked};
 
@@ -76,37 +74,12 @@ pub enum Command<'a> {
     Report(ReportAsked<'a>),
 }
 
-/// Why a line of words gave no command.
-#[derive(Debug, Drop, Error)]
-pub enum NoCommand<'a> {
-    /// Help or the version was asked for: this is its text.
-    #[error("{0}")]
-    Asked(clap::Error),
-    /// The words give no command: this says why.
-    #[error("{0}")]
-    Refused(clap::Error),
-    /// The parser took the words, and they give no command: this says why.
-    #[error("{0}")]
-    Fault(WordFault<'a>),
-    /// A growth of memory was refused.
-    #[error("a growth of memory was refused")]
-    NoMemory,
-}
-
-impl From<AllocError> for NoCommand<'_> {
-    ghost use Rattle.std.specs.Prelude.{◌≡◌};
-    ghost use Rattle.s4_command.specs.declared.NoCommand.TheVariants.{NoMemory};
-
-    ghost from_gives = { λ _ e. e ≡ NoMemory };
-
-    fn from(_error: AllocError) -> Self {
-        NoCommand::NoMemory
-    }
-}
-
 /// The command that the words give, the program's name first among them. At `help`, `--help` and
 /// `--version` it is `Asked`, with the text.
-pub fn command_of<'a, S: AsStr>(alloc: Global, words: &'a [S]) -> Result<Command<'a>, NoCommand<'a>>
+pub fn command_of<'a, S: AsStr>(
+    alloc: Global,
+    words: &'a [S],
+) -> Result<Command<'a>, NoCommand<WordFault<'a>>>
     ensures spelled { IfOk result (Spells (subcommand_of line (map S.text words.entry.now))) }
     ensures usage { IfErr result (λ e. e ≢ NoCommand.NoMemory
         → takes line (map S.text words.entry.now) ≡ true
@@ -122,19 +95,10 @@ pub fn command_of<'a, S: AsStr>(alloc: Global, words: &'a [S]) -> Result<Command
     }
 }
 
-// What a refusal of the parser means.
-fn refused<'a>(error: clap::Error) -> NoCommand<'a>
-    ensures memory { kind_of error ≡ ErrorKind.OutOfMemory → result ≡ NoCommand.NoMemory }
-    ensures refused { (kinds : Kinds) → HasKind kinds error → IsRefusedBy kinds result }
-{
-    match error.kind() {
-        ErrorKind::OutOfMemory => NoCommand::NoMemory,
-        ErrorKind::DisplayHelp | ErrorKind::DisplayVersion => NoCommand::Asked(error),
-        _ => NoCommand::Refused(error),
-    }
-}
-
-fn command_in<'a>(alloc: Global, matches: &ArgMatches<'a>) -> Result<Command<'a>, NoCommand<'a>>
+fn command_in<'a>(
+    alloc: Global,
+    matches: &ArgMatches<'a>,
+) -> Result<Command<'a>, NoCommand<WordFault<'a>>>
     ensures spelled { IfOk result (Spells (subcommand_rows_of matches.now)) }
     ensures usage { IfErr result (λ e. e ≢ NoCommand.NoMemory
         → SpellsNone (subcommand_rows_of matches.now)) }
@@ -150,7 +114,7 @@ fn named_command<'a>(
     alloc: Global,
     name: &str,
     found: &ArgMatches<'a>,
-) -> Result<Command<'a>, NoCommand<'a>>
+) -> Result<Command<'a>, NoCommand<WordFault<'a>>>
     ensures spelled { IfOk result (Spells (Some (name.now, rows_of (found_of found.now)))) }
     ensures usage { IfErr result (λ e. e ≢ NoCommand.NoMemory
         → SpellsNone (Some (name.now, rows_of (found_of found.now)))) }

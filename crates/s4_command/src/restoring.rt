@@ -2,11 +2,12 @@
 ghost use Rattle.std.specs.Prelude.{◌≢◌, IfOk, IfErr, Some, codes};
 ghost use Rattle.clap.specs.Walk.{rows_of};
 ghost use Rattle.clap.specs.Matches.{found_of};
-ghost use Rattle.s4_command.specs.CommandLine.{IsOwn, Spells, SpellsNone};
+ghost use Rattle.refused_lines.specs.Refusals.{IsOwn};
+ghost use Rattle.s4_command.specs.CommandLine.{Spells, SpellsNone};
 
 use crate::choosing::one_at_most;
 use crate::reading::{needed_moment_in, needed_text_in, numbers_in};
-use crate::{Command, NoCommand};
+use crate::{Command, NoCommand, WordFault};
 use clap::ArgMatches;
 use moment_words::MomentWord;
 use s4d_command::reading::{is_given, text_in};
@@ -41,7 +42,7 @@ pub struct RestoreAsked<'a> {
 pub(crate) fn restore_asked<'a>(
     alloc: Global,
     found: &ArgMatches<'a>,
-) -> Result<Command<'a>, NoCommand<'a>>
+) -> Result<Command<'a>, NoCommand<WordFault<'a>>>
     ensures spelled { IfOk result (Spells (Some (codes "restore", rows_of (found_of found.now)))) }
     ensures usage { IfErr result (λ e. e ≢ NoCommand.NoMemory
         → SpellsNone (Some (codes "restore", rows_of (found_of found.now)))) }

@@ -1,4 +1,3 @@
 mod CreationLemmas
 mod DoorLemmas
-mod Refusals
 mod Simple

@@ -1,12 +1,8 @@
 -- The program's command line in clap's own words, and which service the matches of a line ask for.
-use Rattle.std.specs.Prelude.{◌≡◌, ◌≢◌, ◌≤◌, ◌<◌, ◌++◌, ⊤, ℕ, Bool, false, true, List, [], ◌∷◌, Option, Some, None, codes, length, map, unwrap_or}
+use Rattle.std.specs.Prelude.{◌≡◌, ◌≢◌, ◌≤◌, ◌<◌, ◌++◌, ⊤, ℕ, true, List, [], ◌∷◌, Option, Some, None, codes, length, map, unwrap_or}
 use Rattle.std.specs.List.{AllZip}
 use Rattle.clap.specs.Walk.{Row, Rule, Text, all_of, first_of}
 use Rattle.clap.specs.Simple.{App, new_app, new_rule, on_top, with_rule}
-use Rattle.clap.specs.Kinds.{Kinds, IsAmong}
-use Rattle.clap.specs.Values.{kind_of}
-use Rattle.clap.specs.declared.error.kind.ErrorKind.{ErrorKind}
-use Rattle.clap.specs.declared.error.kind.ErrorKind.TheVariants as kind
 use Rattle.clap.specs.declared.builder.action.ArgAction.TheVariants.{Append}
 use Rattle.s4_types.specs.declared.requests.Role.{Role}
 use Rattle.s4_types.specs.declared.requests.Role.TheVariants.{Client, Admin}
@@ -14,8 +10,6 @@ use Rattle.s4_types.specs.declared.limits.TheConstants.{FEWEST_FRAMES, MOST_FRAM
 use Rattle.s4d_command.specs.CommandLine.{needed_rule, value_rule, IsNumber}
 use Rattle.service_time.specs.Durations.{IsDuration}
 use Rattle.s4serve_command.specs.declared.ServiceAsked.{ServiceAsked}
-use Rattle.s4serve_command.specs.declared.NoCommand.{NoCommand}
-use Rattle.s4serve_command.specs.declared.NoCommand.TheVariants as refusal
 use Rattle.s4serve_command.specs.declared.creating.Creation.{Creation}
 use Rattle.s4serve_command.specs.declared.doors.Door.{Door}
 use Rattle.s4serve_command.specs.declared.doors.TheConstants.{MOST_DOORS}
@@ -107,27 +101,3 @@ pub record Spells (rows : List Row) (service : ServiceAsked) : Type 0 where
 -- They ask for none.
 abbrev pub SpellsNone : List Row → Type 0
 SpellsNone rows = (service : ServiceAsked) → Spells rows service → ⊥
-
--- the kinds of a text that was asked for: help, or the version
-abbrev pub is_asked_for : ErrorKind → Bool
-is_asked_for kind.DisplayHelp = true
-is_asked_for kind.DisplayVersion = true
-is_asked_for _ = false
-
--- The parser refuses the words for one of these reasons: help and the version were asked for, and any other says what is wrong with them.
-abbrev pub IsRefusedBy : Kinds → NoCommand → Type 0
-IsRefusedBy kinds (refusal.Asked error) = IsAmong (kind_of error) kinds × (is_asked_for (kind_of error) ≡ true)
-IsRefusedBy kinds (refusal.Refused error) = IsAmong (kind_of error) kinds × (is_asked_for (kind_of error) ≡ false)
-IsRefusedBy kinds refusal.NoMemory = Unit {0}
-IsRefusedBy kinds _ = ⊥
-
--- A refusal is of the matches, and not the parser's.
-abbrev pub IsOwn : NoCommand → Type 0
-IsOwn (refusal.Asked error) = ⊥
-IsOwn (refusal.Refused error) = ⊥
-IsOwn _ = Unit {0}
-
--- Help or the version comes as asked for only where the parser finds that asked for.
-abbrev pub IsAskedAmong : Kinds → NoCommand → Type 0
-IsAskedAmong kinds (refusal.Asked error) = IsAmong (kind_of error) kinds × (is_asked_for (kind_of error) ≡ true)
-IsAskedAmong kinds _ = Unit {0}

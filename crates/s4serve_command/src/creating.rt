@@ -5,14 +5,14 @@ ghost use Rattle.clap.specs.Matches.{found_of};
 ghost use Rattle.s4d_command.specs.CommandLine.{IsNumber};
 ghost use Rattle.s4serve_command.specs.CommandLine.{IsCreatedAt, IsCreation};
 
-use crate::NoCommand;
+use crate::WordFault;
 use clap::ArgMatches;
 use s4_types::limits::{FEWEST_FRAMES, MOST_FRAMES};
 use s4d_command::reading::{number_of, text_in};
 use service_time::duration_of;
 
 /// A drive that is made.
-#[derive(Clone, Copy, Debug, PartialEq, Eq)]
+#[derive(Clone, Copy)]
 pub struct Creation {
     /// How many frames it has, `FEWEST_FRAMES` to `MOST_FRAMES`.
     pub frames: u64,
@@ -20,7 +20,7 @@ pub struct Creation {
     pub keep: u64,
 }
 
-pub(crate) fn creation_in<'a>(matches: &ArgMatches<'a>) -> Result<Option<Creation>, NoCommand<'a>>
+pub(crate) fn creation_in<'a>(matches: &ArgMatches<'a>) -> Result<Option<Creation>, WordFault<'a>>
     ensures asked { IfOk result (IsCreatedAt
         (first_of (codes "create") (rows_of (found_of matches.now)))
         (first_of (codes "keep") (rows_of (found_of matches.now)))) }
@@ -36,7 +36,7 @@ pub(crate) fn creation_in<'a>(matches: &ArgMatches<'a>) -> Result<Option<Creatio
 fn creation_at<'a>(
     frames: Option<&'a str>,
     keep: Option<&'a str>,
-) -> Result<Option<Creation>, NoCommand<'a>>
+) -> Result<Option<Creation>, WordFault<'a>>
     ensures asked { IfOk result (IsCreatedAt (option_map (λ text. text.now) frames.entry)
         (option_map (λ text. text.now) keep.entry)) }
     ensures usage { OnErr result ((creation : _)
@@ -45,8 +45,8 @@ fn creation_at<'a>(
 {
     match (frames, keep) {
         (None, None) => Ok(None),
-        (None, Some(_)) => Err(NoCommand::KeepAlone),
-        (Some(_), None) => Err(NoCommand::CreateAlone),
+        (None, Some(_)) => Err(WordFault::KeepAlone),
+        (Some(_), None) => Err(WordFault::CreateAlone),
         (Some(frames), Some(keep)) => match creation_of(frames, keep) {
             Ok(creation) => Ok(Some(creation)),
             Err(refusal) => Err(refusal),
@@ -54,22 +54,22 @@ fn creation_at<'a>(
     }
 }
 
-fn creation_of<'a>(frames: &'a str, keep: &'a str) -> Result<Creation, NoCommand<'a>>
+fn creation_of<'a>(frames: &'a str, keep: &'a str) -> Result<Creation, WordFault<'a>>
     ensures asked { IfOk result (IsCreation frames.entry.now keep.entry.now) }
     ensures usage { OnErr result ((creation : _)
         → IsCreation frames.entry.now keep.entry.now creation → ⊥) }
 {
     let Some(count) = frames_of(frames) else {
-        return Err(NoCommand::NoFrames { word: frames });
+        return Err(WordFault::NoFrames { word: frames });
     };
     let Some(micros) = duration_of(keep) else {
-        return Err(NoCommand::NoDuration {
+        return Err(WordFault::NoDuration {
             name: "keep",
             word: keep,
         });
     };
     if micros == 0 {
-        return Err(NoCommand::NoWindow);
+        return Err(WordFault::NoWindow);
     }
     Ok(Creation {
         frames: count,

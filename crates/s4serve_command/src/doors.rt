@@ -2,9 +2,10 @@
 ghost use Rattle.std.specs.Prelude.{◌≡◌, ◌≢◌, ◌<◌, ◌++◌, IfOk, IfErr, IfSome, IfNone, IsFalse, IsTrue, codes, length};
 ghost use Rattle.clap.specs.Walk.{Text, rows_of, texts};
 ghost use Rattle.clap.specs.Matches.{found_of};
+ghost use Rattle.refused_lines.specs.Refusals.{IsOwn};
 ghost use Rattle.s4serve_command.specs.CommandLine.{AreDoors, IsDoor, IsNoneOf, folders_of, texts_of};
 
-use crate::NoCommand;
+use crate::{NoCommand, WordFault};
 use clap::ArgMatches;
 use s4_types::Role;
 use s4d_command::reading::texts_in;
@@ -25,38 +26,40 @@ pub struct Door<'a> {
 pub(crate) fn doors_in<'a>(
     alloc: Global,
     matches: &ArgMatches<'a>,
-) -> Result<Vec<Door<'a>>, NoCommand<'a>>
+) -> Result<Vec<Door<'a>>, NoCommand<WordFault<'a>>>
     ensures asked { IfOk result (λ doors. AreDoors
         (texts_of (codes "door") (rows_of (found_of matches.now))) doors.items) }
     ensures usage { IfErr result (λ e. e ≢ NoCommand.NoMemory → (doors : _) → AreDoors
         (texts_of (codes "door") (rows_of (found_of matches.now))) doors → ⊥) }
+    ensures own { IfErr result IsOwn }
 {
     match texts_in(matches, "door") {
         Some(words) => doors_of(alloc, words),
-        None => Err(NoCommand::Unspelled),
+        None => Err(NoCommand::Fault(WordFault::Unspelled)),
     }
 }
 
-fn doors_of<'a>(alloc: Global, words: &[&'a str]) -> Result<Vec<Door<'a>>, NoCommand<'a>>
+fn doors_of<'a>(alloc: Global, words: &[&'a str]) -> Result<Vec<Door<'a>>, NoCommand<WordFault<'a>>>
     ensures asked { IfOk result (λ doors. AreDoors (texts words.now) doors.items) }
     ensures usage { IfErr result (λ e. e ≢ NoCommand.NoMemory → (doors : _)
         → AreDoors (texts words.now) doors → ⊥) }
+    ensures own { IfErr result IsOwn }
 {
     if words.is_empty() {
-        return Err(NoCommand::Unspelled);
+        return Err(NoCommand::Fault(WordFault::Unspelled));
     }
     if words.len() > MOST_DOORS {
-        return Err(NoCommand::TooManyDoors);
+        return Err(NoCommand::Fault(WordFault::TooManyDoors));
     }
     let mut doors = Vec::new(alloc);
     for word in words {
         let Some(door) = door_of(word) else {
-            return Err(NoCommand::NoDoor { word });
+            return Err(NoCommand::Fault(WordFault::NoDoor { word }));
         };
         if has_folder(doors.as_slice(), door.folder) {
-            return Err(NoCommand::DoorTwice {
+            return Err(NoCommand::Fault(WordFault::DoorTwice {
                 folder: door.folder,
-            });
+            }));
         }
         if doors.push(door).is_err() {
             return Err(NoCommand::NoMemory);

@@ -6,34 +6,35 @@
 //! its own. What a service does is said elsewhere.
 #![tactic(auto)]
 
-ghost use Rattle.std.specs.Prelude.{◌≡◌, ◌≢◌, IfOk, IfErr, IsErrAnd, [], map, true};
-ghost use Rattle.clap.specs.Walk.{rows_of};
+ghost use Rattle.std.specs.Prelude.{◌≡◌, ◌≢◌, IfOk, IfErr, IsErrAnd, OnErr, Some, [], codes, map, true};
+ghost use Rattle.clap.specs.Walk.{first_of, rows_of};
 ghost use Rattle.clap.specs.Takes.{takes};
 ghost use Rattle.clap.specs.Faults.{fault_of};
-ghost use Rattle.clap.specs.Kinds.{Kinds, HasKind};
-ghost use Rattle.clap.specs.Values.{kind_of};
 ghost use Rattle.clap.specs.Matches.{found_of};
 ghost use Rattle.clap.specs.Simple.{matches_of};
-ghost use Rattle.s4serve_command.specs.CommandLine.{line, IsAskedAmong, IsOwn, IsRefusedBy};
-ghost use Rattle.s4serve_command.specs.CommandLine.{Spells, SpellsNone};
+ghost use Rattle.refused_lines.specs.Refusals.{IsAskedAmong, IsOwn, IsRefusedBy};
+ghost use Rattle.s4serve_command.specs.CommandLine.{line, IsCreatedAt, IsDurationAsked, Spells};
+ghost use Rattle.s4serve_command.specs.CommandLine.{SpellsNone};
 
 mod creating;
 mod doors;
+mod faults;
 mod line;
 mod reading;
 
 use clap::ArgMatches;
-use clap::error::ErrorKind;
 pub use creating::Creation;
 use creating::creation_in;
 use doors::doors_in;
 pub use doors::{Door, MOST_DOORS};
+pub use faults::WordFault;
 use line::command_line;
 use reading::duration_in;
+pub use refused_lines::NoCommand;
+use refused_lines::refused;
 use s4d_command::reading::text_in;
-use std::alloc::{AllocError, Global};
+use std::alloc::Global;
 use std::convert::AsStr;
-use thiserror::Error;
 
 /// What a service is to do. Its texts are words of the line.
 #[derive(Drop)]
@@ -51,64 +52,12 @@ pub struct ServiceAsked<'a> {
     pub doors: Vec<Door<'a>>,
 }
 
-/// Why a line of words gave no service.
-#[derive(Debug, Drop, Error)]
-pub enum NoCommand<'a> {
-    /// Help or the version was asked for: this is its text.
-    #[error("{0}")]
-    Asked(clap::Error),
-    /// The words give no service: this says why.
-    #[error("{0}")]
-    Refused(clap::Error),
-    /// The word is no number of frames.
-    #[error("{word} is no number of frames; give one from 24 to 1024")]
-    NoFrames { word: &'a str },
-    /// The word for this is no duration.
-    #[error("{word} is no duration for {name}; give one as 90s, 15m, 2h, 30d or 4w")]
-    NoDuration { name: &'static str, word: &'a str },
-    /// A drive that keeps nothing.
-    #[error("a drive that keeps the past for no time isn't made; give --keep more than 0s")]
-    NoWindow,
-    /// A window is given, and no drive is to be made.
-    #[error("--keep is for a drive that is made; give --create FRAMES too, or neither")]
-    KeepAlone,
-    /// A drive is to be made, and no window is given.
-    #[error("--create needs --keep DURATION, for how long the past is kept")]
-    CreateAlone,
-    /// The word is no door.
-    #[error("{word} is no door; give client=DIR or admin=DIR")]
-    NoDoor { word: &'a str },
-    /// Two doors have this folder.
-    #[error("two doors have the folder {folder}; give each door a folder of its own")]
-    DoorTwice { folder: &'a str },
-    /// There are more than `MOST_DOORS` doors.
-    #[error("there are too many doors; give 4 at most")]
-    TooManyDoors,
-    /// The words give no service.
-    #[error("the words give no service; try --help")]
-    Unspelled,
-    /// A growth of memory was refused.
-    #[error("a growth of memory was refused")]
-    NoMemory,
-}
-
-impl From<AllocError> for NoCommand<'_> {
-    ghost use Rattle.std.specs.Prelude.{◌≡◌};
-    ghost use Rattle.s4serve_command.specs.declared.NoCommand.TheVariants.{NoMemory};
-
-    ghost from_gives = { λ _ e. e ≡ NoMemory };
-
-    fn from(_error: AllocError) -> Self {
-        NoCommand::NoMemory
-    }
-}
-
 /// The service that the words ask for, the program's name first among them. At `--help` and
 /// `--version` it is `Asked`, with the text.
 pub fn service_of<'a, S: AsStr>(
     alloc: Global,
     words: &'a [S],
-) -> Result<ServiceAsked<'a>, NoCommand<'a>>
+) -> Result<ServiceAsked<'a>, NoCommand<WordFault<'a>>>
     ensures spelled { IfOk result (Spells (matches_of line (map S.text words.entry.now))) }
     ensures usage { IfErr result (λ e. e ≢ NoCommand.NoMemory
         → takes line (map S.text words.entry.now) ≡ true
@@ -124,52 +73,19 @@ pub fn service_of<'a, S: AsStr>(
     }
 }
 
-// What a refusal of the parser means.
-fn refused<'a>(error: clap::Error) -> NoCommand<'a>
-    ensures memory { kind_of error ≡ ErrorKind.OutOfMemory → result ≡ NoCommand.NoMemory }
-    ensures refused { (kinds : Kinds) → HasKind kinds error → IsRefusedBy kinds result }
-{
-    match error.kind() {
-        ErrorKind::OutOfMemory => NoCommand::NoMemory,
-        ErrorKind::DisplayHelp | ErrorKind::DisplayVersion => NoCommand::Asked(error),
-        _ => NoCommand::Refused(error),
-    }
-}
-
-fn asked_in<'a>(alloc: Global, matches: &ArgMatches<'a>) -> Result<ServiceAsked<'a>, NoCommand<'a>>
+fn asked_in<'a>(
+    alloc: Global,
+    matches: &ArgMatches<'a>,
+) -> Result<ServiceAsked<'a>, NoCommand<WordFault<'a>>>
     ensures spelled { IfOk result (Spells (rows_of (found_of matches.now))) }
     ensures usage { IfErr result (λ e. e ≢ NoCommand.NoMemory
         → SpellsNone (rows_of (found_of matches.now))) }
     ensures own { IfErr result IsOwn }
 {
-    match service_in(alloc, matches) {
-        Ok(service) => Ok(service),
-        Err(refusal) => Err(own(refusal)),
-    }
-}
-
-// A refusal of matches. The parser took their words, so that no error of its own is in it.
-fn own<'a>(refusal: NoCommand<'a>) -> NoCommand<'a>
-    ensures own { IsOwn result }
-    ensures memory { refusal.entry ≡ NoCommand.NoMemory → result ≡ NoCommand.NoMemory }
-{
-    match refusal {
-        NoCommand::Asked(_) | NoCommand::Refused(_) => NoCommand::Unspelled,
-        other => other,
-    }
-}
-
-fn service_in<'a>(
-    alloc: Global,
-    matches: &ArgMatches<'a>,
-) -> Result<ServiceAsked<'a>, NoCommand<'a>>
-    ensures spelled { IfOk result (Spells (rows_of (found_of matches.now))) }
-    ensures usage { IfErr result (λ e. e ≢ NoCommand.NoMemory
-        → SpellsNone (rows_of (found_of matches.now))) }
-{
-    let image = text_in(matches, "image").ok_or(NoCommand::Unspelled)?;
-    let create = creation_in(matches)?;
-    let leap = duration_in(matches, "leap")?;
+    let (image, create, leap) = match words_in(matches) {
+        Ok(words) => words,
+        Err(fault) => return Err(NoCommand::Fault(fault)),
+    };
     let doors = doors_in(alloc, matches)?;
     Ok(ServiceAsked {
         image,
@@ -177,4 +93,23 @@ fn service_in<'a>(
         leap,
         doors,
     })
+}
+
+// What is asked for beside doors: the image, the drive that is made, and the leap.
+fn words_in<'a>(
+    matches: &ArgMatches<'a>,
+) -> Result<(&'a str, Option<Creation>, Option<u64>), WordFault<'a>>
+    ensures image { IfOk result
+        (λ words. first_of (codes "image") (rows_of (found_of matches.now)) ≡ Some words.0.now) }
+    ensures create { IfOk result (λ words. IsCreatedAt
+        (first_of (codes "create") (rows_of (found_of matches.now)))
+        (first_of (codes "keep") (rows_of (found_of matches.now))) words.1) }
+    ensures leap { IfOk result
+        (λ words. IsDurationAsked (codes "leap") (rows_of (found_of matches.now)) words.2) }
+    ensures usage { OnErr result (SpellsNone (rows_of (found_of matches.now))) }
+{
+    let image = text_in(matches, "image").ok_or(WordFault::Unspelled)?;
+    let create = creation_in(matches)?;
+    let leap = duration_in(matches, "leap")?;
+    Ok((image, create, leap))
 }

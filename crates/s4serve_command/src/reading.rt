@@ -4,7 +4,7 @@ ghost use Rattle.clap.specs.Walk.{rows_of};
 ghost use Rattle.clap.specs.Matches.{found_of};
 ghost use Rattle.s4serve_command.specs.CommandLine.{IsDurationAsked};
 
-use crate::NoCommand;
+use crate::WordFault;
 use clap::ArgMatches;
 use s4d_command::reading::text_in;
 use service_time::duration_of;
@@ -14,7 +14,7 @@ use service_time::duration_of;
 pub(crate) fn duration_in<'a>(
     matches: &ArgMatches<'a>,
     id: &'static str,
-) -> Result<Option<u64>, NoCommand<'a>>
+) -> Result<Option<u64>, WordFault<'a>>
     ensures asked { IfOk result (IsDurationAsked id.now (rows_of (found_of matches.now))) }
     ensures usage { OnErr result ((duration : _)
         → IsDurationAsked id.now (rows_of (found_of matches.now)) duration → ⊥) }
@@ -24,6 +24,6 @@ pub(crate) fn duration_in<'a>(
     };
     match duration_of(word) {
         Some(micros) => Ok(Some(micros)),
-        None => Err(NoCommand::NoDuration { name: id, word }),
+        None => Err(WordFault::NoDuration { name: id, word }),
     }
 }

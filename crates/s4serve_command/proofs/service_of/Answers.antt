@@ -5,8 +5,8 @@ use Rattle.clap.specs.Takes.{takes}
 use Rattle.clap.specs.Walk.{Row}
 use Rattle.s4d_command.proofs.Parsed.{no_fault, same_fault, under_premise}
 use Rattle.s4serve_command.specs.CommandLine.{line, Spells, SpellsNone}
-use Rattle.s4serve_command.specs.declared.NoCommand.TheVariants.{NoMemory}
-use Rattle.s4serve_command.proofs.Refusals.{among_own, among_refused}
+use Rattle.refused_lines.specs.declared.NoCommand.TheVariants.{NoMemory}
+use Rattle.refused_lines.proofs.RefusedLines.{among_own, among_refused}
 use Rattle.s4serve_command.proofs.Simple.{is_simple_and_free_line, same_matches}
 use Rattle.s4serve_command.proofs.service_of.Goals as goal
 

@@ -1,7 +1,8 @@
 use Rattle.std.proofs.Common.{inl, inr, map, rules, subst}
 use Rattle.clap.specs.Faults.{fault_of}
 use Rattle.clap.specs.Values.{kind_of}
-use Rattle.s4_command.specs.CommandLine.{line, IsAskedAmong}
+use Rattle.s4_command.specs.CommandLine.{line}
+use Rattle.refused_lines.specs.Refusals.{IsAskedAmong}
 use Rattle.s4.specs.Performing.{IsUsage}
 use Rattle.s4.proofs.Undone.{undone_on}
 use Rattle.s4.proofs.performing.perform.Goals as goal

@@ -1,7 +1,7 @@
 use Rattle.std.proofs.Common.{◌≢◌, IfOk, IfErr, List, subst, sym}
 use Rattle.clap.specs.Walk.{Text}
 use Rattle.s4serve_command.specs.CommandLine.{AreDoors}
-use Rattle.s4serve_command.specs.declared.NoCommand.TheVariants.{NoMemory}
+use Rattle.refused_lines.specs.declared.NoCommand.TheVariants.{NoMemory}
 use Rattle.s4serve_command.specs.declared.doors.Door.{Door}
 use Rattle.s4serve_command.proofs.DoorLemmas.{found_none, found_texts, no_words}
 use Rattle.s4serve_command.proofs.doors.doors_in.Goals as goal
