@@ -1,24 +1,22 @@
 -- Versions that are read one after the other are read together.
-use Rattle.std.proofs.Common.{◌≡◌, ◌∙◌, ◌+◌, ◌<◌, ◌≤◌, ◌++◌, ℕ, true, false, cond, List, [], ◌∷◌, length, drop, get_or, Bool, MatchBool, Option, None, inl, inr, refl, sym, ap, ap₂, subst, append_assoc, arith}
+use Rattle.std.proofs.Common.{◌≡◌, ◌∙◌, ◌+◌, ◌<◌, ◌≤◌, ◌++◌, ◌⊎◌, ℕ, take, List, [], ◌∷◌, length, get_or, Option, None, inl, inr, sym, ap, ap₂, subst, append_assoc, arith}
 use Rattle.std.specs.List.{flat_map}
 use Rattle.std.specs.Io.KnownBytes.{Appends}
 use Rattle.std.proofs.KnownBytes.{Appends-trans, Appends-nil}
-use Rattle.std.proofs.lemmas.Bool.{cond-true, cond-false, cases_Bool}
-use Rattle.std.proofs.lemmas.List.{append-nil, length-append, map-append, drop_more, drop_all}
+use Rattle.lemmas.proofs.List.{map_take_next}
+use Rattle.std.proofs.lemmas.List.{length-append, take_all}
 use Rattle.std.proofs.lemmas.List.Concat.{flat_map-append}
 use Rattle.std.proofs.lemmas.List.Sums.{sum_by-append}
 use Rattle.sha2.specs.Hashers.{Holds256}
 use Rattle.sha2.specs.Sha256.{sha256}
 use Rattle.s4_model.specs.State.{State}
-use Rattle.codec.specs.Entry.{EntryFields}
 use Rattle.object_map.specs.Objects.{IsNextAbove}
 use Rattle.object_map.specs.Rows.{row_of}
 use Rattle.version_store.specs.Store.{StoreFields}
-use Rattle.version_store.specs.Versions.{entries_of_object}
 use Rattle.history_export.specs.declared.checking.CheckReport.{CheckReport}
 use Rattle.history_export.specs.declared.checking.Checked.{Checked}
 use Rattle.history_export.specs.declared.checking.Reading.{Reading}
-use Rattle.history_export.specs.Versions.{begins, begun_behind, beginnings_of, seen_from, pairs_at, pairs_of, size_at, bytes_at, content_in, contents_at}
+use Rattle.history_export.specs.Versions.{beginnings_of, pairs_at, pairs_of, size_at, bytes_at, content_in, contents_at}
 use Rattle.history_export.specs.Checks.{ChecksAll, HasRead, capped, none_read, with_read}
 use Rattle.history_view.specs.Logs.{AreRowsFrom}
 use Rattle.history_view.proofs.Fronts.{IsFront, front_begun, front_more, front_whole, flat_more}
@@ -52,61 +50,27 @@ read_together s a b c d e first second = record {
 
 -- ---- the versions of an object
 
--- The versions up to a moment were read: that of a first moment, and those that begin with the entries so far.
-pub record ReadTo (s : State) (o first : ℕ) (entries : List EntryFields) (i last : ℕ) (c d : Reading) : Type 0 where
-  pub done : List ℕ
-  pub whole : begun_behind s o first entries ≡ done ++ begun_behind s o last (drop i entries)
-  pub read : HasRead s ((o, first) ∷ pairs_at o done) c d
+-- The versions of an object at the first of these moments were read, so many: none yet, or some.
+abbrev pub ReadTo : State → ℕ → List ℕ → ℕ → Reading → Reading → Type 0
+ReadTo s o moments i c d = ((i ≡ 0) × (d ≡ c)) ⊎ HasRead s (pairs_at o (take i moments)) c d
 
--- the first one was
-pub first_read : (s : State) (o first : ℕ) (entries : List EntryFields) (c d : Reading) → HasRead s ((o, first) ∷ []) c d → ReadTo s o first entries 0 first c d
-first_read s o first entries c d read = record { done = []; whole = refl; read = read }
+-- the version at the next one was read
+pub read_next : (s : State) (o : ℕ) (moments : List ℕ) (i t : ℕ) (c d e : Reading) → i < length moments → t ≡ get_or moments i t → ReadTo s o moments i c d → HasRead s ((o, t) ∷ []) d e → HasRead s (pairs_at o (take (i + 1) moments)) c e
+read_next s o moments i t c d e lt here before read =
+    subst (λ ps. HasRead s ps c e) (sym (map_take_next (λ q. (o, q)) moments i t lt here)) (elim before [
+      | inl none ↦ subst (λ (n : ℕ). HasRead s (pairs_at o (take n moments) ++ (o, t) ∷ []) c e) (sym none.0) (subst (λ (x : Reading). HasRead s ((o, t) ∷ []) x e) none.1 read)
+      | inr some ↦ read_together s (pairs_at o (take i moments)) ((o, t) ∷ []) c d e some read
+    ])
 
-module _ (s : State) (o first : ℕ) (entries : List EntryFields) (i last next : ℕ) (e : EntryFields) (c d d' : Reading) where
-  abbrev pub m : ℕ
-  m = seen_from s o e.moment
+-- after the last one all were
+pub all_read : (s : State) (o : ℕ) (moments : List ℕ) (i : ℕ) (c d : Reading) → 0 < length moments → length moments ≤ i → ReadTo s o moments i c d → HasRead s (pairs_at o moments) c d
+all_read s o moments i c d some over (inl none) = absurd (omega (arith, some, over, none.0))
+all_read s o moments i c d some over (inr read) = subst (λ ts. HasRead s (pairs_at o ts) c d) (take_all i moments over) read
 
-  abbrev pub rest : List EntryFields
-  rest = drop (i + 1) entries
-
-  -- what is left to read, where an entry is next
-  left : i < length entries → e ≡ get_or entries i e → begun_behind s o last (drop i entries) ≡ cond (begins s o last e) (m ∷ begun_behind s o m rest) (begun_behind s o last rest)
-  left lt here = ap (begun_behind s o last) (drop_more entries i e lt ∙ ap (λ (x : EntryFields). x ∷ rest) (sym here))
-
-  taken : i < length entries → e ≡ get_or entries i e → ReadTo s o first entries i last c d → begins s o last e ≡ true → next ≡ m → HasRead s ((o, m) ∷ []) d d' → ReadTo s o first entries (i + 1) next c d'
-  taken lt here before is moved read = record {
-    done = before.done ++ m ∷ [];
-    whole = before.whole ∙ ap (λ ts. before.done ++ ts) (left lt here ∙ cond-true (begins s o last e) (m ∷ begun_behind s o m rest) (begun_behind s o last rest) is)
-        ∙ sym (append_assoc before.done (m ∷ []) (begun_behind s o m rest)) ∙ ap (λ t. (before.done ++ m ∷ []) ++ begun_behind s o t rest) (sym moved);
-    read = subst (λ ps. HasRead s ((o, first) ∷ ps) c d') (sym (map-append (λ t. (o, t)) before.done (m ∷ [])))
-        (read_together s ((o, first) ∷ pairs_at o before.done) ((o, m) ∷ []) c d d' before.read read);
-  }
-
-  passed : i < length entries → e ≡ get_or entries i e → ReadTo s o first entries i last c d → begins s o last e ≡ false → next ≡ last → d' ≡ d → ReadTo s o first entries (i + 1) next c d'
-  passed lt here before fails moved same = record {
-    done = before.done;
-    whole = before.whole ∙ ap (λ ts. before.done ++ ts) (left lt here ∙ cond-false (begins s o last e) (m ∷ begun_behind s o m rest) (begun_behind s o last rest) fails)
-        ∙ ap (λ t. before.done ++ begun_behind s o t rest) (sym moved);
-    read = subst (HasRead s ((o, first) ∷ pairs_at o before.done) c) (sym same) before.read;
-  }
-
-  -- the next entry's version was read, where it can be read after the last
-  pub read_on : i < length entries → e ≡ get_or entries i e → ReadTo s o first entries i last c d → next ≡ cond (begins s o last e) m last → MatchBool (begins s o last e) (HasRead s ((o, m) ∷ []) d d') (d' ≡ d)
-      → ReadTo s o first entries (i + 1) next c d'
-  read_on lt here before moved read =
-      elim (cases_Bool (begins s o last e)) [
-        | inl is ↦ taken lt here before is (moved ∙ cond-true (begins s o last e) m last is) (subst (λ (b : Bool). MatchBool b (HasRead s ((o, m) ∷ []) d d') (d' ≡ d)) is read)
-        | inr fails ↦ passed lt here before fails (moved ∙ cond-false (begins s o last e) m last fails) (subst (λ (b : Bool). MatchBool b (HasRead s ((o, m) ∷ []) d d') (d' ≡ d)) fails read)
-      ]
-
--- after the last entry all versions were read
-pub all_read : (s : State) (store : StoreFields) (o first : ℕ) (entries : List EntryFields) (i last : ℕ) (c d : Reading) → first ≡ seen_from s o s.floor → entries ≡ entries_of_object store o → length entries ≤ i → ReadTo s o first entries i last c d
-    → HasRead s (pairs_of s store o) c d
-all_read s store o first entries i last c d begun are over before =
-    let rest : begun_behind s o first entries ≡ before.done = before.whole ∙ ap (λ es. before.done ++ begun_behind s o last es) (drop_all i entries over) ∙ append-nil before.done in
-    let moments : first ∷ before.done ≡ beginnings_of s store o =
-    ap (λ ts. first ∷ ts) (sym rest) ∙ ap₂ (λ (t : ℕ) (es : List EntryFields). t ∷ begun_behind s o t es) begun are in
-    subst (λ ts. HasRead s (pairs_at o ts) c d) moments before.read
+-- there is always a version to read
+pub begins_somewhere : (s : State) (store : StoreFields) (o : ℕ) (moments : List ℕ) → moments ≡ beginnings_of s store o → 0 < length moments
+begins_somewhere s store o [] are = absurd cc
+begins_somewhere s store o (t ∷ moments) are = omega arith
 
 -- ---- all objects
 

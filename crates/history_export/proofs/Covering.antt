@@ -1,6 +1,8 @@
 -- A check reads every version that can be read.
-use Rattle.std.proofs.Common.{◌≡◌, ◌∙◌, ◌+◌, ◌<◌, ◌≤◌, ◌==◌, ◌&&◌, ℕ, suc, Bool, true, cond, List, [], ◌∷◌, Option, Some, None, nat_lt, nat_le, inl, inr, refl, ap, ap₂, sym, subst, arith}
+use Rattle.std.proofs.Common.{◌≡◌, ◌∙◌, All, ◌+◌, ◌<◌, ◌≤◌, ◌==◌, ◌&&◌, ℕ, suc, Bool, true, cond, List, [], ◌∷◌, Option, Some, None, nat_lt, nat_le, inl, inr, refl, ap, ap₂, sym, subst, arith}
 use Rattle.std.specs.List.{AllByRecursion, Contains}
+use Rattle.std.proofs.lemmas.List.Elements.{All-from_recursion}
+use Rattle.lemmas.proofs.List.{all_weaker}
 use Rattle.std.proofs.lemmas.Bool.{and_parts, ltb-true, eqb-true, lt-ltb, le-ltb, le-leb, lt-leb, cond-true, cond-false, cases_Bool, cases_lt}
 use Rattle.s4_types.specs.Pointer.{Place}
 use Rattle.s4_types.specs.declared.limits.TheConstants.{CHANGE_ENTRIES}
@@ -17,10 +19,12 @@ use Rattle.time_read.specs.Rows.{entries_of, inode_of, first_of}
 use Rattle.version_store.specs.Store.{StoreFields, IsStore}
 use Rattle.version_store.specs.Versions.{entries_of_object, entries_of_row, inode_by, version_by}
 use Rattle.drive.specs.Keeping.{DecodesWhereVisible}
-use Rattle.history_export.specs.Versions.{seen_from, begins, begun_behind}
+use Rattle.history_view.specs.Listing.{seen_from}
+use Rattle.history_export.specs.Versions.{begins, begun_behind, beginnings_of}
 use Rattle.history_export.specs.Covering.{EachVersionIsRead}
 use Rattle.history_view.proofs.Shown.{clock_is_visible}
-use Rattle.history_export.proofs.Seen.{seen_found, by_row}
+use Rattle.history_view.proofs.Seen.{seen_found}
+use Rattle.history_export.proofs.Seen.{by_row}
 
 -- ---- moments of entries
 
@@ -127,6 +131,11 @@ module _ (s : State) (o t : ℕ) (sound : IsSound s) (v : IsVisible s o t) where
         | inr before ↦ is_passed last e entries before found.from (cover e.moment last entries ascend.1 reached.1 up seen)
       ]
 
+-- no entry of an object is later than the clock
+all_reached : (s : State) (store : StoreFields) (o : ℕ) → IsStore store → store.latest ≤ s.clock → AllByRecursion (λ e. e.moment ≤ s.clock) (entries_of_object store o)
+all_reached s store o stands past =
+    all_weaker (λ (e : EntryFields). e.moment ≤ store.latest) (λ (e : EntryFields). e.moment ≤ s.clock) (entries_of_object store o) (λ e up. omega (arith, up, past)) (by_row store o (row_of store.rows o) stands refl)
+
 -- ---- what an object is between
 
 -- where no entry up to t is later than b, the entries up to t are those up to b
@@ -154,7 +163,7 @@ each_is_read s store sound stands past decodes o t v =
     let first = seen_from s o s.floor in
     let entries = entries_of_object store o in
     let begun = seen_found s o s.floor t v.kept v in
-    let reached = all_reached s.clock entries past (by_row store o (row_of store.rows o) stands refl) in
+    let reached = all_reached s store o stands past in
     let c : Covers s o t first entries = cover s o t sound v 0 first entries (row_ascends store o (row_of store.rows o) stands refl) reached begun.up begun.visible in
     record {
       moment = c.moment;
@@ -162,7 +171,22 @@ each_is_read s store sound stands past decodes o t v =
       not_later = c.up;
       same = sym (decodes o c.moment c.visible) ∙ ap (version_by store.log.held) (inodes_alike store.log.held o c.moment t (row_of store.rows o) c.up c.none) ∙ decodes o t v;
     }
-  where
-    all_reached : (clock : ℕ) (entries : List EntryFields) → store.latest ≤ clock → AllByRecursion (λ e. e.moment ≤ store.latest) entries → AllByRecursion (λ e. e.moment ≤ clock) entries
-    all_reached clock [] past all = tt
-    all_reached clock (e ∷ entries) past all = (omega (arith, past, all.0), all_reached clock entries past all.1)
+
+-- ---- what is read can be
+
+begun_visible : (s : State) (o last : ℕ) (entries : List EntryFields) → IsSound s → AllByRecursion (λ e. e.moment ≤ s.clock) entries → AllByRecursion (IsVisible s o) (begun_behind s o last entries)
+begun_visible s o last [] sound reached = tt
+begun_visible s o last (e ∷ entries) sound reached =
+    let m = seen_from s o e.moment in
+    elim (cases_Bool (begins s o last e)) [
+      | inl is ↦ subst (AllByRecursion (IsVisible s o)) (sym (cond-true (begins s o last e) (m ∷ begun_behind s o m entries) (begun_behind s o last entries) is))
+          ((seen_found s o e.moment s.clock reached.0 (clock_is_visible s o sound)).visible, begun_visible s o m entries sound reached.1)
+      | inr fails ↦ subst (AllByRecursion (IsVisible s o)) (sym (cond-false (begins s o last e) (m ∷ begun_behind s o m entries) (begun_behind s o last entries) fails)) (begun_visible s o last entries sound reached.1)
+    ]
+
+-- each moment at which a version begins can be read
+pub all_beginnings_visible : (s : State) (store : StoreFields) (o : ℕ) → IsSound s → IsStore store → store.latest ≤ s.clock → All (IsVisible s o) (beginnings_of s store o)
+all_beginnings_visible s store o sound stands past =
+    let first = seen_found s o s.floor s.clock sound.floor_reached (clock_is_visible s o sound) in
+    All-from_recursion (IsVisible s o) (beginnings_of s store o)
+    (first.visible, begun_visible s o (seen_from s o s.floor) (entries_of_object store o) sound (all_reached s store o stands past))

@@ -6,7 +6,8 @@ use Rattle.s4_model.specs.State.{State}
 use Rattle.codec.specs.Entry.{EntryFields}
 use Rattle.version_store.specs.Store.{StoreFields}
 use Rattle.version_store.specs.Versions.{entries_of_object}
-use Rattle.history_export.specs.Versions.{begins, begun_behind, beginnings_of, seen_from}
+use Rattle.history_view.specs.Listing.{seen_from}
+use Rattle.history_export.specs.Versions.{begins, begun_behind, beginnings_of}
 
 module _ (s : State) (o last : ℕ) (entries : List EntryFields) (i : ℕ) (e : EntryFields) (done : List ℕ) where
   abbrev m : ℕ

@@ -1,5 +1,5 @@
 -- The versions of objects that can be read: their bytes, and the moments at which they can be read first.
-use Rattle.std.specs.Prelude.{ℕ, zero, suc, ◌+◌, ◌-◌, nat_lt, if◌then◌else◌, Bool, List, [], ◌∷◌, length, map}
+use Rattle.std.specs.Prelude.{ℕ, nat_lt, if◌then◌else◌, Bool, List, [], ◌∷◌, length, map}
 use Rattle.std.specs.List.{flat_map, sum_by}
 use Rattle.s4_model.specs.State.{State}
 use Rattle.s4_model.specs.VersionAt.{version_of}
@@ -7,16 +7,7 @@ use Rattle.codec.specs.Entry.{EntryFields}
 use Rattle.version_store.specs.Store.{StoreFields}
 use Rattle.version_store.specs.Versions.{entries_of_object}
 use Rattle.history_view.specs.Contents.{content_of}
-use Rattle.history_view.specs.Listing.{is_visible}
-
--- the first moment that passes a test, of a moment and this many after it; the last of them where none does
-abbrev pub first_from : (ℕ → Bool) → ℕ → ℕ → ℕ
-first_from passes t zero = t
-first_from passes t (suc n) = if passes t then t else first_from passes (t + 1) n
-
--- the first moment of an object, from one on, that can be read; the clock's can
-abbrev pub seen_from : State → ℕ → ℕ → ℕ
-seen_from s o t = first_from (is_visible s o) t (s.clock - t)
+use Rattle.history_view.specs.Listing.{seen_from}
 
 -- whether the version that an entry begins, or one that begins later, can be read first after a moment
 abbrev pub begins : State → ℕ → ℕ → EntryFields → Bool

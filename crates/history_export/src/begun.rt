@@ -7,9 +7,9 @@ ghost use Rattle.version_store.specs.Versions.{entries_of_object};
 ghost use Rattle.drive.specs.Fields.{state_in, store_of};
 ghost use Rattle.history_export.specs.Versions.{beginnings_of};
 
-use crate::versions::first_seen;
 use codec::Entry;
 use drive::Drive;
+use history_view::first_seen;
 use s4_types::{Moment, ObjectId, Refusal};
 use segment_word::Naming;
 use std::alloc::{AllocError, Global};

@@ -1,16 +1,15 @@
 //! `check`: every version that can be read is read once.
-ghost use Rattle.std.specs.Prelude.{◌≡◌, ◌⊎◌, ℕ, ◌≤◌, List, [], ◌∷◌, if◌then◌else◌, Option, None};
-ghost use Rattle.std.specs.Prelude.{IfOk, IfErr, OnOk, MatchBool};
+ghost use Rattle.std.specs.Prelude.{◌≡◌, ◌⊎◌, ℕ, ◌<◌, List, [], ◌∷◌, All, length, Option, None};
+ghost use Rattle.std.specs.Prelude.{IfOk, IfErr, OnOk};
 ghost use Rattle.std.specs.Io.KnownBytes.{Appends};
 ghost use Rattle.s4_types.specs.declared.refusals.Refusal.TheVariants.{NoMemory, Busy};
 ghost use Rattle.s4_model.specs.Visible.{IsVisible};
-ghost use Rattle.version_store.specs.Versions.{entries_of_object};
 ghost use Rattle.drive.specs.Fields.{state_in, store_of};
-ghost use Rattle.history_export.specs.Versions.{begins, pairs_of, seen_from};
+ghost use Rattle.history_export.specs.Versions.{pairs_at, pairs_of};
 ghost use Rattle.history_export.specs.Checks.{ChecksAll, HasRead};
 
-use crate::versions::{first_seen, version_seen};
-use codec::Entry;
+use crate::begun::beginnings;
+use crate::versions::version_seen;
 use drive::{Drive, Session};
 use history_view::content_of;
 use s4_types::{Moment, ObjectId, Refusal};
@@ -19,7 +18,7 @@ use sha2::{Digest, Sha256};
 use std::alloc::Global;
 
 /// How much was read. Each count stops at 2^64 - 1, far above what a drive can have.
-#[derive(Clone, Copy, Debug, PartialEq, Eq)]
+#[derive(Clone, Copy)]
 pub struct Checked {
     /// How many versions, those before an object was made and after its deletion among them.
     pub versions: u64,
@@ -28,7 +27,7 @@ pub struct Checked {
 }
 
 /// What a check has read.
-#[derive(Clone, Copy, Debug, PartialEq, Eq)]
+#[derive(Clone, Copy)]
 pub struct CheckReport {
     pub checked: Checked,
     /// The SHA-256 of the bytes of all versions, one version after the other.
@@ -113,91 +112,32 @@ fn check_object<J: Naming>(
     ensures state { state_in drive.new ≡ state_in drive.old }
     ensures store { store_of drive.new ≡ store_of drive.old }
 {
-    let entries = drive.entries(object)?;
-    check_entries(alloc, drive, session, object, entries.as_slice(), reading)
+    drive.rules();
+    let moments = beginnings(alloc, drive, object)?;
+    read_versions(alloc, drive, session, object, moments.as_slice(), reading)
 }
 
-// The same of an object that has these entries.
-fn check_entries<J: Naming>(
+// Reads the versions of an object at these moments.
+fn read_versions<J: Naming>(
     alloc: Global,
     drive: &mut Drive<J>,
     session: &mut Session<J>,
     object: ObjectId,
-    entries: &[Entry],
+    moments: &[Moment],
     reading: &mut Reading,
 ) -> Result<(), Refusal>
-    requires entries { entries.now ≡ entries_of_object (store_of drive.old) object }
+    requires some { 0 < length moments.now }
+    requires visible { All (IsVisible (state_in drive.old) object) moments.now }
     ensures read { OnOk result
-        (HasRead (state_in drive.old) (pairs_of (state_in drive.old) (store_of drive.old) object)
-        reading.old reading.new) }
+        (HasRead (state_in drive.old) (pairs_at object moments.now) reading.old reading.new) }
     ensures refused { IfErr result (λ e. (e ≡ NoMemory) ⊎ (e ≡ Busy)) }
     ensures state { state_in drive.new ≡ state_in drive.old }
     ensures store { store_of drive.new ≡ store_of drive.old }
 {
-    drive.rules();
-    let first = read_earliest(alloc, drive, session, object, reading)?;
-    let mut last = first;
-    for entry in entries {
-        last = check_entry(alloc, drive, session, object, last, entry, reading)?;
+    for moment in moments {
+        read_version(alloc, drive, session, object, *moment, reading)?;
     }
     Ok(())
-}
-
-// Reads the earliest version of an object that can be read. Says at which moment.
-fn read_earliest<J: Naming>(
-    alloc: Global,
-    drive: &mut Drive<J>,
-    session: &mut Session<J>,
-    object: ObjectId,
-    reading: &mut Reading,
-) -> Result<Moment, Refusal>
-    ensures first { IfOk result
-        (λ first. first ≡ seen_from (state_in drive.old) object (state_in drive.old).floor) }
-    ensures read { OnOk result
-        (HasRead (state_in drive.old)
-        ((object, seen_from (state_in drive.old) object (state_in drive.old).floor) ∷ [])
-        reading.old reading.new) }
-    ensures refused { IfErr result (λ e. (e ≡ NoMemory) ⊎ (e ≡ Busy)) }
-    ensures state { state_in drive.new ≡ state_in drive.old }
-    ensures store { store_of drive.new ≡ store_of drive.old }
-{
-    drive.rules();
-    let earliest = first_seen(drive, object, drive.floor());
-    read_version(alloc, drive, session, object, earliest, reading)?;
-    Ok(earliest)
-}
-
-// Reads the version that an entry begins, where it can be read after the last that was. Says at
-// which moment one was read last then.
-fn check_entry<J: Naming>(
-    alloc: Global,
-    drive: &mut Drive<J>,
-    session: &mut Session<J>,
-    object: ObjectId,
-    last: Moment,
-    entry: &Entry,
-    reading: &mut Reading,
-) -> Result<Moment, Refusal>
-    requires reached { entry.now.moment ≤ (state_in drive.old).clock }
-    ensures next { IfOk result
-        (λ next. next
-        ≡ (if begins (state_in drive.old) object last entry.now
-        then seen_from (state_in drive.old) object entry.now.moment else last)) }
-    ensures read { OnOk result
-        (MatchBool (begins (state_in drive.old) object last entry.now)
-        (HasRead (state_in drive.old)
-        ((object, seen_from (state_in drive.old) object entry.now.moment) ∷ []) reading.old
-        reading.new) (reading.new ≡ reading.old)) }
-    ensures refused { IfErr result (λ e. (e ≡ NoMemory) ⊎ (e ≡ Busy)) }
-    ensures state { state_in drive.new ≡ state_in drive.old }
-    ensures store { store_of drive.new ≡ store_of drive.old }
-{
-    let moment = first_seen(drive, object, entry.moment());
-    if moment.number() <= last.number() {
-        return Ok(last);
-    }
-    read_version(alloc, drive, session, object, moment, reading)?;
-    Ok(moment)
 }
 
 // Reads a version, counts it and hashes its bytes.

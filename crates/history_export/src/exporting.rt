@@ -145,21 +145,7 @@ fn export_object<J: Naming, F: Folder>(
     ensures store { store_of drive.new ≡ store_of drive.old }
 {
     let version = version_seen(alloc, drive, session, row.object, at)?;
-    write_object(alloc, folder, row, content_of(&version))
-}
-
-// Writes an object of these bytes, and tells it in the manifest.
-fn write_object<F: Folder>(
-    alloc: Global,
-    folder: &mut F,
-    row: &Listed,
-    content: &[u8],
-) -> Result<(), ExportError>
-    ensures files { OnOk result
-        (F.files folder.new ≡ option_map (with_object row.now content.now) (F.files folder.old)) }
-    ensures path { F.path folder.new ≡ F.path folder.old }
-    ensures refused { IfErr result IsOfWriting }
-{
+    let content = content_of(&version);
     let line = manifest_line(alloc, row, content)?;
     add_object(alloc, folder, row.object, content, line.as_bytes())
 }

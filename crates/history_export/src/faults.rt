@@ -12,7 +12,7 @@ use std::io;
 use thiserror::Error;
 
 /// A file that an export makes. It prints the file's name.
-#[derive(Clone, Copy, Debug, PartialEq, Eq)]
+#[derive(Clone, Copy, Debug)]
 pub enum ExportedFile {
     Manifest,
     Object(ObjectId),
@@ -31,7 +31,7 @@ impl Display for ExportedFile {
 }
 
 /// Why an export failed. What was written by then stays in the folder.
-#[derive(Debug, Drop, PartialEq, Eq, Error)]
+#[derive(Clone, Copy, Debug, Error)]
 pub enum ExportError {
     /// Something is in the folder already. Nothing was written.
     #[error("the folder is not empty")]

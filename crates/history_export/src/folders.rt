@@ -37,20 +37,37 @@ pub trait Folder {
 }
 
 // A file that stays open for what comes at its end, and its name.
-#[derive(Drop)]
 struct Grown {
     name: String,
     file: File,
 }
 
+// Written by hand, so that an owner lets it go by one call.
+impl Drop for Grown {
+    fn drop(self) {
+        let Grown { name: _, file: _ } = self;
+    }
+}
+
 /// A folder of this system. The file that something was added to last stays open, so that each of
 /// many lines costs no walk to it.
-#[derive(Drop)]
 pub struct SystemFolder {
     rt: HostRuntime,
     alloc: Global,
     path: String,
     grown: Option<Grown>,
+}
+
+// Written by hand, so that an owner lets it go by one call.
+impl Drop for SystemFolder {
+    fn drop(self) {
+        let SystemFolder {
+            rt: _,
+            alloc: _,
+            path: _,
+            grown: _,
+        } = self;
+    }
 }
 
 impl SystemFolder {

@@ -9,7 +9,7 @@ use history_text::{
 };
 use history_view::Listed;
 use s4_types::ObjectId;
-use serde_json::{Map, Value, put};
+use serde_json::{Map, Value};
 use sha2::{Digest, Sha256};
 use std::alloc::{AllocError, Global};
 
@@ -55,14 +55,8 @@ pub fn object_members(
         (λ members. members_view members.entries ≡ object_members row.now content.now) }
 {
     let file = file_name(alloc, row.object)?;
-    let mut members = file_members(alloc, file.as_str(), row, content)?;
-    put(
-        &mut members,
-        alloc,
-        "object",
-        Value::from(row.object.number()),
-    )?;
-    Ok(members)
+    let made = file_members(alloc, file.as_str(), row, content);
+    with_number(alloc, made, "object", row.object.number())
 }
 
 /// The line of an object of these bytes.

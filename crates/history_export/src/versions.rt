@@ -1,10 +1,9 @@
 //! Versions at moments that can be read.
-ghost use Rattle.std.specs.Prelude.{◌≡◌, ◌⊎◌, ◌≤◌, IfOk, IfErr};
+ghost use Rattle.std.specs.Prelude.{◌≡◌, ◌⊎◌, IfOk, IfErr};
 ghost use Rattle.s4_types.specs.declared.refusals.Refusal.TheVariants.{NoMemory, Busy};
 ghost use Rattle.s4_model.specs.VersionAt.{version_of};
 ghost use Rattle.s4_model.specs.Visible.{IsVisible};
 ghost use Rattle.drive.specs.Fields.{state_in, store_of};
-ghost use Rattle.history_export.specs.Versions.{seen_from};
 
 use drive::{Drive, Session};
 use history_view::version_at;
@@ -27,24 +26,4 @@ pub(crate) fn version_seen<J: Naming>(
     ensures store { store_of drive.new ≡ store_of drive.old }
 {
     version_at(alloc, drive, session, object, at)
-}
-
-/// The first moment of an object, from one on, that can be read. The clock's can, so there is one.
-pub(crate) fn first_seen<J: Naming>(drive: &Drive<J>, object: ObjectId, from: Moment) -> Moment
-    requires reached { from ≤ (state_in drive.now).clock }
-    ensures visible { IsVisible (state_in drive.now) object result }
-    ensures first { result ≡ seen_from (state_in drive.now) object from }
-{
-    drive.rules();
-    let mut low = from.number();
-    let mut high = drive.clock().number();
-    while low < high {
-        let middle = low + (high - low) / 2;
-        if drive.sees(object, Moment::new(low), Moment::new(middle)) {
-            high = middle;
-        } else {
-            low = middle + 1;
-        }
-    }
-    Moment::new(low)
 }

@@ -1,4 +1,5 @@
 pub mod Shown
+pub mod Seen
 mod Read
 pub mod Asked
 pub mod Outside

@@ -1,5 +1,5 @@
 -- What is listed of an object at a moment, against the history.
-use Rattle.std.proofs.Common.{◌≡◌, ◌∙◌, ◌+◌, ◌&&◌, ◌<◌, ◌≤◌, ◌==◌, ℕ, Bool, true, false, not, cond, List, length, Option, Some, None, nat_le, inl, inr, refl, sym, ap, subst, arith}
+use Rattle.std.proofs.Common.{◌≡◌, ◌∙◌, ◌&&◌, ◌<◌, ◌≤◌, ◌==◌, ℕ, Bool, true, false, not, cond, List, length, Option, Some, None, nat_le, inl, inr, refl, sym, ap, subst, arith}
 use Rattle.std.specs.Prelude.{MatchBool}
 use Rattle.std.proofs.lemmas.Bool.{leb-true, le-leb, and_parts, and_from, or_parts, not-true, not_from_false, cond-true, cond-false, true≢false, false_from_ne_true, cases_lt, cases_eq}
 use Rattle.s4_types.specs.declared.versions.Version.{Version}
@@ -150,41 +150,3 @@ listed_next s store deleted t after last next listed decodes from above passed n
       here = subst (λ o. IsListedAt s store deleted t o listed) same here;
       least = subst (λ n. (o : ℕ) → after < o → o < n → IsPassed s store deleted t o) same (passed_before s store deleted t after last next decodes passed none);
     }
-
--- ---- the first moment that can be read
-
--- no moment below this one can be read
-abbrev pub NoneBelow : State → ℕ → ℕ → Type 0
-NoneBelow s o low = (t : ℕ) → t < low → IsVisible s o t → ⊥
-
--- none below the floor can
-pub none_below_floor : (s : State) (o : ℕ) → NoneBelow s o s.floor
-none_below_floor s o t below visible = absurd (omega (arith, visible.kept))
-
--- some moment up to the clock can
-pub clock_between : (s : State) (o : ℕ) → IsSound s → IsSeenBetween s o s.floor s.clock
-clock_between s o sound = record { moment = s.clock; begun = sound.floor_reached; ended = omega arith; visible = clock_is_visible s o sound }
-
--- where none is up to the middle, some is after it
-pub behind_middle : (s : State) (o low middle high : ℕ) → IsSeenBetween s o low high → NoneBelow s o low → (IsSeenBetween s o low middle → ⊥) → IsSeenBetween s o (middle + 1) high
-behind_middle s o low middle high between none never = record {
-  moment = between.moment;
-  begun = elim (cases_lt middle between.moment) [
-    | inl beyond ↦ omega (arith, beyond)
-    | inr up ↦ absurd (never (record { moment = between.moment; begun = between.begun; ended = up; visible = between.visible }))
-  ];
-  ended = between.ended;
-  visible = between.visible;
-}
-
--- and none is below it
-pub none_up_to_middle : (s : State) (o low middle : ℕ) → NoneBelow s o low → (IsSeenBetween s o low middle → ⊥) → NoneBelow s o (middle + 1)
-none_up_to_middle s o low middle none never t below visible =
-    elim (cases_lt t low) [
-      | inl lower ↦ none t lower visible
-      | inr from ↦ never (record { moment = t; begun = from; ended = omega arith; visible = visible })
-    ]
-
--- where the two ends meet, that moment can be read
-pub met : (s : State) (o low high : ℕ) → IsSeenBetween s o low high → high ≤ low → IsVisible s o low
-met s o low high between over = let same : between.moment ≡ low = omega (arith, between.begun, between.ended) in subst (IsVisible s o) same between.visible

@@ -1,5 +1,5 @@
 -- The objects of a drive at a moment, one by one by ascending number.
-use Rattle.std.specs.Prelude.{◌≡◌, ◌≢◌, ℕ, ◌<◌, ◌==◌, ◌&&◌, ◌||◌, not, nat_le, if◌then◌else◌, Bool, true, List, [], ◌∷◌, length, Option, Some, None}
+use Rattle.std.specs.Prelude.{◌≡◌, ◌≢◌, ℕ, zero, suc, ◌+◌, ◌-◌, ◌<◌, ◌==◌, ◌&&◌, ◌||◌, not, nat_le, if◌then◌else◌, Bool, true, List, [], ◌∷◌, length, Option, Some, None}
 use Rattle.s4_types.specs.declared.versions.Version.{Version}
 use Rattle.s4_types.specs.declared.versions.Version.TheVariants.{Absent, Live}
 use Rattle.s4_model.specs.State.{State}
@@ -13,6 +13,15 @@ use Rattle.history_view.specs.declared.listing.Listed.{Listed}
 -- whether a moment of an object can be read
 abbrev pub is_visible : State → ℕ → ℕ → Bool
 is_visible s o t = (nat_le s.floor t && nat_le t s.clock) && not (is_hidden s o t)
+
+-- the first moment that passes a test, of a moment and this many after it; the last of them where none does
+abbrev pub first_from : (ℕ → Bool) → ℕ → ℕ → ℕ
+first_from passes t zero = t
+first_from passes t (suc n) = if passes t then t else first_from passes (t + 1) n
+
+-- the first moment of an object, from one on, that can be read; the clock's can
+abbrev pub seen_from : State → ℕ → ℕ → ℕ
+seen_from s o t = first_from (is_visible s o) t (s.clock - t)
 
 -- what an inode tells of its object
 abbrev pub listed_of : ℕ → Inode → Listed

@@ -26,6 +26,10 @@ object_of (Hidden run) = run.object
 abbrev pub rank : Bool → ℕ → ℕ
 rank is_reversed n = if is_reversed then (2 ^ 64 - 1) - n else n
 
+-- what a row is ordered by: its object or its moment
+abbrev pub place : Bool → Bool → LogRow → ℕ
+place by_object is_reversed row = rank is_reversed (if by_object then object_of row else moment_of row)
+
 -- The rows are those, by ascending number. Those of one number have the order that they had.
 pub record IsOrderedBy (number : LogRow → ℕ) (rows ordered : List LogRow) : Type 0 where
   pub same : IsPermutation rows ordered

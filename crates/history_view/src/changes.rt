@@ -35,7 +35,7 @@ pub enum Kind {
 
 /// Blocks of an object, of 512 bytes each, by their index: the first and the last that have new
 /// bytes or are new holes.
-#[derive(Clone, Copy, PartialEq, Eq)]
+#[derive(Clone, Copy)]
 pub struct Blocks {
     pub first: PointerIndex,
     pub last: PointerIndex,
@@ -43,7 +43,7 @@ pub struct Blocks {
 
 /// A change of an object. What is told in several entries of a journal is several changes of one
 /// moment, all but the first `Continued`.
-#[derive(Clone, Copy, PartialEq, Eq)]
+#[derive(Clone, Copy)]
 pub struct ObjectChange {
     pub moment: Moment,
     pub kind: Kind,

@@ -9,7 +9,7 @@
 //! among those. `log_rows` has exactly these of all objects that are asked for, and the runs of
 //! hidden moments between them, each once, in order of time or object by object, and `log_stats`
 //! what they come to. `named_object` is the one object that has an attribute. `earliest` is the
-//! first moment of an object that can be read.
+//! first moment of an object that can be read, and `first_seen` the first from a moment on.
 #![tactic(auto)]
 
 mod changes;
@@ -26,7 +26,7 @@ mod versions;
 pub use changes::{Blocks, Kind, ObjectChange, change_of, changes_between};
 pub use listing::{Listed, listed_of, look_at, next_listed};
 pub use logs::{LogQuery, all_objects, cuts, log_rows};
-pub use moments::{earliest, is_visible};
+pub use moments::{earliest, first_seen, is_visible};
 pub use names::{NameRefusal, named_object};
 pub use rows::{LogOrder, LogRow};
 pub use stats::{KindCounts, ObjectStat, log_stats};

@@ -11,7 +11,7 @@ use s4_types::{Moment, ObjectId};
 use segment_word::Naming;
 
 /// What is listed of an object at a moment.
-#[derive(Clone, Copy, PartialEq, Eq)]
+#[derive(Clone, Copy)]
 pub struct Listed {
     pub object: ObjectId,
     /// Whether it is there at the moment. If not, it was deleted before, and the rest says what it

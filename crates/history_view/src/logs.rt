@@ -16,7 +16,7 @@ use segment_word::Naming;
 use std::alloc::{AllocError, Global};
 
 /// What is asked of a log.
-#[derive(Clone, Copy, PartialEq, Eq)]
+#[derive(Clone, Copy)]
 pub struct LogQuery {
     /// The object whose log it is; none where it is that of all objects.
     pub object: Option<ObjectId>,

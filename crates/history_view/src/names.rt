@@ -9,7 +9,7 @@ use s4_types::{Moment, ObjectId};
 use segment_word::Naming;
 
 /// Why a name is not that of one object.
-#[derive(Clone, Copy, PartialEq, Eq, Debug)]
+#[derive(Clone, Copy)]
 pub enum NameRefusal {
     /// No object has it.
     NotNamed,

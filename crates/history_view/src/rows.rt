@@ -1,6 +1,6 @@
 //! The rows of a log, and their order.
 ghost use Rattle.std.specs.Prelude.{◌≡◌, IfOk};
-ghost use Rattle.history_view.specs.LogRows.{moment_of, object_of, rank, IsInOrder, IsByTime};
+ghost use Rattle.history_view.specs.LogRows.{moment_of, object_of, rank, place, IsInOrder};
 ghost use Rattle.history_view.specs.LogRows.{IsOrderedBy};
 
 use crate::changes::ObjectChange;
@@ -8,7 +8,7 @@ use s4_types::{Moment, ObjectId, Span};
 use std::alloc::AllocError;
 
 /// A row of a log.
-#[derive(Clone, Copy, PartialEq, Eq)]
+#[derive(Clone, Copy)]
 pub enum LogRow {
     /// An object was changed.
     Changed {
@@ -42,7 +42,7 @@ impl LogRow {
 }
 
 /// The order of a log's rows.
-#[derive(Clone, Copy, PartialEq, Eq)]
+#[derive(Clone, Copy)]
 pub struct LogOrder {
     /// Whether the rows of each object are together. Else all are in order of time.
     pub by_object: bool,
@@ -60,28 +60,28 @@ fn rank(is_reversed: bool, number: u64) -> u64
     }
 }
 
-fn by_time(rows: Vec<LogRow>, is_reversed: bool) -> Result<Vec<LogRow>, AllocError>
-    ensures { IfOk result (λ ordered. IsByTime is_reversed rows.items ordered.items) }
+// What a row is ordered by: its object or its moment.
+fn place(row: &LogRow, by_object: bool, is_reversed: bool) -> u64
+    ensures { result ≡ place by_object is_reversed row.now }
 {
-    let mut ordered = rows;
-    ordered.sort_by_key(
-        |row|
-            ensures { result ≡ rank is_reversed (moment_of row.now) }
-        { rank(is_reversed, row.moment().number()) },
-    )?;
-    Ok(ordered)
+    let number = if by_object {
+        row.object().number()
+    } else {
+        row.moment().number()
+    };
+    rank(is_reversed, number)
 }
 
-fn grouped(rows: Vec<LogRow>, is_reversed: bool) -> Result<Vec<LogRow>, AllocError>
+// The rows by their objects, or by their moments. Those of one place keep the order that they had.
+fn ordered(rows: Vec<LogRow>, by_object: bool, is_reversed: bool) -> Result<Vec<LogRow>, AllocError>
     ensures { IfOk result
-        (λ ordered. IsOrderedBy (λ row. rank is_reversed (object_of row)) rows.items
-        ordered.items) }
+        (λ ordered. IsOrderedBy (place by_object is_reversed) rows.items ordered.items) }
 {
     let mut ordered = rows;
     ordered.sort_by_key(
         |row|
-            ensures { result ≡ rank is_reversed (object_of row.now) }
-        { rank(is_reversed, row.object().number()) },
+            ensures { result ≡ place by_object is_reversed row.now }
+        { place(row, by_object, is_reversed) },
     )?;
     Ok(ordered)
 }
@@ -92,9 +92,9 @@ fn grouped(rows: Vec<LogRow>, is_reversed: bool) -> Result<Vec<LogRow>, AllocErr
 pub(crate) fn in_order(rows: Vec<LogRow>, order: LogOrder) -> Result<Vec<LogRow>, AllocError>
     ensures { IfOk result (λ ordered. IsInOrder order rows.items ordered.items) }
 {
-    let timeline = by_time(rows, order.is_reversed)?;
+    let timeline = ordered(rows, false, order.is_reversed)?;
     if order.by_object {
-        return grouped(timeline, order.is_reversed);
+        return ordered(timeline, true, order.is_reversed);
     }
     Ok(timeline)
 }

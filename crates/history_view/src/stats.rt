@@ -16,7 +16,7 @@ use segment_word::Naming;
 use std::alloc::{AllocError, Global};
 
 /// How many changes there are of each kind: one that is told in several rows counts once.
-#[derive(Clone, Copy, PartialEq, Eq)]
+#[derive(Clone, Copy)]
 pub struct KindCounts {
     pub made: u64,
     pub deleted: u64,
@@ -28,7 +28,7 @@ pub struct KindCounts {
 }
 
 /// How often an object was changed, in which ways, and when.
-#[derive(Clone, Copy, PartialEq, Eq)]
+#[derive(Clone, Copy)]
 pub struct ObjectStat {
     pub object: ObjectId,
     /// How many changes there are: one that is told in several rows counts once.

@@ -2,7 +2,8 @@ use Rattle.std.proofs.Common.{◌≡◌, ◌∙◌, ◌+◌, ◌++◌, ◌<◌, 
 use Rattle.codec.specs.Entry.{EntryFields}
 use Rattle.version_store.specs.Versions.{entries_of_object}
 use Rattle.drive.specs.Fields.{state_in, store_of}
-use Rattle.history_export.specs.Versions.{seen_from, begins, begun_behind}
+use Rattle.history_view.specs.Listing.{seen_from}
+use Rattle.history_export.specs.Versions.{begins, begun_behind}
 use Rattle.history_export.proofs.Seen.{entry_reached}
 use Rattle.history_export.proofs.Later.{begun_on, all_begun}
 use Rattle.history_export.proofs.begun.beginnings_by.Goals as goal

@@ -1,6 +1,7 @@
 use Rattle.std.proofs.Common.{◌≡◌, ◌++◌, ◌∷◌, drop}
 use Rattle.drive.specs.Fields.{state_in}
-use Rattle.history_export.specs.Versions.{seen_from, begun_behind}
+use Rattle.history_view.specs.Listing.{seen_from}
+use Rattle.history_export.specs.Versions.{begun_behind}
 use Rattle.history_export.proofs.begun.beginnings_by.Given as goal
 
 -- the moments so far, and those that the entries to come begin, are all

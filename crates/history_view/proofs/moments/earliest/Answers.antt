@@ -1,16 +1,17 @@
-use Rattle.std.proofs.Common.{◌≡◌, ◌∙◌, sym, subst}
-use Rattle.s4_model.specs.Visible.{IsSeenBetween}
+use Rattle.std.proofs.Common.{◌∙◌, ap, arith}
 use Rattle.drive.specs.Fields.{state_in}
-use Rattle.history_view.proofs.Shown.{clock_between, none_below_floor, NoneBelow}
+use Rattle.history_view.specs.Listing.{seen_from}
+use Rattle.history_view.proofs.Seen.{seen_found}
 use Rattle.history_view.proofs.moments.earliest.Goals as goal
 
-pub loop-low-init : goal.loop-low-init
-loop-low-init g c =
+-- the floor isn't past the clock
+pub first_seen-requires : goal.first_seen-requires
+first_seen-requires g c = let reached = c.rules.ensures.sound.floor_reached in omega (arith, c.floor.ensures, reached)
+
+-- none below the floor can be read, and none from it on below the first
+pub returns-clause-first : goal.returns-clause-first
+returns-clause-first g c t below visible =
     let s = state_in c.args.drive.now in
-    let o = c.args.object in
-    let low : c.number-low.result ≡ s.floor = c.number-low.ensures ∙ c.floor.ensures in
-    let high : c.number-high.result ≡ s.clock = c.number-high.ensures ∙ c.clock.ensures in
-    record {
-      between = subst (λ n. IsSeenBetween s o n c.number-high.result) (sym low) (subst (λ n. IsSeenBetween s o s.floor n) (sym high) (clock_between s o c.rules.ensures.sound));
-      none = subst (NoneBelow s o) (sym low) (none_below_floor s o);
-    }
+    let found = seen_found s c.args.object s.floor t visible.kept visible in
+    let is = c.first_seen.ensures.first ∙ ap (seen_from s c.args.object) c.floor.ensures in
+    absurd (omega (arith, below, is, found.up))

@@ -1,9 +1,8 @@
 use Rattle.std.proofs.Common.{◌≡◌, ◌∙◌, sym, subst, arith}
 use Rattle.s4_model.specs.Visible.{IsSeenBetween}
 use Rattle.drive.specs.Fields.{state_in}
-use Rattle.history_view.proofs.Shown.{met}
-use Rattle.history_export.proofs.Seen.{NoneBetween, clock_between, first_seen_is}
-use Rattle.history_export.proofs.versions.first_seen.Goals as goal
+use Rattle.history_view.proofs.Seen.{NoneBetween, clock_between, first_seen_is, met}
+use Rattle.history_view.proofs.moments.first_seen.Goals as goal
 
 pub loop-low-init : goal.loop-low-init
 loop-low-init g c =
