@@ -1,26 +1,17 @@
 -- What is used tells the same of checkpoints as what is held, where all that is held is used.
-use Rattle.std.proofs.Common.{◌≡◌, ℕ, true, Option, Some, None, IsSome, MatchOption, is_some, refl, sym, ap, ◌∙◌}
+use Rattle.std.proofs.Common.{◌≡◌, ℕ, Option, Some, None, MatchOption, is_some, refl, sym, ap, ◌∙◌}
 use Rattle.std.proofs.lemmas.Bool.{false≢true}
 use Rattle.s4_types.specs.Pointer.{Place}
 use Rattle.block_log.specs.Log.{Stored}
 use Rattle.codec.specs.Checkpoint.{CheckpointFields}
 use Rattle.codec.specs.Fields.{◌>>=◌}
-use Rattle.checkpoint.specs.Held.{checkpoint_held, checkpoint_places, of_checkpoints, seen_of, places_named, is_one_of, HasItsBlocks}
+use Rattle.checkpoint.specs.Held.{checkpoint_held, of_checkpoints, seen_of, places_named, HasItsBlocks}
 use Rattle.checkpoint.proofs.OwnBlocks.{IsOwn, seen_own, has_some}
 use Rattle.object_map.specs.declared.map.Row.{Row}
 use Rattle.time_read.specs.Rows.{IsRow, inode_of, checkpoint_of, checkpoint_places_of}
+use Rattle.row_changes.proofs.Places.{BlocksStay, CheckpointLaws}
 use Rattle.image_objects.specs.Inodes.{checkpoint_used, checkpoint_places_used}
 use Rattle.image_objects.specs.Saved.{HoldsUsed, saved_row}
-
--- the blocks of a checkpoint are as they were
-abbrev pub BlocksStay : (Place → Option Stored) → (Place → Option Stored) → ℕ → Place → Type 0
-BlocksStay held later o p = (q : Place) → is_one_of (checkpoint_places held o p) q ≡ true → of_checkpoints o later q ≡ of_checkpoints o held q
-
--- A checkpoint is a matter of its own blocks, and each of them is held.
-pub record CheckpointLaws : Type 0 where
-  pub told : (held later : Place → Option Stored) (o : ℕ) (p : Place) → BlocksStay held later o p → checkpoint_held later o p ≡ checkpoint_held held o p
-  pub places : (held later : Place → Option Stored) (o : ℕ) (p : Place) → BlocksStay held later o p → checkpoint_places later o p ≡ checkpoint_places held o p
-  pub held : (held : Place → Option Stored) (o : ℕ) (p : Place) → IsSome (checkpoint_held held o p) → HasItsBlocks held o (Some p)
 
 same_blocks : CheckpointLaws → (used held : Place → Option Stored) (o : ℕ) (p : Place) (c : CheckpointFields) → HoldsUsed used held → checkpoint_held held o p ≡ Some c → BlocksStay held used o p
 same_blocks laws used held o p c holds h q is =

@@ -29,7 +29,8 @@ use Rattle.image_objects.specs.VersionChain.{VersionChainStands}
 use Rattle.image_objects.specs.Objects.{ObjectStands}
 use Rattle.image_objects.specs.Saved.{saved_row, HoldsUsed, IsSavedAsHeld}
 use Rattle.image_objects.proofs.HeldByName.{Seen, seen}
-use Rattle.image_objects.proofs.Checkpoints.{CheckpointLaws, checkpoint_too}
+use Rattle.row_changes.proofs.Places.{CheckpointLaws}
+use Rattle.image_objects.proofs.Checkpoints.{checkpoint_too}
 use Rattle.image_objects.proofs.Using.{used_too}
 use Rattle.image_objects.proofs.Saving.{Walked, walked, same_blocks, saved_as_held}
 

@@ -32,7 +32,8 @@ use Rattle.image_objects.proofs.HeldByName.{Seen, seen, kind_named}
 use Rattle.image_objects.proofs.SavedRows.{object_from, listed_found, found_listed, is_saved, was_saved, all_saved, saved_ascend}
 use Rattle.checkpoint.specs.Held.{of_checkpoints, is_checkpoint_kind, is_one_of, HasItsBlocks}
 use Rattle.checkpoint.proofs.OwnBlocks.{IsOwn, seen_own, has_some}
-use Rattle.image_objects.proofs.Checkpoints.{CheckpointLaws, blocks_at, same_checkpoint_places}
+use Rattle.row_changes.proofs.Places.{CheckpointLaws}
+use Rattle.image_objects.proofs.Checkpoints.{blocks_at, same_checkpoint_places}
 use Rattle.image_objects.proofs.Using.{used_too}
 use Rattle.image_objects.proofs.Saving.{walked, same_places, saved_as_held}
 

@@ -23,7 +23,8 @@ use Rattle.image_objects.specs.Inodes.{checkpoint_used, first_used}
 use Rattle.image_objects.specs.VersionChain.{kept_row}
 use Rattle.image_objects.specs.Objects.{pointers_used, inode_used}
 use Rattle.image_objects.specs.Saved.{saved_row, HoldsUsed, IsSavedAsHeld}
-use Rattle.image_objects.proofs.Checkpoints.{CheckpointLaws, same_checkpoint}
+use Rattle.row_changes.proofs.Places.{CheckpointLaws}
+use Rattle.image_objects.proofs.Checkpoints.{same_checkpoint}
 use Rattle.image_objects.proofs.Using.{used_too}
 
 -- ---- the chain

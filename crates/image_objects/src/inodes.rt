@@ -34,7 +34,7 @@ fn undo_by(entries: &[Entry], at: Moment, inode: &mut Inode)
 
 /// Does the entries up to a moment again, the first one first.
 #[tactic(auto, using(crate::proofs::Undoing::redone_here, crate::proofs::Undoing::redone_past))]
-fn redo_by(entries: &[Entry], at: Moment, inode: &mut Inode)
+pub fn redo_by(entries: &[Entry], at: Moment, inode: &mut Inode)
     ensures { inode.new ≡ redone_all (entries_by at entries.now) inode.old }
 {
     for entry in entries {

@@ -40,6 +40,7 @@ pub mod writing_laws;
 
 pub use chains::{ChainRead, ImageChain, read_chain, read_chain_by};
 pub use checkpoint_blocks::read_checkpoint;
+pub use inodes::redo_by;
 pub use naming::push_named;
 pub use objects::{read_object, read_object_by};
 pub use reading::{read_journal, read_journal_by};

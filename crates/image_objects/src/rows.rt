@@ -1,7 +1,7 @@
 use s4_types::{Moment, ObjectId, Ptr};
 
 /// What an image tells of an object's row.
-#[derive(Clone, Copy, PartialEq, Eq)]
+#[derive(Clone, Copy)]
 pub struct ImageRow {
     pub object: ObjectId,
     /// The moment of the object's creation.

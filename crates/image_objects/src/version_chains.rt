@@ -34,7 +34,6 @@ pub struct VersionsRead {
 }
 
 /// A row's version chain as an image has it.
-#[derive(Drop)]
 pub struct VersionChain {
     /// Its journal chain.
     pub chain: ImageChain,
@@ -42,6 +41,17 @@ pub struct VersionChain {
     pub first: Inode,
     /// The inode after all entries.
     pub present: Inode,
+}
+
+// Written by hand, so that an owner lets it go by one call.
+impl Drop for VersionChain {
+    fn drop(self) {
+        let VersionChain {
+            chain: _,
+            first: _,
+            present: _,
+        } = self;
+    }
 }
 
 /// The inode before all entries of a chain that stands. None where the row's version chain isn't

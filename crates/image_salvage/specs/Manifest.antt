@@ -14,12 +14,16 @@ salvaged_line row content gone = json_line (object (put (codes "blocks_gone") (n
 abbrev pub unlisted_name : ℕ → List ℕ
 unlisted_name o = codes "unlisted/object-" ++ decimal o
 
--- the line of an object that no row gives, of these bytes: the same, and whether a newer change of it was left out
-abbrev pub unlisted_line : Listed → List ℕ → ℕ → Bool → List ℕ
-unlisted_line row content gone left_out =
-    json_line (object (put (codes "left_out") (boolean left_out)
+-- an object that no row gives, of these bytes: the same, and whether a newer change of it was left out
+abbrev pub unlisted_data : Listed → List ℕ → ℕ → Bool → Data
+unlisted_data row content gone left_out =
+    object (put (codes "left_out") (boolean left_out)
     (put (codes "blocks_gone") (number (unsigned gone))
-    (put (codes "unlisted_object") (number (unsigned row.object)) (file_members (unlisted_name row.object) row content)))))
+    (put (codes "unlisted_object") (number (unsigned row.object)) (file_members (unlisted_name row.object) row content))))
+
+-- its line
+abbrev pub unlisted_line : Listed → List ℕ → ℕ → Bool → List ℕ
+unlisted_line row content gone left_out = json_line (unlisted_data row content gone left_out)
 
 -- a frame that is lost: its number
 abbrev pub lost_frame_data : ℕ → Data

@@ -27,7 +27,7 @@ use std::alloc::Global;
 
 /// What was given out of an image, and what is lost. Each count stops at 2^64 - 1, far above what
 /// an image can have.
-#[derive(Clone, Copy, Debug, PartialEq, Eq)]
+#[derive(Clone, Copy)]
 pub struct GivenOut {
     /// The last object that was given out, 0 where none was.
     pub last: ObjectId,

@@ -221,9 +221,9 @@ pub(crate) fn newest_entry(block: EntryReader) -> Option<Entry>
 pub(crate) fn step_of(entry: &Entry) -> usize
     ensures { result ≡ step_by entry.now.triples }
 {
-    match entry.triples() {
-        [] => 0,
-        [triple, ..] => triple.index as usize + 1,
+    match entry.triples().first() {
+        None => 0,
+        Some(triple) => triple.index as usize + 1,
     }
 }
 

@@ -1,6 +1,5 @@
 //! A change of which journal blocks may be lost, and an object without it.
 ghost use Rattle.std.specs.Prelude.{◌≡◌};
-ghost use Rattle.undo_redo.specs.Runs.{entries_by, redone_all};
 ghost use Rattle.segment_table.specs.Used.{used_at};
 ghost use Rattle.image_objects.specs.Chains.{entries_used};
 ghost use Rattle.image_objects.specs.Inodes.{first_used};
@@ -9,11 +8,10 @@ ghost use Rattle.image_salvage.specs.LeftOut.{cut_at, cut_moment, inode_before, 
 ghost use Rattle.image_salvage.specs.LeftOut.{is_last_of_frame, may_go_on, newest_of};
 
 use codec::{Entry, Inode, Triple};
-use image_objects::{ImageRow, VersionChain};
+use image_objects::{ImageRow, VersionChain, redo_by};
 use s4_types::limits::{BLOCK_BYTES, ENTRY_TRIPLES, OBJECT_BLOCKS, PAYLOAD_BLOCKS};
 use s4_types::{Moment, Ptr};
 use segment_table::TableBuilder;
-use undo_redo::redo;
 
 /// Whether the change of an entry can have no pointer after this one, the entry's last: an object
 /// has no further block, or it ends there and didn't end later before the change.
@@ -57,19 +55,6 @@ fn cut_at(ends: bool, entries: &[Entry]) -> Option<Moment>
         return None;
     }
     Some(entry.moment())
-}
-
-/// Does the entries up to a moment again, the first one first.
-#[tactic(auto, using(image_objects::proofs::Undoing::redone_here, image_objects::proofs::Undoing::redone_past))]
-fn redo_by(entries: &[Entry], at: Moment, inode: &mut Inode)
-    ensures { inode.new ≡ redone_all (entries_by at entries.now) inode.old }
-{
-    for entry in entries {
-        if entry.moment() > at {
-            continue;
-        }
-        redo(entry, inode);
-    }
 }
 
 /// The moment of the newest change of a row, where it may not be whole.

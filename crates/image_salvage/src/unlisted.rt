@@ -109,9 +109,9 @@ fn pass_rows(
 fn first_moment(entries: &[Entry]) -> Moment
     ensures { result ≡ first_moment entries.now }
 {
-    match entries {
-        [] => Moment::new(0),
-        [entry, ..] => entry.moment(),
+    match entries.first() {
+        None => Moment::new(0),
+        Some(entry) => entry.moment(),
     }
 }
 
