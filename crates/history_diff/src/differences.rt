@@ -12,7 +12,7 @@ use s4_types::{Bytes, Version};
 use std::alloc::{AllocError, Global};
 
 /// What was done to an object between two moments.
-#[derive(Clone, Copy, PartialEq, Eq)]
+#[derive(Clone, Copy)]
 pub enum DifferenceKind {
     /// It was absent before.
     Made,
@@ -31,7 +31,6 @@ pub struct AttributePair {
 
 /// What differs between two versions of an object. An absent one counts as empty, with an empty
 /// attribute.
-#[derive(Drop)]
 pub struct Difference {
     pub kind: DifferenceKind,
     /// In bytes, as are all sizes.
@@ -41,6 +40,19 @@ pub struct Difference {
     pub attributes: Option<AttributePair>,
     /// Where the bytes differ. After the end of the shorter version the longer one does.
     pub ranges: Vec<ByteRange>,
+}
+
+// Written by hand, so that an owner lets it go by one call.
+impl Drop for Difference {
+    fn drop(self) {
+        let Difference {
+            kind: _,
+            size_before: _,
+            size_after: _,
+            attributes: _,
+            ranges: _,
+        } = self;
+    }
 }
 
 fn are_same(one: &[u8], other: &[u8]) -> bool
@@ -128,10 +140,9 @@ fn difference_between(
     requires { AreAlike before.now after.now → ⊥ }
     ensures { IfOk result (λ difference. IsDifferenceOf before.now after.now (told_of difference)) }
 {
-    let attributes = attributes_between(alloc, attribute_of(before), attribute_of(after))?;
-    let old = content_of(before);
-    let new = content_of(after);
+    let (old, new) = (content_of(before), content_of(after));
     let ranges = ranges_of(alloc, old, new)?;
+    let attributes = attributes_between(alloc, attribute_of(before), attribute_of(after))?;
     Ok(Difference {
         kind: kind_between(before, after),
         size_before: old.len(),

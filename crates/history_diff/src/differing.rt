@@ -1,6 +1,7 @@
 //! Which objects differ between two moments of a drive.
 ghost use Rattle.std.specs.Prelude.{◌≡◌, ℕ, ◌<◌, IfOk, IfNone, IfSome};
 ghost use Rattle.drive.specs.Fields.{state_in, store_of};
+ghost use Rattle.history_diff.specs.Differences.{AreAlike, IsDifferenceOf, told_of};
 ghost use Rattle.history_diff.specs.Diffing.{AreVisible, IsDifferenceAt, IsDifferenceNext};
 ghost use Rattle.history_diff.specs.Diffing.{IsPassed, IsUnreadable, row_of};
 
@@ -10,15 +11,26 @@ use drive::{Drive, Session};
 use history_view::{is_visible, version_at};
 use s4_types::{Moment, ObjectId, Version};
 use segment_word::Naming;
-use std::alloc::Global;
+use std::alloc::{AllocError, Global};
 
 /// An object that differs between two moments: its versions there, and what differs between these.
-#[derive(Drop)]
 pub struct DifferingObject {
     pub object: ObjectId,
     pub before: Version,
     pub after: Version,
     pub difference: Difference,
+}
+
+// Written by hand, so that an owner lets it go by one call.
+impl Drop for DifferingObject {
+    fn drop(self) {
+        let DifferingObject {
+            object: _,
+            before: _,
+            after: _,
+            difference: _,
+        } = self;
+    }
 }
 
 /// The first of two moments of an object that can't be read.
@@ -64,13 +76,30 @@ pub(crate) fn differing_at<J: Naming>(
     }
     let old = version_at(alloc, drive, session, object, before)?;
     let new = version_at(alloc, drive, session, object, after)?;
-    let Some(difference) = difference_of(alloc, &old, &new)? else {
+    Ok(differing_by(alloc, object, old, new)?)
+}
+
+// An object that has these two versions, where they differ.
+fn differing_by(
+    alloc: Global,
+    object: ObjectId,
+    before: Version,
+    after: Version,
+) -> Result<Option<DifferingObject>, AllocError>
+    ensures none { IfOk result (λ found. IfNone found (AreAlike before after)) }
+    ensures some { IfOk result
+        (λ found. IfSome found
+        (λ differing. (differing.object ≡ object) × (differing.before ≡ before)
+        × (differing.after ≡ after)
+        × IsDifferenceOf before after (told_of differing.difference))) }
+{
+    let Some(difference) = difference_of(alloc, &before, &after)? else {
         return Ok(None);
     };
     Ok(Some(DifferingObject {
         object,
-        before: old,
-        after: new,
+        before,
+        after,
         difference,
     }))
 }

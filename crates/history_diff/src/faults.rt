@@ -6,7 +6,7 @@ use s4_types::{Moment, Refusal};
 use std::alloc::AllocError;
 
 /// Why an output ended early. What was written by then is a beginning of it.
-#[derive(Clone, Copy, Debug, PartialEq, Eq)]
+#[derive(Clone, Copy)]
 pub enum Stop {
     /// Memory was refused.
     NoMemory,
@@ -33,7 +33,7 @@ impl From<Refusal> for Stop {
 }
 
 /// Why differences weren't told, or not all of them.
-#[derive(Clone, Copy, Debug, PartialEq, Eq)]
+#[derive(Clone, Copy)]
 pub enum DiffFault {
     /// The moment can't be read: of the object that was asked for, or of any. Nothing was written.
     Unreadable(Moment),

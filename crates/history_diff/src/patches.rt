@@ -15,7 +15,7 @@ use std::alloc::{AllocError, Global};
 pub const PATCH_LINE_BYTES: usize = 32;
 
 /// Whose bytes a line has.
-#[derive(Clone, Copy, PartialEq, Eq)]
+#[derive(Clone, Copy)]
 pub enum Side {
     Before,
     After,

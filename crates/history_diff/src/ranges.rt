@@ -8,7 +8,7 @@ ghost use Rattle.history_diff.specs.private.Finding.{IsNextRange};
 use std::alloc::{AllocError, Global};
 
 /// Positions that differ, one after the other: the first and the last of them.
-#[derive(Clone, Copy, PartialEq, Eq)]
+#[derive(Clone, Copy)]
 pub struct ByteRange {
     pub first: usize,
     pub last: usize,

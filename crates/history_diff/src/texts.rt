@@ -10,7 +10,7 @@ use s4_types::{Moment, ObjectId};
 use std::alloc::{AllocError, Global};
 
 /// How much is told of the bytes that differ.
-#[derive(Clone, Copy, PartialEq, Eq)]
+#[derive(Clone, Copy)]
 pub enum Detail {
     /// Where they are.
     Ranges,

@@ -1,17 +1,19 @@
 -- The text of parts that follow each other.
-use Rattle.std.proofs.Common.{◌≡◌, ◌∙◌, ◌+◌, ◌<◌, ◌++◌, ℕ, List, [], ◌∷◌, length, take, get_or, Option, Result, IfOk, String, string_bytes, decimal, refl, sym, ap, ap₂, subst, append_assoc}
+use Rattle.std.proofs.Common.{◌≡◌, ◌∙◌, ◌+◌, ◌<◌, ◌++◌, ℕ, List, [], ◌∷◌, length, take, get_or, Option, sym, ap, subst, append_assoc}
 use Rattle.std.specs.List.{flat_map}
 use Rattle.std.specs.Io.KnownBytes.{Appends}
 use Rattle.std.proofs.KnownBytes.{Appends-trans}
 use Rattle.std.proofs.lemmas.List.{append-nil, take_more}
 use Rattle.std.proofs.lemmas.List.Concat.{flat_map-append}
-use Rattle.moment_words.specs.declared.printing.MomentStyle.{MomentStyle}
-use Rattle.moment_words.specs.Texts.{moment_text}
-use Rattle.history_report.specs.Page.{Part, Escaped, part_text, page_text}
+use Rattle.history_report.specs.Page.{Part, part_text, page_text}
 
 -- the text of two lists of parts is that of the one, and then that of the other
 pub page_two : (a b : List Part) → page_text (a ++ b) ≡ page_text a ++ page_text b
 page_two a b = flat_map-append part_text a b
+
+-- the text of the parts so far and of one more
+pub page_on : (parts : List Part) (part : Part) → page_text (parts ++ part ∷ []) ≡ page_text parts ++ part_text part
+page_on parts part = page_two parts (part ∷ []) ∙ ap (λ l. page_text parts ++ l) (append-nil (part_text part))
 
 -- what is written of two lists of parts
 pub appends_two : (x y z : Option (List ℕ)) (a b : List Part) → Appends x y (page_text a) → Appends y z (page_text b) → Appends x z (page_text (a ++ b))
@@ -47,40 +49,3 @@ pub page_five : (a b c d e : List Part) → page_text ((((a ++ b) ++ c) ++ d) ++
 page_five a b c d e =
     page_two (((a ++ b) ++ c) ++ d) e
     ∙ ap (λ l. l ++ page_text e) (page_two ((a ++ b) ++ c) d ∙ ap (λ l. l ++ page_text d) (page_two (a ++ b) c ∙ ap (λ l. l ++ page_text c) (page_two a b)))
-
--- ---- texts in place of parts
-
--- texts one after the other
-abbrev pub joined : List (List ℕ) → List ℕ
-joined [] = []
-joined (t ∷ []) = t
-joined (t ∷ u ∷ texts) = t ++ joined (u ∷ texts)
-
--- each is the text of its part
-abbrev pub AreTexts : List (List ℕ) → List Part → Type 0
-AreTexts [] [] = Unit {0}
-AreTexts [] (p ∷ parts) = ⊥
-AreTexts (t ∷ texts) [] = ⊥
-AreTexts (t ∷ texts) (p ∷ parts) = (t ≡ part_text p) × AreTexts texts parts
-
--- so together they are the text of the parts
-pub texts_joined : (texts : List (List ℕ)) (parts : List Part) → AreTexts texts parts → joined texts ≡ page_text parts
-texts_joined [] [] are = refl
-texts_joined [] (p ∷ parts) are = absurd are
-texts_joined (t ∷ texts) [] are = absurd are
-texts_joined (t ∷ []) (p ∷ []) are = are.0 ∙ sym (append-nil (part_text p))
-texts_joined (t ∷ []) (p ∷ q ∷ parts) are = absurd are.1
-texts_joined (t ∷ u ∷ texts) (p ∷ []) are = absurd are.1
-texts_joined (t ∷ u ∷ texts) (p ∷ q ∷ parts) are = ap₂ (λ (x y : List ℕ). x ++ y) are.0 (texts_joined (u ∷ texts) (q ∷ parts) are.1)
-
--- a call that gave such texts gave the text of the parts
-pub gives_parts : {Z E : Type 0} → (r : Result (String Z) E) (texts : List (List ℕ)) (parts : List Part) → AreTexts texts parts → IfOk r (λ text. string_bytes text ≡ joined texts) → IfOk r (λ text. string_bytes text ≡ page_text parts)
-gives_parts r texts parts are gave = subst (λ (l : List ℕ). IfOk r (λ text. string_bytes text ≡ l)) (texts_joined texts parts are) gave
-
--- the text of a moment
-abbrev pub text_of_moment : MomentStyle → ℕ → List ℕ
-text_of_moment style t = part_text (Escaped (moment_text t style))
-
--- the text of a number
-abbrev pub text_of_number : ℕ → List ℕ
-text_of_number n = part_text (Escaped (decimal n))

@@ -26,16 +26,19 @@ flushes_and_windows_among rows = filter (λ row. is_flush_or_window row.kind) ro
 abbrev pub flushes_and_windows_of : State → List AuditRow
 flushes_and_windows_of s = flushes_and_windows_among (audit_of s)
 
+-- the beginning of a paragraph about moments that were hidden: when, and which
+abbrev pub moments_hidden : MomentStyle → AuditRow → List Part
+moments_hidden style row =
+    Constant (codes "<p>") ∷ Escaped (moment_text row.moment style) ∷ Constant (codes ": moments ") ∷ Escaped (moment_text row.first style) ∷ Constant (codes " to ") ∷ Escaped (moment_text row.second style) ∷ []
+
 -- moments of all objects that were hidden, and when
 abbrev pub all_hidden : MomentStyle → AuditRow → List Part
-all_hidden style row =
-    Constant (codes "<p>") ∷ Escaped (moment_text row.moment style) ∷ Constant (codes ": moments ") ∷ Escaped (moment_text row.first style) ∷ Constant (codes " to ") ∷ Escaped (moment_text row.second style) ∷ Constant (codes " of all objects hidden</p>\n") ∷ []
+all_hidden style row = moments_hidden style row ++ Constant (codes " of all objects hidden</p>\n") ∷ []
 
 -- moments of one object that were
 abbrev pub object_hidden : MomentStyle → AuditRow → List Part
 object_hidden style row =
-    Constant (codes "<p>") ∷ Escaped (moment_text row.moment style) ∷ Constant (codes ": moments ") ∷ Escaped (moment_text row.first style) ∷ Constant (codes " to ") ∷ Escaped (moment_text row.second style)
-    ∷ Constant (codes " of object ") ∷ Escaped (decimal row.object) ∷ Constant (codes " hidden</p>\n") ∷ []
+    moments_hidden style row ++ Constant (codes " of object ") ∷ Escaped (decimal row.object) ∷ Constant (codes " hidden</p>\n") ∷ []
 
 -- a window that was set, and when
 abbrev pub window_set : MomentStyle → AuditRow → List Part

@@ -8,7 +8,7 @@ ghost use Rattle.history_report.specs.Page.{page_text};
 ghost use Rattle.history_report.specs.private.Sections.{WritesDifferences};
 ghost use Rattle.history_report.specs.private.Writing.{AreLines, WritesDetail, WritesShown};
 
-use crate::escaping::{data_text, number_text};
+use crate::parts::{no_parts, with_data, with_number, with_text};
 use drive::Drive;
 use history_diff::{
     DifferingObject, Stop, hunks_between, next_differing, write_line, write_out, write_patch,
@@ -66,10 +66,11 @@ fn difference_end(is_cut: bool) -> &'static str
 fn difference_text(alloc: Global, object: ObjectId, lines: &[u8]) -> Result<String, AllocError>
     ensures { IfOk result (λ text. string_bytes text ≡ page_text (difference_by object lines.now)) }
 {
-    let number = number_text(alloc, object.number())?;
-    let shown = data_text(alloc, first_lines(lines))?;
-    let end = difference_end(has_more_lines(lines));
-    format!(in alloc; "<h3>object {number}</h3>\n<pre>{shown}{end}")
+    let made = with_text(no_parts(alloc), "<h3>object ");
+    let made = with_number(alloc, made, object.number());
+    let made = with_text(made, "</h3>\n<pre>");
+    let made = with_data(alloc, made, first_lines(lines));
+    with_text(made, difference_end(has_more_lines(lines)))
 }
 
 // Writes the lines that differ where both versions are text, and else the bytes that differ in hex.

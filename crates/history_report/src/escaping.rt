@@ -1,12 +1,9 @@
 //! Data as a page has it.
-ghost use Rattle.std.specs.Prelude.{◌≡◌, ◌++◌, IfOk, OnOk, decimal, string_bytes};
+ghost use Rattle.std.specs.Prelude.{◌≡◌, ◌++◌, IfOk, OnOk, string_bytes};
 ghost use Rattle.hex.specs.Hex.{encode_lower};
-ghost use Rattle.moment_words.specs.Texts as texts;
 ghost use Rattle.history_report.specs.Page.{Escaped, escaped, escaped_char, is_between, is_shown};
 ghost use Rattle.history_report.specs.Page.{is_unseen, part_text};
 
-use moment_words::{MomentStyle, moment_text};
-use s4_types::Moment;
 use std::alloc::{AllocError, Global};
 use std::str;
 
@@ -77,25 +74,4 @@ fn digits_text(alloc: Global, bytes: &[u8]) -> Result<String, AllocError>
 {
     let digits = hex::encode(alloc, bytes)?;
     escaped(alloc, digits.as_str())
-}
-
-/// The text of a number on a page.
-pub(crate) fn number_text(alloc: Global, number: u64) -> Result<String, AllocError>
-    ensures { IfOk result (λ text. string_bytes text ≡ part_text (Escaped (decimal number))) }
-{
-    let digits = format!(in alloc; "{number}")?;
-    data_text(alloc, digits.as_bytes())
-}
-
-/// The text of a moment on a page.
-pub(crate) fn moment_cell(
-    alloc: Global,
-    moment: Moment,
-    style: MomentStyle,
-) -> Result<String, AllocError>
-    ensures { IfOk result
-        (λ text. string_bytes text ≡ part_text (Escaped (texts.moment_text moment style))) }
-{
-    let text = moment_text(alloc, moment.number(), style)?;
-    data_text(alloc, text.as_bytes())
 }

@@ -7,10 +7,11 @@ ghost use Rattle.s4_types.specs.declared.refusals.Refusal.TheVariants.{NoMemory}
 ghost use Rattle.drive.specs.Fields.{state_in};
 ghost use Rattle.history_report.specs.Flushes.{all_hidden, flush_parts, flushes_and_windows_among};
 ghost use Rattle.history_report.specs.Flushes.{flushes_and_windows_of, is_flush_or_window};
-ghost use Rattle.history_report.specs.Flushes.{none_flushed, object_hidden, window_set};
+ghost use Rattle.history_report.specs.Flushes.{moments_hidden, none_flushed, object_hidden};
+ghost use Rattle.history_report.specs.Flushes.{window_set};
 ghost use Rattle.history_report.specs.Page.{page_text};
 
-use crate::escaping::{moment_cell, number_text};
+use crate::parts::{no_parts, with_moment, with_number, with_text};
 use crate::texts::NO_FLUSH;
 use drive::Drive;
 use history_diff::{Stop, write_out};
@@ -62,34 +63,45 @@ pub(crate) fn flushes_and_windows_of<J: Naming>(
     Ok(flushes)
 }
 
+// The beginning of a paragraph about moments that were hidden.
+fn moments_hidden(alloc: Global, row: &AuditRow, style: MomentStyle) -> Result<String, AllocError>
+    ensures { IfOk result (λ text. string_bytes text ≡ page_text (moments_hidden style row.now)) }
+{
+    let made = with_text(no_parts(alloc), "<p>");
+    let made = with_moment(alloc, made, row.moment, style);
+    let made = with_text(made, ": moments ");
+    let made = with_moment(alloc, made, Moment::new(row.first), style);
+    let made = with_text(made, " to ");
+    with_moment(alloc, made, Moment::new(row.second), style)
+}
+
 // The paragraph about moments of all objects that were hidden.
 fn all_hidden(alloc: Global, row: &AuditRow, style: MomentStyle) -> Result<String, AllocError>
     ensures { IfOk result (λ text. string_bytes text ≡ page_text (all_hidden style row.now)) }
 {
-    let moment = moment_cell(alloc, row.moment, style)?;
-    let first = moment_cell(alloc, Moment::new(row.first), style)?;
-    let last = moment_cell(alloc, Moment::new(row.second), style)?;
-    format!(in alloc; "<p>{moment}: moments {first} to {last} of all objects hidden</p>\n")
+    let made = moments_hidden(alloc, row, style);
+    with_text(made, " of all objects hidden</p>\n")
 }
 
 // The paragraph about moments of one object that were hidden.
 fn object_hidden(alloc: Global, row: &AuditRow, style: MomentStyle) -> Result<String, AllocError>
     ensures { IfOk result (λ text. string_bytes text ≡ page_text (object_hidden style row.now)) }
 {
-    let moment = moment_cell(alloc, row.moment, style)?;
-    let first = moment_cell(alloc, Moment::new(row.first), style)?;
-    let last = moment_cell(alloc, Moment::new(row.second), style)?;
-    let number = number_text(alloc, row.object.number())?;
-    format!(in alloc; "<p>{moment}: moments {first} to {last} of object {number} hidden</p>\n")
+    let made = moments_hidden(alloc, row, style);
+    let made = with_text(made, " of object ");
+    let made = with_number(alloc, made, row.object.number());
+    with_text(made, " hidden</p>\n")
 }
 
 // The paragraph about a window that was set.
 fn window_set(alloc: Global, row: &AuditRow, style: MomentStyle) -> Result<String, AllocError>
     ensures { IfOk result (λ text. string_bytes text ≡ page_text (window_set style row.now)) }
 {
-    let moment = moment_cell(alloc, row.moment, style)?;
-    let window = number_text(alloc, row.first)?;
-    format!(in alloc; "<p>{moment}: the window was set to {window} moments</p>\n")
+    let made = with_text(no_parts(alloc), "<p>");
+    let made = with_moment(alloc, made, row.moment, style);
+    let made = with_text(made, ": the window was set to ");
+    let made = with_number(alloc, made, row.first);
+    with_text(made, " moments</p>\n")
 }
 
 // The paragraph about a row. Nothing for one that is of neither a flush nor a window.
@@ -108,23 +120,6 @@ fn flush_text(alloc: Global, row: &AuditRow, style: MomentStyle) -> Result<Strin
     }
 }
 
-// Writes the paragraph about a row.
-fn write_flush<W: Sink>(
-    alloc: Global,
-    row: &AuditRow,
-    style: MomentStyle,
-    writer: &mut W,
-) -> Result<(), Stop>
-    requires writer { W.failures writer.old + 1 < 2 ^ 64 }
-    ensures flush { OnOk result
-        (Appends (W.passed writer.old) (W.passed writer.new)
-        (page_text (flush_parts style row.now))) }
-    ensures failures { OnOk result (W.failures writer.new ≡ W.failures writer.old) }
-{
-    let text = flush_text(alloc, row, style)?;
-    write_out(writer, text.as_bytes())
-}
-
 /// Writes the paragraph about each of these rows, one after the other.
 pub(crate) fn write_each_flush<W: Sink>(
     alloc: Global,
@@ -139,7 +134,8 @@ pub(crate) fn write_each_flush<W: Sink>(
     ensures failures { OnOk result (W.failures writer.new ≡ W.failures writer.old) }
 {
     for row in flushes {
-        write_flush(alloc, row, style, writer)?;
+        let text = flush_text(alloc, row, style)?;
+        write_out(writer, text.as_bytes())?;
     }
     Ok(())
 }
@@ -148,8 +144,5 @@ pub(crate) fn write_each_flush<W: Sink>(
 pub(crate) fn none_flushed(flushes: &[AuditRow]) -> &'static str
     ensures { result.now ≡ none_flushed flushes.now }
 {
-    match flushes {
-        [] => NO_FLUSH,
-        [_, ..] => "",
-    }
+    if flushes.is_empty() { NO_FLUSH } else { "" }
 }

@@ -17,6 +17,7 @@ mod flushes;
 pub mod laws;
 mod marks;
 mod page;
+mod parts;
 mod scale;
 mod strips;
 mod table;

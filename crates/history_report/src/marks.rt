@@ -5,7 +5,7 @@ ghost use Rattle.history_report.specs.Page.{page_text};
 ghost use Rattle.history_report.specs.Timeline.{change_marks, done_text, mark_head, mark_of};
 ghost use Rattle.history_report.specs.Timeline.{mark_shape, place_of, run_mark};
 
-use crate::escaping::{moment_cell, number_text};
+use crate::parts::{no_parts, with_moment, with_number, with_text};
 use crate::scale::{Scale, place_of};
 use history_view::{Kind, ObjectChange};
 use s4_types::{ObjectId, Span};
@@ -56,15 +56,17 @@ fn mark_text(
         (λ text. string_bytes text ≡ page_text (mark_of scale.now object change.now)) }
 {
     let (head, shape) = mark_texts(change.kind);
-    let done = done_text(change.kind);
-    let place = number_text(alloc, place_of(scale, change.moment))?;
-    let number = number_text(alloc, object.number())?;
-    let moment = moment_cell(alloc, change.moment, scale.style)?;
-    let before = number_text(alloc, u64::from(change.size_before))?;
-    let after = number_text(alloc, u64::from(change.size_after))?;
-    format!(in alloc;
-        "{head}{place}{shape}{number}{done}{moment}: {before} to {after} bytes</title></path>\n"
-    )
+    let made = with_text(no_parts(alloc), head);
+    let made = with_number(alloc, made, place_of(scale, change.moment));
+    let made = with_text(made, shape);
+    let made = with_number(alloc, made, object.number());
+    let made = with_text(made, done_text(change.kind));
+    let made = with_moment(alloc, made, change.moment, scale.style);
+    let made = with_text(made, ": ");
+    let made = with_number(alloc, made, u64::from(change.size_before));
+    let made = with_text(made, " to ");
+    let made = with_number(alloc, made, u64::from(change.size_after));
+    with_text(made, " bytes</title></path>\n")
 }
 
 // Adds the mark of a change of an object. One that goes on with the change before it has none of
@@ -117,15 +119,17 @@ fn run_text(
         (λ text. string_bytes text ≡ page_text (run_mark scale.now object run.now)) }
 {
     let (place, end) = (place_of(scale, run.first), place_of(scale, run.last));
-    let left = number_text(alloc, place)?;
-    let width = number_text(alloc, end.saturating_sub(place) + 3)?;
-    let number = number_text(alloc, object.number())?;
-    let first = moment_cell(alloc, run.first, scale.style)?;
-    let last = moment_cell(alloc, run.last, scale.style)?;
-    format!(in alloc;
-        "<rect class=\"hidden\" x=\"{left}\" width=\"{width}\" height=\"16\"><title>object {number} \
-        hidden by a flush: {first} to {last}</title></rect>\n"
-    )
+    let made = with_text(no_parts(alloc), "<rect class=\"hidden\" x=\"");
+    let made = with_number(alloc, made, place);
+    let made = with_text(made, "\" width=\"");
+    let made = with_number(alloc, made, end.saturating_sub(place) + 3);
+    let made = with_text(made, "\" height=\"16\"><title>object ");
+    let made = with_number(alloc, made, object.number());
+    let made = with_text(made, " hidden by a flush: ");
+    let made = with_moment(alloc, made, run.first, scale.style);
+    let made = with_text(made, " to ");
+    let made = with_moment(alloc, made, run.last, scale.style);
+    with_text(made, "</title></rect>\n")
 }
 
 /// Adds the marks of these runs of hidden moments of an object.

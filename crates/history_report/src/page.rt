@@ -1,20 +1,20 @@
 //! The page about a drive.
-ghost use Rattle.std.specs.Prelude.{◌≡◌, ◌≢◌, ◌+◌, ◌^◌, ◌<◌, Some, IfOk, IfErr, OnOk};
+ghost use Rattle.std.specs.Prelude.{◌≡◌, ◌≢◌, ◌+◌, ◌^◌, ◌<◌, ◌∷◌, Some, IfOk, IfErr, OnOk};
 ghost use Rattle.std.specs.Prelude.{string_bytes};
 ghost use Rattle.std.specs.Io.KnownBytes.{Appends};
 ghost use Rattle.s4_model.specs.Visible.{IsVisible};
 ghost use Rattle.window.specs.Runs.{Ascend};
 ghost use Rattle.drive.specs.Fields.{state_in, store_of};
-ghost use Rattle.history_report.specs.Page.{page_text};
-ghost use Rattle.history_report.specs.Report.{IsFaultOf, IsSince, Reports, axis_of, end_of};
+ghost use Rattle.history_report.specs.Page.{Constant, page_text};
+ghost use Rattle.history_report.specs.Report.{IsFaultOf, IsSince, Reports, end_of};
 ghost use Rattle.history_report.specs.Report.{WritesPage, head_of, none_text, numbers_of};
 ghost use Rattle.history_report.specs.private.Sections.{WritesFlushes, WritesSince, WritesTable};
 ghost use Rattle.history_report.specs.private.Sections.{WritesTimeline};
 
 use crate::differences::write_differences;
-use crate::escaping::moment_cell;
 use crate::faults::ReportFault;
 use crate::flushes::{flushes_and_windows_of, none_flushed, write_each_flush};
+use crate::parts::{no_parts, with_moment, with_text};
 use crate::scale::scale_of;
 use crate::strips::write_strips;
 use crate::table::write_rows;
@@ -100,33 +100,40 @@ fn write_page<J: Naming, W: Sink>(
     write_since(alloc, drive, from, writer)
 }
 
-// The numbers of a drive: its clock, its floor, and the moment since which differences are shown.
+// The beginning of a page up to the numbers of a drive: its clock, its floor, and the moment since
+// which differences are shown.
 fn numbers_text<J: Naming>(
     alloc: Global,
     drive: &Drive<J>,
     from: Moment,
 ) -> Result<String, AllocError>
     ensures { IfOk result
-        (λ text. string_bytes text ≡ page_text (numbers_of (state_in drive.now) from)) }
+        (λ text. string_bytes text
+        ≡ page_text (Constant PAGE_HEAD.now ∷ numbers_of (state_in drive.now) from)) }
 {
     let style = style_of(drive.clock().number(), false);
-    let clock = moment_cell(alloc, drive.clock(), style)?;
-    let floor = moment_cell(alloc, drive.floor(), style)?;
-    let since = moment_cell(alloc, from, style)?;
-    format!(in alloc;
-        "<p>Clock {clock}, floor {floor}. \
-        Differences are those since {since}.</p>\n"
-    )
+    let made = with_text(no_parts(alloc), PAGE_HEAD);
+    let made = with_text(made, "<p>Clock ");
+    let made = with_moment(alloc, made, drive.clock(), style);
+    let made = with_text(made, ", floor ");
+    let made = with_moment(alloc, made, drive.floor(), style);
+    let made = with_text(made, ". Differences are those since ");
+    let made = with_moment(alloc, made, from, style);
+    with_text(made, ".</p>\n")
 }
 
-// The ends of the timeline: the floor and the clock.
-fn axis_text<J: Naming>(alloc: Global, drive: &Drive<J>) -> Result<String, AllocError>
-    ensures { IfOk result (λ text. string_bytes text ≡ page_text (axis_of (state_in drive.now))) }
+// The beginning of a page, up to the ends of the timeline: the floor and the clock.
+fn head_text<J: Naming>(alloc: Global, drive: &Drive<J>, from: Moment) -> Result<String, AllocError>
+    ensures { IfOk result
+        (λ text. string_bytes text ≡ page_text (head_of (state_in drive.now) from)) }
 {
     let style = style_of(drive.clock().number(), false);
-    let floor = moment_cell(alloc, drive.floor(), style)?;
-    let clock = moment_cell(alloc, drive.clock(), style)?;
-    format!(in alloc; "<div class=\"axis\"><span>{floor}</span><span>{clock}</span></div>\n")
+    let made = with_text(numbers_text(alloc, drive, from), TIMELINE_HEAD);
+    let made = with_text(made, "<div class=\"axis\"><span>");
+    let made = with_moment(alloc, made, drive.floor(), style);
+    let made = with_text(made, "</span><span>");
+    let made = with_moment(alloc, made, drive.clock(), style);
+    with_text(made, "</span></div>\n")
 }
 
 // Writes the beginning of a page.
@@ -142,12 +149,8 @@ fn write_head<J: Naming, W: Sink>(
         (page_text (head_of (state_in drive.now) from))) }
     ensures failures { OnOk result (W.failures writer.new ≡ W.failures writer.old) }
 {
-    let numbers = numbers_text(alloc, drive, from)?;
-    let axis = axis_text(alloc, drive)?;
-    write_out(writer, PAGE_HEAD.as_bytes())?;
-    write_out(writer, numbers.as_bytes())?;
-    write_out(writer, TIMELINE_HEAD.as_bytes())?;
-    write_out(writer, axis.as_bytes())
+    let text = head_text(alloc, drive, from)?;
+    write_out(writer, text.as_bytes())
 }
 
 // Writes the beginning of a page, and the strips.

@@ -1,15 +1,14 @@
 //! The strips of a timeline: one for each object.
 ghost use Rattle.std.specs.Prelude.{◌≡◌, ◌++◌, ◌+◌, ◌^◌, ◌<◌, IfOk, OnOk};
 ghost use Rattle.std.specs.Prelude.{string_bytes};
-ghost use Rattle.std.specs.Io.KnownBytes.{Appends};
 ghost use Rattle.window.specs.Runs.{Ascend};
 ghost use Rattle.drive.specs.Fields.{state_in, store_of};
 ghost use Rattle.history_report.specs.Page.{page_text};
 ghost use Rattle.history_report.specs.Timeline.{strip_by, strip_head, strip_of};
 ghost use Rattle.history_report.specs.private.Sections.{WritesStrips};
 
-use crate::escaping::number_text;
 use crate::marks::{push_marks, push_runs};
+use crate::parts::{no_parts, with_number, with_text};
 use crate::scale::Scale;
 use drive::Drive;
 use history_diff::{Stop, write_out};
@@ -23,10 +22,9 @@ use window::of_list;
 fn strip_head(alloc: Global, object: ObjectId) -> Result<String, AllocError>
     ensures { IfOk result (λ text. string_bytes text ≡ page_text (strip_head object)) }
 {
-    let number = number_text(alloc, object.number())?;
-    format!(in alloc;
-        "<div class=\"strip\"><span>object {number}</span><svg viewBox=\"-8 0 1016 16\">\n"
-    )
+    let made = with_text(no_parts(alloc), "<div class=\"strip\"><span>object ");
+    let made = with_number(alloc, made, object.number());
+    with_text(made, "</span><svg viewBox=\"-8 0 1016 16\">\n")
 }
 
 // The strip of an object that has these changes.
@@ -77,29 +75,6 @@ fn strip_text<J: Naming>(
     Ok(text)
 }
 
-// Writes the strip of an object.
-fn write_strip<J: Naming, W: Sink>(
-    alloc: Global,
-    drive: &mut Drive<J>,
-    object: ObjectId,
-    scale: &Scale,
-    runs: &[Span],
-    writer: &mut W,
-) -> Result<(), Stop>
-    requires ordered { Ascend runs.now }
-    requires writer { W.failures writer.old + 1 < 2 ^ 64 }
-    ensures strip { OnOk result
-        (Appends (W.passed writer.old) (W.passed writer.new)
-        (page_text
-        (strip_of scale.now (state_in drive.old) (store_of drive.old) runs.now object))) }
-    ensures failures { OnOk result (W.failures writer.new ≡ W.failures writer.old) }
-    ensures ledger { drive.new.ledger ≡ drive.old.ledger }
-    ensures store { store_of drive.new ≡ store_of drive.old }
-{
-    let text = strip_text(alloc, drive, object, scale, runs)?;
-    write_out(writer, text.as_bytes())
-}
-
 /// Writes the strip of each object that has a row.
 pub(crate) fn write_strips<J: Naming, W: Sink>(
     alloc: Global,
@@ -119,7 +94,8 @@ pub(crate) fn write_strips<J: Naming, W: Sink>(
 {
     let mut last = ObjectId::new(0);
     while let Some(object) = drive.next_row(last) {
-        write_strip(alloc, drive, object, scale, runs, writer)?;
+        let text = strip_text(alloc, drive, object, scale, runs)?;
+        write_out(writer, text.as_bytes())?;
         last = object;
     }
     Ok(())

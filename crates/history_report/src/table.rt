@@ -1,12 +1,11 @@
 //! The table of objects.
 ghost use Rattle.std.specs.Prelude.{◌≡◌, ◌+◌, ◌^◌, ◌<◌, true, IfOk, OnOk, string_bytes};
-ghost use Rattle.std.specs.Io.KnownBytes.{Appends};
 ghost use Rattle.drive.specs.Fields.{state_in, store_of};
 ghost use Rattle.history_report.specs.Page.{page_text};
 ghost use Rattle.history_report.specs.Table.{row_of, state_cell};
 ghost use Rattle.history_report.specs.private.Sections.{WritesRows};
 
-use crate::escaping::{data_text, moment_cell, number_text};
+use crate::parts::{no_parts, with_data, with_moment, with_number, with_text};
 use drive::Drive;
 use history_diff::{Stop, write_out};
 use history_view::{Listed, next_listed};
@@ -30,32 +29,17 @@ fn state_cell(is_live: bool) -> &'static str
 fn row_text(alloc: Global, row: &Listed, style: MomentStyle) -> Result<String, AllocError>
     ensures { IfOk result (λ text. string_bytes text ≡ page_text (row_of style row.now)) }
 {
-    let object = number_text(alloc, row.object.number())?;
-    let state = state_cell(row.is_live);
-    let size = number_text(alloc, u64::from(row.size))?;
-    let created = moment_cell(alloc, row.created, style)?;
-    let changed = moment_cell(alloc, row.changed, style)?;
-    let attribute = data_text(alloc, row.attribute.as_slice())?;
-    format!(in alloc;
-        "<tr><td>{object}{state}{size}</td>\
-        <td>{created}</td><td>{changed}</td><td>{attribute}</td></tr>\n"
-    )
-}
-
-// Writes the row of an object.
-fn write_row<W: Sink>(
-    alloc: Global,
-    row: &Listed,
-    style: MomentStyle,
-    writer: &mut W,
-) -> Result<(), Stop>
-    requires writer { W.failures writer.old + 1 < 2 ^ 64 }
-    ensures row { OnOk result
-        (Appends (W.passed writer.old) (W.passed writer.new) (page_text (row_of style row.now))) }
-    ensures failures { OnOk result (W.failures writer.new ≡ W.failures writer.old) }
-{
-    let text = row_text(alloc, row, style)?;
-    write_out(writer, text.as_bytes())
+    let made = with_text(no_parts(alloc), "<tr><td>");
+    let made = with_number(alloc, made, row.object.number());
+    let made = with_text(made, state_cell(row.is_live));
+    let made = with_number(alloc, made, u64::from(row.size));
+    let made = with_text(made, "</td><td>");
+    let made = with_moment(alloc, made, row.created, style);
+    let made = with_text(made, "</td><td>");
+    let made = with_moment(alloc, made, row.changed, style);
+    let made = with_text(made, "</td><td>");
+    let made = with_data(alloc, made, row.attribute.as_slice());
+    with_text(made, "</td></tr>\n")
 }
 
 /// Writes the row of each object that is listed at a moment, also of those that were deleted before
@@ -77,7 +61,8 @@ pub(crate) fn write_rows<J: Naming, W: Sink>(
 {
     let mut last = ObjectId::new(0);
     while let Some(row) = next_listed(drive, last, at, true) {
-        write_row(alloc, &row, style, writer)?;
+        let text = row_text(alloc, &row, style)?;
+        write_out(writer, text.as_bytes())?;
         last = row.object;
     }
     Ok(())

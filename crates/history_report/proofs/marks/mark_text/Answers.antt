@@ -1,27 +1,19 @@
-use Rattle.std.proofs.Common.{◌∙◌, [], ◌∷◌, string_bytes, refl, ap, codes}
+use Rattle.std.proofs.Common.{ℕ, List, take, refl}
+use Rattle.history_report.specs.Page.{Part}
 use Rattle.history_report.specs.Timeline.{mark_of}
-use Rattle.history_report.proofs.Pages.{gives_parts, text_of_number}
 use Rattle.history_report.proofs.marks.mark_text.Goals as goal
 
 pub returns : goal.returns
 returns c =
-    gives_parts c.format.result
-    (c.mark_texts.result.0.now ∷ string_bytes c.in_ok-place.place ∷ c.mark_texts.result.1.now ∷ string_bytes c.in_ok-number.number ∷ c.done_text-done.result.now ∷ string_bytes c.in_ok-moment.moment ∷ codes ": " ∷ string_bytes c.in_ok-before.before
-    ∷ codes " to " ∷ string_bytes c.in_ok-after.after ∷ codes " bytes</title></path>\n" ∷ [])
-    (mark_of c.args.scale.now c.args.object c.args.change.now) (
-      c.mark_texts.ensures.head,
-      (
-        c.in_ok-place.ensures ∙ ap text_of_number c.place_of.ensures.place,
-        (
-          c.mark_texts.ensures.shape,
-          (
-            c.in_ok-number.ensures ∙ ap text_of_number c.number.ensures,
-            (
-              c.done_text-done.ensures,
-              (c.in_ok-moment.ensures, (refl, (c.in_ok-before.ensures ∙ ap text_of_number c.from.ensures, (refl, (c.in_ok-after.ensures ∙ ap text_of_number c.from-2.ensures, (refl, tt)))))),
-            ),
-          ),
-        ),
-      ),
-    )
-    c.format.ensures.ok
+    let so_far : ℕ → List Part = λ n. take n (mark_of c.args.scale.now c.args.object c.args.change.now) in
+    let head = c.with_text-made.ensures (so_far 0) _ c.no_parts.ensures c.mark_texts.ensures.head in
+    let place = c.with_number-made.ensures (so_far 1) _ head c.place_of.ensures.place in
+    let shape = c.with_text-made-2.ensures (so_far 2) _ place c.mark_texts.ensures.shape in
+    let object = c.with_number-made-2.ensures (so_far 3) _ shape c.number.ensures in
+    let done = c.with_text-made-3.ensures (so_far 4) _ object c.done_text.ensures in
+    let moment = c.with_moment-made.ensures (so_far 5) _ _ done refl refl in
+    let colon = c.with_text-made-4.ensures (so_far 6) _ moment refl in
+    let before = c.with_number-made-3.ensures (so_far 7) _ colon c.from.ensures in
+    let to = c.with_text-made-5.ensures (so_far 8) _ before refl in
+    let after = c.with_number-made-4.ensures (so_far 9) _ to c.from-2.ensures in
+    c.with_text.ensures (so_far 10) _ after refl

@@ -1,29 +1,21 @@
-use Rattle.std.proofs.Common.{◌≡◌, ◌∙◌, false, ℕ, [], ◌∷◌, string_bytes, refl, ap, ap₂, codes}
-use Rattle.moment_words.specs.declared.printing.MomentStyle.{MomentStyle}
+use Rattle.std.proofs.Common.{◌≡◌, ◌∙◌, ◌∷◌, false, ℕ, List, take, refl, ap}
 use Rattle.moment_words.specs.Texts.{style_of}
 use Rattle.drive.specs.Fields.{state_in}
+use Rattle.history_report.specs.declared.texts.TheConstants.{PAGE_HEAD}
+use Rattle.history_report.specs.Page.{Part, Constant}
 use Rattle.history_report.specs.Report.{numbers_of}
-use Rattle.history_report.proofs.Pages.{gives_parts, text_of_moment}
 use Rattle.history_report.proofs.page.numbers_text.Goals as goal
 
 pub returns : goal.returns
 returns g c =
     let s = state_in c.args.drive.now in
     let style : c.style_of-style.result ≡ style_of s.clock false = c.style_of-style.ensures ∙ ap (λ (n : ℕ). style_of n false) (c.number.ensures ∙ c.clock.ensures) in
-    let text = λ (y : MomentStyle) (t : ℕ). text_of_moment y t in
-    gives_parts c.format.result
-    (codes "<p>Clock " ∷ string_bytes c.in_ok-clock.clock ∷ codes ", floor " ∷ string_bytes c.in_ok-floor.floor ∷ codes ". Differences are those since " ∷ string_bytes c.in_ok-since.since ∷ codes ".</p>\n" ∷ [])
-    (numbers_of s c.args.from) (
-      refl,
-      (
-        c.in_ok-clock.ensures ∙ ap₂ text style c.clock-2.ensures,
-        (
-          refl,
-          (
-            c.in_ok-floor.ensures ∙ ap₂ text style c.floor.ensures,
-            (refl, (c.in_ok-since.ensures ∙ ap (λ (y : MomentStyle). text_of_moment y c.args.from) style, (refl, tt))),
-          ),
-        ),
-      ),
-    )
-    c.format.ensures.ok
+    let so_far : ℕ → List Part = λ n. take n (Constant PAGE_HEAD.now ∷ numbers_of s c.args.from) in
+    let begun = c.with_text-made.ensures (so_far 0) _ c.no_parts.ensures refl in
+    let named = c.with_text-made-2.ensures (so_far 1) _ begun refl in
+    let clock = c.with_moment-made.ensures (so_far 2) _ _ named c.clock-2.ensures style in
+    let comma = c.with_text-made-3.ensures (so_far 3) _ clock refl in
+    let floor = c.with_moment-made-2.ensures (so_far 4) _ _ comma c.floor.ensures style in
+    let period = c.with_text-made-4.ensures (so_far 5) _ floor refl in
+    let since = c.with_moment-made-3.ensures (so_far 6) _ _ period refl style in
+    c.with_text.ensures (so_far 7) _ since refl

@@ -25,8 +25,8 @@ loop-object-init g c =
       strips = subst (λ (o : ℕ). WrittenTo (AreRowsFrom store) strip o out out) (sym c.new-last.ensures) (none_written (AreRowsFrom store) strip out);
     }
 
-pub write_strip-requires : goal.write_strip-requires
-write_strip-requires g c = record { ordered = c.requires.ordered; writer = subst (λ n. n + 1 < 2 ^ 64) (sym c.loop-object.invariant.failures) c.requires.writer }
+pub write_out-requires : goal.write_out-requires
+write_out-requires g c = record { writer = subst (λ n. n + 1 < 2 ^ 64) (sym c.loop-object.invariant.failures) c.requires.writer }
 
 pub loop-object-preserved : goal.loop-object-preserved
 loop-object-preserved g c =
@@ -38,15 +38,17 @@ loop-object-preserved g c =
     let before = c.loop-object.invariant in
     let o = c.in-Some.object in
     let a = passed c.loop-object.writer in
-    let b = passed c.write_strip.new.writer in
+    let b = passed c.write_out.new.writer in
     let next : IsNextAbove store.rows c.loop-object.last o = subst (λ (x : StoreFields). IsNextAbove x.rows c.loop-object.last o) before.store c.in-Some.ensures.some in
+    let text : c.as_bytes.result.now ≡ page_text (strip_of scale (state_in c.loop-object.drive) (store_of c.loop-object.drive) runs o) = c.as_bytes.ensures.value ∙ c.in_ok-text.ensures.strip in
     let wrote : Appends a b (page_text (strip_of scale s store runs o)) =
     subst (λ (x : StoreFields). Appends a b (page_text (strip_of scale s x runs o))) before.store
-    (subst (λ (x : State). Appends a b (page_text (strip_of scale x (store_of c.loop-object.drive) runs o))) (state_stays c.loop-object.drive c.args.drive.now before.ledger) c.in_ok-write_strip.ensures.strip) in
+    (subst (λ (x : State). Appends a b (page_text (strip_of scale x (store_of c.loop-object.drive) runs o))) (state_stays c.loop-object.drive c.args.drive.now before.ledger)
+    (subst (Appends a b) text c.in_ok-write_out.ensures.bytes)) in
     record {
-      failures = c.in_ok-write_strip.ensures.failures ∙ before.failures;
-      ledger = c.write_strip.ensures.ledger ∙ before.ledger;
-      store = c.write_strip.ensures.store ∙ before.store;
+      failures = c.in_ok-write_out.ensures.failures ∙ before.failures;
+      ledger = c.strip_text.ensures.ledger ∙ before.ledger;
+      store = c.strip_text.ensures.store ∙ before.store;
       strips = written_on (AreRowsFrom store) (strip_of scale s store runs) c.loop-object.last o o (passed c.args.writer.now) a b before.strips (λ rest more. (next, more)) wrote;
     }
 
