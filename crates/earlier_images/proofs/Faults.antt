@@ -11,34 +11,11 @@ use Rattle.image_parts.specs.Frames.{KeepFrameRulesBy}
 use Rattle.image_parts.specs.Spans.{KeepSpanRules}
 use Rattle.image_parts.specs.Rows.{KeepRowRules}
 use Rattle.image_parts.specs.Image.{Image, SpellsImageBy, header_of, image_in}
-use Rattle.image_parts.specs.Causes.{Tested, TestedPartsBy, HasDigest, FirstSplitCauseBy, FirstCauseBy}
-use Rattle.verifier.proofs.Faults.{none_is_no_cause, test_passed, test_both, test_none, test_kept}
+use Rattle.image_parts.specs.Causes.{Tested, HasDigest, FirstSplitCauseBy, FirstCauseBy}
+use Rattle.verifier.proofs.Faults.{none_is_no_cause, test_passed, test_none, parts_passed, parts_behind, parts_none}
 use Rattle.earlier_images.specs.Rows.{EarlierChainsStand}
 use Rattle.earlier_images.specs.Grammar.{SpellsEarlier, FirstEarlierFault}
 use Rattle.earlier_images.specs.private.Rest.{FirstEarlierRest}
-
--- ---- all tests
-
--- where all tests of parts hold, what comes after them decides
-pub parts_passed : (v : ImageVersion) (bytes : List ℕ) (late : Option Cause → Type 0) (found : Option Cause) → FirstCauseBy (Earlier v) bytes None → late found → TestedPartsBy (Earlier v) bytes late found
-parts_passed v bytes late found tests on =
-    test_passed tests (λ a. test_passed a (λ b. test_passed b (λ c. test_passed c (λ d. test_passed d (λ e. test_passed e (λ f. test_passed f (λ g. on)))))))
-
--- what comes after the tests of parts, where those hold
-pub parts_behind : (v : ImageVersion) (bytes : List ℕ) (late : Option Cause → Type 0) (found : Option Cause) → FirstCauseBy (Earlier v) bytes None → TestedPartsBy (Earlier v) bytes late found → late found
-parts_behind v bytes late found tests all =
-    let a = test_both tests all in
-    let b = test_both a.0 a.1 in
-    let c = test_both b.0 b.1 in
-    let d = test_both c.0 c.1 in
-    let e = test_both d.0 d.1 in
-    let f = test_both e.0 e.1 in
-    (test_both f.0 f.1).1
-
--- where nothing was found, nothing was by the tests of parts
-pub parts_none : (v : ImageVersion) (bytes : List ℕ) (late : Option Cause → Type 0) → TestedPartsBy (Earlier v) bytes late None → FirstCauseBy (Earlier v) bytes None
-parts_none v bytes late tests =
-    test_kept tests (λ a. test_kept a (λ b. test_kept b (λ c. test_kept c (λ d. test_kept d (λ e. test_kept e (λ f. test_kept f (λ g. refl)))))))
 
 -- ---- the image
 
@@ -54,19 +31,19 @@ read_chains read bytes image spells = subst (EarlierChainsStand (earlier_in byte
 
 pub nothing_spelled : AreTested → AreReadAgain → (bytes : List ℕ) (cause : Cause) (image : Image) → FirstEarlierFault bytes (Some cause) → SpellsEarlier bytes image → ⊥
 nothing_spelled tests read bytes cause image fault spells =
-    elim (parts_behind (earlier_in bytes) bytes (Tested (EarlierChainsStand (earlier_in bytes) (image_in bytes)) Chain (λ f. f ≡ None)) (Some cause) (tests (earlier_in bytes) bytes image spells.parts) fault) [
+    elim (parts_behind (Earlier (earlier_in bytes)) bytes (Tested (EarlierChainsStand (earlier_in bytes) (image_in bytes)) Chain (λ f. f ≡ None)) (Some cause) (tests (earlier_in bytes) bytes image spells.parts) fault) [
       | inl failed ↦ failed.0 (read_chains read bytes image spells)
       | inr held ↦ none_is_no_cause cause (sym held.1)
     ]
 
 pub none_where_spelled : AreTested → AreReadAgain → (bytes : List ℕ) (image : Image) → SpellsEarlier bytes image → FirstEarlierFault bytes None
 none_where_spelled tests read bytes image spells =
-    parts_passed (earlier_in bytes) bytes (Tested (EarlierChainsStand (earlier_in bytes) (image_in bytes)) Chain (λ f. f ≡ None)) None (tests (earlier_in bytes) bytes image spells.parts) (inr (read_chains read bytes image spells, refl))
+    parts_passed (Earlier (earlier_in bytes)) bytes (Tested (EarlierChainsStand (earlier_in bytes) (image_in bytes)) Chain (λ f. f ≡ None)) None (tests (earlier_in bytes) bytes image spells.parts) (inr (read_chains read bytes image spells, refl))
 
 pub spelled_where_none : (bytes : List ℕ) → (FirstCauseBy (Earlier (earlier_in bytes)) bytes None → SpellsImageBy (Earlier (earlier_in bytes)) bytes (image_in bytes)) → FirstEarlierFault bytes None → SpellsEarlier bytes (image_in bytes)
 spelled_where_none bytes is none =
-    let parts : FirstCauseBy (Earlier (earlier_in bytes)) bytes None = parts_none (earlier_in bytes) bytes (Tested (EarlierChainsStand (earlier_in bytes) (image_in bytes)) Chain (λ f. f ≡ None)) none in
-    record { parts = is parts; chains = (test_none (parts_behind (earlier_in bytes) bytes (Tested (EarlierChainsStand (earlier_in bytes) (image_in bytes)) Chain (λ f. f ≡ None)) None parts none)).0 }
+    let parts : FirstCauseBy (Earlier (earlier_in bytes)) bytes None = parts_none (Earlier (earlier_in bytes)) bytes (Tested (EarlierChainsStand (earlier_in bytes) (image_in bytes)) Chain (λ f. f ≡ None)) none in
+    record { parts = is parts; chains = (test_none (parts_behind (Earlier (earlier_in bytes)) bytes (Tested (EarlierChainsStand (earlier_in bytes) (image_in bytes)) Chain (λ f. f ≡ None)) None parts none)).0 }
 
 -- ---- what was read
 

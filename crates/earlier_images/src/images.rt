@@ -4,21 +4,31 @@ ghost use Rattle.std.specs.Prelude.{◌≡◌};
 use crate::frames::EarlierFrames;
 use codec::ImageVersion;
 use image_objects::ImageRow;
-use s4_types::{Moment, ObjectId, Span};
+use image_parts::Header;
+use s4_types::Span;
 use std::marker::Model;
 
 /// What was read of an image of an earlier version. Its blocks are in the bytes that it was read
 /// from.
-#[derive(Drop)]
 pub struct EarlierImage<'a> {
     pub(crate) version: ImageVersion,
-    pub(crate) clock: Moment,
-    pub(crate) window: u64,
-    pub(crate) floor: Moment,
-    pub(crate) next: ObjectId,
+    pub(crate) header: Header,
     pub(crate) frames: EarlierFrames<'a>,
     pub(crate) rows: Vec<ImageRow>,
     pub(crate) spans: Vec<Span>,
+}
+
+// Written by hand, so that an owner lets it go by one call.
+impl<'a> Drop for EarlierImage<'a> {
+    fn drop(self) {
+        let EarlierImage {
+            version: _,
+            header: _,
+            frames: _,
+            rows: _,
+            spans: _,
+        } = self;
+    }
 }
 
 impl<'a> Model for EarlierImage<'a> {
@@ -26,7 +36,7 @@ impl<'a> Model for EarlierImage<'a> {
 
     ghost Value = { EarlierFields };
 
-    ghost view = { λ i. record { version = i.version; clock = i.clock; window = i.window; floor = i.floor; next = i.next; frames = i.frames; rows = i.rows.items; spans = i.spans.items } };
+    ghost view = { λ i. record { version = i.version; clock = i.header.clock; window = i.header.window; floor = i.header.floor; next = i.header.next; frames = i.frames; rows = i.rows.items; spans = i.spans.items } };
 }
 
 impl<'a> EarlierImage<'a> {
@@ -37,32 +47,14 @@ impl<'a> EarlierImage<'a> {
         self.version
     }
 
-    /// The clock: the last moment given or seen.
-    pub fn clock(&self) -> Moment
-        ensures { result ≡ self.now.clock }
+    /// The numbers of its drive, in the header that it was read with.
+    pub fn header(&self) -> Header
+        ensures clock { result.clock ≡ self.now.clock }
+        ensures window { result.window ≡ self.now.window }
+        ensures floor { result.floor ≡ self.now.floor }
+        ensures next { result.next ≡ self.now.next }
     {
-        self.clock
-    }
-
-    /// How many moments history reaches back from the clock.
-    pub fn window(&self) -> u64
-        ensures { result ≡ self.now.window }
-    {
-        self.window
-    }
-
-    /// Moments below it are lost.
-    pub fn floor(&self) -> Moment
-        ensures { result ≡ self.now.floor }
-    {
-        self.floor
-    }
-
-    /// The number that the next object gets.
-    pub fn next(&self) -> ObjectId
-        ensures { result ≡ self.now.next }
-    {
-        self.next
+        self.header
     }
 
     /// The frames, in their order.

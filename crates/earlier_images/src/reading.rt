@@ -87,13 +87,9 @@ fn read_rest<'a>(
         return Err(Refusal::Damaged(Cause::Chain));
     };
     let spans = spans_of(alloc, parts)?;
-    let header = parts.header();
     Ok(EarlierImage {
         version,
-        clock: header.clock,
-        window: header.window,
-        floor: header.floor,
-        next: header.next,
+        header: parts.header(),
         frames,
         rows,
         spans,

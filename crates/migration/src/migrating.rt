@@ -43,7 +43,7 @@ pub fn migrated(alloc: Global, bytes: &[u8]) -> Result<Vec<u8>, Refusal>
         old.version(),
         used,
         old.rows(),
-        old.clock(),
+        old.header().clock,
         used.len(),
     )?;
     let mut table = copied.table;

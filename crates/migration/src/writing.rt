@@ -35,13 +35,10 @@ fn header_of(old: &EarlierImage<'_>, frames: u16, rows: u32, spans: u32) -> Head
 {
     Header {
         frames,
-        clock: old.clock(),
-        window: old.window(),
-        floor: old.floor(),
-        next: old.next(),
         rows,
         spans,
         audit: 0,
+        ..old.header()
     }
 }
 

@@ -1,14 +1,9 @@
 -- What follows from what a call answers, and from what each of several answers.
-use Rattle.std.proofs.Common.{◌≡◌, ◌↔◌, ◌<◌, ◌+◌, ◌&&◌, ℕ, All, Any, Bool, true, false, true≢false, List, Result, Ok, Err, IfErr, IfOk, OnErr, OnOk, IsTrue, arith, get_or, length, refl, sym, subst, take, ⊎_elim}
+use Rattle.std.proofs.Common.{◌≡◌, ◌↔◌, ◌<◌, ◌+◌, ◌&&◌, ℕ, All, Any, Bool, true, false, true≢false, List, Result, Ok, Err, IfErr, OnErr, IsTrue, arith, get_or, length, refl, sym, subst, take, ⊎_elim}
 use Rattle.std.proofs.lemmas.Bool.{cases_lt}
 use Rattle.std.proofs.lemmas.List.{get_or_default, get_or-take, length-take-le}
 
--- what follows from a fact of the value, and from one that holds where there is a value, holds of the value
-pub if_ok_with : {A E Q : Type 0} {P R : A → Type 0} → (result : Result A E) → ((value : A) → P value → Q → R value) → IfOk result P → OnOk result Q → IfOk result R
-if_ok_with (Ok value) f fact more = f value fact more
-if_ok_with (Err error) f fact more = tt
-
--- the same of an error
+-- what follows from a fact of the error, and from one that holds where there is an error, holds of the error
 pub if_err_with : {A E Q : Type 0} {P R : E → Type 0} → (result : Result A E) → ((error : E) → P error → Q → R error) → IfErr result P → OnErr result Q → IfErr result R
 if_err_with (Ok value) f fact more = tt
 if_err_with (Err error) f fact more = f error fact more

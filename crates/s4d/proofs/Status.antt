@@ -1,5 +1,5 @@
 -- What the status of a line of words says that isn't done.
-use Rattle.std.proofs.Common.{◌≡◌, ◌⊎◌, ℕ, List, Option, Some, None, arith, inl, inr, refl}
+use Rattle.std.proofs.Common.{◌≡◌, ◌⊎◌, ◌≤◌, ℕ, List, Option, Some, None, arith, inl, inr, length, refl, vec_len}
 use Rattle.clap.specs.Walk.{Row, Text}
 use Rattle.s4_types.specs.Sizes.{IsFrameCount}
 use Rattle.s4d_command.specs.CommandLine.{Spells}
@@ -7,9 +7,10 @@ use Rattle.s4d_command.specs.declared.Command.{Command}
 use Rattle.s4d_command.specs.declared.Command.TheVariants as command
 use Rattle.s4d_command.specs.declared.New.{New}
 use Rattle.s4d_command.specs.declared.Pipe.{Pipe}
+use Rattle.s4d_command.specs.declared.Run.{Run}
 use Rattle.s4d.specs.declared.faults.Undone.{Undone}
 use Rattle.s4d.specs.declared.faults.Undone.TheVariants as undone
-use Rattle.s4d.specs.Performing.{IsUsage, SaysUndone, SaysUndoneOf, status_of}
+use Rattle.s4d.specs.Performing.{IsUsage, IsWithinLimits, SaysUndone, SaysUndoneOf, status_of}
 
 -- a session of a new drive and a new image have frames within the limits
 pub pipe_frames : (named : Option (Text × List Row)) (pipe : Pipe) → Spells named (command.Pipe pipe) → IsFrameCount pipe.frames
@@ -19,6 +20,22 @@ pipe_frames (Some named) pipe says = (says.1.fewest, says.1.most)
 pub new_frames : (named : Option (Text × List Row)) (new : New) → Spells named (command.New new) → IsFrameCount new.frames
 new_frames None new says = absurd says
 new_frames (Some named) new says = (says.1.fewest, says.1.most)
+
+-- and a run has at most 16 sessions
+pub run_sessions : (named : Option (Text × List Row)) (run : Run) → Spells named (command.Run run) → vec_len run.sessions ≤ 16
+run_sessions None run says = absurd says
+run_sessions (Some named) run says =
+    let most : length run.sessions.items ≤ 16 = says.1.sessions.most in
+    omega (arith, most, run.sessions.ok.0)
+
+-- so what is asked for is within limits
+pub within_limits : (named : Option (Text × List Row)) (c : Command) → Spells named c → IsWithinLimits c
+within_limits named (command.Pipe pipe) says = pipe_frames named pipe says
+within_limits named (command.New new) says = new_frames named new says
+within_limits named (command.Verify verify) says = tt
+within_limits named (command.Run run) says = run_sessions named run says
+within_limits named (command.At at) says = tt
+within_limits named (command.Migrate migrate) says = tt
 
 -- it is 1 or 2
 pub some_status : (why : Undone) → (status_of why ≡ 1) ⊎ (status_of why ≡ 2)

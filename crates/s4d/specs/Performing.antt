@@ -1,8 +1,9 @@
 -- What the status of a line of words says.
-use Rattle.std.specs.Prelude.{◌≡◌, ◌≢◌, ◌⊎◌, ◌+◌, ℕ, Bool, List, Option, None, true, false, ⊤}
+use Rattle.std.specs.Prelude.{◌≡◌, ◌≢◌, ◌⊎◌, ◌+◌, ◌≤◌, ℕ, Bool, List, Option, None, true, false, ⊤, vec_len}
 use Rattle.clap.specs.Takes.{takes}
 use Rattle.clap.specs.Walk.{Text}
 use Rattle.clap.specs.Simple.{subcommand_of}
+use Rattle.s4_types.specs.Sizes.{IsFrameCount}
 use Rattle.s4_types.specs.declared.refusals.Refusal.TheVariants.{Busy, NoMemory}
 use Rattle.s4d_command.specs.CommandLine.{line, Spells, SpellsNone}
 use Rattle.s4d_command.specs.declared.At.{At}
@@ -44,24 +45,30 @@ abbrev pub status_of : Undone → ℕ
 status_of undone.Usage = 2
 status_of _ = 1
 
--- A command other than a session of a new drive is done, by the bytes that a writer of a file holds, by what is known of files before and
--- after, and by what the output has then: there is the image of a new drive of this many frames with this window; the line of an image is
--- written; an image was read, a drive that began with it served each session to the end of its input, and what it is saved as is there;
--- the bytes of an object at a moment are written; there is the new image of an earlier one, and its line is written.
-abbrev pub IsDoneOver : (opens : List ℕ → Option (List ℕ) → Type 0) → (files files' : List ℕ → Option (List ℕ)) → (output output' : Option (List ℕ)) → Command → Type 0
-IsDoneOver opens files files' output output' (command.Pipe pipe) = ⊥
-IsDoneOver opens files files' output output' (command.New new) = HasNew new.frames new.window (files' new.image.now)
-IsDoneOver opens files files' output output' (command.Verify verify) = TellsImage (files verify.image.now) output output'
-IsDoneOver opens files files' output output' (command.Run run) = RunsImage opens run files files' (files' run.image.now) true
-IsDoneOver opens files files' output output' (command.At at) = GivesObject (files at.image.now) at.object at.moment output output'
-IsDoneOver opens files files' output output' (command.Migrate migrate) = MigratesImage files files' output output' migrate
+-- A command is done, by the bytes that a writer of a file holds, by what is known of files before and after, and by what the input and the
+-- output have: a session of a new drive read the input, wrote the output, and came to the end of the input; there is the image of a new
+-- drive of this many frames with this window; the line of an image is written; an image was read, a drive that began with it served each
+-- session to the end of its input, and what it is saved as is there; the bytes of an object at a moment are written; there is the new image
+-- of an earlier one, and its line is written.
+abbrev pub IsDoneOf : (opens : List ℕ → Option (List ℕ) → Type 0) → (files files' : List ℕ → Option (List ℕ)) → (input output input' output' : Option (List ℕ)) → Command → Type 0
+IsDoneOf opens files files' input output input' output' (command.Pipe pipe) = Pipes pipe Ended input output input' output'
+IsDoneOf opens files files' input output input' output' (command.New new) = HasNew new.frames new.window (files' new.image.now)
+IsDoneOf opens files files' input output input' output' (command.Verify verify) = TellsImage (files verify.image.now) output output'
+IsDoneOf opens files files' input output input' output' (command.Run run) = RunsImage opens run files files' (files' run.image.now) true
+IsDoneOf opens files files' input output input' output' (command.At at) = GivesObject (files at.image.now) at.object at.moment output output'
+IsDoneOf opens files files' input output input' output' (command.Migrate migrate) = MigratesImage files files' output output' migrate
 
--- The words give a session; it read the input, wrote the output, and came to the end of the input. Or they give another command, which
--- is done.
+-- The words give a command, which is done.
 abbrev pub IsDone : List Text → (opens : List ℕ → Option (List ℕ) → Type 0) → (files files' : List ℕ → Option (List ℕ)) → (input output input' output' : Option (List ℕ)) → Type 0
 IsDone words opens files files' input output input' output' =
-    ((pipe : Pipe) × Spells (subcommand_of line words) (command.Pipe pipe) × Pipes pipe Ended input output input' output')
-    ⊎ ((c : Command) × Spells (subcommand_of line words) c × IsDoneOver opens files files' output output' c)
+    (c : Command) × Spells (subcommand_of line words) c × IsDoneOf opens files files' input output input' output' c
+
+-- a new drive is to have as many frames as one may have, and a run has as many sessions
+abbrev pub IsWithinLimits : Command → Type 0
+IsWithinLimits (command.Pipe pipe) = IsFrameCount pipe.frames
+IsWithinLimits (command.New new) = IsFrameCount new.frames
+IsWithinLimits (command.Run run) = vec_len run.sessions ≤ 16
+IsWithinLimits _ = ⊤
 
 -- a session had no drive, and nothing was read or written; or it came to another end than that of its input
 abbrev pub SaysUnpiped : (input output input' output' : Option (List ℕ)) → Pipe → Undone → Type 0

@@ -3,9 +3,9 @@ ghost use Rattle.std.specs.Prelude.{◌≡◌, ◌≢◌, ◌⊎◌, ◌+◌, �
 ghost use Rattle.std.specs.Prelude.{OnOk};
 ghost use Rattle.s4_types.specs.Sizes.{IsFrameCount};
 ghost use Rattle.s4d.specs.Opening.{HoldsAt};
-ghost use Rattle.s4d.specs.Performing.{IsDone, IsUndone, IsUsage, SaysNotGiven, SaysNotNew};
-ghost use Rattle.s4d.specs.Performing.{SaysNotVerified, SaysRunUndone, SaysUndone, SaysUnpiped};
-ghost use Rattle.s4d.specs.Performing.{SaysNotMigrated, status_of};
+ghost use Rattle.s4d.specs.Performing.{IsDone, IsDoneOf, IsUndone, IsUsage, IsWithinLimits};
+ghost use Rattle.s4d.specs.Performing.{SaysNotGiven, SaysNotMigrated, SaysNotNew, SaysNotVerified};
+ghost use Rattle.s4d.specs.Performing.{SaysRunUndone, SaysUndone, SaysUndoneOf, SaysUnpiped, status_of};
 ghost use Rattle.s4d.specs.Migrating.{MigratesImage};
 ghost use Rattle.image_commands.specs.Making.{HasNew};
 ghost use Rattle.image_commands.specs.ReadingPast.{GivesObject};
@@ -102,14 +102,46 @@ fn perform_line<
         (W.failures writer.old) (W.failures writer.new) (map S.text words.entry.now)) }
 {
     match command_of(alloc, words) {
-        Ok(Command::Pipe(pipe)) => perform_session(alloc, pipe, reader, writer),
-        Ok(Command::New(new)) => perform_new(alloc, files, new),
-        Ok(Command::Verify(asked)) => perform_verify(rt, alloc, files, asked, writer),
-        Ok(Command::At(asked)) => perform_at(rt, alloc, files, asked, writer),
-        Ok(Command::Run(run)) => perform_run(rt, alloc, files, run, errors),
-        Ok(Command::Migrate(asked)) => perform_migrate(alloc, files, asked, writer),
+        Ok(command) => {
+            let performed = perform_command(rt, alloc, files, &command, reader, writer, errors);
+            drop(command);
+            performed
+        }
         Err(CommandError::NoMemory) => Err(Undone::NoMemory),
         Err(CommandError::Usage) => Err(Undone::Usage),
+    }
+}
+
+// Does what a command asks for.
+fn perform_command<'a, T: Threads + Wait + Clock + Sync, F: Files, R: Source, W: Sink, E: Write>(
+    rt: &T,
+    alloc: Global,
+    files: &mut F,
+    command: &Command<'a>,
+    reader: &mut R,
+    writer: &mut W,
+    errors: &mut E,
+) -> Result<(), Undone<'a>>
+    requires limits { IsWithinLimits command.now }
+    requires reader { R.failures reader.old + 1 < 2 ^ 64 }
+    requires writer { W.failures writer.old + 1 < 2 ^ 64 }
+    ensures done { OnOk result (IsDoneOf (HoldsAt F.writes F.Writer.contents)
+        (F.contents files.old) (F.contents files.new)
+        (R.remaining reader.old) (W.passed writer.old)
+        (R.remaining reader.new) (W.passed writer.new) command.now) }
+    ensures undone { IfErr result (SaysUndoneOf (HoldsAt F.writes F.Writer.contents)
+        (F.contents files.old) (F.contents files.new)
+        (R.remaining reader.old) (W.passed writer.old)
+        (R.remaining reader.new) (W.passed writer.new)
+        (W.failures writer.old) (W.failures writer.new) command.now) }
+{
+    match command {
+        Command::Pipe(pipe) => perform_session(alloc, *pipe, reader, writer),
+        Command::New(new) => perform_new(alloc, files, *new),
+        Command::Verify(asked) => perform_verify(rt, alloc, files, *asked, writer),
+        Command::At(asked) => perform_at(rt, alloc, files, *asked, writer),
+        Command::Run(run) => perform_run(rt, alloc, files, run, errors),
+        Command::Migrate(asked) => perform_migrate(alloc, files, *asked, writer),
     }
 }
 
@@ -229,21 +261,20 @@ fn perform_run<'a, T: Threads + Wait + Clock + Sync, F: Files, E: Write>(
     rt: &T,
     alloc: Global,
     files: &mut F,
-    run: Run<'a>,
+    run: &Run<'a>,
     errors: &mut E,
 ) -> Result<(), Undone<'a>>
-    requires sessions { vec_len run.sessions ≤ 16 }
+    requires sessions { vec_len run.now.sessions ≤ 16 }
     ensures done { OnOk result
-        (RunsImage (HoldsAt F.writes F.Writer.contents) run.entry (F.contents files.old)
-        (F.contents files.new) (F.contents files.new run.entry.image.now) true) }
+        (RunsImage (HoldsAt F.writes F.Writer.contents) run.now (F.contents files.old)
+        (F.contents files.new) (F.contents files.new run.now.image.now) true) }
     ensures undone { IfErr result
         (SaysRunUndone (HoldsAt F.writes F.Writer.contents) (F.contents files.old)
-        (F.contents files.new) run.entry) }
+        (F.contents files.new) run.now) }
 {
-    let image = run.image;
     match run_file(rt, alloc, files, run, errors) {
         Ok(ran) => match ran.placed {
-            Placed::NotLasting => Err(Undone::Unlasting(image)),
+            Placed::NotLasting => Err(Undone::Unlasting(run.image)),
             Placed::Lasting if ran.is_ended => Ok(()),
             Placed::Lasting => Err(Undone::Unended),
         },

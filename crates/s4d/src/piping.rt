@@ -32,12 +32,11 @@ impl<J: Naming> Model for OwnDrive<J> {
 
 impl<J: Naming> OwnDrive<J> {
     /// A session of a role with this drive. Busy where no seat is to be had.
-    pub fn new(drive: Drive<J>, role: Role) -> Result<Self, Refusal>
+    pub fn new(mut drive: Drive<J>, role: Role) -> Result<Self, Refusal>
         ensures drive { IfOk result (λ own. own.drive ≡ drive) }
         ensures role { IfOk result (λ own. own.session.role ≡ role) }
         ensures busy { IfErr result (λ e. e ≡ Busy) }
     {
-        let mut drive = drive;
         let session = drive.session(role)?;
         Ok(OwnDrive { drive, session })
     }

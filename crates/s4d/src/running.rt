@@ -1,15 +1,14 @@
 //! `run`: sessions of a drive that an image is read from, and its image written anew.
-ghost use Rattle.std.specs.Prelude.{◌≡◌, ◌≢◌, ℕ, ◌+◌, ◌^◌, ◌<◌, ◌≤◌, All, AllPairs, Bool, List};
+ghost use Rattle.std.specs.Prelude.{◌≡◌, ◌≢◌, ℕ, ◌+◌, ◌-◌, ◌^◌, ◌<◌, ◌≤◌, All, AllPairs, Bool, List};
 ghost use Rattle.std.specs.Prelude.{MatchResult, Option, Some, length, slice_index_or, vec_len};
 ghost use Rattle.std.specs.Prelude.{true, false, IfErr, IfOk, IsTrue, OnErr, OnOk, ◌↔◌};
 ghost use Rattle.std.specs.Io.KnownBytes.{Keeps};
 ghost use Rattle.s4_types.specs.declared.refusals.Refusal.TheVariants.{NoMemory};
 ghost use Rattle.segment_table.specs.Room.{log_of};
-ghost use Rattle.segment_word.specs.AcceptViews.{count_of};
 ghost use Rattle.version_store.specs.Store.{fields_of};
 ghost use Rattle.drive.specs.Opened.{base_of};
 ghost use Rattle.server.specs.Accounts.{one_part};
-ghost use Rattle.server.specs.Attending.{AreServed, IsAttendedClient};
+ghost use Rattle.server.specs.Attending.{AreServed, IsAttendedClient, with_part};
 ghost use Rattle.server.specs.Drawing.{AreTicks};
 ghost use Rattle.verifier.specs.Saved.{SpellsSaved};
 ghost use Rattle.image_commands.specs.Files.{AreKnown};
@@ -22,7 +21,7 @@ ghost use Rattle.s4d.specs.Running.{RunsImage, RunsSessions, SaysNotRun, SaysUnr
 
 use crate::faults::RunFault;
 use crate::session_files::{are_apart, finish_all, open_clients};
-use drive::{Drive, OpenedDrive};
+use drive::OpenedDrive;
 use image_commands::{
     Fault, Files, Place, Placed, longest_image, read_image, remove_leftovers, writing,
 };
@@ -30,8 +29,8 @@ use s4_types::{Moment, Refusal};
 use s4d_command::{Run, RunSession};
 use server::laws::a_run_is_what_was_asked;
 use server::{
-    Blanks, Client, MOST_SESSIONS, Open, Outcome, Running, SharedDrive, give_parts, run_sessions,
-    run_with_upkeep, settle,
+    Blanks, Client, MOST_SESSIONS, Open, Outcome, Part, Running, SharedDrive, give_parts,
+    run_sessions, run_with_upkeep, settle,
 };
 use serving::{ReadSource, ServeEnd, Sink, Source, Ticking, WriteSink};
 use std::alloc::Global;
@@ -92,32 +91,32 @@ pub fn run_file<'a, T: Threads + Wait + Clock + Sync, F: Files, E: Write>(
     rt: &T,
     alloc: Global,
     files: &mut F,
-    asked: Run<'a>,
+    asked: &Run<'a>,
     errors: &mut E,
 ) -> Result<Ran, RunFault<'a>>
-    requires sessions { vec_len asked.sessions ≤ 16 }
+    requires sessions { vec_len asked.now.sessions ≤ 16 }
     ensures image { IfOk result
-        (λ ran. RunsImage (HoldsAt F.writes F.Writer.contents) asked.entry (F.contents files.old)
-        (F.contents files.new) (F.contents files.new asked.entry.image.now) ran.is_ended) }
+        (λ ran. RunsImage (HoldsAt F.writes F.Writer.contents) asked.now (F.contents files.old)
+        (F.contents files.new) (F.contents files.new asked.now.image.now) ran.is_ended) }
     // The same in the words of the model.
     ensures promise { IfOk result
-        (λ ran. KeepsItsPromise (HoldsAt F.writes F.Writer.contents) asked.entry
+        (λ ran. KeepsItsPromise (HoldsAt F.writes F.Writer.contents) asked.now
         (F.contents files.old) (F.contents files.new) ran.is_ended) }
     ensures apart { OnOk result
         (All
         (λ written. All (λ read. F.apart read.input.now written.output.now)
-        asked.entry.sessions.items) asked.entry.sessions.items) }
+        asked.now.sessions.items) asked.now.sessions.items) }
     // What no session writes stays, but for what was left beside the image and is no image.
-    ensures others { OnOk result ((path : List ℕ) → F.apart asked.entry.image.now path → IsUnwritten F.apart asked.entry.sessions.items path
-        → IsKeptOrLeft (IsBeside F.leads F.reserves asked.entry.image.now path) (F.contents files.old path) (F.contents files.new path)) }
+    ensures others { OnOk result ((path : List ℕ) → F.apart asked.now.image.now path → IsUnwritten F.apart asked.now.sessions.items path
+        → IsKeptOrLeft (IsBeside F.leads F.reserves asked.now.image.now path) (F.contents files.old path) (F.contents files.new path)) }
     // So does the image, where the sessions weren't served or not saved; and in the first case each
     // output.
-    ensures unsaved { OnErr result ((path : List ℕ) → IsUnwritten F.apart asked.entry.sessions.items path
-        → IsKeptOrLeft (IsBeside F.leads F.reserves asked.entry.image.now path) (F.contents files.old path) (F.contents files.new path)) }
+    ensures unsaved { OnErr result ((path : List ℕ) → IsUnwritten F.apart asked.now.sessions.items path
+        → IsKeptOrLeft (IsBeside F.leads F.reserves asked.now.image.now path) (F.contents files.old path) (F.contents files.new path)) }
     ensures unserved { IfErr result (λ fault. IsUnserved fault → (path : List ℕ)
-        → IsKeptOrLeft (IsBeside F.leads F.reserves asked.entry.image.now path) (F.contents files.old path) (F.contents files.new path)) }
+        → IsKeptOrLeft (IsBeside F.leads F.reserves asked.now.image.now path) (F.contents files.old path) (F.contents files.new path)) }
     ensures fault { IfErr result
-        (SaysNotRun (HoldsAt F.writes F.Writer.contents) asked.entry (F.contents files.old)
+        (SaysNotRun (HoldsAt F.writes F.Writer.contents) asked.now (F.contents files.old)
         (F.contents files.new)) }
 {
     what_is_saved_goes_on();
@@ -130,7 +129,10 @@ pub fn run_file<'a, T: Threads + Wait + Clock + Sync, F: Files, E: Write>(
     };
     let claim = match claim {
         Ok(claim) => claim,
-        Err(obstacle) => return Err(RunFault::Unserved(writing(obstacle, asked.image))),
+        Err(obstacle) => {
+            drop(image);
+            return Err(RunFault::Unserved(writing(obstacle, asked.image)));
+        }
     };
     let length = longest_image(image.frames());
     let manner = Manner {
@@ -312,7 +314,7 @@ fn place_apart<'a, T: Threads, F: Files>(
     Place::beside(alloc, files, path, claim, length)
 }
 
-// Serves the sessions of a drive that was just opened, and gives what it is saved as.
+// Serves the sessions of a drive that was just opened, and gives what it is saved as then.
 fn serve_named<
     J: Running + Send + Sync,
     T: Threads + Wait + Clock + Sync,
@@ -351,53 +353,30 @@ fn serve_named<
     ensures refusal { IfErr result.1 (λ e. e ≡ NoMemory) }
 {
     let drive = opened.named::<J>();
-    let (served, drive, saved) = serve_and_save(rt, alloc, drive, manner, blanks, clients);
-    drive.rules();
-    (served, saved)
-}
-
-// Serves the sessions of a drive, and then saves it. Gives the drive that they leave, and what that
-// is saved as.
-fn serve_and_save<
-    J: Running + Send + Sync,
-    T: Threads + Wait + Clock + Sync,
-    S: Source + Send + Drop,
-    W: Sink + Send + Drop,
->(
-    rt: &T,
-    alloc: Global,
-    drive: Drive<J>,
-    manner: Manner,
-    blanks: Blanks,
-    clients: Vec<Client<J, S, W>>,
-) -> (Vec<Client<J, S, W>>, Drive<J>, Result<Vec<u8>, Refusal>)
-    requires begins { J.begins drive }
-    requires none { count_of drive.ledger ≡ 0 }
-    requires ticks { (moments : List ℕ)
-        → AreTicks (record { start = manner.start; tick = manner.tick }) moments
-        → J.moments moments }
-    requires upkeep { J.has_upkeep ≡ manner.upkeep }
-    requires ledgers { (blanks.requests ≡ J.asked) × (blanks.changes ≡ J.name) }
-    requires parts { (blanks.parts ≡ J.parts) × (J.parts ≡ 17) }
-    requires count { vec_len clients ≤ 16 }
-    requires readers { All (λ c. S.failures c.reader + 1 < 2 ^ 64) clients.items }
-    requires writers { All (λ c. W.failures c.writer + 1 < 2 ^ 64) clients.items }
-    ensures count { vec_len result.0 ≡ vec_len clients }
-    ensures served { AreServed S.remaining W.passed S.failures W.failures J.base J.begins J.moments
-        J.has_upkeep clients.items result.0.items result.1 }
-    // What is saved is the drive as the sessions left it.
-    ensures saved { IfOk result.2 (λ bytes. SpellsSaved result.1 bytes.items) }
-    ensures refusal { IfErr result.2 (λ e. e ≡ NoMemory) }
-{
     let clock = Ticking::new(manner.start, manner.tick);
     let (shared, mut rest) = SharedDrive::new(drive, clock, blanks);
-    let mut clients = clients;
-    give_parts(&mut rest, clients.as_mut_slice());
+    let clients = with_parts(&mut rest, clients);
     let shared = Mutex::new(shared);
     let mut served = serve_all(rt, alloc, &shared, manner.upkeep, clients);
     let mut drive = settle(shared.into_inner(), rest, served.as_mut_slice());
     let saved = save(alloc, &mut drive);
-    (served, drive, saved)
+    drive.rules();
+    (served, saved)
+}
+
+// The clients, each with a part of a run's books, out of all that are left.
+fn with_parts<J: Running, S: Source, W: Sink>(
+    rest: &mut Part<J>,
+    mut clients: Vec<Client<J, S, W>>,
+) -> Vec<Client<J, S, W>>
+    requires { vec_len clients < rest.old.parts }
+    ensures count { vec_len result ≡ vec_len clients }
+    ensures rest { rest.new ≡ record rest.old { parts = rest.old.parts - vec_len clients } }
+    ensures given { (i : ℕ) (d : _) → i < length clients.items
+        → slice_index_or result.items i d ≡ with_part (slice_index_or clients.items i d) }
+{
+    give_parts(rest, clients.as_mut_slice());
+    clients
 }
 
 // Serves the sessions, with upkeep or without it.

@@ -3,12 +3,14 @@ use Rattle.std.proofs.Common.{◌≡◌, ◌⊎◌, ℕ, List, Option, Some, Non
 use Rattle.s4_types.specs.declared.refusals.Cause.{Cause}
 use Rattle.s4_types.specs.declared.refusals.Cause.TheVariants.{Digest, Frame, Span, Row, Chain, Audit}
 use Rattle.image_parts.specs.declared.headers.Header.{Header}
+use Rattle.image_parts.specs.declared.marks.ImageMark.{ImageMark}
+use Rattle.image_parts.specs.declared.marks.ImageMark.TheVariants.{Third}
 use Rattle.image_parts.specs.Header.{header_in}
 use Rattle.image_parts.specs.Frames.{KeepFrameRules}
 use Rattle.image_parts.specs.Spans.{KeepSpanRules}
 use Rattle.image_parts.specs.Rows.{KeepRowRules}
 use Rattle.image_parts.specs.Image.{Image, SpellsImage, header_of, image_in}
-use Rattle.image_parts.specs.Causes.{Tested, TestedParts, HasDigest, FirstSplitCause, FirstCause}
+use Rattle.image_parts.specs.Causes.{Tested, TestedPartsBy, HasDigest, FirstSplitCause, FirstCause, FirstCauseBy}
 use Rattle.verifier.specs.Rows.{ChainsStand}
 use Rattle.verifier.specs.Audit.{AuditStands}
 use Rattle.verifier.specs.Grammar.{SpellsDrive, FirstFault}
@@ -54,13 +56,13 @@ test_one (inr a) (inr b) on = on a.1 b.1
 -- ---- all tests
 
 -- where all tests of parts hold, what comes after them decides
-pub parts_passed : (bytes : List ℕ) (late : Option Cause → Type 0) (found : Option Cause) → FirstCause bytes None → late found → TestedParts bytes late found
-parts_passed bytes late found tests on =
+pub parts_passed : (mark : ImageMark) (bytes : List ℕ) (late : Option Cause → Type 0) (found : Option Cause) → FirstCauseBy mark bytes None → late found → TestedPartsBy mark bytes late found
+parts_passed mark bytes late found tests on =
     test_passed tests (λ a. test_passed a (λ b. test_passed b (λ c. test_passed c (λ d. test_passed d (λ e. test_passed e (λ f. test_passed f (λ g. on)))))))
 
 -- what comes after the tests of parts, where those hold
-pub parts_behind : (bytes : List ℕ) (late : Option Cause → Type 0) (found : Option Cause) → FirstCause bytes None → TestedParts bytes late found → late found
-parts_behind bytes late found tests all =
+pub parts_behind : (mark : ImageMark) (bytes : List ℕ) (late : Option Cause → Type 0) (found : Option Cause) → FirstCauseBy mark bytes None → TestedPartsBy mark bytes late found → late found
+parts_behind mark bytes late found tests all =
     let a = test_both tests all in
     let b = test_both a.0 a.1 in
     let c = test_both b.0 b.1 in
@@ -70,8 +72,8 @@ parts_behind bytes late found tests all =
     (test_both f.0 f.1).1
 
 -- where nothing was found, nothing was by the tests of parts
-pub parts_none : (bytes : List ℕ) (late : Option Cause → Type 0) → TestedParts bytes late None → FirstCause bytes None
-parts_none bytes late tests =
+pub parts_none : (mark : ImageMark) (bytes : List ℕ) (late : Option Cause → Type 0) → TestedPartsBy mark bytes late None → FirstCauseBy mark bytes None
+parts_none mark bytes late tests =
     test_kept tests (λ a. test_kept a (λ b. test_kept b (λ c. test_kept c (λ d. test_kept d (λ e. test_kept e (λ f. test_kept f (λ g. refl)))))))
 
 -- ---- the image
@@ -95,7 +97,7 @@ read_audit read bytes image spells = subst AuditStands (sym (read bytes image sp
 
 pub nothing_spelled : AreTested → AreReadAgain → (bytes : List ℕ) (cause : Cause) (image : Image) → FirstFault bytes (Some cause) → SpellsDrive bytes image → ⊥
 nothing_spelled tests read bytes cause image fault spells =
-    elim (parts_behind bytes (behind_parts (image_in bytes)) (Some cause) (tests bytes image spells.parts) fault) [
+    elim (parts_behind Third bytes (behind_parts (image_in bytes)) (Some cause) (tests bytes image spells.parts) fault) [
       | inl failed ↦ failed.0 (read_chains read bytes image spells)
       | inr held ↦ elim (held.1) [
         | inl failed ↦ failed.0 (read_audit read bytes image spells)
@@ -105,12 +107,12 @@ nothing_spelled tests read bytes cause image fault spells =
 
 pub none_where_spelled : AreTested → AreReadAgain → (bytes : List ℕ) (image : Image) → SpellsDrive bytes image → FirstFault bytes None
 none_where_spelled tests read bytes image spells =
-    parts_passed bytes (behind_parts (image_in bytes)) None (tests bytes image spells.parts) (inr (read_chains read bytes image spells, inr (read_audit read bytes image spells, refl)))
+    parts_passed Third bytes (behind_parts (image_in bytes)) None (tests bytes image spells.parts) (inr (read_chains read bytes image spells, inr (read_audit read bytes image spells, refl)))
 
 pub spelled_where_none : (bytes : List ℕ) → (FirstCause bytes None → SpellsImage bytes (image_in bytes)) → FirstFault bytes None → SpellsDrive bytes (image_in bytes)
 spelled_where_none bytes is none =
-    let parts : FirstCause bytes None = parts_none bytes (behind_parts (image_in bytes)) none in
-    let chains = test_none (parts_behind bytes (behind_parts (image_in bytes)) None parts none) in
+    let parts : FirstCause bytes None = parts_none Third bytes (behind_parts (image_in bytes)) none in
+    let chains = test_none (parts_behind Third bytes (behind_parts (image_in bytes)) None parts none) in
     record { parts = is parts; chains = chains.0; audit = (test_none chains.1).0 }
 
 pub one_fault : (bytes : List ℕ) (found other : Option Cause) → FirstFault bytes found → FirstFault bytes other → found ≡ other

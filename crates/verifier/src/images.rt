@@ -1,14 +1,19 @@
 //! Images that were verified.
-ghost use Rattle.std.specs.Prelude.{◌≡◌, length};
+ghost use Rattle.std.specs.Prelude.{◌≡◌, ◌⊎◌, length, IfOk, IfErr};
+ghost use Rattle.s4_types.specs.declared.refusals.Refusal.TheVariants.{NoMemory, Busy};
+ghost use Rattle.verifier.specs.Images.{CanBeOpened};
+ghost use Rattle.verifier.specs.Opened.{IsOpenedOf};
 
 use audit_log::AuditLog;
-use s4_types::{Moment, ObjectId, Span};
-use segment_table::TableBuilder;
+use drive::OpenedDrive;
+use s4_types::{Moment, ObjectId, Refusal, Span};
+use segment_table::{SegmentTable, TableBuilder};
+use std::alloc::Global;
 use std::marker::Model;
-use version_store::OpenedObject;
+use version_store::{OpenedObject, Store};
+use window::Window;
 
 /// What was read of an image that was verified: a drive can be opened from it.
-#[derive(Drop)]
 pub struct Image {
     pub(crate) clock: Moment,
     pub(crate) window: u64,
@@ -18,6 +23,22 @@ pub struct Image {
     pub(crate) objects: Vec<OpenedObject>,
     pub(crate) spans: Vec<Span>,
     pub(crate) audit: AuditLog,
+}
+
+// Written by hand, so that an owner lets it go by one call.
+impl Drop for Image {
+    fn drop(self) {
+        let Image {
+            clock: _,
+            window: _,
+            floor: _,
+            next: _,
+            table: _,
+            objects: _,
+            spans: _,
+            audit: _,
+        } = self;
+    }
 }
 
 impl Model for Image {
@@ -64,5 +85,27 @@ impl Image {
         ensures { result ≡ self.now.floor }
     {
         self.floor
+    }
+
+    /// The drive that has its parts.
+    pub(crate) fn into_drive(self, alloc: Global) -> Result<OpenedDrive, Refusal>
+        ensures can { CanBeOpened self }
+        ensures opened { IfOk result (λ d. IsOpenedOf self d) }
+        ensures refusal { IfErr result (λ e. (e ≡ NoMemory) ⊎ (e ≡ Busy)) }
+    {
+        let Image {
+            clock,
+            window,
+            floor,
+            next,
+            table,
+            objects,
+            spans,
+            audit,
+        } = self;
+        let table = SegmentTable::from_parts(alloc, table)?;
+        let store = Store::from_parts(alloc, table, objects, clock)?;
+        let window = Window::from_parts(alloc, clock, window, floor, spans.as_slice())?;
+        OpenedDrive::from_parts(alloc, store, window, next, audit)
     }
 }

@@ -13,10 +13,7 @@ use crate::images::Image;
 use crate::opening_laws::an_opened_drive_begins_as_its_image_tells;
 use drive::OpenedDrive;
 use s4_types::Refusal;
-use segment_table::SegmentTable;
 use std::alloc::Global;
-use version_store::Store;
-use window::Window;
 
 /// A drive whose frames, rows, spans, numbers and audit rows are the image's, and whose last change
 /// was at the image's clock. What its history begins with is what the parts of the image tell,
@@ -34,18 +31,5 @@ pub fn open(alloc: Global, image: Image) -> Result<OpenedDrive, Refusal>
     ensures refusal { IfErr result (λ e. (e ≡ NoMemory) ⊎ (e ≡ Busy)) }
 {
     an_opened_drive_begins_as_its_image_tells();
-    let Image {
-        clock,
-        window,
-        floor,
-        next,
-        table,
-        objects,
-        spans,
-        audit,
-    } = image;
-    let table = SegmentTable::from_parts(alloc, table)?;
-    let store = Store::from_parts(alloc, table, objects, clock)?;
-    let window = Window::from_parts(alloc, clock, window, floor, spans.as_slice())?;
-    OpenedDrive::from_parts(alloc, store, window, next, audit)
+    image.into_drive(alloc)
 }

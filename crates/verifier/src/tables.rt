@@ -1,11 +1,10 @@
 //! The table that the frames of an image tell.
-ghost use Rattle.std.specs.Prelude.{◌≡◌, ◌≢◌, ◌<◌, ◌≤◌, [], length, drop, slice_index_or};
-ghost use Rattle.std.specs.Prelude.{slice_set, None, IfOk, IfErr, IfSome, IfNone};
+ghost use Rattle.std.specs.Prelude.{◌≡◌, ◌<◌, ◌≤◌, [], length, slice_set, None, IfOk, IfErr};
+ghost use Rattle.std.specs.Prelude.{IfSome, IfNone};
 ghost use Rattle.s4_types.specs.Pointer.{Place};
 ghost use Rattle.s4_types.specs.Sizes.{IsFrameCount};
 ghost use Rattle.s4_types.specs.declared.refusals.Refusal.TheVariants.{NoMemory};
-ghost use Rattle.codec.specs.Summary.{SpellsSummary};
-ghost use Rattle.image_parts.specs.Frames.{state_of, generation_of, blocks_of, KeepsFrameRules};
+ghost use Rattle.image_parts.specs.Frames.{state_of, generation_of, KeepsFrameRules};
 ghost use Rattle.image_parts.specs.Frames.{KeepFrameRules, IsReadOf};
 ghost use Rattle.segment_word.specs.Frames.Phase.{Free};
 ghost use Rattle.segment_word.specs.FrameStates.{phase_in};
@@ -15,7 +14,6 @@ ghost use Rattle.segment_table.specs.Room.{is_filling, numbers};
 ghost use Rattle.verifier.specs.Tables.{IsFrameOf, IsTableOf};
 
 use block_log::Block;
-use codec::Summary;
 use image_parts::{FramePart, FrameRead, ImageParts, read_frame};
 use s4_types::Refusal;
 use s4_types::limits::FRAME_BLOCKS;
@@ -47,32 +45,6 @@ fn generation_in(word: u64) -> u32
     (word / GENERATION) as u32
 }
 
-/// Sets a frame that is free in a table to one of an image that isn't, and has this summary.
-fn set_used(table: &mut TableBuilder, number: u16, frame: &FramePart<'_>, summary: &Summary)
-    requires used { state_of frame.now.word ≢ 0 }
-    requires rules { KeepsFrameRules number frame.now }
-    requires spelled { SpellsSummary (drop 1 (blocks_of frame.now.contents))
-        (slice_index_or (blocks_of frame.now.contents) 0 []) summary.now }
-    requires inside { number < length table.old.seat.frames }
-    requires counted { length table.old.slots ≡ length table.old.seat.frames }
-    requires free { (frame_at table.old.seat.frames number).phase ≡ Free }
-    requires one_open { state_of frame.now.word ≡ 1
-        → numbers is_filling 0 table.old.seat.frames ≡ [] }
-    ensures frame { IsFrameOf number frame.now (frame_at table.new.seat.frames number)
-        (slots_at table.new.slots number) }
-    ensures frames { table.new.seat.frames
-        ≡ slice_set table.old.seat.frames number (frame_at table.new.seat.frames number) }
-    ensures slots { table.new.slots
-        ≡ slice_set table.old.slots number (slots_at table.new.slots number) }
-    ensures held { (p : Place) → held_at table.new p ≡ held_at table.old p }
-{
-    let blocks = frame.blocks();
-    let Ok(whole) = <&[Block; FRAME_BLOCKS]>::try_from(blocks) else {
-        unreachable!()
-    };
-    table.set_used(number, state_in(frame.word()), summary, whole);
-}
-
 /// Sets a frame that is free in a table, and has no used block, to that of an image of which this
 /// was read.
 fn set_frame(table: &mut TableBuilder, number: u16, frame: &FramePart<'_>, read: &FrameRead)
@@ -94,7 +66,12 @@ fn set_frame(table: &mut TableBuilder, number: u16, frame: &FramePart<'_>, read:
 {
     match read {
         FrameRead::Free => table.set_free(number, generation_in(frame.word())),
-        FrameRead::Used(summary) => set_used(table, number, frame, summary),
+        FrameRead::Used(summary) => {
+            let Ok(blocks) = <&[Block; FRAME_BLOCKS]>::try_from(frame.blocks()) else {
+                unreachable!()
+            };
+            table.set_used(number, state_in(frame.word()), summary, blocks);
+        }
     }
 }
 

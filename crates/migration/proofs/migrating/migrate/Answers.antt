@@ -1,6 +1,6 @@
-use Rattle.std.proofs.Common.{◌≡◌, ◌⊎◌, inl, inr, ℕ, List, Some, Result, Ok, Err, IfOk, IfErr, subst, sym}
+use Rattle.std.proofs.Common.{◌≡◌, ◌⊎◌, inl, inr, ℕ, List, Some, subst, sym}
+use Rattle.std.proofs.lemmas.Result.{IfOk-weaker, IfErr-weaker}
 use Rattle.s4_types.specs.declared.refusals.Cause.{Cause as Found}
-use Rattle.s4_types.specs.declared.refusals.Refusal.{Refusal}
 use Rattle.s4_types.specs.declared.refusals.Refusal.TheVariants.{NoMemory, Damaged, NoRoom}
 use Rattle.verifier.specs.Grammar.{FirstFault, SpellsDrive}
 use Rattle.verifier.specs.Images.{ImageFields}
@@ -9,27 +9,19 @@ use Rattle.earlier_images.specs.Grammar.{FirstEarlierFault}
 use Rattle.migration.specs.Migrated.{IsTooMuch, LaysOut, Migrates}
 use Rattle.migration.proofs.migrating.migrate.Goals as goal
 
-ok_so : {X : Type 0} (P Q : X → Type 0) (r : Result X Refusal) → ((x : X) → P x → Q x) → IfOk r P → IfOk r Q
-ok_so P Q (Ok x) so h = so x h
-ok_so P Q (Err e) so h = tt
-
-err_so : {X : Type 0} (P Q : Refusal → Type 0) (r : Result X Refusal) → ((e : Refusal) → P e → Q e) → IfErr r P → IfErr r Q
-err_so P Q (Ok x) so h = tt
-err_so P Q (Err e) so h = so e h
-
 pub returns-clause-migrates : goal.returns-clause-migrates
 returns-clause-migrates g c =
     let old = c.args.bytes.now in
     let new = c.in_ok-new.new.items in
-    ok_so (λ (image : ImageFields). IsReadOf c.as_slice.result.now image) (λ (image : ImageFields). (x : List ℕ) × Migrates old x × LaysOut old x × IsReadOf x image) c.verify.result
+    IfOk-weaker c.verify.result (λ (image : ImageFields). IsReadOf c.as_slice.result.now image) (λ (image : ImageFields). (x : List ℕ) × Migrates old x × LaysOut old x × IsReadOf x image)
     (λ image read. (new, c.in_ok-new.ensures.migrates, c.in_ok-new.ensures.layout, subst (λ (bytes : List ℕ). IsReadOf bytes image) c.as_slice.ensures.value read)) c.verify.ensures.promise
 
 pub returns-clause-refusal : goal.returns-clause-refusal
 returns-clause-refusal g c =
     let old = c.args.bytes.now in
     let written = c.in_ok-new.ensures.migrates.written in
-    err_so (λ e. (e ≡ NoMemory) ⊎ ((cause : Found) × (e ≡ Damaged cause) × FirstFault c.as_slice.result.now (Some cause)))
-    (λ e. (e ≡ NoMemory) ⊎ (((e ≡ NoRoom) × IsTooMuch old) ⊎ ((cause : Found) × (e ≡ Damaged cause) × FirstEarlierFault old (Some cause)))) c.verify.result
+    IfErr-weaker c.verify.result (λ e. (e ≡ NoMemory) ⊎ ((cause : Found) × (e ≡ Damaged cause) × FirstFault c.as_slice.result.now (Some cause)))
+    (λ e. (e ≡ NoMemory) ⊎ (((e ≡ NoRoom) × IsTooMuch old) ⊎ ((cause : Found) × (e ≡ Damaged cause) × FirstEarlierFault old (Some cause))))
     (λ e bad. elim bad [
       | inl memory ↦ inl memory
       | inr fault ↦ absurd (c.what_has_a_fault_spells_nothing.ensures c.as_slice.result.now fault.0 c.in_ok-new.ensures.migrates.is fault.2

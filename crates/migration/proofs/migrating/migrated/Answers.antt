@@ -34,9 +34,9 @@ copy_image-requires-clause-ascend c =
 pub copy_image-requires-clause-stand : goal.copy_image-requires-clause-stand
 copy_image-requires-clause-stand c =
     let old : EarlierFields = c.in_ok-old.old in
-    subst (λ (v : ImageVersion). AllByRecursion (λ row. ObjectStandsBy v (used_in c.frames-used.result.now) row c.clock.result) c.rows.result.now) (sym c.version.ensures)
-    (subst (λ (fs : List EarlierFrame). AllByRecursion (λ row. ObjectStandsBy old.version (used_in fs) row c.clock.result) c.rows.result.now) (sym c.frames-used.ensures)
-    (subst (λ (k : ℕ). AllByRecursion (λ row. ObjectStandsBy old.version (used_in old.frames) row k) c.rows.result.now) (sym c.clock.ensures)
+    subst (λ (v : ImageVersion). AllByRecursion (λ row. ObjectStandsBy v (used_in c.frames-used.result.now) row c.header.result.clock) c.rows.result.now) (sym c.version.ensures)
+    (subst (λ (fs : List EarlierFrame). AllByRecursion (λ row. ObjectStandsBy old.version (used_in fs) row c.header.result.clock) c.rows.result.now) (sym c.frames-used.ensures)
+    (subst (λ (k : ℕ). AllByRecursion (λ row. ObjectStandsBy old.version (used_in old.frames) row k) c.rows.result.now) (sym c.header.ensures.clock)
     (subst (λ (rs : List ImageRow). AllByRecursion (λ row. ObjectStandsBy old.version (used_in old.frames) row old.clock) rs) (sym c.rows.ensures) c.in_ok-old.ensures.read.stand.objects)))
 
 pub write_image-requires-clause-count : goal.write_image-requires-clause-count
@@ -55,35 +55,23 @@ write_image-requires-clause-rows c =
     let same = as_many_rows (image_in c.args.bytes.now).rows old.rows c.in_ok-old.ensures.read.spelled in
     omega (arith, few, same)
 
-pub returns-clause-migrates : goal.returns-clause-migrates
-returns-clause-migrates c =
+-- what was copied is that of what was read, and what was written has it
+pub returns : goal.returns
+returns c =
     let old : EarlierFields = c.in_ok-old.old in
     let copied = c.in_ok-copied in
+    let laters : List Row = copied.copied.rows.items in
     let t : Table = copied.copied.table in
     let bytes = c.args.bytes.now in
     let new = c.in_ok-new.new.items in
-    let copied_here : IsCopied c.version.result c.frames-used.result.now c.rows.result.now c.len.result t copied.copied.rows.items = record { copied = copied.ensures.copied; filled = copied.ensures.frames; few = copied.ensures.fits } in
-    c.what_was_written_is_migrated.ensures.migrates bytes new (image_in bytes) old t copied.copied.rows.items
-    (done bytes new (image_in bytes) old c.version.result c.frames-used.result.now c.rows.result.now c.len.result t copied.copied.rows.items c.as_slice.result.now c.in_ok-old.ensures.whole c.in_ok-old.ensures.read
-    c.version.ensures c.frames-used.ensures c.rows.ensures c.len.ensures copied_here c.frame_rules.ensures.count c.frame_rules.ensures.used c.as_slice.ensures.value c.in_ok-new.ensures.written)
-
-pub returns-clause-layout : goal.returns-clause-layout
-returns-clause-layout c =
-    let old : EarlierFields = c.in_ok-old.old in
-    let copied = c.in_ok-copied in
-    let t : Table = copied.copied.table in
-    let bytes = c.args.bytes.now in
-    let new = c.in_ok-new.new.items in
-    let copied_here : IsCopied c.version.result c.frames-used.result.now c.rows.result.now c.len.result t copied.copied.rows.items = record { copied = copied.ensures.copied; filled = copied.ensures.frames; few = copied.ensures.fits } in
-    c.what_was_written_is_migrated.ensures.layout bytes new (image_in bytes) old t copied.copied.rows.items
-    (done bytes new (image_in bytes) old c.version.result c.frames-used.result.now c.rows.result.now c.len.result t copied.copied.rows.items c.as_slice.result.now c.in_ok-old.ensures.whole c.in_ok-old.ensures.read
-    c.version.ensures c.frames-used.ensures c.rows.ensures c.len.ensures copied_here c.frame_rules.ensures.count c.frame_rules.ensures.used c.as_slice.ensures.value c.in_ok-new.ensures.written)
-
-pub returns-clause-fits : goal.returns-clause-fits
-returns-clause-fits c =
-    let old : EarlierFields = c.in_ok-old.old in
-    let laters : List Row = c.in_ok-copied.copied.rows.items in
-    let t : Table = c.in_ok-copied.copied.table in
-    let copied_here : IsCopied old.version old.frames old.rows (length old.frames) t laters = copied_of old c.version.result c.frames-used.result.now c.rows.result.now c.len.result t laters c.version.ensures c.frames-used.ensures c.rows.ensures c.len.ensures
-    (record { copied = c.in_ok-copied.ensures.copied; filled = c.in_ok-copied.ensures.frames; few = c.in_ok-copied.ensures.fits }) in
-    c.what_was_written_is_migrated.ensures.fits c.args.bytes.now (image_in c.args.bytes.now) old c.in_ok-old.ensures.whole c.in_ok-old.ensures.read copied_here.few
+    let read = c.in_ok-old.ensures in
+    let law = c.what_was_written_is_migrated.ensures in
+    let copied_here : IsCopied c.version.result c.frames-used.result.now c.rows.result.now c.len.result t laters = record { copied = copied.ensures.copied; filled = copied.ensures.frames; few = copied.ensures.fits } in
+    let written = done bytes new (image_in bytes) old c.version.result c.frames-used.result.now c.rows.result.now c.len.result t laters c.as_slice.result.now read.whole read.read
+    c.version.ensures c.frames-used.ensures c.rows.ensures c.len.ensures copied_here c.frame_rules.ensures.count c.frame_rules.ensures.used c.as_slice.ensures.value c.in_ok-new.ensures.written in
+    record {
+      migrates = law.migrates bytes new (image_in bytes) old t laters written;
+      layout = law.layout bytes new (image_in bytes) old t laters written;
+      fits = law.fits bytes (image_in bytes) old read.whole read.read (copied_of old c.version.result c.frames-used.result.now c.rows.result.now c.len.result t laters c.version.ensures c.frames-used.ensures c.rows.ensures c.len.ensures copied_here).few;
+      refusal = tt;
+    }

@@ -1,5 +1,5 @@
 use Rattle.std.proofs.Common.{string_bytes}
-use Rattle.s4d.proofs.Ends.{if_ok_with}
+use Rattle.image_commands.proofs.Fronts.{if_ok_with}
 use Rattle.s4d.proofs.Unmigrated.{has_line, refused_so}
 use Rattle.s4d.proofs.migrating.migrate_file.Goals as goal
 

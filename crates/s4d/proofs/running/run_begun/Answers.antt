@@ -12,7 +12,8 @@ use Rattle.image_commands.specs.Leaving.{IsBeside, IsKeptOrLeft}
 use Rattle.s4d_command.specs.declared.sessions.RunSession.{RunSession}
 use Rattle.s4d.specs.Opening.{HoldsAt}
 use Rattle.s4d.specs.Running.{HasFiles, IsSavedIn, IsUnwritten, LeavesDrive, RunsSessions, SaysUnrun}
-use Rattle.s4d.proofs.Ends.{if_err_with, if_ok_with}
+use Rattle.image_commands.proofs.Fronts.{if_ok_with}
+use Rattle.s4d.proofs.Ends.{if_err_with}
 use Rattle.s4d.proofs.Left.{kept_past}
 use Rattle.s4d.proofs.Said.{unopened, unrun_on}
 use Rattle.s4d.proofs.Settled.{left_for, saved_in, sessions_ran}
