@@ -10,7 +10,7 @@ use std::io;
 use thiserror::Error;
 
 /// Why a command over files failed. Each prints its line.
-#[derive(Debug, Drop, PartialEq, Eq, Error)]
+#[derive(Debug, Drop, Error)]
 pub enum Fault<'a> {
     /// The drive, or what reads its image, refused it.
     #[error("{0}")]

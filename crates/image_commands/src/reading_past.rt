@@ -3,7 +3,6 @@ ghost use Rattle.std.specs.Prelude.{◌≡◌, ◌⊎◌, ◌+◌, ◌^◌, ◌<
 ghost use Rattle.segment_table.specs.Room.{log_of};
 ghost use Rattle.version_store.specs.Store.{fields_of};
 ghost use Rattle.drive.specs.Opened.{base_of};
-ghost use Rattle.segment_word.specs.AcceptViews.{begun};
 ghost use Rattle.s4_types.specs.declared.refusals.Refusal.TheVariants.{NoObject};
 ghost use Rattle.s4_types.specs.declared.versions.Version.TheVariants.{Absent};
 ghost use Rattle.image_commands.specs.Faults.{SaysUnwritten};
@@ -13,7 +12,7 @@ ghost use Rattle.image_commands.specs.ReadingPast.{SaysRefused, SaysUngiven, ver
 use crate::faults::Fault;
 use crate::files::Files;
 use crate::verifying::{read_image, write_out};
-use drive::{Drive, OpenedDrive};
+use drive::OpenedDrive;
 use history_view::version_at;
 use s4_types::{Moment, ObjectId, Refusal, Role, Version};
 use s4d_command::At;
@@ -45,13 +44,13 @@ pub fn write_object<'a, T: Threads, F: Files, W: Sink>(
         Err(fault) => return Err(fault),
     };
     match open(alloc, image) {
-        Ok(opened) => write_named::<Brand, W>(alloc, opened, asked, writer),
+        Ok(opened) => write_past::<Brand, W>(alloc, opened, asked, writer),
         Err(refusal) => Err(Fault::Refused(refusal)),
     }
 }
 
 // The same of a drive that was just opened.
-fn write_named<'a, J: Naming, W: Sink>(
+fn write_past<'a, J: Naming, W: Sink>(
     alloc: Global,
     opened: OpenedDrive,
     asked: At<'a>,
@@ -69,35 +68,15 @@ fn write_named<'a, J: Naming, W: Sink>(
         ⊎ SaysUnwritten (W.failures writer.old) (W.failures writer.new) fault) }
 {
     let mut drive = opened.named::<J>();
-    let written = write_past(alloc, &mut drive, asked, writer);
-    drop(drive);
-    written
-}
-
-// The same of the drive itself, of which nothing was asked yet.
-fn write_past<'a, J: Naming, W: Sink>(
-    alloc: Global,
-    drive: &mut Drive<J>,
-    asked: At<'a>,
-    writer: &mut W,
-) -> Result<(), Fault<'a>>
-    requires ledger { drive.old.ledger ≡ begun J.base }
-    requires writer { W.failures writer.old + 1 < 2 ^ 64 }
-    ensures version { OnOk result
-        (GivesVersion (version_from J.base asked.entry.object asked.entry.moment)
-        (W.passed writer.old) (W.passed writer.new)) }
-    ensures fault { IfErr result
-        (λ fault. SaysRefused (RefusesVersion J.base asked.entry.object asked.entry.moment) fault
-        ⊎ SaysUnwritten (W.failures writer.old) (W.failures writer.new) fault) }
-{
     let mut session = match drive.session(Role::Client) {
         Ok(session) => session,
         Err(refusal) => return Err(Fault::Refused(refusal)),
     };
     let object = ObjectId::new(asked.object);
     let moment = Moment::new(asked.moment);
-    let past = version_at(alloc, drive, &mut session, object, moment);
+    let past = version_at(alloc, &mut drive, &mut session, object, moment);
     drop(session);
+    drop(drive);
     match past {
         Ok(version) => {
             let written = write_version(&version, writer);

@@ -5,7 +5,7 @@ ghost use Rattle.std.specs.Io.KnownBytes.{Keeps};
 ghost use Rattle.s4_types.specs.Sizes.{IsFrameCount};
 ghost use Rattle.s4_types.specs.declared.refusals.Refusal.TheVariants.{NoMemory};
 ghost use Rattle.s4_model.specs.State.{new_base};
-ghost use Rattle.image_commands.specs.Files.{AreKnown};
+ghost use Rattle.image_commands.specs.Files.{AreKnown, KeepsAll, KeepsOthers};
 ghost use Rattle.image_commands.specs.Faults.{KeepsMade, KeepsNew, SaysNoPlace, SaysUnmade};
 ghost use Rattle.image_commands.specs.Faults.{SaysUnplaced, SaysUnwritable};
 ghost use Rattle.image_commands.specs.Making.{HasNew, IsEmptyStore, SpellsNew};
@@ -38,11 +38,8 @@ pub fn make_file<'a, F: Files>(
     // What has bytes is refused.
     ensures empty { OnOk result (AreKnown (F.contents files.old asked.entry.image.now) []) }
     ensures others { OnOk result
-        ((path : List ℕ)
-        → F.apart asked.entry.image.now path
-        → Keeps (F.contents files.old path) (F.contents files.new path)) }
-    ensures kept { OnErr result
-        ((path : List ℕ) → Keeps (F.contents files.old path) (F.contents files.new path)) }
+        (KeepsOthers F.apart asked.entry.image.now (F.contents files.old) (F.contents files.new)) }
+    ensures kept { OnErr result (KeepsAll (F.contents files.old) (F.contents files.new)) }
     ensures fault { IfErr result
         (SaysUnmade (F.contents files.old asked.entry.image.now) asked.entry.image.now) }
     ensures named { IfErr result
@@ -96,11 +93,8 @@ pub fn put_image<'a, F: Files>(
     requires claimed { F.leads claim path.now }
     ensures image { OnOk result (AreKnown (F.contents files.new path.now) bytes.now) }
     ensures others { OnOk result
-        ((other : List ℕ)
-        → F.apart path.now other
-        → Keeps (F.contents files.old other) (F.contents files.new other)) }
-    ensures kept { OnErr result
-        ((other : List ℕ) → Keeps (F.contents files.old other) (F.contents files.new other)) }
+        (KeepsOthers F.apart path.now (F.contents files.old) (F.contents files.new)) }
+    ensures kept { OnErr result (KeepsAll (F.contents files.old) (F.contents files.new)) }
     ensures fault { IfErr result (SaysUnplaced path.now) }
     ensures named { IfErr result (KeepsNew (F.contents files.new) bytes.now) }
 {
@@ -148,8 +142,7 @@ impl<'a, F: Files> Place<'a, F> {
         requires claimed { F.leads claim path.now }
         ensures path { IfOk result (λ place. place.path.now ≡ path.now) }
         ensures claimed { IfOk result (λ place. F.leads place.claim place.path.now) }
-        ensures others { (other : List ℕ)
-            → Keeps (F.contents files.old other) (F.contents files.new other) }
+        ensures others { KeepsAll (F.contents files.old) (F.contents files.new) }
         ensures reserved { IfOk result
             (λ place. (other : List ℕ)
             → F.is_beside place.beside other ≡ true → F.reserves claim other ≡ true) }

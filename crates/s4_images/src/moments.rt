@@ -1,5 +1,5 @@
 //! The moment and the object that a command asks for.
-ghost use Rattle.std.specs.Prelude.{◌≡◌, ◌≢◌, None, IfErr, IfOk, IfSome, OnOk, option_map};
+ghost use Rattle.std.specs.Prelude.{◌≡◌, ◌≢◌, ℕ, None, Some, IfErr, IfOk, IfSome, OnOk, option_map};
 ghost use Rattle.object_map.specs.Rows.{row_of};
 ghost use Rattle.s4_model.specs.Visible.{IsVisible};
 ghost use Rattle.drive.specs.Fields.{state_in, store_of};
@@ -110,16 +110,10 @@ pub fn object_asked<J: Naming>(
     ensures ledger { drive.new.ledger ≡ drive.old.ledger }
     ensures store { store_of drive.new ≡ store_of drive.old }
 {
-    if let Some(object) = object {
-        check_object(drive, Some(object))?;
-        return Ok(Some(ObjectId::new(object)));
-    }
-    let Some(name) = name else {
-        return Ok(None);
-    };
-    match named_at(drive, name, at)? {
-        Ok(object) => Ok(Some(object)),
-        Err(refusal) => Err(unnamed(refusal, at)),
+    match (object, name) {
+        (Some(object), _) => numbered(drive, object),
+        (None, Some(name)) => named_alone(drive, name, None, at),
+        (None, None) => Ok(None),
     }
 }
 
@@ -141,17 +135,20 @@ pub fn object_in_either<J: Naming>(
     ensures ledger { drive.new.ledger ≡ drive.old.ledger }
     ensures store { store_of drive.new ≡ store_of drive.old }
 {
-    if let Some(object) = object {
-        check_object(drive, Some(object))?;
-        return Ok(Some(ObjectId::new(object)));
+    match (object, name) {
+        (Some(object), _) => numbered(drive, object),
+        (None, Some(name)) => named_in_either(drive, name, first, second),
+        (None, None) => Ok(None),
     }
-    let Some(name) = name else {
-        return Ok(None);
-    };
-    match named_in_either(drive, name, first, second) {
-        Ok(object) => Ok(Some(object)),
-        Err(failure) => Err(failure),
-    }
+}
+
+// The object of this number, which has a row.
+fn numbered<J: Naming>(drive: &Drive<J>, object: u64) -> Result<Option<ObjectId>, Failure>
+    ensures { IfOk result
+        (λ found. (row_of drive.now.store.rows object ≢ None) × (found ≡ Some object)) }
+{
+    check_object(drive, Some(object))?;
+    Ok(Some(ObjectId::new(object)))
 }
 
 // The object of a name at the first moment, or where none has it then, at the second.
@@ -160,38 +157,39 @@ fn named_in_either<J: Naming>(
     name: &str,
     first: Moment,
     second: Moment,
-) -> Result<ObjectId, Failure>
+) -> Result<Option<ObjectId>, Failure>
     ensures named { IfOk result
-        (IsNamedInEither (state_in drive.old) (store_of drive.old) name.now first second) }
+        (λ found. (o : ℕ)
+        × IsNamedInEither (state_in drive.old) (store_of drive.old) name.now first second o
+        × (found ≡ Some o)) }
     ensures ledger { drive.new.ledger ≡ drive.old.ledger }
     ensures store { store_of drive.new ≡ store_of drive.old }
 {
     match named_at(drive, name, first)? {
-        Ok(object) => Ok(object),
-        Err(NameRefusal::NotNamed) => named_at_last(drive, name, first, second),
-        Err(refusal) => Err(unnamed(refusal, first)),
+        Ok(object) => Ok(Some(object)),
+        Err(NameRefusal::NotNamed) => named_alone(drive, name, Some(first), second),
+        Err(refusal) => Err(unnamed(refusal, None, first)),
     }
 }
 
-// The object of a name at the second moment, where none has it at the first.
-fn named_at_last<J: Naming>(
+// The one object of a name at a moment. Where none had it at an earlier one that was asked for
+// first, and none has it at this one, the failure names both.
+fn named_alone<J: Naming>(
     drive: &mut Drive<J>,
     name: &str,
-    first: Moment,
-    second: Moment,
-) -> Result<ObjectId, Failure>
+    before: Option<Moment>,
+    at: Moment,
+) -> Result<Option<ObjectId>, Failure>
     ensures named { IfOk result
-        (IsOnlyNamed (state_in drive.old) (store_of drive.old) name.now second) }
+        (λ found. (o : ℕ)
+        × IsOnlyNamed (state_in drive.old) (store_of drive.old) name.now at o
+        × (found ≡ Some o)) }
     ensures ledger { drive.new.ledger ≡ drive.old.ledger }
     ensures store { store_of drive.new ≡ store_of drive.old }
 {
-    match named_at(drive, name, second)? {
-        Ok(object) => Ok(object),
-        Err(NameRefusal::NotNamed) => Err(Failure::NotNamedInEither {
-            first: as_number(first),
-            second: as_number(second),
-        }),
-        Err(refusal) => Err(unnamed(refusal, second)),
+    match named_at(drive, name, at)? {
+        Ok(object) => Ok(Some(object)),
+        Err(refusal) => Err(unnamed(refusal, before, at)),
     }
 }
 
@@ -216,12 +214,16 @@ fn named_at<J: Naming>(
     Ok(named_object(drive, name.as_bytes(), at))
 }
 
-// The failure of a name that isn't that of one object.
-fn unnamed(refusal: NameRefusal, at: Moment) -> Failure {
+// The failure of a name that isn't that of one object, at a moment and maybe at one before it.
+fn unnamed(refusal: NameRefusal, before: Option<Moment>, at: Moment) -> Failure {
     let moment = as_number(at);
-    match refusal {
-        NameRefusal::NotNamed => Failure::NotNamed { moment },
-        NameRefusal::NamedTwice { first, second } => Failure::NamedTwice {
+    match (refusal, before) {
+        (NameRefusal::NotNamed, None) => Failure::NotNamed { moment },
+        (NameRefusal::NotNamed, Some(first)) => Failure::NotNamedInEither {
+            first: as_number(first),
+            second: moment,
+        },
+        (NameRefusal::NamedTwice { first, second }, _) => Failure::NamedTwice {
             first: first.number(),
             second: second.number(),
             moment,

@@ -5,8 +5,9 @@ ghost use Rattle.moment_words.specs.Texts as styles;
 ghost use Rattle.s4_images.specs.Commands.{FailsOver, OverImage};
 ghost use Rattle.s4_images.specs.Failures.{IsInStyle};
 
-use crate::commands::{DriveCommand, Verdict, over_image};
+use crate::commands::{DriveCommand, Verdict};
 use crate::faults::Failure;
+use crate::using::{DriveUse, use_image};
 use drive::Drive;
 use image_commands::Files;
 use moment_words::style_of;
@@ -52,7 +53,7 @@ pub fn show_image<T: Threads, F: Files, C: DriveCommand + ImageCommand, W: Sink>
         (λ drive. IsInStyle
         (styles.style_of (state_in drive).clock (C.as_numbers command.now)))) }
 {
-    over_image(
+    use_image(
         rt,
         alloc,
         files,
@@ -62,45 +63,30 @@ pub fn show_image<T: Threads, F: Files, C: DriveCommand + ImageCommand, W: Sink>
     )
 }
 
-/// A command whose failures have their moments as its lines do.
+/// A command whose failures have their moments as its lines do: in the style of the drive's clock
+/// before.
 #[derive(Clone, Copy)]
 struct Styled<'a, C: ImageCommand> {
     command: &'a C,
 }
 
-impl<C: DriveCommand + ImageCommand> DriveCommand for Styled<'_, C> {
-    ghost shows = { λ it. C.shows it.command.now };
+impl<C: DriveCommand + ImageCommand, W: Sink> DriveUse<Verdict, W> for Styled<'_, C> {
+    ghost takes = { λ _ writer. W.failures writer + 1 < 2 ^ 64 };
+
+    ghost gives = { λ it d verdict before after. C.shows it.command.now d verdict (W.passed before) (W.passed after) };
 
     ghost fails = { λ it drive. IsInStyle (styles.style_of (state_in drive).clock (C.as_numbers it.command.now)) };
 
-    fn perform<J: Naming, W: Sink>(
+    fn apply<J: Naming>(
         &self,
         alloc: Global,
         drive: &mut Drive<J>,
         writer: &mut W,
     ) -> Result<Verdict, Failure> {
-        perform_in_style(alloc, drive, self.command, writer)
-    }
-}
-
-// Performs a command over a drive. The moments of a failure are in the style of the drive's clock
-// before.
-fn perform_in_style<J: Naming, C: DriveCommand + ImageCommand, W: Sink>(
-    alloc: Global,
-    drive: &mut Drive<J>,
-    command: &C,
-    writer: &mut W,
-) -> Result<Verdict, Failure>
-    requires writer { W.failures writer.old + 1 < 2 ^ 64 }
-    ensures shows { IfOk result
-        (λ verdict. C.shows command.now drive.old verdict (W.passed writer.old)
-        (W.passed writer.new)) }
-    ensures style { IfErr result
-        (IsInStyle (styles.style_of (state_in drive.old).clock (C.as_numbers command.now))) }
-{
-    let style = style_of(drive.clock().number(), command.has_numbers());
-    match command.perform(alloc, drive, writer) {
-        Ok(verdict) => Ok(verdict),
-        Err(failure) => Err(failure.in_style(style)),
+        let style = style_of(drive.clock().number(), self.command.has_numbers());
+        match self.command.perform(alloc, drive, writer) {
+            Ok(verdict) => Ok(verdict),
+            Err(failure) => Err(failure.in_style(style)),
+        }
     }
 }

@@ -15,7 +15,7 @@ returns-in-Ok-open g c =
     let base : Base = base_of (fields_of log_of opened.store) opened.timeline opened.next opened.audit in
     let told = c.in-Ok-open.ensures.base verified.bytes (image_in verified.bytes) verified.spelled verified.told in
     record {
-      object = on_ok_weaker c.write_named.result
+      object = on_ok_weaker c.write_past.result
           (λ gives. record {
             image = c.in-Ok.image;
             verified = verified;
@@ -23,11 +23,11 @@ returns-in-Ok-open g c =
             told = told;
             gives = gives;
           })
-          c.write_named.ensures.version;
-      fault = IfErr-weaker c.write_named.result _ _
+          c.write_past.ensures.version;
+      fault = IfErr-weaker c.write_past.result _ _
           (λ fault says. ⊎_elim
           (λ refused. inr (inl (refused_of (g.F.Files.contents c.args.files.now c.args.asked.image.now) c.in-Ok.image verified base told c.args.asked.object c.args.asked.moment fault refused)))
           (λ unwritten. inr (inr unwritten))
           says)
-          c.write_named.ensures.fault;
+          c.write_past.ensures.fault;
     }

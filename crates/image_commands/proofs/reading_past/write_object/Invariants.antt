@@ -4,5 +4,5 @@ use Rattle.drive.specs.Opened.{base_of}
 use Rattle.image_commands.proofs.reading_past.write_object.Given as goal
 
 -- the drive that was opened
-abbrev pub ghosts-write_named : goal.ghosts-write_named
-ghosts-write_named g a = record { frames = a.opened.store.table.seat.table; accepts = a.opened.accepts; base = base_of (fields_of log_of a.opened.store) a.opened.timeline a.opened.next a.opened.audit }
+abbrev pub ghosts-write_past : goal.ghosts-write_past
+ghosts-write_past g a = record { frames = a.opened.store.table.seat.table; accepts = a.opened.accepts; base = base_of (fields_of log_of a.opened.store) a.opened.timeline a.opened.next a.opened.audit }
