@@ -1,5 +1,5 @@
 -- What a session was told after a plan, and after one that couldn't be fetched.
-use Rattle.std.proofs.Common.{◌≡◌, ◌≤◌, ℕ, Bool, true, false, if◌then◌else◌, List, [], Option, None, Result, Ok, Err, inl, inr, refl, sym, ap, subst, ◌∙◌, arith}
+use Rattle.std.proofs.Common.{◌≡◌, ◌≤◌, ℕ, Bool, true, false, if◌then◌else◌, List, [], ◌∷◌, Option, None, Result, Ok, Err, inl, inr, refl, sym, ap, subst, ◌∙◌, arith}
 use Rattle.std.specs.Prelude.{IfOk}
 use Rattle.std.proofs.lemmas.Option.{none-some}
 use Rattle.atomic_table.specs.Seated.{TableId}
@@ -14,19 +14,24 @@ use Rattle.s4_types.specs.declared.replies.Reply.TheVariants.{Data, Refused}
 use Rattle.s4_types.specs.declared.refusals.Refusal.{Refusal}
 use Rattle.s4_types.specs.declared.refusals.Refusal.TheVariants.{NoMemory}
 use Rattle.s4_model.specs.Sound.{IsSound}
-use Rattle.s4_model.specs.State.{State, grown}
+use Rattle.s4_model.specs.State.{grown}
 use Rattle.s4_model.specs.Refusals.{first_refusal}
 use Rattle.s4_model.specs.Step.{Step, Refuses, Serves, Alters, Reads, ForMemory, MayWantMemory, judged}
-use Rattle.segment_word.specs.AcceptViews.{Ledger, Told, caught_up, credited}
+use Rattle.segment_word.specs.AcceptViews.{Ledger, Told, caught_up, credited, with_moment}
+use Rattle.segment_word.specs.AcceptRule.{FitsLedger}
 use Rattle.segment_table.specs.Rules.{HasFramesInOrder}
-use Rattle.version_store.specs.Store.{StoreFields, IsStore}
+use Rattle.version_store.specs.Store.{IsStore}
 use Rattle.time_read.specs.Plans.{PlanFields, bytes_planned}
 use Rattle.drive.specs.Fields.{DriveFields, SessionFields, history_of, state_in, store_of}
 use Rattle.drive.specs.Keeping.{DecodesWhereVisible}
 use Rattle.drive.specs.Opened.{NoneFrom}
-use Rattle.drive.specs.Answering.{Leaves, told_after, owners_after, is_acceptance, reply_planned}
+use Rattle.drive.specs.Refusing.{RefusesExactly, LacksMemoryInPlace}
+use Rattle.drive.specs.Answering.{told_after, is_acceptance, reply_planned}
 use Rattle.server.specs.Attending.{IsSeated}
-use Rattle.server.specs.Sharing.{IsSharedDrive, SharedStep, SharedAnswer, IsFetched, IsFresh}
+use Rattle.server.specs.Drawing.{MayGoOn}
+use Rattle.server.specs.Sequence.{HasCome, IsAnswered, moments_of}
+use Rattle.server.proofs.Sequence.{moments_counted}
+use Rattle.server.specs.Sharing.{SharedStep, SharedAnswer, IsFetched, IsFresh}
 
 -- whether a change of it was accepted or not, it has seen all
 seen_by : (b : Bool) (l : Ledger) (t : Told) → (if b then credited l t else caught_up l t).seen ≡ accepted l.history
@@ -38,33 +43,58 @@ pub planned_told : (planned : Result PlanFields Refusal) (l : Ledger) (t : Told)
 planned_told (Ok plan) l t = refl
 planned_told (Err refusal) l t = refl
 
--- it gives no change to anybody
-pub planned_owners : (planned : Result PlanFields Refusal) (seat : ℕ) (owners : List ℕ) → owners_after (reply_planned planned) seat owners ≡ owners
-planned_owners (Ok plan) seat owners = refl
-planned_owners (Err refusal) seat owners = refl
-
--- nor is its reply an acceptance
+-- so its reply is no acceptance
 pub planned_accepts : (planned : Result PlanFields Refusal) → is_acceptance (reply_planned planned) ≡ false
 planned_accepts (Ok plan) = refl
 planned_accepts (Err refusal) = refl
 
--- and it leaves all that is stored
-pub planned_leaves : (planned : Result PlanFields Refusal) (store after : StoreFields) (s : State) (request : Request) (now : ℕ) → after ≡ store → Leaves store s request now (reply_planned planned) after
-planned_leaves (Ok plan) store after s request now same = same
-planned_leaves (Err refusal) store after s request now same = same
+-- and it leaves all that is stored, and whose each change is
+pub planned_answered : (planned : Result PlanFields Refusal) (d e : DriveFields) (seat : ℕ) (role : Role) (request : Request) (now : ℕ) → Step (history_of d) role request now (reply_planned planned) (history_of e) → store_of e ≡ store_of d
+    → e.ledger ≡ with_moment d.ledger now → IsAnswered d seat role request now (reply_planned planned) e
+planned_answered (Ok plan) d e seat role request now step store ledger = record { step = step; stored = store; owners = ap (λ (l : Ledger). l.owners) ledger }
+planned_answered (Err refusal) d e seat role request now step store ledger = record { step = step; stored = store; owners = ap (λ (l : Ledger). l.owners) ledger }
 
--- a drive that is another one by name is shared where what always holds of a drive holds of that
-pub shared_drive : (base : Base) (frames : TableId) (d e : DriveFields) → e ≡ d → (history_of d).base ≡ base → DecodesWhereVisible (store_of d) (state_in d) → HasFramesInOrder frames d.store.table → IsSound (state_in d)
-    → IsStore (store_of d) → (store_of d).latest ≤ (state_in d).clock → NoneFrom (state_in d).next (store_of d) → IsSharedDrive base e
-shared_drive base frames d e same begins decodes in_order sound store past unborn = subst (IsSharedDrive base) (sym same) (record {
-  begins = begins;
-  decodes = decodes;
-  frames = subst (λ (t : TableId). HasFramesInOrder t d.store.table) (sym in_order.table) in_order;
-  sound = sound;
-  store = store;
-  past = past;
-  unborn = unborn;
-})
+-- A request was answered by a drive of which what always holds of one holds, and which had all that the session had seen.
+abbrev pub shared_step : (base : Base) (frames : TableId) (d e : DriveFields) (old new : SessionFields) (request : Request) (now : ℕ) (reply : Reply)
+    → (history_of d).base ≡ base → DecodesWhereVisible (store_of d) (state_in d) → HasFramesInOrder frames d.store.table → IsSound (state_in d) → IsStore (store_of d) → (store_of d).latest ≤ (state_in d).clock → NoneFrom (state_in d).next (store_of d)
+    → FitsLedger d.ledger old.told → IsAnswered d old.told.seat old.role request now reply e → RefusesExactly d old.role request now reply e → LacksMemoryInPlace d old.role request now reply
+    → new ≡ record old { told = told_after reply e.ledger old.told } → FitsLedger e.ledger new.told → SharedStep base old request now reply new
+shared_step base frames d e old new request now reply begins decodes in_order sound store past unborn had_seen one refused memory told has_seen = record {
+  before = d;
+  after = e;
+  there = record {
+    begins = begins;
+    decodes = decodes;
+    frames = subst (λ (t : TableId). HasFramesInOrder t d.store.table) (sym in_order.table) in_order;
+    sound = sound;
+    store = store;
+    past = past;
+    unborn = unborn;
+  };
+  had_seen = had_seen;
+  step = one.step;
+  refused = refused;
+  memory = memory;
+  stored = one.stored;
+  owners = one.owners;
+  told = told;
+  has_seen = has_seen;
+}
+
+-- so it was at the moment that was drawn, after at least as many requests as its part of the books has
+pub shared_answer : {C : Type 0} (draws : C → ℕ → C → Type 0) (begins : DriveFields → Type 0) (moments : List ℕ → Type 0) (has_upkeep : Bool) (requests changes own : ℕ) (base : Base) (clock later : C) (now : ℕ) (old new : SessionFields) (request : Request) (reply : Reply) (d : DriveFields)
+    → HasCome begins (MayGoOn draws moments clock) has_upkeep requests changes d → draws clock now later → own ≤ requests → (step : SharedStep base old request now reply new) → SharedAnswer base moments own old request reply new (state_in step.after).clock
+shared_answer draws begins moments has_upkeep requests changes own base clock later now old new request reply d come draw bound step =
+    let all = moments_counted come.events in
+    let answered = come.answered in
+    record {
+      before = moments_of come.events;
+      now = now;
+      drawn = come.drawn (now ∷ []) later (later, draw, refl);
+      late = omega (arith, bound, all, answered);
+      step = step;
+      came_to = refl;
+    }
 
 -- whether a reply is a refusal
 abbrev pub IsRefused : Reply → Type 0

@@ -52,10 +52,19 @@ impl<J: Running> Ledger for Asked<J> {
 }
 
 /// Two ledgers that no run has yet. Contracts see their names, and into how many parts each is cut.
-#[derive(Drop)]
 pub struct Blanks {
     requests: Blank,
     changes: Blank,
+}
+
+// Written by hand, so that an owner lets it go by one call.
+impl Drop for Blanks {
+    fn drop(self) {
+        let Blanks {
+            requests: _,
+            changes: _,
+        } = self;
+    }
 }
 
 impl Model for Blanks {
@@ -105,10 +114,19 @@ impl Blanks {
 }
 
 /// The books of a run. Contracts see what they come to.
-#[derive(Drop)]
 pub(crate) struct Books<J: Running> {
     requests: Book<Asked<J>>,
     changes: Book<J>,
+}
+
+// Written by hand, so that an owner lets it go by one call.
+impl<J: Running> Drop for Books<J> {
+    fn drop(self) {
+        let Books {
+            requests: _,
+            changes: _,
+        } = self;
+    }
 }
 
 impl<J: Running> Model for Books<J> {
@@ -133,29 +151,30 @@ impl<J: Running> Books<J> {
     }
 
     /// All parts together have what the books come to.
-    pub(crate) fn audit(self, all: Part<J>)
-        requires { all.parts ≡ J.parts }
-        ensures requests { self.requests ≡ all.requests }
-        ensures changes { self.changes ≡ all.changes }
+    pub(crate) fn audit(&mut self, all: &mut Part<J>)
+        requires { all.old.parts ≡ J.parts }
+        ensures requests { self.old.requests ≡ all.old.requests }
+        ensures changes { self.old.changes ≡ all.old.changes }
     {
-        let Books {
-            mut requests,
-            mut changes,
-        } = self;
-        let Part {
-            requests: mut all_requests,
-            changes: mut all_changes,
-        } = all;
-        requests.audit(&mut all_requests);
-        changes.audit(&mut all_changes);
+        self.requests.audit(&mut all.requests);
+        self.changes.audit(&mut all.changes);
     }
 }
 
 /// Some parts of a run's books. Contracts see how many, and what is counted on them.
-#[derive(Drop)]
 pub struct Part<J: Running> {
     requests: Share<Asked<J>>,
     changes: Share<J>,
+}
+
+// Written by hand, so that an owner lets it go by one call.
+impl<J: Running> Drop for Part<J> {
+    fn drop(self) {
+        let Part {
+            requests: _,
+            changes: _,
+        } = self;
+    }
 }
 
 impl<J: Running> Model for Part<J> {

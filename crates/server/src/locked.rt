@@ -319,7 +319,6 @@ fn fetched(alloc: Global, planned: Result<ReadPlan, Refusal>) -> Reply
 
 /// A session with a drive that others share, under a lock. Contracts see the session, how many
 /// requests it was answered, and the clock of the history whose changes it has seen.
-#[derive(Drop)]
 pub struct Locked<'a, J: Running, C: Clock, R: Wait, G: Gate> {
     rt: &'a R,
     alloc: Global,
@@ -333,6 +332,24 @@ pub struct Locked<'a, J: Running, C: Clock, R: Wait, G: Gate> {
     gate: &'a G,
     number: usize,
     calls: u64,
+}
+
+// Written by hand, so that an owner lets it go by one call.
+impl<'a, J: Running, C: Clock, R: Wait, G: Gate> Drop for Locked<'a, J, C, R, G> {
+    fn drop(self) {
+        let Locked {
+            rt: _,
+            alloc: _,
+            drive: _,
+            pace: _,
+            session: _,
+            part: _,
+            place: _,
+            gate: _,
+            number: _,
+            calls: _,
+        } = self;
+    }
 }
 
 impl<'a, J: Running, C: Clock, R: Wait, G: Gate> Model for Locked<'a, J, C, R, G> {
@@ -449,7 +466,19 @@ impl<'a, J: Running, C: Clock, R: Wait, G: Gate> Locked<'a, J, C, R, G> {
         ensures session { result.0 ≡ self.entry.session }
         ensures part { result.1 ≡ record { parts = 1; requests = self.entry.requests; changes = length self.entry.session.told.mine } }
     {
-        (self.session, self.part)
+        let Locked {
+            rt: _,
+            alloc: _,
+            drive: _,
+            pace: _,
+            session,
+            part,
+            place: _,
+            gate: _,
+            number: _,
+            calls: _,
+        } = self;
+        (session, part)
     }
 
     /// The reply to a Read. The lock isn't held while its bytes are fetched.

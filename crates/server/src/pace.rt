@@ -20,7 +20,6 @@ const START_MILLISECONDS: u64 = 100;
 
 /// How upkeep gets on and what it is needed for: sessions, cleaner and copier of one drive share
 /// it.
-#[derive(Drop)]
 pub struct Pace {
     progress: Mutex<Progress>,
     /// Whoever waits for progress is woken by this.
@@ -28,6 +27,17 @@ pub struct Pace {
     /// How many of cleaner and copier wait for the drive's lock, as the struct has it. Sessions
     /// look at this copy while they try that lock, and decide no sleep by it.
     wanting: AtomicU64,
+}
+
+// Written by hand, so that an owner lets it go by one call.
+impl Drop for Pace {
+    fn drop(self) {
+        let Pace {
+            progress: _,
+            news: _,
+            wanting: _,
+        } = self;
+    }
 }
 
 impl Pace {

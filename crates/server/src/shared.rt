@@ -51,13 +51,24 @@ pub(crate) struct Place {
 ///
 /// Whatever was done under the lock: the drive is what the requests on the books have made of the
 /// one that the run began with, each at the moment that was drawn for it.
-#[derive(Drop)]
 pub struct SharedDrive<J: Running, C: Clock> {
     pub(crate) drive: Drive<J>,
     clock: C,
     /// How many changes were accepted in the drive's history. It stops at the last number.
     accepted: u64,
     books: Books<J>,
+}
+
+// Written by hand, so that an owner lets it go by one call.
+impl<J: Running, C: Clock + Drop> Drop for SharedDrive<J, C> {
+    fn drop(self) {
+        let SharedDrive {
+            drive: _,
+            clock: _,
+            accepted: _,
+            books: _,
+        } = self;
+    }
 }
 
 impl<J: Running, C: Clock> Model for SharedDrive<J, C> {
@@ -205,9 +216,10 @@ impl<J: Running, C: Clock + Drop> SharedDrive<J, C> {
             drive,
             clock: _,
             accepted: _,
-            books,
+            mut books,
         } = self;
-        books.audit(all);
+        let mut all = all;
+        books.audit(&mut all);
         drive
     }
 }

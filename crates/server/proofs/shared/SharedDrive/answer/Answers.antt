@@ -1,11 +1,11 @@
-use Rattle.std.proofs.Common.{◌≡◌, ◌+◌, ℕ, Bool, [], ◌∷◌, arith, cond, refl, subst, sym}
+use Rattle.std.proofs.Common.{◌≡◌, ◌+◌, ℕ, Bool, cond, subst, sym}
 use Rattle.segment_word.specs.AcceptViews.{count_of}
 use Rattle.drive.specs.Fields.{history_of}
 use Rattle.server.specs.Accounts.{BookFields}
 use Rattle.server.specs.Drawing.{MayGoOn}
-use Rattle.server.specs.Sequence.{HasCome, moments_of}
-use Rattle.server.proofs.Sequence.{come_answered, drawn_more, moments_counted, next_count}
-use Rattle.server.proofs.Sharing.{seen_after, shared_drive}
+use Rattle.server.specs.Sequence.{HasCome, IsAnswered}
+use Rattle.server.proofs.Sequence.{come_answered, drawn_more, next_count}
+use Rattle.server.proofs.Sharing.{seen_after, shared_answer, shared_step}
 use Rattle.server.proofs.Summing.{accepted_more}
 use Rattle.server.proofs.shared.SharedDrive.answer.Goals as goal
 
@@ -34,34 +34,16 @@ invariant_of-self g c =
 
 pub returns-clause-step : goal.returns-clause-step
 returns-clause-step g c =
-    let held = c.self.invariant in
     let inside = c.self.inside in
     let asked = c.request-reply in
     let draw = c.draw-now in
+    let session = c.args.session.now in
     let rules = c.rules.ensures in
-    let before = moments_of held.0.events in
-    let all = moments_counted held.0.events in
-    let answered = held.0.answered in
-    record {
-      before = before;
-      now = draw.result;
-      drawn = held.0.drawn (draw.result ∷ []) draw.new.self (draw.new.self, draw.ensures, refl);
-      late = omega (arith, c.count.ensures.bound, all, answered);
-      step = record {
-        before = inside.drive;
-        after = asked.new.self;
-        there = shared_drive g.J.Naming.base g.J.Naming.frames inside.drive inside.drive refl rules.base rules.decodes rules.frames rules.sound rules.store rules.past rules.unborn;
-        had_seen = asked.ensures.before;
-        step = asked.ensures.step;
-        refused = asked.ensures.refused;
-        memory = asked.ensures.memory;
-        stored = asked.ensures.stored;
-        owners = asked.ensures.owners;
-        told = asked.ensures.session;
-        has_seen = asked.ensures.after;
-      };
-      came_to = refl;
-    }
+    let one : IsAnswered inside.drive session.told.seat session.role c.args.request draw.result asked.result asked.new.self = record { step = asked.ensures.step; stored = asked.ensures.stored; owners = asked.ensures.owners } in
+    let step = shared_step g.J.Naming.base g.J.Naming.frames inside.drive asked.new.self session asked.new.session c.args.request draw.result asked.result
+    rules.base rules.decodes rules.frames rules.sound rules.store rules.past rules.unborn asked.ensures.before one asked.ensures.refused asked.ensures.memory asked.ensures.session asked.ensures.after in
+    shared_answer g.C.Clock.draws g.J.Running.begins g.J.Running.moments g.J.Running.has_upkeep inside.books.requests inside.books.changes c.args.part.now.requests g.J.Naming.base inside.clock draw.new.self draw.result session asked.new.session c.args.request asked.result inside.drive
+    c.self.invariant.0 draw.ensures c.count.ensures.bound step
 
 pub returns-clause-seen : goal.returns-clause-seen
 returns-clause-seen g c = seen_after c.request-reply.result c.request-reply.new.self.ledger c.args.session.now c.request-reply.new.session c.request-reply.ensures.session

@@ -25,13 +25,5 @@ returns g c =
         told = c.meet.ensures.session ∙ ap (λ (d : DriveFields). record c.args.session.now { told = caught_up d.ledger c.args.session.now.told }) (sym met);
         has_seen = c.meet.ensures.after;
       };
-      puts = record {
-        own = record { moved = search rules; room = c.commit.ensures.room; versions = c.commit.ensures.versions };
-        told = c.commit.ensures.told;
-        left = c.commit.ensures.left;
-        empty = c.commit.ensures.empty;
-        unchanged = c.commit.ensures.unchanged;
-        ledger = c.commit.ensures.ledger;
-        needed = c.commit.ensures.needed;
-      };
+      puts = search rules;
     }

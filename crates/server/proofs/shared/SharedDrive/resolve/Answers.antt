@@ -1,14 +1,14 @@
-use Rattle.std.proofs.Common.{◌≡◌, ◌+◌, ◌∙◌, [], ◌∷◌, ap, arith, cond, refl, subst, sym}
+use Rattle.std.proofs.Common.{◌≡◌, ◌+◌, ◌∙◌, ap, arith, cond, subst, sym}
 use Rattle.s4_types.specs.declared.requests.Request.TheVariants.{Query}
 use Rattle.s4_types.specs.declared.requests.Question.TheVariants.{Read}
-use Rattle.segment_word.specs.AcceptViews.{Ledger, Told, count_of}
-use Rattle.drive.specs.Fields.{SessionFields, history_of, state_in, store_of}
+use Rattle.segment_word.specs.AcceptViews.{Told, count_of}
+use Rattle.drive.specs.Fields.{SessionFields, history_of}
 use Rattle.drive.specs.Answering.{reply_planned}
 use Rattle.server.specs.Accounts.{BookFields}
 use Rattle.server.specs.Drawing.{MayGoOn}
-use Rattle.server.specs.Sequence.{HasCome, moments_of}
-use Rattle.server.proofs.Sequence.{come_answered, drawn_more, moments_counted}
-use Rattle.server.proofs.Sharing.{shared_drive, planned_told, planned_owners, planned_leaves, planned_accepts}
+use Rattle.server.specs.Sequence.{HasCome}
+use Rattle.server.proofs.Sequence.{come_answered, drawn_more}
+use Rattle.server.proofs.Sharing.{planned_accepts, planned_answered, planned_told, shared_answer, shared_step}
 use Rattle.server.proofs.Summing.{accepted_more}
 use Rattle.server.proofs.shared.SharedDrive.resolve.Goals as goal
 
@@ -27,11 +27,7 @@ invariant_of-self g c =
     let Comes : BookFields → Type 0 = λ b. HasCome g.J.Running.begins (May draw.new.self) g.J.Running.has_upkeep b.requests b.changes asked.new.self in
     let come = come_answered g.J.Running.begins (May inside.clock) (May draw.new.self) g.J.Running.has_upkeep books.requests books.changes inside.drive asked.new.self
     session.told.seat session.role read draw.result (reply_planned asked.result) (λ drawn. drawn_more g.C.Clock.draws g.J.Running.moments inside.clock draw.new.self draw.result drawn draw.ensures) held.0
-    (record {
-      step = asked.ensures.step;
-      stored = planned_leaves asked.result (store_of inside.drive) (store_of asked.new.self) (state_in inside.drive) read draw.result asked.ensures.store;
-      owners = ap (λ (l : Ledger). l.owners) asked.ensures.ledger ∙ sym (planned_owners asked.result session.told.seat inside.drive.ledger.owners);
-    }) in
+    (planned_answered asked.result inside.drive asked.new.self session.told.seat session.role read draw.result asked.ensures.step asked.ensures.store asked.ensures.ledger) in
     let none = planned_accepts asked.result in
     let come' = subst (λ b. HasCome g.J.Running.begins (May draw.new.self) g.J.Running.has_upkeep (books.requests + 1) (books.changes + cond b 1 0) asked.new.self) none come in
     let more = accepted_more law.by_moments law.by_changes (history_of inside.drive) (history_of asked.new.self) session.role read draw.result (reply_planned asked.result) asked.ensures.step in
@@ -43,36 +39,18 @@ invariant_of-self g c =
 
 pub returns-clause-step : goal.returns-clause-step
 returns-clause-step g c =
-    let held = c.self.invariant in
     let inside = c.self.inside in
     let asked = c.resolve-planned in
     let draw = c.draw-now in
     let read = Query (Read c.args.object c.args.offset c.args.length c.args.at) in
     let session = c.args.session.now in
     let rules = c.rules.ensures in
-    let before = moments_of held.0.events in
-    let all = moments_counted held.0.events in
-    let answered = held.0.answered in
-    record {
-      before = before;
-      now = draw.result;
-      drawn = held.0.drawn (draw.result ∷ []) draw.new.self (draw.new.self, draw.ensures, refl);
-      late = omega (arith, c.count.ensures.bound, all, answered);
-      step = record {
-        before = inside.drive;
-        after = asked.new.self;
-        there = shared_drive g.J.Naming.base g.J.Naming.frames inside.drive inside.drive refl rules.base rules.decodes rules.frames rules.sound rules.store rules.past rules.unborn;
-        had_seen = asked.ensures.before;
-        step = asked.ensures.step;
-        refused = asked.ensures.refused;
-        memory = asked.ensures.memory;
-        stored = planned_leaves asked.result (store_of inside.drive) (store_of asked.new.self) (state_in inside.drive) read draw.result asked.ensures.store;
-        owners = ap (λ (l : Ledger). l.owners) asked.ensures.ledger ∙ sym (planned_owners asked.result session.told.seat inside.drive.ledger.owners);
-        told = asked.ensures.session ∙ ap (λ (t : Told). record session { told = t }) (sym (planned_told asked.result asked.new.self.ledger session.told));
-        has_seen = asked.ensures.after;
-      };
-      came_to = refl;
-    }
+    let one = planned_answered asked.result inside.drive asked.new.self session.told.seat session.role read draw.result asked.ensures.step asked.ensures.store asked.ensures.ledger in
+    let told = asked.ensures.session ∙ ap (λ (t : Told). record session { told = t }) (sym (planned_told asked.result asked.new.self.ledger session.told)) in
+    let step = shared_step g.J.Naming.base g.J.Naming.frames inside.drive asked.new.self session asked.new.session read draw.result (reply_planned asked.result)
+    rules.base rules.decodes rules.frames rules.sound rules.store rules.past rules.unborn asked.ensures.before one asked.ensures.refused asked.ensures.memory told asked.ensures.after in
+    shared_answer g.C.Clock.draws g.J.Running.begins g.J.Running.moments g.J.Running.has_upkeep inside.books.requests inside.books.changes c.args.part.now.requests g.J.Naming.base inside.clock draw.new.self draw.result session asked.new.session read (reply_planned asked.result) inside.drive
+    c.self.invariant.0 draw.ensures c.count.ensures.bound step
 
 pub returns-clause-seen : goal.returns-clause-seen
 returns-clause-seen g c = ap (λ (s : SessionFields). s.told.seen) c.resolve-planned.ensures.session
