@@ -18,7 +18,6 @@ use std::marker::PhantomData;
 use std::thread::Threads;
 
 /// The image of a drive that is kept. Those that flush have it one after the other.
-#[derive(Drop)]
 pub struct KeptImage<J: Naming, K: Keeper> {
     keeper: K,
     /// What meets the drive at each flush: it has seen all that was collected.
@@ -28,6 +27,18 @@ pub struct KeptImage<J: Naming, K: Keeper> {
     /// Nothing more may be asked of the keeper.
     has_failed: bool,
     ghost usable: { IsTrue (has_failed || K.is_usable keeper) },
+}
+
+// Written by hand, so that an owner lets it go by one call.
+impl<J: Naming, K: Keeper + Drop> Drop for KeptImage<J, K> {
+    fn drop(self) {
+        let KeptImage {
+            keeper: _,
+            session: _,
+            reach: _,
+            has_failed: _,
+        } = self;
+    }
 }
 
 impl<J: Naming, K: Keeper> KeptImage<J, K> {

@@ -22,7 +22,6 @@ pub struct Door {
 /// No thread takes one of these locks while it holds another one, but for two: whoever flushes has
 /// the kept image's, and takes the drive's under it; and that of the pace may be taken under the
 /// drive's.
-#[derive(Drop)]
 pub struct Service<J: Running, C: Clock, K: Keeper> {
     pub drive: Mutex<SharedDrive<J, C>>,
     /// How the cleaner and the copier get on.
@@ -37,4 +36,20 @@ pub struct Service<J: Running, C: Clock, K: Keeper> {
     pub doors: Vec<Door>,
     /// The image's path.
     pub image: String,
+}
+
+// Written by hand, so that an owner lets it go by one call.
+impl<J: Running, C: Clock + Drop, K: Keeper + Drop> Drop for Service<J, C, K> {
+    fn drop(self) {
+        let Service {
+            drive: _,
+            pace: _,
+            monitor: _,
+            kept: _,
+            parts: _,
+            lines: _,
+            doors: _,
+            image: _,
+        } = self;
+    }
 }

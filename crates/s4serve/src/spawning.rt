@@ -39,66 +39,66 @@ enum Duty<I> {
     Watch { number: usize, input: I },
 }
 
-/// Starts the threads of a service, which go on until the program ends: cleaner and copier, the
-/// workers, and those that read the doors, which come last. Sessions are served only from then on.
-///
-/// AllocError where memory, or the system's threads, are too few.
-pub fn start_threads<
-    J: Running + Send + Sync + 'static,
-    C: Clock + Send + Drop + 'static,
-    K: Keeper + Send + Drop + 'static,
-    R: Threads + Wait + time::Clock + Copy + Send + Sync + Drop + 'static,
-    D: Fifos + Telling + Copy + Send + Sync + Drop + 'static,
->(
-    rt: &R,
-    alloc: Global,
-    service: &Arc<Service<J, C, K>, Global>,
-    outside: D,
-    inputs: Vec<D::Input>,
-) -> Result<(), AllocError>
-    requires upkeep { J.has_upkeep ≡ true }
-{
-    start(rt, alloc, service, outside, Duty::Clean)?;
-    start(rt, alloc, service, outside, Duty::Move)?;
-    for _ in 0..CLIENT_WORKERS {
-        start(rt, alloc, service, outside, Duty::Serve(Role::Client))?;
-    }
-    for _ in 0..ADMIN_WORKERS {
-        start(rt, alloc, service, outside, Duty::Serve(Role::Admin))?;
-    }
-    for (number, input) in inputs.into_iter().enumerate() {
-        start(rt, alloc, service, outside, Duty::Watch { number, input })?;
-    }
-    Ok(())
+/// What the threads of a service are started with.
+#[derive(Drop)]
+pub struct Starting<'a, J: Running, C: Clock, K: Keeper, R, D> {
+    pub rt: &'a R,
+    pub alloc: Global,
+    pub service: &'a Arc<Service<J, C, K>, Global>,
+    pub outside: &'a D,
 }
 
-/// Starts the thread of a duty.
-fn start<
+impl<
     J: Running + Send + Sync + 'static,
     C: Clock + Send + Drop + 'static,
     K: Keeper + Send + Drop + 'static,
     R: Threads + Wait + time::Clock + Copy + Send + Sync + Drop + 'static,
     D: Fifos + Telling + Copy + Send + Sync + Drop + 'static,
->(
-    rt: &R,
-    alloc: Global,
-    service: &Arc<Service<J, C, K>, Global>,
-    outside: D,
-    duty: Duty<D::Input>,
-) -> Result<(), AllocError>
-    requires upkeep { J.has_upkeep ≡ true }
-{
-    let own = *rt;
-    let theirs = Arc::try_clone(service)?;
-    spawn_with_stack(
-        rt,
-        STACK_BYTES,
-        move ||
-            requires upkeep { J.has_upkeep ≡ true }
-            requires input { IsSend D.Input.row }
-            requires output { IsSend D.Output.row }
-        { perform(&own, alloc, &*theirs, &outside, duty) },
-    )
+> Starting<'_, J, C, K, R, D> {
+    /// Starts the threads of a service, which go on until the program ends: cleaner and copier, the
+    /// workers, and those that read the doors, which come last. Sessions are served only from then
+    /// on.
+    ///
+    /// AllocError where memory, or the system's threads, are too few.
+    pub fn start_threads(&self, inputs: Vec<D::Input>) -> Result<(), AllocError>
+        requires upkeep { J.has_upkeep ≡ true }
+    {
+        self.start(Duty::Clean)?;
+        self.start(Duty::Move)?;
+        self.start_workers(Role::Client, CLIENT_WORKERS)?;
+        self.start_workers(Role::Admin, ADMIN_WORKERS)?;
+        for (number, input) in inputs.into_iter().enumerate() {
+            self.start(Duty::Watch { number, input })?;
+        }
+        Ok(())
+    }
+
+    /// Starts as many threads that serve sessions of this role.
+    fn start_workers(&self, role: Role, count: usize) -> Result<(), AllocError>
+        requires upkeep { J.has_upkeep ≡ true }
+    {
+        for _ in 0..count {
+            self.start(Duty::Serve(role))?;
+        }
+        Ok(())
+    }
+
+    /// Starts the thread of a duty.
+    fn start(&self, duty: Duty<D::Input>) -> Result<(), AllocError>
+        requires upkeep { J.has_upkeep ≡ true }
+    {
+        let (own, alloc, outside) = (*self.rt, self.alloc, *self.outside);
+        let theirs = Arc::try_clone(self.service)?;
+        spawn_with_stack(
+            self.rt,
+            STACK_BYTES,
+            move ||
+                requires upkeep { J.has_upkeep ≡ true }
+                requires input { IsSend D.Input.row }
+                requires output { IsSend D.Output.row }
+            { perform(&own, alloc, &*theirs, &outside, duty) },
+        )
+    }
 }
 
 /// Does what a duty says, for as long as that goes on.

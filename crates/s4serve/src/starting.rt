@@ -13,7 +13,7 @@ use crate::keeping::{Explaining, KeptFiles};
 use crate::opening::{Opened, open_image};
 use crate::parts::{ALL_PARTS, Parts};
 use crate::service::{Door, Service};
-use crate::spawning::start_threads;
+use crate::spawning::Starting;
 use crate::telling::{News, Telling};
 use crate::waiting::Lines;
 use crate::workers::keep_all;
@@ -147,35 +147,20 @@ fn serve_ready<
         doors,
         image: first.path,
     };
-    match Arc::new(alloc, service) {
-        Ok(service) => serve(rt, alloc, &service, outside, inputs, image),
-        Err(_) => Err(ServeFault::NoMemory),
-    }
-}
-
-/// Starts the threads of a service, and waits for its end.
-fn serve<
-    'a,
-    J: Running + Send + Sync + 'static,
-    H: Threads + Wait + Clock + Copy + Send + Sync + Drop + 'static,
-    K: Keeper + Explaining + Send + Drop + 'static,
-    C: serving::Clock + Send + Drop + 'static,
-    D: Fifos + Telling + Copy + Send + Sync + Drop + 'static,
->(
-    rt: &H,
-    alloc: Global,
-    service: &Arc<Service<J, C, K>, Global>,
-    outside: D,
-    inputs: Vec<D::Input>,
-    image: &'a str,
-) -> Result<(), ServeFault<'a>>
-    requires upkeep { J.has_upkeep ≡ true }
-{
-    if start_threads(rt, alloc, service, outside, inputs).is_err() {
+    let Ok(service) = Arc::new(alloc, service) else {
+        return Err(ServeFault::NoMemory);
+    };
+    let starting = Starting {
+        rt,
+        alloc,
+        service: &service,
+        outside: &outside,
+    };
+    if starting.start_threads(inputs).is_err() {
         return Err(ServeFault::NoThreads);
     }
     outside.tell(News::Serves(image));
-    await_end(rt, alloc, service, &outside, image)
+    await_end(rt, alloc, &service, &outside, image)
 }
 
 /// Has a session that meets the drive at each flush, and keeps the drive a first time.
@@ -270,10 +255,7 @@ fn open_doors<'a, D: Fifos>(
     let mut doors = Vec::new(alloc);
     let mut inputs = Vec::new(alloc);
     for door in asked.doors.as_slice() {
-        let input = match open_door(outside, alloc, door.folder) {
-            Ok(input) => input,
-            Err(error) => return Err(unopened(error.kind(), door.folder)),
-        };
+        let input = input_of(alloc, outside, door.folder)?;
         if inputs.push(input).is_err() || add_door(alloc, &mut doors, *door).is_err() {
             return Err(ServeFault::NoMemory);
         }
@@ -293,10 +275,17 @@ fn add_door(
     Ok(())
 }
 
-/// Why a door isn't opened.
-fn unopened<'a>(kind: io::ErrorKind, folder: &'a str) -> ServeFault<'a> {
-    match kind {
-        io::ErrorKind::OutOfMemory => ServeFault::NoMemory,
-        _ => ServeFault::Door(folder, DoorObstacle::of(kind)),
+/// Opens the door of this folder.
+fn input_of<'a, D: Fifos>(
+    alloc: Global,
+    outside: &D,
+    folder: &'a str,
+) -> Result<D::Input, ServeFault<'a>> {
+    match open_door(outside, alloc, folder) {
+        Ok(input) => Ok(input),
+        Err(error) => match error.kind() {
+            io::ErrorKind::OutOfMemory => Err(ServeFault::NoMemory),
+            kind => Err(ServeFault::Door(folder, DoorObstacle::of(kind))),
+        },
     }
 }
