@@ -111,6 +111,14 @@ learns_begun flush search survey middle later before begins = record {
   left = before.left;
 }
 
+-- so are both, over lists that are these
+pub learns_tried : (flush : Bool) (search : Search) (survey : Survey) (hidings : List Hiding) (refused : List Lacking) (middle later : Search) → hidings ≡ search.hidings.items → refused ≡ survey.refused.items
+    → Turns flush hidings survey search.lacking.items middle.hidings.items middle.lacking.items → Begins middle refused later → Learns flush search survey later
+learns_tried flush search survey hidings refused middle later hidings_are refused_are turns begins =
+    learns_begun flush search survey middle later
+    (learns_turned flush search survey middle (subst (λ (of : List Hiding). Turns flush of survey search.lacking.items middle.hidings.items middle.lacking.items) hidings_are turns))
+    (subst (λ (full : List Lacking). Begins middle full later) refused_are begins)
+
 -- what a trial found lacking is left out by it
 left_by : (hidings : List Hiding) (survey : Survey) → AllByRecursion (IsLeftBy hidings survey) (survey.hidden.items ++ survey.refused.items)
 left_by hidings survey =

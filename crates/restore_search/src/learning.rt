@@ -26,29 +26,6 @@ pub fn learn(
     ensures ends { IfOk result (λ learnt. learnt ≡ false → IsFine survey.now) }
     ensures settled { IfOk result (λ learnt. learnt ≡ false → IsSettled search.old search.new) }
 {
-    if go_on(search, alloc, survey, flush)? {
-        return Ok(true);
-    }
-    if survey.is_fine() {
-        return Ok(false);
-    }
-    leave_rest(search, alloc, survey)?;
-    Ok(true)
-}
-
-// What a trial shows of the room that was tried, and of journals that are full besides; whether
-// there is something else to be tried.
-fn go_on(
-    search: &mut Search,
-    alloc: Global,
-    survey: &Survey,
-    flush: bool,
-) -> Result<bool, AllocError>
-    ensures learns { OnOk result (Learns flush search.old survey.now search.new) }
-    ensures settled { IfOk result
-        (λ is_other. is_other ≡ false → survey.now.unmade.items ≡ []
-        → IsSettled search.old search.new) }
-{
     let hidings = search.hidings.as_slice();
     let turned = turn_all(alloc, hidings, survey, flush, &mut search.lacking)?;
     search.hidings = turned.kept;
@@ -56,7 +33,14 @@ fn go_on(
         // what was left out just now isn't begun with again
         return Ok(true);
     }
-    begin_all(search, survey.refused.as_slice(), flush)
+    if begin_all(search, survey.refused.as_slice(), flush)? {
+        return Ok(true);
+    }
+    if survey.is_fine() {
+        return Ok(false);
+    }
+    leave_rest(search, alloc, survey)?;
+    Ok(true)
 }
 
 // All that a trial found lacking is left out from now on.

@@ -18,7 +18,7 @@ pub enum Lack {
 }
 
 /// An object that can't be restored.
-#[derive(Clone, Copy, PartialEq, Eq)]
+#[derive(Clone, Copy)]
 pub struct Lacking {
     /// The number under which it isn't.
     pub object: ObjectId,
@@ -26,7 +26,6 @@ pub struct Lacking {
 }
 
 /// What a trial found. All else was restored, or could have been.
-#[derive(Drop)]
 pub struct Survey {
     /// What has its moment hidden.
     pub hidden: Vec<Lacking>,
@@ -34,6 +33,17 @@ pub struct Survey {
     pub refused: Vec<Lacking>,
     /// Where no room could be made in a journal, and why. Where there is such nothing was tried.
     pub unmade: Vec<Lacking>,
+}
+
+// Written by hand, so that an owner lets it go by one call.
+impl Drop for Survey {
+    fn drop(self) {
+        let Survey {
+            hidden: _,
+            refused: _,
+            unmade: _,
+        } = self;
+    }
 }
 
 impl Survey {
