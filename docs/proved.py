@@ -74,7 +74,9 @@ def functions(path):
     lines, owner, all_public = path.read_text(encoding="utf-8").splitlines(), "", False
     for at, line in enumerate(lines):
         if OWNER.match(line):
-            owner, all_public = owner_of(line)
+            # Where the parameters of a block have lines of their own, what they are for comes after the last.
+            end = at if line != "impl<" else next(i for i in range(at, len(lines)) if lines[i].startswith(">"))
+            owner, all_public = owner_of("".join(lines[at:end + 1]))
         elif line.startswith("}"):
             owner, all_public = "", False
         found = FUNCTION.match(line)
