@@ -1,7 +1,8 @@
 #!/usr/bin/env bash
-# Puts the built programs s4d, s4serve and s4, their manuals, and what lets bash complete words below a folder:
-#     ./install.sh PREFIX      such as ~/.local or /usr/local: into PREFIX/bin, PREFIX/share/man/man1 and
-#                              PREFIX/share/bash-completion/completions
+# Puts the built programs s4d, s4serve and s4, their manuals, and what lets bash, zsh and fish complete words below a folder:
+#     ./install.sh PREFIX      such as ~/.local or /usr/local: into PREFIX/bin, PREFIX/share/man/man1,
+#                              PREFIX/share/bash-completion/completions, PREFIX/share/zsh/site-functions (let zsh's fpath name
+#                              that folder) and PREFIX/share/fish/vendor_completions.d
 # S4D, S4SERVE and S4 in the environment name the programs; else they are those that rt left in crates/*/out. Nothing is built here.
 # Status 1: a program isn't built, and nothing is installed, or a file can't be written; 2: the call is wrong.
 set -euo pipefail
@@ -46,5 +47,8 @@ put 755 "$s4" bin/s4
 put 644 "$top/s4d.1" share/man/man1/s4d.1
 put 644 "$top/s4serve.1" share/man/man1/s4serve.1
 put 644 "$top/s4.1" share/man/man1/s4.1
-put 644 "$top/completions/s4serve.bash" share/bash-completion/completions/s4serve
-put 644 "$top/completions/s4.bash" share/bash-completion/completions/s4
+for name in s4d s4serve s4; do
+    put 644 "$top/completions/$name.bash" "share/bash-completion/completions/$name"
+    put 644 "$top/completions/_$name" "share/zsh/site-functions/_$name"
+    put 644 "$top/completions/$name.fish" "share/fish/vendor_completions.d/$name.fish"
+done

@@ -9,9 +9,11 @@ import unittest
 
 TOP = pathlib.Path(__file__).resolve().parents[1]
 BUILT = {name.upper(): os.environ.get(name.upper(), f"{TOP}/crates/{name}/out/{name}") for name in ("s4d", "s4serve", "s4")}
-PUT = {"bin/s4d": 0o755, "bin/s4serve": 0o755, "bin/s4": 0o755,
-       "share/man/man1/s4d.1": 0o644, "share/man/man1/s4serve.1": 0o644, "share/man/man1/s4.1": 0o644,
-       "share/bash-completion/completions/s4serve": 0o644, "share/bash-completion/completions/s4": 0o644}
+MANUALS = {f"share/man/man1/{name}.1": f"{name}.1" for name in ("s4d", "s4serve", "s4")}
+COMPLETIONS = {f"share/{folder}{name}{ending}": f"completions/{source}" for name in ("s4d", "s4serve", "s4")
+               for folder, ending, source in (("bash-completion/completions/", "", f"{name}.bash"), ("zsh/site-functions/_", "", f"_{name}"),
+                                              ("fish/vendor_completions.d/", ".fish", f"{name}.fish"))}
+PUT = {**{f"bin/{name}": 0o755 for name in ("s4d", "s4serve", "s4")}, **{name: 0o644 for name in (*MANUALS, *COMPLETIONS)}}
 
 
 class Install(unittest.TestCase):
@@ -41,9 +43,7 @@ class Install(unittest.TestCase):
         self.assertEqual({name: (prefix / name).stat().st_mode & 0o777 for name in PUT}, PUT)
         for name in ("s4d", "s4serve", "s4"):
             self.assertEqual(subprocess.run([prefix / "bin" / name], capture_output=True, text=True, check=True).stdout, f"{name}\n")
-        for name, source in (("share/man/man1/s4.1", "s4.1"), ("share/man/man1/s4serve.1", "s4serve.1"), ("share/man/man1/s4d.1", "s4d.1"),
-                             ("share/bash-completion/completions/s4serve", "completions/s4serve.bash"),
-                             ("share/bash-completion/completions/s4", "completions/s4.bash")):
+        for name, source in (*MANUALS.items(), *COMPLETIONS.items()):
             self.assertEqual((prefix / name).read_bytes(), (TOP / source).read_bytes())
 
     def test_a_program_that_is_not_built_is_named(self):
