@@ -1,5 +1,5 @@
 -- The text of a moment says that moment.
-use Rattle.std.proofs.Common.{◌≡◌, ◌≢◌, ◌<◌, ◌≤◌, ◌*◌, ◌/◌, ◌%◌, ◌^◌, ◌==◌, ℕ, true, false, List, [], ◌∷◌, ◌++◌, Some, Ok, pos, ◌-ℤ◌, min, get_or, take_at, drop_at, inr, refl, sym, ap, ◌∙◌, subst, arith}
+use Rattle.std.proofs.Common.{◌≡◌, ◌≢◌, ◌<◌, ◌≤◌, ◌*◌, ◌/◌, ◌%◌, ◌^◌, ◌==◌, ℕ, true, false, List, [], ◌∷◌, ◌++◌, Some, Ok, pos, ◌-ℤ◌, min, get_or, take_at, drop_at, inl, inr, refl, sym, ap, ◌∙◌, subst, arith}
 use Rattle.std.proofs.lemmas.Bool.Decides.{nat_tests}
 use Rattle.std.proofs.lemmas.Fmt.{decimal_is_IsNumeral}
 use Rattle.std.proofs.lemmas.List.{append_assoc}
@@ -25,8 +25,7 @@ use Rattle.jiff_fmt.proofs.TemporalLemmas.{instant-ok}
 use Rattle.jiff_fmt.proofs.TextLemmas.{places-read}
 use Rattle.moment_words.specs.Printed.{IsPrinted}
 use Rattle.moment_words.specs.Texts as texts
-use Rattle.moment_words.specs.Words.{IsMomentWord, IsNo, IsNumber, microsecond_in}
-use Rattle.moment_words.specs.declared.words.MomentWord.TheVariants.{Moment}
+use Rattle.moment_words.specs.Words.{IsNo, IsNumber, SaysMoment, microsecond_in}
 use Rattle.moment_words.proofs.Dates.{day_and_time, same_date}
 
 stops-digit : (rest : List ℕ) → Stops rest → prefix_len is_ascii_digit rest ≡ 0
@@ -93,13 +92,13 @@ date_is_no_number moment n h =
 
 -- what is printed of the instant of a moment says the moment
 pub date_read : (instant : Timestamp) (moment : ℕ) (text : List ℕ) → instant.nanosecond ≡ pos (moment * 1_000) → moment ≤ 253_402_207_200_999_999
-    → IsPrinted instant text → IsMomentWord text (Moment moment)
+    → IsPrinted instant text → SaysMoment text moment
 date_read instant moment text is low p =
     let dt = p.0 in
     let whole : dt.time.subsec_nanosecond % 1_000 ≡ 0 = omega (arith, (day_and_time dt moment (p.1 ∙ is)).1) in
     let read : parse_timestamp text ≡ Ok (pos (moment * 1_000)) = ap parse_timestamp p.2 ∙ instant_read dt instant p.1 whole ∙ ap (λ n. Ok n) is in
     let back : moment * 1_000 / 1_000 ≡ moment = omega arith in
-    inr (
+    λ now. inr (
       (λ n h. date_is_no_number moment n (subst (λ (t : List ℕ). IsNumber t n) (same_date instant moment text is low p) h)),
-      ap microsecond_in read ∙ ap (λ n. Some n) back,
+      inl (ap microsecond_in read ∙ ap (λ n. Some n) back),
     )

@@ -1,12 +1,13 @@
 -- What a text says of a moment.
-use Rattle.std.specs.Prelude.{◌≡◌, ◌<◌, ◌-◌, ◌*◌, ◌/◌, ◌^◌, ◌⊎◌, ℕ, ℤ, pos, negsuc, List, [], ◌∷◌, ◌++◌, Option, Some, None, Result, Ok, Err}
+use Rattle.std.specs.Prelude.{◌≡◌, ◌<◌, ◌+◌, ◌*◌, ◌/◌, ◌^◌, ◌⊎◌, ℕ, ℤ, min, nat_lt, if◌then◌else◌, pos, negsuc, List, [], ◌∷◌, ◌++◌, Option, Some, None, Result, Ok, Err}
 use Rattle.std.specs.Str.Parse.{IsNumeral, digits_value, without_leading_plus}
 use Rattle.jiff_core.specs.declared.error.Error.{Error}
 use Rattle.jiff_fmt.specs.Temporal.{parse_timestamp}
 use Rattle.moment_words.specs.declared.words.AgeUnit.{AgeUnit}
 use Rattle.moment_words.specs.declared.words.AgeUnit.TheVariants.{Second, Minute, Hour, Day, Week}
 use Rattle.moment_words.specs.declared.words.MomentWord.{MomentWord}
-use Rattle.moment_words.specs.declared.words.MomentWord.TheVariants.{Moment, Before}
+use Rattle.moment_words.specs.declared.printing.TheConstants.{FIRST_DATED}
+use Rattle.moment_words.specs.declared.words.MomentWord.TheVariants.{Moment, Time}
 
 -- the text is a decimal number of 64 bits
 abbrev pub IsNumber : List ℕ → ℕ → Type 0
@@ -57,12 +58,22 @@ IsAge text age = (unit : AgeUnit) × IsAgeIn unit text age
 abbrev pub IsNo : (ℕ → Type 0) → Type 0
 IsNo Is = (n : ℕ) → Is n → ⊥
 
--- The text says this: a number before a time, and a time before an age, so that it says one thing alone.
-abbrev pub IsMomentWord : List ℕ → MomentWord → Type 0
-IsMomentWord text (Moment moment) = IsNumber text moment ⊎ (IsNo (IsNumber text) × (time_of text ≡ Some moment))
-IsMomentWord text (Before age) = IsNo (IsNumber text) × (time_of text ≡ None) × IsAge text age
+-- the text is an age, and this is the time so long ago; no time is where the age is larger than what it is now
+abbrev pub IsTimeAgo : ℕ → List ℕ → ℕ → Type 0
+IsTimeAgo now text time = (age : ℕ) × IsAge text age × (time + age ≡ now)
 
--- the moment that a word says, where the clock is there
-abbrev pub moment_of : MomentWord → ℕ → ℕ
-moment_of (Moment moment) clock = moment
-moment_of (Before age) clock = clock - age
+-- The text says this, at this time: a number before a time, and a time before an age, so that it says one thing alone.
+abbrev pub IsMomentWord : ℕ → List ℕ → MomentWord → Type 0
+IsMomentWord now text (Moment moment) = IsNumber text moment
+IsMomentWord now text (Time time) =
+    IsNo (IsNumber text) × ((time_of text ≡ Some time) ⊎ ((time_of text ≡ None) × IsTimeAgo now text time))
+
+-- the text says this moment, as a number or as a time, whatever the time is now
+abbrev pub SaysMoment : List ℕ → ℕ → Type 0
+SaysMoment text moment = (now : ℕ) → IsMomentWord now text (Moment moment) ⊎ IsMomentWord now text (Time moment)
+
+-- The moment that a word says where the clock is there: a number is itself. A time says none where the moments are numbers, and the clock where
+-- it is above that.
+abbrev pub moment_of : MomentWord → ℕ → Option ℕ
+moment_of (Moment moment) clock = Some moment
+moment_of (Time time) clock = if nat_lt clock FIRST_DATED then None else Some (min time clock)

@@ -3,8 +3,7 @@ ghost use Rattle.std.specs.Prelude.{◌≡◌, ◌*◌, IfOk, Some, pos, string_
 ghost use Rattle.std.specs.Fmt.{DisplaysOnOk, decimal};
 ghost use Rattle.moment_words.specs.Texts as texts;
 ghost use Rattle.moment_words.specs.Printed.{IsPrinted};
-ghost use Rattle.moment_words.specs.Words.{IsMomentWord};
-ghost use Rattle.moment_words.specs.declared.words.MomentWord.TheVariants.{Moment};
+ghost use Rattle.moment_words.specs.Words.{SaysMoment};
 
 use arrayvec::ArrayString;
 use jiff_core::Timestamp;
@@ -78,7 +77,7 @@ pub fn style_of(clock: u64, as_numbers: bool) -> MomentStyle
 /// `read` gives the moment back.
 pub fn moment_text(alloc: Global, moment: u64, style: MomentStyle) -> Result<String, AllocError>
     ensures text { IfOk result (λ text. string_bytes text ≡ texts.moment_text moment style) }
-    ensures read { IfOk result (λ text. IsMomentWord (string_bytes text) (Moment moment)) }
+    ensures read { IfOk result (λ text. SaysMoment (string_bytes text) moment) }
 {
     match style {
         MomentStyle::Number => number_text(alloc, moment),
@@ -88,14 +87,14 @@ pub fn moment_text(alloc: Global, moment: u64, style: MomentStyle) -> Result<Str
 
 fn number_text(alloc: Global, moment: u64) -> Result<String, AllocError>
     ensures text { IfOk result (λ text. string_bytes text ≡ decimal moment) }
-    ensures read { IfOk result (λ text. IsMomentWord (string_bytes text) (Moment moment)) }
+    ensures read { IfOk result (λ text. SaysMoment (string_bytes text) moment) }
 {
     format!(in alloc; "{moment}")
 }
 
 fn dated_text(alloc: Global, moment: u64) -> Result<String, AllocError>
     ensures text { IfOk result (λ text. string_bytes text ≡ texts.dated_text moment) }
-    ensures read { IfOk result (λ text. IsMomentWord (string_bytes text) (Moment moment)) }
+    ensures read { IfOk result (λ text. SaysMoment (string_bytes text) moment) }
 {
     match Timestamp::from_nanosecond(nanosecond_of(moment)) {
         Ok(instant) => instant_text(alloc, instant),

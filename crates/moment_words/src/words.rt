@@ -3,6 +3,7 @@ ghost use Rattle.std.specs.Prelude.{◌≡◌, ℕ, IfNone, IfSome, List, [], �
 ghost use Rattle.moment_words.specs.Words as words;
 ghost use Rattle.moment_words.specs.Words.{IsAge, IsAgeIn, IsMomentWord, IsNumber};
 
+use crate::printing::FIRST_DATED;
 use jiff_core::Timestamp;
 use jiff_fmt::temporal;
 
@@ -12,10 +13,10 @@ const NANOS: u128 = 1_000;
 /// What a text says of a moment.
 #[derive(Clone, Copy, PartialEq, Eq)]
 pub enum MomentWord {
-    /// The moment.
+    /// The moment of this number.
     Moment(u64),
-    /// This many microseconds before the clock.
-    Before(u64),
+    /// A time, or the time that an age says, in microseconds since 1970-01-01T00:00:00Z.
+    Time(u64),
 }
 
 /// The units of an age.
@@ -59,32 +60,40 @@ impl AgeUnit {
     }
 }
 
-/// What the text says: a decimal number is that moment; a time of RFC 3339 with its offset from
-/// UTC is the moment of its microsecond; and a number with `s`, `m`, `h`, `d` or `w` at its end is
-/// an age. None for anything else, for a time before 1970, and for what 64 bits can't hold.
-pub fn read(text: &str) -> Option<MomentWord>
-    ensures some { IfSome result (IsMomentWord text.now) }
-    ensures none { IfNone result ((word : MomentWord) → IsMomentWord text.now word → ⊥) }
+/// What the text says where it is `now`, in microseconds since 1970: a decimal number is that
+/// moment; a time of RFC 3339 with its offset from UTC is its microsecond; and a number with `s`,
+/// `m`, `h`, `d` or `w` at its end is an age, and the time so long before `now`. None for anything
+/// else, for a time before 1970, for an age that is larger than `now`, and for what 64 bits can't
+/// hold.
+pub fn read(text: &str, now: u64) -> Option<MomentWord>
+    ensures some { IfSome result (IsMomentWord now text.now) }
+    ensures none { IfNone result ((word : MomentWord) → IsMomentWord now text.now word → ⊥) }
 {
     if let Some(moment) = number_of(text) {
         return Some(MomentWord::Moment(moment));
     }
-    if let Some(moment) = time_of(text) {
-        return Some(MomentWord::Moment(moment));
+    if let Some(time) = time_of(text) {
+        return Some(MomentWord::Time(time));
     }
-    match age_of(text) {
-        Some(age) => Some(MomentWord::Before(age)),
+    let Some(age) = age_of(text) else {
+        return None;
+    };
+    match now.checked_sub(age) {
+        Some(time) => Some(MomentWord::Time(time)),
         None => None,
     }
 }
 
-/// The moment, where the clock is there. An age from before the clock's beginning is moment 0.
-pub fn moment_of(word: MomentWord, clock: u64) -> u64
+/// The moment, where the clock is there. A number is itself, also above the clock, and a time above
+/// the clock is the clock. None for a time exactly where the clock is below `FIRST_DATED`: moments
+/// are numbers then, which no time says.
+pub fn moment_of(word: MomentWord, clock: u64) -> Option<u64>
     ensures { result ≡ words.moment_of word clock }
 {
     match word {
-        MomentWord::Moment(moment) => moment,
-        MomentWord::Before(age) => clock.saturating_sub(age),
+        MomentWord::Moment(moment) => Some(moment),
+        MomentWord::Time(time) if clock >= FIRST_DATED => Some(time.min(clock)),
+        MomentWord::Time(_) => None,
     }
 }
 
@@ -113,7 +122,9 @@ fn microsecond_of(instant: Timestamp) -> Option<u64>
     }
 }
 
-fn age_of(text: &str) -> Option<u64>
+/// How many microseconds an age says: a number with `s`, `m`, `h`, `d` or `w` at its end. None for
+/// anything else, and for what 64 bits can't hold.
+pub fn age_of(text: &str) -> Option<u64>
     ensures some { IfSome result (IsAge text.now) }
     ensures none { IfNone result ((n : ℕ) → IsAge text.now n → ⊥) }
 {

@@ -52,7 +52,7 @@ same_age text u v a b h k =
 
 -- a text says one duration
 pub same_duration : (text : Text) (a b : ℕ) → IsDuration text a → IsDuration text b → a ≡ b
-same_duration text a b h k = same_age text h.2.0 k.2.0 a b h.2.1 k.2.1
+same_duration text a b h k = same_age text h.0 k.0 a b h.1 k.1
 
 -- texts that say no drive make none
 pub not_created : (frames keep : Text) → ((creation : Creation) → IsCreation frames keep creation → ⊥)

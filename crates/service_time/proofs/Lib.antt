@@ -1,2 +1,1 @@
 pub mod Ascending
-pub mod Lengths

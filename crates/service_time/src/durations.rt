@@ -2,7 +2,7 @@
 ghost use Rattle.std.specs.Prelude.{ℕ, IfNone, IfSome};
 ghost use Rattle.service_time.specs.Durations.{IsDuration};
 
-use moment_words::{MomentWord, read};
+use moment_words::age_of;
 
 /// How many microseconds a text says: a number with `s`, `m`, `h`, `d` or `w` at its end, as
 /// `30d`. None for anything else, and for what 64 bits can't hold.
@@ -10,9 +10,5 @@ pub fn duration_of(text: &str) -> Option<u64>
     ensures some { IfSome result (IsDuration text.now) }
     ensures none { IfNone result ((micros : ℕ) → IsDuration text.now micros → ⊥) }
 {
-    match read(text) {
-        Some(MomentWord::Before(micros)) => Some(micros),
-        Some(MomentWord::Moment(_)) => None,
-        None => None,
-    }
+    age_of(text)
 }

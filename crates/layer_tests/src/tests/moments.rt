@@ -1,5 +1,5 @@
 //! Worked moments. The dates beside the numbers are those of Python's `datetime`.
-use moment_words::MomentWord::{Before, Moment};
+use moment_words::MomentWord::{Moment, Time};
 use moment_words::{FIRST_DATED, MomentStyle, MomentWord, moment_of, moment_text, read, style_of};
 use std::test::Fail;
 
@@ -54,7 +54,9 @@ static TEXTS: [(u64, MomentStyle, &str); 10] = [
 fn prints_moments(rt: HostRuntime) -> Result<(), Fail> {
     for (moment, style, words) in &TEXTS {
         let text = moment_text(rt.alloc(), *moment, *style)?;
-        let is_so = text.as_str() == *words && read(words) == Some(Moment(*moment));
+        let word = read(words, 0);
+        let is_so = text.as_str() == *words
+            && (word == Some(Moment(*moment)) || word == Some(Time(*moment)));
         drop(text);
         assert!(rt; is_so, "{words}");
     }
@@ -73,23 +75,27 @@ fn dates_begin_late(rt: HostRuntime) {
     }
 }
 
+/// What it is now where the words are read: 2026-11-27T13:18:02Z.
+const NOW: u64 = 1_795_785_482_000_000;
+
 /// Words, and what they say.
-static WORDS: [(&str, Option<MomentWord>); 22] = [
+static WORDS: [(&str, Option<MomentWord>); 24] = [
     ("17", Some(Moment(17))),
     ("+17", Some(Moment(17))),
     ("18446744073709551615", Some(Moment(u64::MAX))),
-    ("2026-11-27T13:18:02Z", Some(Moment(1_795_785_482_000_000))),
+    ("2026-11-27T13:18:02Z", Some(Time(NOW))),
     (
         "2026-11-27 15:18:02.0001239+02:00",
-        Some(Moment(1_795_785_482_000_123)),
+        Some(Time(1_795_785_482_000_123)),
     ),
-    ("1970-01-01T00:00:00Z", Some(Moment(0))),
-    ("0s", Some(Before(0))),
-    ("90s", Some(Before(90_000_000))),
-    ("15m", Some(Before(900_000_000))),
-    ("2h", Some(Before(7_200_000_000))),
-    ("3d", Some(Before(259_200_000_000))),
-    ("1w", Some(Before(604_800_000_000))),
+    ("1970-01-01T00:00:00Z", Some(Time(0))),
+    ("0s", Some(Time(NOW))),
+    ("90s", Some(Time(1_795_785_392_000_000))),
+    ("15m", Some(Time(1_795_784_582_000_000))),
+    ("2h", Some(Time(1_795_778_282_000_000))),
+    ("3d", Some(Time(1_795_526_282_000_000))),
+    ("1w", Some(Time(1_795_180_682_000_000))),
+    ("1795785482s", Some(Time(0))),
     ("", None),
     ("s", None),
     ("-1", None),
@@ -99,25 +105,29 @@ static WORDS: [(&str, Option<MomentWord>); 22] = [
     ("2026-11-27", None),
     ("1969-12-31T23:59:59Z", None),
     ("18446744073709551616", None),
+    ("1795785483s", None),
     ("30500569w", None),
 ];
 
 #[test]
 fn reads_words(rt: HostRuntime) {
     for (text, word) in &WORDS {
-        assert!(rt; read(text) == *word, "{text}");
+        assert!(rt; read(text, NOW) == *word, "{text}");
     }
 }
 
 #[test]
-fn ages_count_from_the_clock(rt: HostRuntime) {
-    let hour = Before(3_600_000_000);
+fn times_are_moments_where_clocks_are_times(rt: HostRuntime) {
     let cases = [
-        (hour, FIRST_DATED, FIRST_DATED - 3_600_000_000),
-        (hour, 13, 0),
-        (Moment(14), 13, 14),
+        (Time(FIRST_DATED - 1), FIRST_DATED, Some(FIRST_DATED - 1)),
+        (Time(FIRST_DATED + 1), FIRST_DATED, Some(FIRST_DATED)),
+        (Time(0), FIRST_DATED, Some(0)),
+        (Time(0), FIRST_DATED - 1, None),
+        (Time(13), 13, None),
+        (Moment(14), 13, Some(14)),
+        (Moment(NOW), FIRST_DATED, Some(NOW)),
     ];
     for (word, clock, moment) in &cases {
-        assert!(rt; moment_of(*word, *clock) == *moment, "{moment}");
+        assert!(rt; moment_of(*word, *clock) == *moment, "{clock}");
     }
 }
