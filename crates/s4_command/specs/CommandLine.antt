@@ -172,15 +172,15 @@ abbrev pub IsAsked : Text → List Row → Option ℕ → Type 0
 IsAsked name rows None = first_of name rows ≡ None
 IsAsked name rows (Some n) = IsNumber (one_of name rows) n
 
--- the text is there, and says this of a moment
-abbrev pub IsMomentAt : Option Text → MomentWord → Type 0
-IsMomentAt None moment = ⊥
-IsMomentAt (Some text) moment = IsMomentWord text moment
+-- the text is there, and says this of a moment, at this time
+abbrev pub IsMomentAt : ℕ → Option Text → MomentWord → Type 0
+IsMomentAt now None moment = ⊥
+IsMomentAt now (Some text) moment = IsMomentWord now text moment
 
 -- a moment that is given is what the text says; none is where no text is there
-abbrev pub IsMomentAsked : Text → List Row → Option MomentWord → Type 0
-IsMomentAsked name rows None = first_of name rows ≡ None
-IsMomentAsked name rows (Some moment) = IsMomentAt (first_of name rows) moment
+abbrev pub IsMomentAsked : ℕ → Text → List Row → Option MomentWord → Type 0
+IsMomentAsked now name rows None = first_of name rows ≡ None
+IsMomentAsked now name rows (Some moment) = IsMomentAt now (first_of name rows) moment
 
 -- a text that is given; none is where no text is there
 abbrev pub IsTextAsked : Text → List Row → Option (Bor Text) → Type 0
@@ -238,21 +238,21 @@ abbrev pub texts_of : Text → List Row → List Text
 texts_of name rows = unwrap_or (all_of name rows) []
 
 -- The matches of `list` have this text, this moment and these flags.
-pub record SpellsList (rows : List Row) (list : ListAsked) : Type 0 where
+pub record SpellsList (now : ℕ) (rows : List Row) (list : ListAsked) : Type 0 where
   pub image : first_of (codes "image") rows ≡ Some list.image.now
-  pub at : IsMomentAsked (codes "at") rows list.at
+  pub at : IsMomentAsked now (codes "at") rows list.at
   pub deleted : (list.deleted ≡ true) ↔ IsGiven (codes "deleted") rows
   pub moments : (list.moments ≡ true) ↔ IsGiven (codes "moments") rows
   pub json : (list.json ≡ true) ↔ IsGiven (codes "json") rows
 
 -- The matches of `log` have these texts, at most one of a number and a name, these moments, this kind, this limit and these flags.
-pub record SpellsLog (rows : List Row) (log : LogAsked) : Type 0 where
+pub record SpellsLog (now : ℕ) (rows : List Row) (log : LogAsked) : Type 0 where
   pub image : first_of (codes "image") rows ≡ Some log.image.now
   pub apart : AreApart (codes "object") (codes "name") rows
   pub object : IsAsked (codes "object") rows log.object
   pub name : IsTextAsked (codes "name") rows log.name
-  pub since : IsMomentAsked (codes "since") rows log.since
-  pub until : IsMomentAsked (codes "until") rows log.until
+  pub since : IsMomentAsked now (codes "since") rows log.since
+  pub until : IsMomentAsked now (codes "until") rows log.until
   pub kind : IsKindAsked rows log.kind
   pub limit : IsAsked (codes "limit") rows log.limit
   pub by_object : (log.by_object ≡ true) ↔ IsGiven (codes "by-object") rows
@@ -262,24 +262,24 @@ pub record SpellsLog (rows : List Row) (log : LogAsked) : Type 0 where
   pub json : (log.json ≡ true) ↔ IsGiven (codes "json") rows
 
 -- The matches of `audit` have this text, this object, these moments, this kind, this limit and these flags.
-pub record SpellsAudit (rows : List Row) (audit : AuditAsked) : Type 0 where
+pub record SpellsAudit (now : ℕ) (rows : List Row) (audit : AuditAsked) : Type 0 where
   pub image : first_of (codes "image") rows ≡ Some audit.image.now
   pub object : IsAsked (codes "object") rows audit.object
-  pub since : IsMomentAsked (codes "since") rows audit.since
-  pub until : IsMomentAsked (codes "until") rows audit.until
+  pub since : IsMomentAsked now (codes "since") rows audit.since
+  pub until : IsMomentAsked now (codes "until") rows audit.until
   pub kind : IsAcceptedAsked rows audit.kind
   pub limit : IsAsked (codes "limit") rows audit.limit
   pub moments : (audit.moments ≡ true) ↔ IsGiven (codes "moments") rows
   pub json : (audit.json ≡ true) ↔ IsGiven (codes "json") rows
 
 -- The matches of `cat` have this text, a number or a name and not both, and this moment.
-pub record SpellsCat (rows : List Row) (cat : CatAsked) : Type 0 where
+pub record SpellsCat (now : ℕ) (rows : List Row) (cat : CatAsked) : Type 0 where
   pub image : first_of (codes "image") rows ≡ Some cat.image.now
   pub apart : AreApart (codes "object") (codes "name") rows
   pub given : IsOneGiven (codes "object") (codes "name") rows
   pub object : IsAsked (codes "object") rows cat.object
   pub name : IsTextAsked (codes "name") rows cat.name
-  pub at : IsMomentAsked (codes "at") rows cat.at
+  pub at : IsMomentAsked now (codes "at") rows cat.at
 
 -- The matches of `info` have this text and these flags.
 pub record SpellsInfo (rows : List Row) (info : InfoAsked) : Type 0 where
@@ -288,12 +288,12 @@ pub record SpellsInfo (rows : List Row) (info : InfoAsked) : Type 0 where
   pub json : (info.json ≡ true) ↔ IsGiven (codes "json") rows
 
 -- The matches of `diff` have this text, these moments, at most one of a number and a name, and these flags, of which `patch` and `text` aren't both there.
-pub record SpellsDiff (rows : List Row) (diff : DiffAsked) : Type 0 where
+pub record SpellsDiff (now : ℕ) (rows : List Row) (diff : DiffAsked) : Type 0 where
   pub image : first_of (codes "image") rows ≡ Some diff.image.now
   pub apart : AreApart (codes "object") (codes "name") rows
   pub flags_apart : AreFlagsApart (codes "patch") (codes "text") rows
-  pub from : IsMomentAsked (codes "from") rows (Some diff.from)
-  pub to : IsMomentAsked (codes "to") rows diff.to
+  pub from : IsMomentAsked now (codes "from") rows (Some diff.from)
+  pub to : IsMomentAsked now (codes "to") rows diff.to
   pub object : IsAsked (codes "object") rows diff.object
   pub name : IsTextAsked (codes "name") rows diff.name
   pub patch : (diff.patch ≡ true) ↔ IsGiven (codes "patch") rows
@@ -302,16 +302,18 @@ pub record SpellsDiff (rows : List Row) (diff : DiffAsked) : Type 0 where
   pub json : (diff.json ≡ true) ↔ IsGiven (codes "json") rows
 
 -- The matches of `export` have these texts and this moment.
-pub record SpellsExport (rows : List Row) (export : ExportAsked) : Type 0 where
+pub record SpellsExport (now : ℕ) (rows : List Row) (export : ExportAsked) : Type 0 where
   pub image : first_of (codes "image") rows ≡ Some export.image.now
   pub folder : first_of (codes "folder") rows ≡ Some export.folder.now
-  pub at : IsMomentAsked (codes "at") rows export.at
+  pub at : IsMomentAsked now (codes "at") rows export.at
 
--- The matches of `restore` have these texts, this moment, exactly these objects, in the order of the words, or a name, and these flags.
-pub record SpellsRestore (rows : List Row) (restore : RestoreAsked) : Type 0 where
+-- The matches of `restore` have these texts, this moment, exactly these objects, in the order of the words, or a name, and these flags; and
+-- it is done at this time.
+pub record SpellsRestore (time : ℕ) (rows : List Row) (restore : RestoreAsked) : Type 0 where
   pub image : first_of (codes "image") rows ≡ Some restore.image.now
   pub apart : AreApart (codes "object") (codes "name") rows
-  pub at : IsMomentAsked (codes "at") rows (Some restore.at)
+  pub at : IsMomentAsked time (codes "at") rows (Some restore.at)
+  pub now : restore.now ≡ time
   pub objects : AreNumbers (texts_of (codes "object") rows) restore.objects.items
   pub name : IsTextAsked (codes "name") rows restore.name
   pub map : IsTextAsked (codes "map") rows restore.map
@@ -338,26 +340,26 @@ pub record SpellsSalvage (rows : List Row) (salvage : SalvageAsked) : Type 0 whe
   pub json : (salvage.json ≡ true) ↔ IsGiven (codes "json") rows
 
 -- The matches of `report` have this text and this moment.
-pub record SpellsReport (rows : List Row) (report : ReportAsked) : Type 0 where
+pub record SpellsReport (now : ℕ) (rows : List Row) (report : ReportAsked) : Type 0 where
   pub image : first_of (codes "image") rows ≡ Some report.image.now
-  pub since : IsMomentAsked (codes "since") rows report.since
+  pub since : IsMomentAsked now (codes "since") rows report.since
 
--- The name and the matches of a subcommand encode the command.
-abbrev pub Spells : Option (Text × List Row) → Command → Type 0
-Spells None c = ⊥
-Spells (Some named) (command.List list) = (named.0 ≡ codes "list") × SpellsList named.1 list
-Spells (Some named) (command.Log log) = (named.0 ≡ codes "log") × SpellsLog named.1 log
-Spells (Some named) (command.Audit audit) = (named.0 ≡ codes "audit") × SpellsAudit named.1 audit
-Spells (Some named) (command.Cat cat) = (named.0 ≡ codes "cat") × SpellsCat named.1 cat
-Spells (Some named) (command.Info info) = (named.0 ≡ codes "info") × SpellsInfo named.1 info
-Spells (Some named) (command.Diff diff) = (named.0 ≡ codes "diff") × SpellsDiff named.1 diff
-Spells (Some named) (command.Export export) = (named.0 ≡ codes "export") × SpellsExport named.1 export
-Spells (Some named) (command.Restore restore) = (named.0 ≡ codes "restore") × SpellsRestore named.1 restore
-Spells (Some named) (command.Check check) = (named.0 ≡ codes "check") × SpellsCheck named.1 check
-Spells (Some named) (command.Compact compact) = (named.0 ≡ codes "compact") × SpellsCompact named.1 compact
-Spells (Some named) (command.Salvage salvage) = (named.0 ≡ codes "salvage") × SpellsSalvage named.1 salvage
-Spells (Some named) (command.Report report) = (named.0 ≡ codes "report") × SpellsReport named.1 report
+-- The name and the matches of a subcommand encode the command, at this time, in microseconds since 1970.
+abbrev pub Spells : ℕ → Option (Text × List Row) → Command → Type 0
+Spells now None c = ⊥
+Spells now (Some named) (command.List list) = (named.0 ≡ codes "list") × SpellsList now named.1 list
+Spells now (Some named) (command.Log log) = (named.0 ≡ codes "log") × SpellsLog now named.1 log
+Spells now (Some named) (command.Audit audit) = (named.0 ≡ codes "audit") × SpellsAudit now named.1 audit
+Spells now (Some named) (command.Cat cat) = (named.0 ≡ codes "cat") × SpellsCat now named.1 cat
+Spells now (Some named) (command.Info info) = (named.0 ≡ codes "info") × SpellsInfo named.1 info
+Spells now (Some named) (command.Diff diff) = (named.0 ≡ codes "diff") × SpellsDiff now named.1 diff
+Spells now (Some named) (command.Export export) = (named.0 ≡ codes "export") × SpellsExport now named.1 export
+Spells now (Some named) (command.Restore restore) = (named.0 ≡ codes "restore") × SpellsRestore now named.1 restore
+Spells now (Some named) (command.Check check) = (named.0 ≡ codes "check") × SpellsCheck named.1 check
+Spells now (Some named) (command.Compact compact) = (named.0 ≡ codes "compact") × SpellsCompact named.1 compact
+Spells now (Some named) (command.Salvage salvage) = (named.0 ≡ codes "salvage") × SpellsSalvage named.1 salvage
+Spells now (Some named) (command.Report report) = (named.0 ≡ codes "report") × SpellsReport now named.1 report
 
 -- They encode none.
-abbrev pub SpellsNone : Option (Text × List Row) → Type 0
-SpellsNone named = (c : Command) → Spells named c → ⊥
+abbrev pub SpellsNone : ℕ → Option (Text × List Row) → Type 0
+SpellsNone now named = (c : Command) → Spells now named c → ⊥

@@ -35,16 +35,20 @@ pub struct AuditAsked<'a> {
     pub json: bool,
 }
 
-pub(crate) fn audit_asked<'a>(found: &ArgMatches<'a>) -> Result<Command<'a>, WordFault<'a>>
-    ensures spelled { IfOk result (Spells (Some (codes "audit", rows_of (found_of found.now)))) }
-    ensures usage { OnErr result (SpellsNone
+pub(crate) fn audit_asked<'a>(
+    found: &ArgMatches<'a>,
+    now: u64,
+) -> Result<Command<'a>, WordFault<'a>>
+    ensures spelled { IfOk result (Spells now
+        (Some (codes "audit", rows_of (found_of found.now)))) }
+    ensures usage { OnErr result (SpellsNone now
         (Some (codes "audit", rows_of (found_of found.now)))) }
 {
     let mut fault = None;
     let image = needed_text_in(found, "image", &mut fault);
     let object = number_in(found, "object", &mut fault);
-    let since = moment_in(found, "since", &mut fault);
-    let until = moment_in(found, "until", &mut fault);
+    let since = moment_in(found, "since", now, &mut fault);
+    let until = moment_in(found, "until", now, &mut fault);
     let kind = accepted_in(found, &mut fault);
     let limit = number_in(found, "limit", &mut fault);
     match fault {

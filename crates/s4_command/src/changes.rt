@@ -83,16 +83,17 @@ pub struct ReportAsked<'a> {
     pub since: Option<MomentWord>,
 }
 
-pub(crate) fn log_asked<'a>(found: &ArgMatches<'a>) -> Result<Command<'a>, WordFault<'a>>
-    ensures spelled { IfOk result (Spells (Some (codes "log", rows_of (found_of found.now)))) }
-    ensures usage { OnErr result (SpellsNone (Some (codes "log", rows_of (found_of found.now)))) }
+pub(crate) fn log_asked<'a>(found: &ArgMatches<'a>, now: u64) -> Result<Command<'a>, WordFault<'a>>
+    ensures spelled { IfOk result (Spells now (Some (codes "log", rows_of (found_of found.now)))) }
+    ensures usage { OnErr result (SpellsNone now
+        (Some (codes "log", rows_of (found_of found.now)))) }
 {
     let mut fault = None;
     let image = needed_text_in(found, "image", &mut fault);
     one_at_most(found, "object", "name", &mut fault);
     let object = number_in(found, "object", &mut fault);
-    let since = moment_in(found, "since", &mut fault);
-    let until = moment_in(found, "until", &mut fault);
+    let since = moment_in(found, "since", now, &mut fault);
+    let until = moment_in(found, "until", now, &mut fault);
     let kind = kind_in(found, &mut fault);
     let limit = number_in(found, "limit", &mut fault);
     match fault {
@@ -114,16 +115,17 @@ pub(crate) fn log_asked<'a>(found: &ArgMatches<'a>) -> Result<Command<'a>, WordF
     }
 }
 
-pub(crate) fn diff_asked<'a>(found: &ArgMatches<'a>) -> Result<Command<'a>, WordFault<'a>>
-    ensures spelled { IfOk result (Spells (Some (codes "diff", rows_of (found_of found.now)))) }
-    ensures usage { OnErr result (SpellsNone (Some (codes "diff", rows_of (found_of found.now)))) }
+pub(crate) fn diff_asked<'a>(found: &ArgMatches<'a>, now: u64) -> Result<Command<'a>, WordFault<'a>>
+    ensures spelled { IfOk result (Spells now (Some (codes "diff", rows_of (found_of found.now)))) }
+    ensures usage { OnErr result (SpellsNone now
+        (Some (codes "diff", rows_of (found_of found.now)))) }
 {
     let mut fault = None;
     let image = needed_text_in(found, "image", &mut fault);
     one_at_most(found, "object", "name", &mut fault);
     flags_apart(found, "patch", "text", &mut fault);
-    let from = needed_moment_in(found, "from", &mut fault);
-    let to = moment_in(found, "to", &mut fault);
+    let from = needed_moment_in(found, "from", now, &mut fault);
+    let to = moment_in(found, "to", now, &mut fault);
     let object = number_in(found, "object", &mut fault);
     match fault {
         None => Ok(Command::Diff(DiffAsked {
@@ -141,14 +143,18 @@ pub(crate) fn diff_asked<'a>(found: &ArgMatches<'a>) -> Result<Command<'a>, Word
     }
 }
 
-pub(crate) fn report_asked<'a>(found: &ArgMatches<'a>) -> Result<Command<'a>, WordFault<'a>>
-    ensures spelled { IfOk result (Spells (Some (codes "report", rows_of (found_of found.now)))) }
-    ensures usage { OnErr result (SpellsNone
+pub(crate) fn report_asked<'a>(
+    found: &ArgMatches<'a>,
+    now: u64,
+) -> Result<Command<'a>, WordFault<'a>>
+    ensures spelled { IfOk result (Spells now
+        (Some (codes "report", rows_of (found_of found.now)))) }
+    ensures usage { OnErr result (SpellsNone now
         (Some (codes "report", rows_of (found_of found.now)))) }
 {
     let mut fault = None;
     let image = needed_text_in(found, "image", &mut fault);
-    let since = moment_in(found, "since", &mut fault);
+    let since = moment_in(found, "since", now, &mut fault);
     match fault {
         None => Ok(Command::Report(ReportAsked { image, since })),
         Some(fault) => Err(fault),

@@ -49,13 +49,14 @@ pub struct ExportAsked<'a> {
     pub at: Option<MomentWord>,
 }
 
-pub(crate) fn list_asked<'a>(found: &ArgMatches<'a>) -> Result<Command<'a>, WordFault<'a>>
-    ensures spelled { IfOk result (Spells (Some (codes "list", rows_of (found_of found.now)))) }
-    ensures usage { OnErr result (SpellsNone (Some (codes "list", rows_of (found_of found.now)))) }
+pub(crate) fn list_asked<'a>(found: &ArgMatches<'a>, now: u64) -> Result<Command<'a>, WordFault<'a>>
+    ensures spelled { IfOk result (Spells now (Some (codes "list", rows_of (found_of found.now)))) }
+    ensures usage { OnErr result (SpellsNone now
+        (Some (codes "list", rows_of (found_of found.now)))) }
 {
     let mut fault = None;
     let image = needed_text_in(found, "image", &mut fault);
-    let at = moment_in(found, "at", &mut fault);
+    let at = moment_in(found, "at", now, &mut fault);
     match fault {
         None => Ok(Command::List(ListAsked {
             image,
@@ -68,16 +69,17 @@ pub(crate) fn list_asked<'a>(found: &ArgMatches<'a>) -> Result<Command<'a>, Word
     }
 }
 
-pub(crate) fn cat_asked<'a>(found: &ArgMatches<'a>) -> Result<Command<'a>, WordFault<'a>>
-    ensures spelled { IfOk result (Spells (Some (codes "cat", rows_of (found_of found.now)))) }
-    ensures usage { OnErr result (SpellsNone (Some (codes "cat", rows_of (found_of found.now)))) }
+pub(crate) fn cat_asked<'a>(found: &ArgMatches<'a>, now: u64) -> Result<Command<'a>, WordFault<'a>>
+    ensures spelled { IfOk result (Spells now (Some (codes "cat", rows_of (found_of found.now)))) }
+    ensures usage { OnErr result (SpellsNone now
+        (Some (codes "cat", rows_of (found_of found.now)))) }
 {
     let mut fault = None;
     let image = needed_text_in(found, "image", &mut fault);
     one_at_most(found, "object", "name", &mut fault);
     one_at_least(found, "object", "name", &mut fault);
     let object = number_in(found, "object", &mut fault);
-    let at = moment_in(found, "at", &mut fault);
+    let at = moment_in(found, "at", now, &mut fault);
     match fault {
         None => Ok(Command::Cat(CatAsked {
             image,
@@ -89,15 +91,19 @@ pub(crate) fn cat_asked<'a>(found: &ArgMatches<'a>) -> Result<Command<'a>, WordF
     }
 }
 
-pub(crate) fn export_asked<'a>(found: &ArgMatches<'a>) -> Result<Command<'a>, WordFault<'a>>
-    ensures spelled { IfOk result (Spells (Some (codes "export", rows_of (found_of found.now)))) }
-    ensures usage { OnErr result (SpellsNone
+pub(crate) fn export_asked<'a>(
+    found: &ArgMatches<'a>,
+    now: u64,
+) -> Result<Command<'a>, WordFault<'a>>
+    ensures spelled { IfOk result (Spells now
+        (Some (codes "export", rows_of (found_of found.now)))) }
+    ensures usage { OnErr result (SpellsNone now
         (Some (codes "export", rows_of (found_of found.now)))) }
 {
     let mut fault = None;
     let image = needed_text_in(found, "image", &mut fault);
     let folder = needed_text_in(found, "folder", &mut fault);
-    let at = moment_in(found, "at", &mut fault);
+    let at = moment_in(found, "at", now, &mut fault);
     match fault {
         None => Ok(Command::Export(ExportAsked { image, folder, at })),
         Some(fault) => Err(fault),

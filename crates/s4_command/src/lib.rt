@@ -74,23 +74,25 @@ pub enum Command<'a> {
     Report(ReportAsked<'a>),
 }
 
-/// The command that the words give, the program's name first among them. At `help`, `--help` and
-/// `--version` it is `Asked`, with the text.
+/// The command that the words give, the program's name first among them, at the time `now`, in
+/// microseconds since 1970, from which ages count. At `help`, `--help` and `--version` it is
+/// `Asked`, with the text.
 pub fn command_of<'a, S: AsStr>(
     alloc: Global,
     words: &'a [S],
+    now: u64,
 ) -> Result<Command<'a>, NoCommand<WordFault<'a>>>
-    ensures spelled { IfOk result (Spells (subcommand_of line (map S.text words.entry.now))) }
+    ensures spelled { IfOk result (Spells now (subcommand_of line (map S.text words.entry.now))) }
     ensures usage { IfErr result (λ e. e ≢ NoCommand.NoMemory
         → takes line (map S.text words.entry.now) ≡ true
-        → SpellsNone (subcommand_of line (map S.text words.entry.now))) }
+        → SpellsNone now (subcommand_of line (map S.text words.entry.now))) }
     ensures refused { fault_of line (map S.text words.entry.now) ≢ []
         → IsErrAnd result (IsRefusedBy (fault_of line (map S.text words.entry.now))) }
     ensures asked { IfErr result (IsAskedAmong (fault_of line (map S.text words.entry.now))) }
 {
     let parser = command_line(alloc)?;
     match parser.try_get_matches_from(words) {
-        Ok(matches) => command_in(alloc, &matches),
+        Ok(matches) => command_in(alloc, &matches, now),
         Err(error) => Err(refused(error)),
     }
 }
@@ -98,14 +100,15 @@ pub fn command_of<'a, S: AsStr>(
 fn command_in<'a>(
     alloc: Global,
     matches: &ArgMatches<'a>,
+    now: u64,
 ) -> Result<Command<'a>, NoCommand<WordFault<'a>>>
-    ensures spelled { IfOk result (Spells (subcommand_rows_of matches.now)) }
+    ensures spelled { IfOk result (Spells now (subcommand_rows_of matches.now)) }
     ensures usage { IfErr result (λ e. e ≢ NoCommand.NoMemory
-        → SpellsNone (subcommand_rows_of matches.now)) }
+        → SpellsNone now (subcommand_rows_of matches.now)) }
     ensures own { IfErr result IsOwn }
 {
     match matches.subcommand() {
-        Some((name, found)) => named_command(alloc, name, found),
+        Some((name, found)) => named_command(alloc, name, found, now),
         None => Err(NoCommand::Fault(WordFault::Unspelled)),
     }
 }
@@ -114,39 +117,44 @@ fn named_command<'a>(
     alloc: Global,
     name: &str,
     found: &ArgMatches<'a>,
+    now: u64,
 ) -> Result<Command<'a>, NoCommand<WordFault<'a>>>
-    ensures spelled { IfOk result (Spells (Some (name.now, rows_of (found_of found.now)))) }
+    ensures spelled { IfOk result (Spells now (Some (name.now, rows_of (found_of found.now)))) }
     ensures usage { IfErr result (λ e. e ≢ NoCommand.NoMemory
-        → SpellsNone (Some (name.now, rows_of (found_of found.now)))) }
+        → SpellsNone now (Some (name.now, rows_of (found_of found.now)))) }
     ensures own { IfErr result IsOwn }
 {
     if name == "restore" {
-        return restore_asked(alloc, found);
+        return restore_asked(alloc, found, now);
     }
-    match unrestoring_command(name, found) {
+    match unrestoring_command(name, found, now) {
         Ok(command) => Ok(command),
         Err(fault) => Err(NoCommand::Fault(fault)),
     }
 }
 
 // A command that is not `restore`.
-fn unrestoring_command<'a>(name: &str, found: &ArgMatches<'a>) -> Result<Command<'a>, WordFault<'a>>
-    ensures spelled { IfOk result (Spells (Some (name.now, rows_of (found_of found.now)))) }
+fn unrestoring_command<'a>(
+    name: &str,
+    found: &ArgMatches<'a>,
+    now: u64,
+) -> Result<Command<'a>, WordFault<'a>>
+    ensures spelled { IfOk result (Spells now (Some (name.now, rows_of (found_of found.now)))) }
     ensures usage { OnErr result (name.now ≢ codes "restore"
-        → SpellsNone (Some (name.now, rows_of (found_of found.now)))) }
+        → SpellsNone now (Some (name.now, rows_of (found_of found.now)))) }
 {
     match name {
-        "list" => list_asked(found),
-        "log" => log_asked(found),
-        "audit" => audit_asked(found),
-        "cat" => cat_asked(found),
+        "list" => list_asked(found, now),
+        "log" => log_asked(found, now),
+        "audit" => audit_asked(found, now),
+        "cat" => cat_asked(found, now),
         "info" => info_asked(found),
-        "diff" => diff_asked(found),
-        "export" => export_asked(found),
+        "diff" => diff_asked(found, now),
+        "export" => export_asked(found, now),
         "check" => check_asked(found),
         "compact" => compact_asked(found),
         "salvage" => salvage_asked(found),
-        "report" => report_asked(found),
+        "report" => report_asked(found, now),
         _ => Err(WordFault::Unspelled),
     }
 }

@@ -66,16 +66,17 @@ pub(crate) fn number_in<'a>(
 pub(crate) fn moment_in<'a>(
     matches: &ArgMatches<'a>,
     id: &'static str,
+    now: u64,
     noted: &mut Option<WordFault<'a>>,
 ) -> Option<MomentWord>
     ensures asked { noted.new ≡ None
-        → IsMomentAsked id.now (rows_of (found_of matches.now)) result }
+        → IsMomentAsked now id.now (rows_of (found_of matches.now)) result }
     ensures kept { noted.new ≡ None → noted.old ≡ None }
-    ensures usage { (moment : _) → IsMomentAsked id.now (rows_of (found_of matches.now)) moment
+    ensures usage { (moment : _) → IsMomentAsked now id.now (rows_of (found_of matches.now)) moment
         → noted.old ≡ None → noted.new ≡ None }
 {
     let word = text_in(matches, id)?;
-    let moment = read(word);
+    let moment = read(word, now);
     if moment.is_none() {
         note(noted, WordFault::NoMoment { name: id, word });
     }
@@ -86,16 +87,17 @@ pub(crate) fn moment_in<'a>(
 pub(crate) fn needed_moment_in<'a>(
     matches: &ArgMatches<'a>,
     id: &'static str,
+    now: u64,
     noted: &mut Option<WordFault<'a>>,
 ) -> MomentWord
     ensures asked { noted.new ≡ None
-        → IsMomentAsked id.now (rows_of (found_of matches.now)) (Some result) }
+        → IsMomentAsked now id.now (rows_of (found_of matches.now)) (Some result) }
     ensures kept { noted.new ≡ None → noted.old ≡ None }
     ensures usage { (moment : _)
-        → IsMomentAsked id.now (rows_of (found_of matches.now)) (Some moment)
+        → IsMomentAsked now id.now (rows_of (found_of matches.now)) (Some moment)
         → noted.old ≡ None → noted.new ≡ None }
 {
-    match moment_in(matches, id, noted) {
+    match moment_in(matches, id, now, noted) {
         Some(moment) => moment,
         None => {
             note(noted, WordFault::Unspelled);

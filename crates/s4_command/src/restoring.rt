@@ -20,6 +20,8 @@ pub struct RestoreAsked<'a> {
     pub image: &'a str,
     /// The moment.
     pub at: MomentWord,
+    /// The time when it is asked for, in microseconds since 1970. 0 where it can't be known.
+    pub now: u64,
     /// The objects, as often as the line names each and in its order. All objects, where there are
     /// none and no name is given.
     pub objects: Vec<u64>,
@@ -42,21 +44,24 @@ pub struct RestoreAsked<'a> {
 pub(crate) fn restore_asked<'a>(
     alloc: Global,
     found: &ArgMatches<'a>,
+    now: u64,
 ) -> Result<Command<'a>, NoCommand<WordFault<'a>>>
-    ensures spelled { IfOk result (Spells (Some (codes "restore", rows_of (found_of found.now)))) }
+    ensures spelled { IfOk result (Spells now
+        (Some (codes "restore", rows_of (found_of found.now)))) }
     ensures usage { IfErr result (λ e. e ≢ NoCommand.NoMemory
-        → SpellsNone (Some (codes "restore", rows_of (found_of found.now)))) }
+        → SpellsNone now (Some (codes "restore", rows_of (found_of found.now)))) }
     ensures own { IfErr result IsOwn }
 {
     let mut fault = None;
     let image = needed_text_in(found, "image", &mut fault);
     one_at_most(found, "object", "name", &mut fault);
-    let at = needed_moment_in(found, "at", &mut fault);
+    let at = needed_moment_in(found, "at", now, &mut fault);
     let objects = numbers_in(alloc, found, "object", &mut fault)?;
     match fault {
         None => Ok(Command::Restore(RestoreAsked {
             image,
             at,
+            now,
             objects,
             name: text_in(found, "name"),
             map: text_in(found, "map"),

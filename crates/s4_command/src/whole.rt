@@ -1,5 +1,5 @@
 //! What asks for an image as a whole: `info`, `check`, `compact` and `salvage`.
-ghost use Rattle.std.specs.Prelude.{IfOk, OnErr, Some, codes};
+ghost use Rattle.std.specs.Prelude.{ℕ, IfOk, OnErr, Some, codes};
 ghost use Rattle.clap.specs.Walk.{rows_of};
 ghost use Rattle.clap.specs.Matches.{found_of};
 ghost use Rattle.s4_command.specs.CommandLine.{Spells, SpellsNone};
@@ -46,8 +46,10 @@ pub struct SalvageAsked<'a> {
 }
 
 pub(crate) fn info_asked<'a>(found: &ArgMatches<'a>) -> Result<Command<'a>, WordFault<'a>>
-    ensures spelled { IfOk result (Spells (Some (codes "info", rows_of (found_of found.now)))) }
-    ensures usage { OnErr result (SpellsNone (Some (codes "info", rows_of (found_of found.now)))) }
+    ensures spelled { (now : ℕ) → IfOk result (Spells now
+        (Some (codes "info", rows_of (found_of found.now)))) }
+    ensures usage { (now : ℕ) → OnErr result (SpellsNone now
+        (Some (codes "info", rows_of (found_of found.now)))) }
 {
     let Some(image) = text_in(found, "image") else {
         return Err(WordFault::Unspelled);
@@ -60,8 +62,10 @@ pub(crate) fn info_asked<'a>(found: &ArgMatches<'a>) -> Result<Command<'a>, Word
 }
 
 pub(crate) fn check_asked<'a>(found: &ArgMatches<'a>) -> Result<Command<'a>, WordFault<'a>>
-    ensures spelled { IfOk result (Spells (Some (codes "check", rows_of (found_of found.now)))) }
-    ensures usage { OnErr result (SpellsNone (Some (codes "check", rows_of (found_of found.now)))) }
+    ensures spelled { (now : ℕ) → IfOk result (Spells now
+        (Some (codes "check", rows_of (found_of found.now)))) }
+    ensures usage { (now : ℕ) → OnErr result (SpellsNone now
+        (Some (codes "check", rows_of (found_of found.now)))) }
 {
     let Some(image) = text_in(found, "image") else {
         return Err(WordFault::Unspelled);
@@ -73,8 +77,9 @@ pub(crate) fn check_asked<'a>(found: &ArgMatches<'a>) -> Result<Command<'a>, Wor
 }
 
 pub(crate) fn compact_asked<'a>(found: &ArgMatches<'a>) -> Result<Command<'a>, WordFault<'a>>
-    ensures spelled { IfOk result (Spells (Some (codes "compact", rows_of (found_of found.now)))) }
-    ensures usage { OnErr result (SpellsNone
+    ensures spelled { (now : ℕ) → IfOk result (Spells now
+        (Some (codes "compact", rows_of (found_of found.now)))) }
+    ensures usage { (now : ℕ) → OnErr result (SpellsNone now
         (Some (codes "compact", rows_of (found_of found.now)))) }
 {
     let Some(image) = text_in(found, "image") else {
@@ -87,8 +92,9 @@ pub(crate) fn compact_asked<'a>(found: &ArgMatches<'a>) -> Result<Command<'a>, W
 }
 
 pub(crate) fn salvage_asked<'a>(found: &ArgMatches<'a>) -> Result<Command<'a>, WordFault<'a>>
-    ensures spelled { IfOk result (Spells (Some (codes "salvage", rows_of (found_of found.now)))) }
-    ensures usage { OnErr result (SpellsNone
+    ensures spelled { (now : ℕ) → IfOk result (Spells now
+        (Some (codes "salvage", rows_of (found_of found.now)))) }
+    ensures usage { (now : ℕ) → OnErr result (SpellsNone now
         (Some (codes "salvage", rows_of (found_of found.now)))) }
 {
     let mut fault = None;

@@ -13,14 +13,14 @@ use Rattle.s4_command.proofs.command_of.Goals as goal
 pub returns-in-Ok-clause-spelled : goal.returns-in-Ok-clause-spelled
 returns-in-Ok-clause-spelled g c =
     let same = same_subcommand _ (map g.S.AsStr.text c.args.words.now) c.in-Ok.matches c.in_ok-parser.ensures c.in-Ok.ensures.matches in
-    subst (λ (named : Option (Text × List Row)). IfOk c.command_in.result (Spells named)) same c.command_in.ensures.spelled
+    subst (λ (named : Option (Text × List Row)). IfOk c.command_in.result (Spells c.args.now named)) same c.command_in.ensures.spelled
 
 pub returns-in-Ok-clause-usage : goal.returns-in-Ok-clause-usage
 returns-in-Ok-clause-usage g c =
     let words = map g.S.AsStr.text c.args.words.now in
     let same = same_subcommand _ words c.in-Ok.matches c.in_ok-parser.ensures c.in-Ok.ensures.matches in
-    under_premise (SpellsNone (subcommand_of line words)) (takes line words ≡ true) c.command_in.result (λ e. e ≢ NoMemory)
-    (subst (λ (named : Option (Text × List Row)). IfErr c.command_in.result (λ e. e ≢ NoMemory → SpellsNone named)) same c.command_in.ensures.usage)
+    under_premise (SpellsNone c.args.now (subcommand_of line words)) (takes line words ≡ true) c.command_in.result (λ e. e ≢ NoMemory)
+    (subst (λ (named : Option (Text × List Row)). IfErr c.command_in.result (λ e. e ≢ NoMemory → SpellsNone c.args.now named)) same c.command_in.ensures.usage)
 
 pub returns-in-Err-clause-usage : goal.returns-in-Err-clause-usage
 returns-in-Err-clause-usage g c = λ apart taken.

@@ -9,4 +9,4 @@ returns-in-Some-clause-usage c = λ moment asked kept. c.moment_in.ensures.usage
 pub returns-in-None-clause-usage : goal.returns-in-None-clause-usage
 returns-in-None-clause-usage c = λ moment asked kept.
     let absent = c.in-None.ensures.asked (c.moment_in.ensures.usage (Some moment) asked kept) in
-    absurd (subst (λ (text : Option Text). IsMomentAt text moment) absent asked)
+    absurd (subst (λ (text : Option Text). IsMomentAt c.args.now text moment) absent asked)
