@@ -12,7 +12,7 @@ use drive::Drive;
 use drive_compaction::past_blocks;
 use image_commands::{Files, Placed, write_out};
 use s4_command::CompactAsked;
-use s4_images::{DriveChange, Failure, change_image};
+use s4_images::{CommandOutput, DriveChange, Failure, change_image};
 use s4_types::Refusal;
 use segment_word::Naming;
 use serving::Sink;
@@ -24,7 +24,7 @@ use std::thread::Threads;
 /// moves alone. What leaves the most room is made, with the cleaner where that is the same. So no
 /// image has less room afterwards. Where anything fails all files are as they were.
 #[tactic(auto, using(s4_images::proofs::Kept::untouched))]
-pub fn compact_image<T: Threads, F: Files, W: Sink>(
+pub fn compact_image<T: Threads, F: Files, W: CommandOutput>(
     rt: &T,
     alloc: Global,
     files: &mut F,
@@ -47,7 +47,7 @@ pub fn compact_image<T: Threads, F: Files, W: Sink>(
 
 // Compacts the drive of an image this way, saves it there, and prints what that came to. NoRoom
 // where another way's trial left more room.
-fn compact_by<T: Threads, F: Files, W: Sink>(
+fn compact_by<T: Threads, F: Files, W: CommandOutput>(
     rt: &T,
     alloc: Global,
     files: &mut F,

@@ -12,7 +12,7 @@ use drive::{Drive, OpenedDrive};
 use history_export::{Folder, SystemFolder, export};
 use image_commands::{Files, read_image};
 use s4_command::ExportAsked;
-use s4_images::{Failure, moment_asked};
+use s4_images::{CommandOutput, Failure, moment_asked};
 use s4_types::{Moment, ObjectId, Role};
 use segment_word::Naming;
 use std::alloc::Global;
@@ -40,13 +40,15 @@ impl Folders for HostRuntime {
 }
 
 /// Writes the objects that an image's drive has at a moment into the folder at a path. The folder
-/// is made once it is known that the image is one, and that the moment can be read.
-pub fn export_image<T: Threads, F: Files, D: Folders>(
+/// is made once it is known that the image is one, and that the moment can be read. Nothing is
+/// written to the output, which hears of the drive's clock.
+pub fn export_image<T: Threads, F: Files, D: Folders, W: CommandOutput>(
     rt: &T,
     alloc: Global,
     files: &F,
     folders: &D,
     asked: &ExportAsked<'_>,
+    output: &mut W,
 ) -> Result<(), Failure>
     ensures exports { OnOk result
         (OverImage (F.contents files.now asked.now.image.now)
@@ -54,15 +56,16 @@ pub fn export_image<T: Threads, F: Files, D: Folders>(
 {
     let image = read_image(rt, alloc, files, asked.image)?;
     let opened = open(alloc, image)?;
-    export_opened::<Brand, D>(alloc, opened, folders, asked)
+    export_opened::<Brand, D, W>(alloc, opened, folders, asked, output)
 }
 
 // The same of a drive that was just opened.
-fn export_opened<J: Naming, D: Folders>(
+fn export_opened<J: Naming, D: Folders, W: CommandOutput>(
     alloc: Global,
     opened: OpenedDrive,
     folders: &D,
     asked: &ExportAsked<'_>,
+    output: &mut W,
 ) -> Result<(), Failure>
     requires accepts { opened.accepts ≡ J.accepts }
     requires frames { opened.store.table.seat.table ≡ J.frames }
@@ -72,6 +75,7 @@ fn export_opened<J: Naming, D: Folders>(
         (OverOpened opened (λ drive. Exported D.Opened.path D.Opened.files drive asked.now)) }
 {
     let mut drive = opened.named::<J>();
+    output.drive_opened(drive.clock());
     export_drive(alloc, &mut drive, folders, asked)
 }
 

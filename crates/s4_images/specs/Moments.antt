@@ -1,5 +1,5 @@
 -- The moment and the object that a command asks for.
-use Rattle.std.specs.Prelude.{◌≡◌, ◌≢◌, ◌⊎◌, ℕ, ◌<◌, ◌≤◌, List, Option, Some, None}
+use Rattle.std.specs.Prelude.{◌≡◌, ◌≢◌, ◌⊎◌, ℕ, ◌<◌, ◌≤◌, ◌^◌, List, Option, Some, None, unwrap_or}
 use Rattle.object_map.specs.Rows.{row_of}
 use Rattle.s4_model.specs.State.{State}
 use Rattle.s4_model.specs.Visible.{IsVisible}
@@ -11,11 +11,16 @@ use Rattle.moment_words.specs.declared.words.MomentWord.{MomentWord}
 use Rattle.moment_words.specs.declared.printing.MomentStyle.TheVariants.{Number}
 use Rattle.s4_images.specs.Failures.{shown_by}
 use Rattle.s4_images.specs.declared.faults.Failure.{Failure}
-use Rattle.s4_images.specs.declared.faults.Failure.TheVariants.{Future, Unreadable}
+use Rattle.s4_images.specs.declared.faults.Failure.TheVariants.{Future, NoTimes, Unreadable}
 
--- the moment that a word says, by the clock
+-- the moment that a word says, by the clock; a number above every moment where it says none
 abbrev pub moment_said : State → MomentWord → ℕ
-moment_said s word = moment_of word s.clock
+moment_said s word = unwrap_or (moment_of word s.clock) (2 ^ 64)
+
+-- There is a word, and it says no moment: it is a time, and the moments are numbers.
+abbrev pub HasNoMoment : State → Option MomentWord → Type 0
+HasNoMoment s None = ⊥
+HasNoMoment s (Some word) = moment_of word s.clock ≡ None
 
 -- the moment that is asked for, if one is
 abbrev pub moment_given : State → Option MomentWord → Option ℕ
@@ -43,6 +48,14 @@ pub record TellsUnreadable (s : State) (o t : ℕ) (failure : Failure) : Type 0 
 pub record IsUnreadable (s : State) (o t : ℕ) (failure : Failure) : Type 0 where
   pub hidden : IsVisible s o t → ⊥
   pub told : TellsUnreadable s o t failure
+
+-- A word says no moment since the moments are numbers, and a failure has the first and the last of these.
+abbrev pub IsTimeRefused : State → Option MomentWord → Failure → Type 0
+IsTimeRefused s word failure = HasNoMoment s word × (failure ≡ NoTimes (shown_by Number s.floor) (shown_by Number s.clock))
+
+-- The moment that is asked for of an object is refused: its word says none, or it can't be read.
+abbrev pub IsRefusedAt : State → ℕ → Option MomentWord → Failure → Type 0
+IsRefusedAt s o at failure = IsTimeRefused s at failure ⊎ IsUnreadable s o (moment_asked s at) failure
 
 -- The object that is asked for at a moment: the one of this number, which has a row, or else the one of this name then. None where neither
 -- is given.

@@ -7,6 +7,7 @@ ghost use Rattle.drive.specs.Fields.{DriveFields};
 ghost use Rattle.drive.specs.Opened.{base_of};
 ghost use Rattle.s4_images.specs.Commands.{ChangesImage, SavesChanged, SavesOpened, SavesRead};
 
+use crate::commands::CommandOutput;
 use crate::faults::Failure;
 use crate::using::{DriveUse, use_opened};
 use drive::{Drive, OpenedDrive};
@@ -40,7 +41,7 @@ pub trait DriveChange {
 /// program that serves it, a file that can't be made beside it, or a disk without room for the
 /// longest image is a failure then.
 #[tactic(auto, using(crate::proofs::Kept::untouched))]
-pub fn change_image<T: Threads, F: Files, C: DriveChange, W: Sink>(
+pub fn change_image<T: Threads, F: Files, C: DriveChange, W: CommandOutput>(
     rt: &T,
     alloc: Global,
     files: &mut F,
@@ -71,7 +72,7 @@ pub fn change_image<T: Threads, F: Files, C: DriveChange, W: Sink>(
 
 // The same of an image that was claimed and read.
 #[tactic(auto, using(crate::proofs::Kept::untouched))]
-fn change_claimed<F: Files, C: DriveChange, W: Sink>(
+fn change_claimed<F: Files, C: DriveChange, W: CommandOutput>(
     alloc: Global,
     files: &mut F,
     image: &str,
@@ -101,7 +102,7 @@ fn change_claimed<F: Files, C: DriveChange, W: Sink>(
 }
 
 // Changes a drive that was just opened, and puts its image in its place.
-fn change_opened<'a, J: Naming, F: Files, C: DriveChange, W: Sink>(
+fn change_opened<'a, J: Naming, F: Files, C: DriveChange, W: CommandOutput>(
     alloc: Global,
     files: &mut F,
     place: Place<'a, F>,
@@ -142,7 +143,7 @@ struct Saving<'a, C: DriveChange> {
     change: &'a C,
 }
 
-impl<C: DriveChange, W: Sink> DriveUse<Vec<u8>, W> for Saving<'_, C> {
+impl<C: DriveChange, W: CommandOutput> DriveUse<Vec<u8>, W> for Saving<'_, C> {
     ghost takes = { λ _ writer. W.failures writer + 1 < 2 ^ 64 };
 
     ghost gives = { λ it d bytes before after. SavesChanged (λ later. C.changes it.change.now d later (W.passed before) (W.passed after)) bytes.items };
@@ -153,6 +154,7 @@ impl<C: DriveChange, W: Sink> DriveUse<Vec<u8>, W> for Saving<'_, C> {
         drive: &mut Drive<J>,
         writer: &mut W,
     ) -> Result<Vec<u8>, Failure> {
+        writer.drive_opened(drive.clock());
         self.change.make(alloc, drive, writer)?;
         let bytes = save(alloc, drive)?;
         Ok(bytes)

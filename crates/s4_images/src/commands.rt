@@ -1,5 +1,5 @@
 //! Commands over the drive that an image tells.
-ghost use Rattle.std.specs.Prelude.{⊤, ℕ, ◌+◌, ◌^◌, ◌<◌, List, Option, IfErr, IfOk};
+ghost use Rattle.std.specs.Prelude.{◌≡◌, ⊤, ℕ, ◌+◌, ◌^◌, ◌<◌, List, Option, IfErr, IfOk};
 ghost use Rattle.drive.specs.Fields.{DriveFields};
 ghost use Rattle.s4_images.specs.Commands.{FailsOver, OverImage};
 ghost use Rattle.s4_images.specs.declared.commands.Verdict.{Verdict as Found};
@@ -9,6 +9,7 @@ use crate::faults::Failure;
 use crate::using::{DriveUse, use_image};
 use drive::Drive;
 use image_commands::Files;
+use s4_types::Moment;
 use segment_word::Naming;
 use serving::Sink;
 use std::alloc::Global;
@@ -21,6 +22,15 @@ pub enum Verdict {
     Fine,
     /// Something that differs.
     Differs,
+}
+
+/// Where a command over an image writes. It hears of the drive's clock, once.
+pub trait CommandOutput: Sink {
+    /// Hears that the drive is open, whose clock is there, and that the command begins. It writes
+    /// none of the command's bytes.
+    fn drive_opened(&mut self, clock: Moment)
+        ensures passed { passed self.new ≡ passed self.old }
+        ensures failures { failures self.new ≡ failures self.old };
 }
 
 /// What prints something of a drive.
@@ -47,7 +57,7 @@ pub trait DriveCommand {
 }
 
 /// Performs a command over the drive that the image in a file tells.
-pub fn over_image<T: Threads, F: Files, C: DriveCommand, W: Sink>(
+pub fn over_image<T: Threads, F: Files, C: DriveCommand, W: CommandOutput>(
     rt: &T,
     alloc: Global,
     files: &F,
@@ -66,7 +76,7 @@ pub fn over_image<T: Threads, F: Files, C: DriveCommand, W: Sink>(
     use_image(rt, alloc, files, image, command, writer)
 }
 
-impl<C: DriveCommand, W: Sink> DriveUse<Verdict, W> for C {
+impl<C: DriveCommand, W: CommandOutput> DriveUse<Verdict, W> for C {
     ghost takes = { λ _ writer. W.failures writer + 1 < 2 ^ 64 };
 
     ghost gives = { λ it d verdict before after. C.shows it d verdict (W.passed before) (W.passed after) };
@@ -79,6 +89,7 @@ impl<C: DriveCommand, W: Sink> DriveUse<Verdict, W> for C {
         drive: &mut Drive<J>,
         writer: &mut W,
     ) -> Result<Verdict, Failure> {
+        writer.drive_opened(drive.clock());
         self.perform(alloc, drive, writer)
     }
 }

@@ -21,6 +21,12 @@ pub enum Failure {
     /// The file has no image, or a damaged one; or memory or a count was full.
     #[error("{0}; {1}")]
     Refused(Refusal, &'static str),
+    /// A time or an age is asked for, and the moments are numbers.
+    #[error("its moments are numbers, and no time or age is one; give one from {first} to {last}")]
+    NoTimes {
+        first: ShownMoment,
+        last: ShownMoment,
+    },
     /// The moment is above the clock.
     #[error("moment {asked} is to come; the clock is at {clock}, the last moment that can be read")]
     Future {
@@ -199,6 +205,10 @@ impl Failure {
             Failure::Future { asked, clock } => Failure::Future {
                 asked: restyled(asked, style),
                 clock: restyled(clock, style),
+            },
+            Failure::NoTimes { first, last } => Failure::NoTimes {
+                first: restyled(first, style),
+                last: restyled(last, style),
             },
             Failure::Unreadable { asked, earliest } => Failure::Unreadable {
                 asked: restyled(asked, style),

@@ -7,7 +7,8 @@
 //! drive is kept. Where `change_image` succeeds, the file has what the drive is saved as after
 //! what a `DriveChange` says it changes, and where it fails all files are as they were.
 //! `moment_asked` gives the moment that a command asks for only where it can be read, and
-//! `object_asked` the object of the number or of the name that a command has. `show_image` does
+//! `object_asked` the object of the number or of the name that a command has. A time is refused
+//! exactly where the drive's moments are numbers. `show_image` does
 //! what `over_image` does for a command that names its image, and prints the moments of its
 //! failures as the command prints moments. That is proved over any `Files` that say what they
 //! hold. `write_lines` writes the line of each thing that a form `Prints`. A `Failure` says on
@@ -24,7 +25,7 @@ mod showing;
 mod using;
 
 pub use changing::{DriveChange, change_image};
-pub use commands::{DriveCommand, Verdict, over_image};
+pub use commands::{CommandOutput, DriveCommand, Verdict, over_image};
 pub use faults::{Failure, as_number};
 pub use moments::{
     check_object, moment_asked, moment_given, moment_or_clock, moment_said, object_asked,

@@ -5,7 +5,8 @@ ghost use Rattle.s4_model.specs.Visible.{IsVisible};
 ghost use Rattle.drive.specs.Fields.{state_in, store_of};
 ghost use Rattle.history_view.specs.Names.{IsNameRefusal, IsOnlyNamed};
 ghost use Rattle.s4_images.specs.Moments.{IsNamedInEither, IsObjectAsked, IsObjectInEither};
-ghost use Rattle.s4_images.specs.Moments.{IsUnreadable, TellsUnreadable};
+ghost use Rattle.s4_images.specs.Moments.{HasNoMoment, IsRefusedAt, IsTimeRefused};
+ghost use Rattle.s4_images.specs.Moments.{TellsUnreadable};
 ghost use Rattle.s4_images.specs.Moments.{moment_asked, moment_given, moment_said};
 
 use crate::faults::{Failure, as_number};
@@ -15,35 +16,61 @@ use moment_words::{MomentWord, moment_of};
 use s4_types::{Moment, ObjectId};
 use segment_word::Naming;
 
-/// The moment that a word says: an age is that long before the drive's clock.
-pub fn moment_said<J: Naming>(drive: &Drive<J>, word: MomentWord) -> Moment
-    ensures { result ≡ moment_said (state_in drive.now) word }
+/// The moment that a word says, whether it can be read or not. An error for a time exactly where
+/// the drive's moments are numbers.
+pub fn moment_said<J: Naming>(drive: &Drive<J>, word: MomentWord) -> Result<Moment, Failure>
+    ensures moment { IfOk result (λ moment. moment ≡ moment_said (state_in drive.now) word) }
+    ensures said { OnOk result (HasNoMoment (state_in drive.now) (Some word) → ⊥) }
+    ensures refused { IfErr result (IsTimeRefused (state_in drive.now) (Some word)) }
 {
-    Moment::new(moment_of(word, drive.clock().number()))
-}
-
-/// The moment that is asked for, if one is, whether it can be read or not.
-pub fn moment_given<J: Naming>(drive: &Drive<J>, word: Option<MomentWord>) -> Option<Moment>
-    ensures { result ≡ moment_given (state_in drive.now) word }
-{
-    match word {
-        Some(word) => Some(moment_said(drive, word)),
-        None => None,
+    let clock = drive.clock();
+    match moment_of(word, clock.number()) {
+        Some(moment) => Ok(Moment::new(moment)),
+        None => Err(Failure::NoTimes {
+            first: as_number(drive.floor()),
+            last: as_number(clock),
+        }),
     }
 }
 
-/// The moment that is asked for, the clock's where none is, whether it can be read or not.
-pub fn moment_or_clock<J: Naming>(drive: &Drive<J>, at: Option<MomentWord>) -> Moment
-    ensures { result ≡ moment_asked (state_in drive.now) at }
+/// The moment that is asked for, if one is, whether it can be read or not. An error for a time
+/// exactly where the drive's moments are numbers.
+pub fn moment_given<J: Naming>(
+    drive: &Drive<J>,
+    word: Option<MomentWord>,
+) -> Result<Option<Moment>, Failure>
+    ensures moment { IfOk result (λ given. given ≡ moment_given (state_in drive.now) word) }
+    ensures said { OnOk result (HasNoMoment (state_in drive.now) word → ⊥) }
+    ensures refused { IfErr result (IsTimeRefused (state_in drive.now) word) }
+{
+    let Some(word) = word else {
+        return Ok(None);
+    };
+    match moment_said(drive, word) {
+        Ok(moment) => Ok(Some(moment)),
+        Err(failure) => Err(failure),
+    }
+}
+
+/// The moment that is asked for, the clock's where none is, whether it can be read or not. An error
+/// for a time exactly where the drive's moments are numbers.
+pub fn moment_or_clock<J: Naming>(
+    drive: &Drive<J>,
+    at: Option<MomentWord>,
+) -> Result<Moment, Failure>
+    ensures moment { IfOk result (λ moment. moment ≡ moment_asked (state_in drive.now) at) }
+    ensures said { OnOk result (HasNoMoment (state_in drive.now) at → ⊥) }
+    ensures refused { IfErr result (IsTimeRefused (state_in drive.now) at) }
 {
     match at {
         Some(word) => moment_said(drive, word),
-        None => drive.clock(),
+        None => Ok(drive.clock()),
     }
 }
 
 /// The moment that is asked for, the clock's where none is. An error where that moment of the
-/// object can't be read; of object 0 where it can't be read of any.
+/// object can't be read; of object 0 where it can't be read of any. And for a time exactly where
+/// the drive's moments are numbers.
 pub fn moment_asked<J: Naming>(
     drive: &Drive<J>,
     object: ObjectId,
@@ -52,10 +79,12 @@ pub fn moment_asked<J: Naming>(
     ensures moment { IfOk result (λ moment. moment ≡ moment_asked (state_in drive.now) at) }
     ensures readable { OnOk result
         (IsVisible (state_in drive.now) object (moment_asked (state_in drive.now) at)) }
-    ensures refused { IfErr result
-        (IsUnreadable (state_in drive.now) object (moment_asked (state_in drive.now) at)) }
+    ensures refused { IfErr result (IsRefusedAt (state_in drive.now) object at) }
 {
-    let moment = moment_or_clock(drive, at);
+    let moment = match moment_or_clock(drive, at) {
+        Ok(moment) => moment,
+        Err(failure) => return Err(failure),
+    };
     if is_visible(drive, object, moment) {
         return Ok(moment);
     }

@@ -5,14 +5,13 @@ ghost use Rattle.moment_words.specs.Texts as styles;
 ghost use Rattle.s4_images.specs.Commands.{FailsOver, OverImage};
 ghost use Rattle.s4_images.specs.Failures.{IsInStyle};
 
-use crate::commands::{DriveCommand, Verdict};
+use crate::commands::{CommandOutput, DriveCommand, Verdict};
 use crate::faults::Failure;
 use crate::using::{DriveUse, use_image};
 use drive::Drive;
 use image_commands::Files;
 use moment_words::style_of;
 use segment_word::Naming;
-use serving::Sink;
 use std::alloc::Global;
 use std::thread::Threads;
 
@@ -36,7 +35,7 @@ pub trait ImageCommand: Copy {
 /// Performs a command over the drive that its image tells. The moments of a failure are printed as
 /// the other lines of the command print theirs: as dates where the drive's clock counts
 /// microseconds of Unix time, unless numbers are asked for.
-pub fn show_image<T: Threads, F: Files, C: DriveCommand + ImageCommand, W: Sink>(
+pub fn show_image<T: Threads, F: Files, C: DriveCommand + ImageCommand, W: CommandOutput>(
     rt: &T,
     alloc: Global,
     files: &F,
@@ -70,7 +69,7 @@ struct Styled<'a, C: ImageCommand> {
     command: &'a C,
 }
 
-impl<C: DriveCommand + ImageCommand, W: Sink> DriveUse<Verdict, W> for Styled<'_, C> {
+impl<C: DriveCommand + ImageCommand, W: CommandOutput> DriveUse<Verdict, W> for Styled<'_, C> {
     ghost takes = { λ _ writer. W.failures writer + 1 < 2 ^ 64 };
 
     ghost gives = { λ it d verdict before after. C.shows it.command.now d verdict (W.passed before) (W.passed after) };
@@ -83,7 +82,9 @@ impl<C: DriveCommand + ImageCommand, W: Sink> DriveUse<Verdict, W> for Styled<'_
         drive: &mut Drive<J>,
         writer: &mut W,
     ) -> Result<Verdict, Failure> {
-        let style = style_of(drive.clock().number(), self.command.has_numbers());
+        let clock = drive.clock();
+        writer.drive_opened(clock);
+        let style = style_of(clock.number(), self.command.has_numbers());
         match self.command.perform(alloc, drive, writer) {
             Ok(verdict) => Ok(verdict),
             Err(failure) => Err(failure.in_style(style)),
