@@ -1,5 +1,5 @@
 -- What no text says.
-use Rattle.std.proofs.Common.{◌≡◌, ◌<◌, ◌*◌, ◌==◌, arith, ℕ, List, [], ◌∷◌, ◌++◌, Some, None, Option, inl, inr, refl, sym, ap, ap₂, ◌∙◌}
+use Rattle.std.proofs.Common.{◌≡◌, ◌<◌, ◌≤◌, ◌*◌, ◌==◌, arith, ℕ, List, [], ◌∷◌, ◌++◌, Some, None, Option, inl, inr, refl, sym, ap, ap₂, ◌∙◌}
 use Rattle.std.proofs.lemmas.List.{append_cancel_right}
 use Rattle.std.specs.Prelude.{if◌then◌else◌}
 use Rattle.std.specs.Str.Parse.{digits_value, without_leading_plus}
@@ -20,10 +20,10 @@ no_age text s m h d w n (Week, is) = w n is
 
 -- a text that is no number and no time, and no age of a time, says no moment
 pub no_word : (now : ℕ) (text : List ℕ) (time : Option ℕ) → IsNo (IsNumber text) → time ≡ time_of text → time ≡ None
-    → ((age : ℕ) → IsAge text age → now < age) → (word : MomentWord) → IsMomentWord now text word → ⊥
+    → ((age : ℕ) → IsAge text age → age ≤ now → ⊥) → (word : MomentWord) → IsMomentWord now text word → ⊥
 no_word now text time number is none far (Moment moment) h = number moment h
 no_word now text time number is none far (Time moment) (not, inl h) = let e : None ≡ Some moment = sym none ∙ is ∙ h in absurd cc
-no_word now text time number is none far (Time moment) (not, inr h) = omega (arith, far h.1.0 h.1.1, h.1.2)
+no_word now text time number is none far (Time moment) (not, inr h) = far h.1.0 h.1.1 (omega (arith, h.1.2))
 
 -- the microseconds of a unit, by its letter
 abbrev micros_by : ℕ → ℕ

@@ -1,2 +1,3 @@
 mod Numbers
+mod Absent
 mod Simple
