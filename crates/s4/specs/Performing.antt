@@ -1,5 +1,5 @@
 -- What the status of a line of words says.
-use Rattle.std.specs.Prelude.{◌≡◌, ◌⊎◌, ⊤, ℕ, List, Option, None, true}
+use Rattle.std.specs.Prelude.{◌≡◌, ◌⊎◌, ⊤, ℕ, Bool, List, Option, None, true, false}
 use Rattle.std.specs.Io.KnownBytes.{Keeps}
 use Rattle.clap.specs.Faults.{fault_of}
 use Rattle.clap.specs.Kinds.{IsAmong}
@@ -43,6 +43,21 @@ IsDoneOver files files' Exported Salvaged output output' (command.Check check) =
 IsDoneOver files files' Exported Salvaged output output' (command.Compact compact) = ChangesImage (files compact.image.now) (files' compact.image.now) (λ d later. Compacts d later compact output output')
 IsDoneOver files files' Exported Salvaged output output' (command.Salvage salvage) = Salvaged (files salvage.image.now) salvage output output'
 
+-- whether a command only prints what an image has, and its status says nothing of the image but `diff`'s
+abbrev pub is_reading : Command → Bool
+is_reading (command.Export export) = false
+is_reading (command.Restore restore) = false
+is_reading (command.Check check) = false
+is_reading (command.Compact compact) = false
+is_reading (command.Salvage salvage) = false
+is_reading _ = true
+
+-- A command is done; or it only prints what an image has, the reader of the output has gone, and all files are as they were.
+abbrev pub IsEndedOver : (gone : Bool) → (files files' : List ℕ → Option (List ℕ)) → (Exported : DriveFields → ExportAsked → Type 0) → (Salvaged : Option (List ℕ) → SalvageAsked → (output output' : Option (List ℕ)) → Type 0) → (output output' : Option (List ℕ)) → Command → Type 0
+IsEndedOver gone files files' Exported Salvaged output output' c =
+    IsDoneOver files files' Exported Salvaged output output' c
+    ⊎ ((gone ≡ true) × (is_reading c ≡ true) × ((path : List ℕ) → Keeps (files path) (files' path)))
+
 -- A command isn't done: all files are as they were. Or it is done, but that this lasts wasn't seen.
 abbrev pub IsUndone : (files files' : List ℕ → Option (List ℕ)) → (Done : Type 0) → Type 0
 IsUndone files files' Done = ((path : List ℕ) → Keeps (files path) (files' path)) ⊎ Done
@@ -51,9 +66,9 @@ IsUndone files files' Done = ((path : List ℕ) → Keeps (files path) (files' p
 abbrev pub unknown : List ℕ → Option (List ℕ)
 unknown path = None
 
--- The words give no command, where they are words that the line's rules take.
-abbrev pub IsUsage : List Text → Type 0
-IsUsage words = takes line words ≡ true → SpellsNone (subcommand_of line words)
+-- The words give no command at this time, where they are words that the line's rules take.
+abbrev pub IsUsage : ℕ → List Text → Type 0
+IsUsage now words = takes line words ≡ true → SpellsNone now (subcommand_of line words)
 
 -- The parser refuses the words, and one of its reasons is that they ask for help or the version.
 pub record IsAskedFor (words : List Text) : Type 0 where
@@ -61,9 +76,14 @@ pub record IsAskedFor (words : List Text) : Type 0 where
   pub among : IsAmong kind (fault_of line words)
   pub asked : is_asked_for kind ≡ true
 
--- The words give a command, which is done; or they give none, and ask for help or the version.
-abbrev pub IsDone : List Text → (files files' : List ℕ → Option (List ℕ)) → (Exported : DriveFields → ExportAsked → Type 0) → (Salvaged : Option (List ℕ) → SalvageAsked → (output output' : Option (List ℕ)) → Type 0) → (output output' : Option (List ℕ)) → Type 0
-IsDone words files files' Exported Salvaged output output' = ((c : Command) × Spells (subcommand_of line words) c × IsDoneOver files files' Exported Salvaged output output' c) ⊎ IsAskedFor words
+-- The words give a command at this time, which is done; or they give none, and ask for help or the version.
+abbrev pub IsDone : ℕ → List Text → (files files' : List ℕ → Option (List ℕ)) → (Exported : DriveFields → ExportAsked → Type 0) → (Salvaged : Option (List ℕ) → SalvageAsked → (output output' : Option (List ℕ)) → Type 0) → (output output' : Option (List ℕ)) → Type 0
+IsDone now words files files' Exported Salvaged output output' = ((c : Command) × Spells now (subcommand_of line words) c × IsDoneOver files files' Exported Salvaged output output' c) ⊎ IsAskedFor words
+
+-- What status 0 says: the same, but that a command which only prints isn't done where the reader of the output has gone.
+abbrev pub IsEnded : ℕ → List Text → (gone : Bool) → (files files' : List ℕ → Option (List ℕ)) → (Exported : DriveFields → ExportAsked → Type 0) → (Salvaged : Option (List ℕ) → SalvageAsked → (output output' : Option (List ℕ)) → Type 0) → (output output' : Option (List ℕ)) → Type 0
+IsEnded now words gone files files' Exported Salvaged output output' =
+    ((c : Command) × Spells now (subcommand_of line words) c × IsEndedOver gone files files' Exported Salvaged output output' c) ⊎ IsAskedFor words
 
 -- What status 1 says of a command: of `diff` that something differs, which was printed; of others nothing.
 abbrev pub DiffersOver : (files : List ℕ → Option (List ℕ)) → (output output' : Option (List ℕ)) → Command → Type 0
@@ -71,5 +91,5 @@ DiffersOver files output output' (command.Diff diff) = OverImage (files diff.ima
 DiffersOver files output output' _ = ⊤
 
 -- The words give a command, and status 1 says this of it; or they give none.
-abbrev pub IsDiffering : List Text → (files : List ℕ → Option (List ℕ)) → (output output' : Option (List ℕ)) → Type 0
-IsDiffering words files output output' = ((c : Command) × Spells (subcommand_of line words) c × DiffersOver files output output' c) ⊎ IsUsage words
+abbrev pub IsDiffering : ℕ → List Text → (files : List ℕ → Option (List ℕ)) → (output output' : Option (List ℕ)) → Type 0
+IsDiffering now words files output output' = ((c : Command) × Spells now (subcommand_of line words) c × DiffersOver files output output' c) ⊎ IsUsage now words

@@ -1,7 +1,8 @@
 //! The program `s4`: looks into the past of a drive that is kept in a file, and brings it back.
 //!
 //! `perform` does what a line of words asks for, over any files and writers, and `main` calls it
-//! with the system's, on a thread whose stack is had before anything is read. `restore` and
+//! with the system's, on a thread whose stack is had before anything is read. Ages count from the
+//! machine's time, which is read once. `restore` and
 //! `compact` alone change an image; no other command does, or keeps another program from it. What
 //! is proved over any files that say what they hold: `list` writes the line of exactly the objects
 //! that are listed at a moment, `log` a line for each entry of the journals and each hidden run
@@ -19,24 +20,26 @@ ghost use Rattle.std.specs.Process.{exit_status};
 
 mod own_thread;
 mod performing;
+mod terminal;
+mod times;
 
 use image_commands::hold_standard_streams;
 use own_thread::perform_apart;
 use performing::refuse;
 use s4_images::Failure;
 use s4_types::Refusal;
-use serving::{Sink, WriteSink};
 use std::convert::AsStr;
 use std::io;
 use std::marker::Send;
 use std::process::ExitCode;
 use std::thread::Threads;
+use terminal::{ProgramOutput, Terminal};
 
 fn main(rt: HostRuntime) -> ExitCode {
     // Where the system has nothing to open, the streams stay as they are.
     let _ = hold_standard_streams(&rt);
     match words_of(&rt) {
-        Ok(words) => exit_of(&rt, &rt, words, WriteSink::new(rt.stdout())),
+        Ok(words) => exit_of(&rt, &rt, words, Terminal::new(rt.stdout(), rt.stderr())),
         Err(error) => ExitCode::from(tell(&rt, error.kind())),
     }
 }
@@ -45,7 +48,7 @@ fn main(rt: HostRuntime) -> ExitCode {
 fn exit_of<
     T: Threads + Copy + Send + Sync + Drop + 'static,
     S: AsStr + Send + Drop + 'static,
-    W: Sink + Send + Drop + 'static,
+    W: ProgramOutput + Send + Drop + 'static,
 >(threads: &T, rt: &HostRuntime, words: Vec<S>, writer: W) -> ExitCode
     requires writer { W.failures writer + 1 < 2 ^ 64 }
     ensures { exit_status result ≤ 2 }

@@ -3,8 +3,9 @@
 ghost use Rattle.std.specs.Prelude.{◌+◌, ◌^◌, ◌<◌, ◌≤◌, IfOk};
 
 use crate::performing::perform;
+use crate::terminal::ProgramOutput;
 use own_stacks::call_with_stack;
-use serving::Sink;
+use service_time::system_time;
 use std::alloc::AllocError;
 use std::convert::AsStr;
 use std::io::Write;
@@ -22,7 +23,7 @@ const STACK_BYTES: usize = 1 << 20;
 pub fn perform_apart<
     T: Threads + Copy + Send + Sync + Drop + 'static,
     S: AsStr + Send + Drop + 'static,
-    W: Sink + Send + Drop + 'static,
+    W: ProgramOutput + Send + Drop + 'static,
     E: Write + Send + Drop + 'static,
 >(threads: &T, system: HostRuntime, words: Vec<S>, writer: W, errors: E) -> Result<u8, AllocError>
     requires writer { W.failures writer + 1 < 2 ^ 64 }
@@ -39,8 +40,9 @@ pub fn perform_apart<
     )
 }
 
-/// Does what the words ask for, over a copy of the system's handle and streams of its own.
-fn run<T: Threads + Drop, S: AsStr + Drop, W: Sink + Drop, E: Write + Drop>(
+/// Does what the words ask for, over a copy of the system's handle and streams of its own. Where the
+/// machine's time can't be read, it is taken for 0, and no age is one of a time then.
+fn run<T: Threads + Drop, S: AsStr + Drop, W: ProgramOutput + Drop, E: Write + Drop>(
     threads: T,
     system: HostRuntime,
     words: Vec<S>,
@@ -51,8 +53,10 @@ fn run<T: Threads + Drop, S: AsStr + Drop, W: Sink + Drop, E: Write + Drop>(
     ensures { result ≤ 2 }
 {
     let (mut files, mut writer, mut errors) = (system, writer, errors);
+    let now = system_time(&system).unwrap_or(0);
     perform(
         &threads,
+        now,
         system.alloc(),
         &mut files,
         &system,

@@ -1,12 +1,18 @@
 //! What a line of words asks for, and the status of the program.
-ghost use Rattle.std.specs.Prelude.{◌≡◌, ◌≢◌, ◌+◌, ◌^◌, ◌<◌, ◌≤◌, map, Ok, IsOk};
+ghost use Rattle.std.specs.Prelude.{◌≡◌, ◌≢◌, ◌⊎◌, ◌+◌, ◌^◌, ◌<◌, ◌≤◌, map, true, Ok, IsOk, IsTrue};
 ghost use Rattle.s4_images.specs.Commands.{OverImage};
 ghost use Rattle.s4_folders.specs.Exporting.{Exported};
 ghost use Rattle.s4_folders.specs.Salvaging.{SalvagesFile};
-ghost use Rattle.s4.specs.Performing.{DiffersOver, IsDiffering, IsDone, IsDoneOver, IsUndone};
+ghost use Rattle.s4_reading.specs.Comparing.{Compares};
+ghost use Rattle.s4.specs.Performing.{DiffersOver, IsDiffering, IsDone, IsDoneOver, IsEnded};
+ghost use Rattle.s4.specs.Performing.{IsEndedOver, IsUndone};
 
+use crate::terminal::ProgramOutput;
+use crate::times::times_of;
 use image_commands::{Files, Obstacle, Placed};
-use s4_command::{Command, ExportAsked, NoCommand, RestoreAsked, SalvageAsked, command_of};
+use s4_command::{
+    Command, DiffAsked, ExportAsked, NoCommand, RestoreAsked, SalvageAsked, command_of,
+};
 use s4_compact::compact_image;
 use s4_folders::{Folders, export_image, salvage_image};
 use s4_images::{DriveCommand, Failure, ImageCommand, Verdict, show_image};
@@ -14,7 +20,6 @@ use s4_reading::{Checking, Screens, Showing};
 use s4_report::Reporting;
 use s4_restore::{MapFault, RestoreFailure, perform_restore};
 use s4_types::Refusal;
-use serving::Sink;
 use std::alloc::Global;
 use std::convert::AsStr;
 use std::fmt::Display;
@@ -30,14 +35,16 @@ const FAILED: u8 = 1;
 /// The status of a line of words that gave no command, and of a comparison that failed.
 const TROUBLE: u8 = 2;
 
-/// Does what the words ask for, the program's name first among them, and answers the program's
-/// status: 0 where it is done, or where help or the version was asked for and printed; 1 with a
-/// line on `errors` where it failed, or without one where `diff` printed what differs or `salvage`
-/// that something is lost; 2 with lines there where the words gave no command, or where `diff`
-/// failed.
+/// Does what the words ask for, the program's name first among them, where it is `now`, in
+/// microseconds since 1970, and answers the program's status: 0 where it is done, where help or the
+/// version was asked for and printed, or where the writer's reader has gone, of a command that only
+/// prints what an image has; 1 with a line on `errors` where it failed, or without one where `diff`
+/// printed what differs or `salvage` that something is lost; 2 with lines there where the words gave
+/// no command, or where `diff` failed.
 #[tactic(auto, using(s4_images::proofs::Kept::untouched))]
-pub fn perform<T: Threads, F: Files, D: Folders + Screens, S: AsStr, W: Sink, E: Write>(
+pub fn perform<T: Threads, F: Files, D: Folders + Screens, S: AsStr, W: ProgramOutput, E: Write>(
     rt: &T,
+    now: u64,
     alloc: Global,
     files: &mut F,
     folders: &D,
@@ -48,22 +55,26 @@ pub fn perform<T: Threads, F: Files, D: Folders + Screens, S: AsStr, W: Sink, E:
     requires writer { W.failures writer.old + 1 < 2 ^ 64 }
     ensures status { result ≤ 2 }
     ensures done { result ≡ 0
-        → IsDone (map S.text words.now) (F.contents files.old) (F.contents files.new)
+        → IsEnded now (map S.text words.now) (W.is_gone writer.new) (F.contents files.old)
+        (F.contents files.new)
         (Exported D.Opened.path D.Opened.files)
         (SalvagesFile D.Opened.path D.Opened.files Verdict.Fine) (W.passed writer.old)
         (W.passed writer.new) }
     ensures kept { result ≢ 0
         → IsUndone (F.contents files.old) (F.contents files.new)
-        (IsDone (map S.text words.now) (F.contents files.old) (F.contents files.new)
+        (IsDone now (map S.text words.now) (F.contents files.old) (F.contents files.new)
         (Exported D.Opened.path D.Opened.files)
         (SalvagesFile D.Opened.path D.Opened.files Verdict.Fine) (W.passed writer.old)
         (W.passed writer.new)) }
     ensures differs { result ≡ 1
-        → IsDiffering (map S.text words.now) (F.contents files.old) (W.passed writer.old)
+        → IsDiffering now (map S.text words.now) (F.contents files.old) (W.passed writer.old)
         (W.passed writer.new) }
 {
-    match command_of(alloc, words) {
-        Ok(command) => perform_command(rt, alloc, files, folders, &command, writer, errors),
+    match command_of(alloc, words, now) {
+        Ok(command) => {
+            writer.asks(times_of(&command));
+            perform_command(rt, alloc, files, folders, &command, writer, errors)
+        }
         Err(NoCommand::Asked(help)) => show(alloc, help, writer, errors),
         Err(NoCommand::Refused(error)) => say(errors, error),
         Err(refusal) => refuse(errors, refusal),
@@ -72,7 +83,7 @@ pub fn perform<T: Threads, F: Files, D: Folders + Screens, S: AsStr, W: Sink, E:
 
 // Performs a command.
 #[tactic(auto, using(s4_images::proofs::Kept::untouched))]
-fn perform_command<T: Threads, F: Files, D: Folders + Screens, W: Sink, E: Write>(
+fn perform_command<T: Threads, F: Files, D: Folders + Screens, W: ProgramOutput, E: Write>(
     rt: &T,
     alloc: Global,
     files: &mut F,
@@ -84,7 +95,7 @@ fn perform_command<T: Threads, F: Files, D: Folders + Screens, W: Sink, E: Write
     requires writer { W.failures writer.old + 1 < 2 ^ 64 }
     ensures status { result ≤ 2 }
     ensures done { result ≡ 0
-        → IsDoneOver (F.contents files.old) (F.contents files.new)
+        → IsEndedOver (W.is_gone writer.new) (F.contents files.old) (F.contents files.new)
         (Exported D.Opened.path D.Opened.files)
         (SalvagesFile D.Opened.path D.Opened.files Verdict.Fine) (W.passed writer.old)
         (W.passed writer.new) command.now }
@@ -112,17 +123,20 @@ fn perform_command<T: Threads, F: Files, D: Folders + Screens, W: Sink, E: Write
         Command::Cat(cat) => show_over(rt, alloc, files, &Showing::Cat(cat), writer, errors),
         Command::Info(info) => show_over(rt, alloc, files, &Showing::Info(info), writer, errors),
         Command::Report(report) => show_over(rt, alloc, files, &Reporting(report), writer, errors),
-        Command::Diff(diff) => compared(
-            show_image(rt, alloc, files, &Showing::Diff(diff), writer),
-            diff.image,
-            errors,
-        ),
+        Command::Diff(diff) => compare_over(rt, alloc, files, diff, writer, errors),
         Command::Check(asked) => {
-            let meter = &folders.meter();
-            show_over(rt, alloc, files, &Checking { asked, meter }, writer, errors)
+            let checking = Checking {
+                asked,
+                meter: &folders.meter(),
+            };
+            shown(
+                show_image(rt, alloc, files, &checking, writer),
+                asked.image,
+                errors,
+            )
         }
         Command::Export(export) => exported(
-            export_image(rt, alloc, files, folders, export),
+            export_image(rt, alloc, files, folders, export, writer),
             export,
             errors,
         ),
@@ -144,8 +158,9 @@ fn perform_command<T: Threads, F: Files, D: Folders + Screens, W: Sink, E: Write
     }
 }
 
-// Performs a command that prints something of its image, and answers the status of that.
-fn show_over<T: Threads, F: Files, C: DriveCommand + ImageCommand, W: Sink, E: Write>(
+// Performs a command that prints something of its image, and answers the status of that: it is done
+// too where the writer's reader has gone.
+fn show_over<T: Threads, F: Files, C: DriveCommand + ImageCommand, W: ProgramOutput, E: Write>(
     rt: &T,
     alloc: Global,
     files: &F,
@@ -157,10 +172,53 @@ fn show_over<T: Threads, F: Files, C: DriveCommand + ImageCommand, W: Sink, E: W
     ensures status { result ≤ 1 }
     ensures done { result ≡ 0
         → OverImage (F.contents files.now (C.file command.now))
-        (λ d. C.shows command.now d Verdict.Fine (W.passed writer.old) (W.passed writer.new)) }
+        (λ d. C.shows command.now d Verdict.Fine (W.passed writer.old) (W.passed writer.new))
+        ⊎ (W.is_gone writer.new ≡ true) }
 {
     let found = show_image(rt, alloc, files, command, writer);
+    if is_unread(&found, writer) {
+        drop(found);
+        return DONE;
+    }
     shown(found, command.image(), errors)
+}
+
+// Compares two moments, and answers the status of that: it is done too where the writer's reader
+// has gone.
+fn compare_over<T: Threads, F: Files, W: ProgramOutput, E: Write>(
+    rt: &T,
+    alloc: Global,
+    files: &F,
+    diff: &DiffAsked<'_>,
+    writer: &mut W,
+    errors: &mut E,
+) -> u8
+    requires writer { W.failures writer.old + 1 < 2 ^ 64 }
+    ensures status { result ≤ 2 }
+    ensures done { result ≡ 0
+        → OverImage (F.contents files.now diff.now.image.now)
+        (λ d. Compares d diff.now Verdict.Fine (W.passed writer.old) (W.passed writer.new))
+        ⊎ (W.is_gone writer.new ≡ true) }
+    ensures differs { result ≡ 1
+        → OverImage (F.contents files.now diff.now.image.now)
+        (λ d. Compares d diff.now Verdict.Differs (W.passed writer.old) (W.passed writer.new)) }
+{
+    let found = show_image(rt, alloc, files, &Showing::Diff(diff), writer);
+    if is_unread(&found, writer) {
+        drop(found);
+        return DONE;
+    }
+    compared(found, diff.image, errors)
+}
+
+// Whether nothing failed but that the writer's reader has gone.
+fn is_unread<W: ProgramOutput>(found: &Result<Verdict, Failure>, writer: &W) -> bool
+    ensures { IsTrue result → W.is_gone writer.now ≡ true }
+{
+    match found {
+        Err(Failure::WriteFailed) => writer.is_gone(),
+        _ => false,
+    }
 }
 
 // The status of a restore, with why it failed where it did.
@@ -257,7 +315,12 @@ fn changed<E: Write>(placed: Result<Placed, Failure>, image: &str, errors: &mut 
 }
 
 // Writes the text of help or of the version.
-fn show<W: Sink, E: Write>(alloc: Global, help: clap::Error, writer: &mut W, errors: &mut E) -> u8
+fn show<W: ProgramOutput, E: Write>(
+    alloc: Global,
+    help: clap::Error,
+    writer: &mut W,
+    errors: &mut E,
+) -> u8
     requires writer { W.failures writer.old + 1 < 2 ^ 64 }
     ensures status { result ≤ 1 }
 {
@@ -267,6 +330,7 @@ fn show<W: Sink, E: Write>(alloc: Global, help: clap::Error, writer: &mut W, err
     };
     match writer.put(text.as_bytes()) {
         Ok(()) => DONE,
+        Err(_) if writer.is_gone() => DONE,
         Err(_) => fail(errors, Failure::WriteFailed),
     }
 }

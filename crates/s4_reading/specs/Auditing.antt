@@ -15,7 +15,8 @@ use Rattle.moment_words.specs.Texts.{style_of}
 use Rattle.s4_command.specs.declared.auditing.AuditAsked.{AuditAsked}
 use Rattle.s4_images.specs.declared.commands.Verdict.{Verdict}
 use Rattle.s4_images.specs.declared.commands.Verdict.TheVariants.{Fine}
-use Rattle.s4_reading.specs.Logging.{first_asked, last_asked}
+use Rattle.s4_reading.specs.declared.choosing.RowQuery.{RowQuery}
+use Rattle.s4_reading.specs.Logging.{AreMoments, first_asked, last_asked}
 
 -- whether a row is of the object that is asked for; of whatever object where none is
 abbrev pub is_of_object : Option ℕ → AuditRow → Bool
@@ -31,6 +32,10 @@ is_of_kind (Some kind) row = number_of_kind row.kind == number_of_kind kind
 abbrev pub is_among : Option ℕ → (since until : ℕ) → Option AuditKind → AuditRow → Bool
 is_among object since until kind row =
     (is_of_object object row && is_of_kind kind row) && (nat_le since row.moment && nat_le row.moment until)
+
+-- whether a row is among those of a query
+abbrev pub is_chosen : RowQuery → AuditRow → Bool
+is_chosen query = is_among query.object query.since query.until query.kind
 
 -- whether a row is asked for
 abbrev pub is_asked : State → AuditAsked → AuditRow → Bool
@@ -63,4 +68,5 @@ audit_text s asked = text_of_rows asked.json (style_of s.clock asked.moments) (r
 
 -- What `audit` asks for was printed of a drive, and nothing else, and the verdict says so.
 abbrev pub PrintsAudit : DriveFields → AuditAsked → Verdict → (output output' : Option (List ℕ)) → Type 0
-PrintsAudit d asked verdict output output' = (verdict ≡ Fine) × Appends output output' (audit_text (state_in d) asked)
+PrintsAudit d asked verdict output output' =
+    (verdict ≡ Fine) × AreMoments (state_in d) asked.since asked.until × Appends output output' (audit_text (state_in d) asked)

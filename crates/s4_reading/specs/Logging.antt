@@ -26,7 +26,7 @@ use Rattle.s4_command.specs.declared.changes.ChangeKind.TheVariants.{Made, Delet
 use Rattle.s4_command.specs.declared.changes.LogAsked.{LogAsked}
 use Rattle.s4_images.specs.declared.commands.Verdict.{Verdict}
 use Rattle.s4_images.specs.declared.commands.Verdict.TheVariants.{Fine}
-use Rattle.s4_images.specs.Moments.{IsObjectAsked, moment_said}
+use Rattle.s4_images.specs.Moments.{HasNoMoment, IsObjectAsked, moment_said}
 
 -- the first moment that is asked for; the least of all where none is
 abbrev pub first_asked : State → Option MomentWord → ℕ
@@ -37,6 +37,10 @@ first_asked s (Some since) = moment_said s since
 abbrev pub last_asked : State → Option MomentWord → ℕ
 last_asked s None = 2 ^ 64 - 1
 last_asked s (Some until) = moment_said s until
+
+-- Each word that is there says a moment.
+abbrev pub AreMoments : State → (since until : Option MomentWord) → Type 0
+AreMoments s since until = (HasNoMoment s since → ⊥) × (HasNoMoment s until → ⊥)
 
 -- the kind of changes that a word asks for
 abbrev pub kind_asked : ChangeKind → Kind
@@ -51,6 +55,7 @@ kind_asked Touched = kind.Touched
 -- A query asks for what the words of `log` ask for.
 pub record IsQuery (s : State) (store : StoreFields) (log : LogAsked) (query : LogQuery) : Type 0 where
   pub object : IsObjectAsked s store log.object (option_map (λ name. name.now) log.name) s.clock query.object
+  pub of_moments : AreMoments s log.since log.until
   pub since : query.since ≡ first_asked s log.since
   pub until : query.until ≡ last_asked s log.until
   pub of_kind : query.kind ≡ option_map kind_asked log.kind

@@ -1,9 +1,11 @@
 //! `audit`: the rows of a drive's audit.
-ghost use Rattle.std.specs.Prelude.{◌≡◌, ◌+◌, ◌^◌, ◌<◌, IfErr, IfOk};
+ghost use Rattle.std.specs.Prelude.{◌≡◌, ◌+◌, ◌^◌, ◌<◌, IfErr, IfOk, OnOk, filter};
 ghost use Rattle.s4_types.specs.declared.refusals.Refusal.TheVariants.{NoMemory};
 ghost use Rattle.drive.specs.Fields.{state_in};
-ghost use Rattle.s4_reading.specs.Auditing.{PrintsAudit, is_among, is_asked};
-ghost use Rattle.s4_reading.specs.Auditing.{line_of_row, rows_shown};
+ghost use Rattle.s4_model.specs.Audit.{audit_of};
+ghost use Rattle.s4_reading.specs.Auditing.{PrintsAudit, at_most, is_asked, is_chosen};
+ghost use Rattle.s4_reading.specs.Auditing.{line_of_row};
+ghost use Rattle.s4_reading.specs.Logging.{AreMoments};
 
 use crate::choosing::{RowQuery, at_most, audit_rows_by};
 use crate::forms::{Form, write_table};
@@ -30,7 +32,8 @@ pub(crate) fn write_audit<J: Naming, W: Sink>(
         (W.passed writer.new)) }
 {
     let form = Form::over(drive, asked.moments, asked.json);
-    let shown = rows_shown(alloc, drive, asked)?;
+    let query = query_of(drive, asked)?;
+    let shown = rows_shown(alloc, drive, &query, asked.limit)?;
     let head = form.head(audit_head(form.style));
     write_table(alloc, &AuditForm(form), head, shown.as_slice(), writer)?;
     Ok(Verdict::Fine)
@@ -51,28 +54,34 @@ impl Prints<AuditRow> for AuditForm {
     }
 }
 
-// The rows of the drive's audit that are asked for. NoMemory alone.
+// The rows of the drive's audit that a query asks for. NoMemory alone.
 fn rows_shown<J: Naming>(
     alloc: Global,
     drive: &Drive<J>,
-    asked: &AuditAsked<'_>,
+    query: &RowQuery,
+    limit: Option<u64>,
 ) -> Result<Vec<AuditRow>, Refusal>
     ensures rows { IfOk result
-        (λ shown. shown.items ≡ rows_shown (state_in drive.now) asked.now) }
+        (λ shown. shown.items ≡ at_most limit (filter (is_chosen query.now)
+        (audit_of (state_in drive.now)))) }
     ensures refusal { IfErr result (λ e. e ≡ NoMemory) }
 {
-    let among = audit_rows_by(alloc, drive, &query_of(drive, asked))?;
-    Ok(at_most(among, asked.limit))
+    let among = audit_rows_by(alloc, drive, query)?;
+    Ok(at_most(among, limit))
 }
 
-fn query_of<J: Naming>(drive: &Drive<J>, asked: &AuditAsked<'_>) -> RowQuery
-    ensures { is_among result.object result.since result.until result.kind
-        ≡ is_asked (state_in drive.now) asked.now }
+// Which rows are asked for. An error for a time exactly where the drive's moments are numbers.
+fn query_of<J: Naming>(drive: &Drive<J>, asked: &AuditAsked<'_>) -> Result<RowQuery, Failure>
+    ensures query { IfOk result
+        (λ query. is_chosen query ≡ is_asked (state_in drive.now) asked.now) }
+    ensures moments { OnOk result (AreMoments (state_in drive.now) asked.now.since asked.now.until) }
 {
-    RowQuery {
+    let since = moment_or(drive, asked.since, 0)?;
+    let until = moment_or(drive, asked.until, u64::MAX)?;
+    Ok(RowQuery {
         object: asked.object,
-        since: moment_or(drive, asked.since, 0),
-        until: moment_or(drive, asked.until, u64::MAX),
+        since,
+        until,
         kind: asked.kind,
-    }
+    })
 }

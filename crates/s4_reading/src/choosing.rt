@@ -4,7 +4,7 @@ ghost use Rattle.s4_types.specs.declared.audit_rows.AuditRow.{AuditRow as Row};
 ghost use Rattle.s4_types.specs.declared.refusals.Refusal.TheVariants.{NoMemory};
 ghost use Rattle.s4_model.specs.Audit.{audit_of};
 ghost use Rattle.drive.specs.Fields.{state_in};
-ghost use Rattle.s4_reading.specs.Auditing.{at_most, is_among, is_of_kind, is_of_object};
+ghost use Rattle.s4_reading.specs.Auditing.{at_most, is_chosen, is_of_kind, is_of_object};
 
 use drive::Drive;
 use s4_types::{AuditKind, AuditRow, Moment, Refusal};
@@ -59,7 +59,7 @@ fn is_between(since: Moment, until: Moment, row: &AuditRow) -> bool
 }
 
 impl Chooses for RowQuery {
-    ghost chooses = { λ query. is_among query.object query.since query.until query.kind };
+    ghost chooses = { is_chosen };
 
     fn chooses(&self, row: &AuditRow) -> bool {
         let (of_object, of_kind) = (is_of_object(self.object, row), is_of_kind(self.kind, row));

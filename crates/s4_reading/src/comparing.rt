@@ -28,8 +28,8 @@ pub(crate) fn write_compared<J: Naming, W: Sink>(
         (λ verdict. Compares drive.old asked.now verdict (W.passed writer.old)
         (W.passed writer.new)) }
 {
-    let first = moment_said(drive, asked.from);
-    let second = moment_or_clock(drive, asked.to);
+    let first = moment_said(drive, asked.from)?;
+    let second = moment_or_clock(drive, asked.to)?;
     let object = object_in_either(drive, asked.object, asked.name, first, second)?;
     write_differing(alloc, drive, object, asked, writer)
 }
@@ -48,7 +48,7 @@ fn write_differing<J: Naming, W: Sink>(
         (comparison_asked (state_in drive.old) asked.now object) (differs_by verdict)
         (W.passed writer.old) (W.passed writer.new)) }
 {
-    let comparison = comparison_asked(drive, asked, object);
+    let comparison = comparison_asked(drive, asked, object)?;
     match write_differences(alloc, drive, &comparison, writer) {
         Ok(differs) => Ok(verdict_of(differs)),
         Err(fault) => Err(failure_of(drive, &comparison, &fault)),
@@ -59,17 +59,20 @@ fn comparison_asked<J: Naming>(
     drive: &Drive<J>,
     asked: &DiffAsked<'_>,
     object: Option<ObjectId>,
-) -> history_diff::DiffAsked
-    ensures { result ≡ comparison_asked (state_in drive.now) asked.now object }
+) -> Result<history_diff::DiffAsked, Failure>
+    ensures { IfOk result
+        (λ comparison. comparison ≡ comparison_asked (state_in drive.now) asked.now object) }
 {
-    history_diff::DiffAsked {
+    let before = moment_said(drive, asked.from)?;
+    let after = moment_given(drive, asked.to)?;
+    Ok(history_diff::DiffAsked {
         object,
-        before: moment_said(drive, asked.from),
-        after: moment_given(drive, asked.to),
+        before,
+        after,
         json: asked.json,
         detail: detail_asked(asked),
         style: style_of(drive.clock().number(), asked.moments),
-    }
+    })
 }
 
 fn detail_asked(asked: &DiffAsked<'_>) -> Detail

@@ -1,7 +1,7 @@
 //! `log`: what was changed, and when, and which flushes hid some of it.
-ghost use Rattle.std.specs.Prelude.{◌≡◌, ◌+◌, ◌^◌, ◌<◌, IfNone, IfOk, IfSome, OnOk, option_map};
+ghost use Rattle.std.specs.Prelude.{◌≡◌, ◌+◌, ◌^◌, ◌<◌, IfErr, IfNone, IfOk, IfSome, OnOk, option_map};
 ghost use Rattle.drive.specs.Fields.{state_in, store_of};
-ghost use Rattle.s4_images.specs.Moments.{moment_said};
+ghost use Rattle.s4_images.specs.Moments.{HasNoMoment, IsTimeRefused, moment_said};
 ghost use Rattle.s4_reading.specs.Logging.{Logs, PrintsLog, PrintsStats, IsQuery, kind_asked};
 ghost use Rattle.s4_reading.specs.Logging.{line_of_row, line_of_stat};
 
@@ -69,8 +69,8 @@ fn query_of<J: Naming>(drive: &mut Drive<J>, asked: &LogAsked<'_>) -> Result<Log
     ensures ledger { drive.new.ledger ≡ drive.old.ledger }
     ensures store { store_of drive.new ≡ store_of drive.old }
 {
-    let since = moment_or(drive, asked.since, 0);
-    let until = moment_or(drive, asked.until, u64::MAX);
+    let since = moment_or(drive, asked.since, 0)?;
+    let until = moment_or(drive, asked.until, u64::MAX)?;
     let at = drive.clock();
     let object = object_asked(drive, asked.object, asked.name, at)?;
     Ok(LogQuery {
@@ -86,14 +86,22 @@ fn query_of<J: Naming>(drive: &mut Drive<J>, asked: &LogAsked<'_>) -> Result<Log
     })
 }
 
-/// The moment that a word says, and this one where there is no word.
-pub(crate) fn moment_or<J: Naming>(drive: &Drive<J>, word: Option<MomentWord>, other: u64) -> Moment
-    ensures none { IfNone word (result ≡ other) }
-    ensures some { IfSome word (λ w. result ≡ moment_said (state_in drive.now) w) }
+/// The moment that a word says, and this one where there is no word. An error for a time exactly
+/// where the drive's moments are numbers.
+pub(crate) fn moment_or<J: Naming>(
+    drive: &Drive<J>,
+    word: Option<MomentWord>,
+    other: u64,
+) -> Result<Moment, Failure>
+    ensures none { IfNone word (IfOk result (λ moment. moment ≡ other)) }
+    ensures some { IfSome word
+        (λ w. IfOk result (λ moment. moment ≡ moment_said (state_in drive.now) w)) }
+    ensures said { OnOk result (HasNoMoment (state_in drive.now) word → ⊥) }
+    ensures refused { IfErr result (IsTimeRefused (state_in drive.now) word) }
 {
     match word {
         Some(word) => moment_said(drive, word),
-        None => Moment::new(other),
+        None => Ok(Moment::new(other)),
     }
 }
 

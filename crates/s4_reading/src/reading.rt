@@ -1,6 +1,7 @@
 //! `cat`: the bytes of an object at a moment.
 ghost use Rattle.std.specs.Prelude.{◌+◌, ◌^◌, ◌<◌, IfOk, OnOk};
 ghost use Rattle.s4_model.specs.VersionAt.{version_of};
+ghost use Rattle.s4_model.specs.Visible.{IsVisible};
 ghost use Rattle.drive.specs.Fields.{state_in};
 ghost use Rattle.image_commands.specs.ReadingPast.{GivesVersion};
 ghost use Rattle.s4_images.specs.Moments.{moment_asked};
@@ -29,7 +30,7 @@ pub(crate) fn write_contents<J: Naming, W: Sink>(
         (λ verdict. Gives drive.old asked.now verdict (W.passed writer.old)
         (W.passed writer.new)) }
 {
-    let at = moment_or_clock(drive, asked.at);
+    let at = moment_or_clock(drive, asked.at)?;
     let Some(object) = object_asked(drive, asked.object, asked.name, at)? else {
         return Err(Failure::NoneAsked);
     };
@@ -46,6 +47,8 @@ fn write_object<J: Naming, W: Sink>(
     writer: &mut W,
 ) -> Result<(), Failure>
     requires writer { W.failures writer.old + 1 < 2 ^ 64 }
+    ensures readable { OnOk result
+        (IsVisible (state_in drive.old) object (moment_asked (state_in drive.old) at)) }
     ensures version { OnOk result
         (GivesVersion
         (version_of (state_in drive.old) object (moment_asked (state_in drive.old) at))

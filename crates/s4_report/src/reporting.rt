@@ -39,7 +39,7 @@ impl DriveCommand for Reporting<'_> {
         drive: &mut Drive<J>,
         writer: &mut W,
     ) -> Result<Verdict, Failure> {
-        let since = moment_given(drive, self.0.since);
+        let since = moment_given(drive, self.0.since)?;
         match write_report(alloc, drive, since, writer) {
             Ok(()) => Ok(Verdict::Fine),
             Err(fault) => Err(failure_of(drive, &fault)),
