@@ -16,7 +16,7 @@ _s4_read() {
             option=''
         elif [[ ! $is_ended && $part == -- ]]; then
             is_ended=1
-        elif [[ ! $is_ended && $part == --@(at|object|name|since|until|kind|limit|map) ]]; then
+        elif [[ ! $is_ended && $part == --@(at|object|name|since|until|kind|limit|map|leap) ]]; then
             option=$part
         elif [[ ! $is_ended && $part == -* ]]; then
             continue
@@ -27,7 +27,7 @@ _s4_read() {
         fi
     done
     is_past_options=$is_ended
-    if [[ ! $option && ! $is_ended && $whole == --@(at|object|name|since|until|kind|limit|map)=* ]]; then
+    if [[ ! $option && ! $is_ended && $whole == --@(at|object|name|since|until|kind|limit|map|leap)=* ]]; then
         option=${whole%%=*} whole=${whole#*=}
     fi
     word=${whole##*[=:]}
@@ -52,7 +52,7 @@ _s4_options() {
         info) echo --moments --json --help --version ;;
         diff) echo --object --name --patch --text --moments --json --help --version ;;
         export) echo --at --help --version ;;
-        restore) echo --at --object --name --map --dry-run --flush --skip --keep-newer --json --help --version ;;
+        restore) echo --at --object --name --map --dry-run --flush --skip --keep-newer --to-nothing --leap --json --help --version ;;
         check | compact | salvage) echo --json --help --version ;;
         report) echo --since --help --version ;;
         '') echo --help --version ;;

@@ -13,7 +13,7 @@ function __s4_is
             set is_value ''
         else if test -z "$is_ended"; and test "$word" = --
             set is_ended 1
-        else if test -z "$is_ended"; and contains -- "$word" --at --object --name --since --until --kind --limit --map
+        else if test -z "$is_ended"; and contains -- "$word" --at --object --name --since --until --kind --limit --map --leap
             set is_value 1
         else if test -z "$is_ended"; and string match -q -- '-*' "$word"
             continue
@@ -124,6 +124,8 @@ complete -c s4 -n "__s4_is 'restore'" -l dry-run -d 'Prints what would be done, 
 complete -c s4 -n "__s4_is 'restore'" -l flush -d 'Where a journal is full, hides the fewest of its versions'
 complete -c s4 -n "__s4_is 'restore'" -l skip -d 'Leaves out objects that can\'t be restored'
 complete -c s4 -n "__s4_is 'restore'" -l keep-newer -d 'Keeps objects that were made since the moment'
+complete -c s4 -n "__s4_is 'restore'" -l to-nothing -d 'Restores also where no object is left'
+complete -c s4 -n "__s4_is 'restore'" -l leap -r -f -d 'Restores though the image\'s clock is this much earlier'
 complete -c s4 -n "__s4_is 'restore'" -l json -d 'Prints one JSON object a line'
 complete -c s4 -n "__s4_is 'restore'" -l help -d 'Prints what the program does, or a command'
 complete -c s4 -n "__s4_is 'restore'" -l version -d 'Prints the version'

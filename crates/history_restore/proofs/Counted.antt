@@ -12,7 +12,9 @@ use Rattle.history_restore.specs.declared.plans.Patch.{Patch}
 use Rattle.history_restore.specs.declared.plans.Plan.{Plan}
 use Rattle.history_restore.specs.declared.plans.Plan.TheVariants.{Keep, Delete, Remake, Change}
 use Rattle.history_restore.specs.declared.restoring.Restored.{Restored}
-use Rattle.history_restore.specs.Asking.{IsWithinChanges}
+use Rattle.history_restore.specs.Asking.{IsMovedBy, clock_by}
+use Rattle.history_restore.proofs.Moving.{clock_by_more}
+use Rattle.history_restore.specs.Keeping.{IsDatedFrom}
 use Rattle.history_restore.specs.Plans.{IsPlan, attribute_changes, change_count, changes_by, count_of, cut_changes, made_changes, next_by_plan, written_changes}
 use Rattle.history_restore.specs.Restoring.{IsUnread}
 use Rattle.history_restore.specs.Whole.{IsCounted, changes_of_all, made_anew}
@@ -61,7 +63,7 @@ unread_is_other s o at e (inr (inr is)) full = cc
 -- ---- plans
 
 pub counted_none : (s : State) (now : ℕ) → IsCounted s s now []
-counted_none s now = record { next = omega arith; clock = omega arith }
+counted_none s now = record { next = omega arith; moved = refl; dated = λ o t before. refl }
 
 next_plus : (plan : Plan) (n : ℕ) → next_by_plan plan n ≡ n + next_by_plan plan 0
 next_plus Keep n = omega arith
@@ -77,9 +79,10 @@ changes_push : (all : List Restored) (r : Restored) → changes_of_all (all ++ r
 changes_push [] r = omega arith
 changes_push (q ∷ all) r = omega (arith, changes_push all r)
 
-pub counted_more : (s middle later : State) (now : ℕ) (all : List Restored) (r : Restored) → IsCounted s middle now all → later.next ≡ next_by_plan r.plan middle.next → IsWithinChanges middle now (change_count r.plan) later
-    → IsCounted s later now (all ++ r ∷ [])
-counted_more s middle later now all r before next clock = record {
+pub counted_more : (s middle later : State) (now : ℕ) (all : List Restored) (r : Restored) → IsCounted s middle now all → later.next ≡ next_by_plan r.plan middle.next
+    → IsMovedBy middle now (change_count r.plan) later → IsDatedFrom now middle later → IsCounted s later now (all ++ r ∷ [])
+counted_more s middle later now all r before next moved dated = record {
   next = omega (arith, next, next_plus r.plan middle.next, before.next, made_push all r);
-  clock = omega (arith, clock, before.clock, changes_push all r);
+  moved = moved ∙ ap (λ c. clock_by c now (change_count r.plan)) before.moved ∙ clock_by_more (changes_of_all all) (change_count r.plan) s.clock now ∙ ap (clock_by s.clock now) (sym (changes_push all r));
+  dated = λ o t earlier. dated o t earlier ∙ before.dated o t earlier;
 }

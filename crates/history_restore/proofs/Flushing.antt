@@ -16,6 +16,7 @@ use Rattle.s4_types.specs.declared.replies.Reply.TheVariants.{Refused}
 use Rattle.s4_model.specs.State.{State, state_of, grown, seen, took}
 use Rattle.s4_model.specs.Numbers.{next_by, window_by}
 use Rattle.s4_model.specs.Visible.{is_hidden}
+use Rattle.s4_model.specs.VersionAt.{version_of}
 use Rattle.s4_model.specs.Step.{Step, accepted_record}
 use Rattle.s4_model.specs.Sound.{IsSound}
 use Rattle.s4_model.specs.Laws.{LeavesVersions, AFlushOfAnObjectHidesItsSpan}
@@ -51,6 +52,7 @@ hidden_as_before b c q o apart = ap (λ e. b || (e && c)) (ne_eqb o q (λ same. 
 pub record FlushLeaves (s : State) (o first last : ℕ) (later : State) : Type 0 where
   pub hides : HidesBetween s o first last later
   pub objects : LeavesObjects s o later
+  pub versions : (q t : ℕ) → version_of later q t ≡ version_of s q t
 
 -- the numbers that a flush leaves
 record NumbersStay (s later : State) : Type 0 where
@@ -85,6 +87,7 @@ flushed s later o first last hides leaves numbers = record {
     reach = numbers.reach;
     next = numbers.next;
   };
+  versions = leaves.versions;
 }
 
 pub granted_flush : (h after : History) (role : Role) (o first last now : ℕ) (reply : Reply) → ByTook → AFlushOfAnObjectHidesItsSpan → IsSound (state_of h) → ((e : Refusal) → reply ≡ Refused e → ⊥)

@@ -12,7 +12,9 @@ use Rattle.s4_model.specs.Step.{change_of}
 use Rattle.version_store.specs.Store.{StoreFields}
 use Rattle.drive.specs.Fields.{DriveFields, state_in, store_of}
 use Rattle.history_restore.specs.declared.plans.Patch.{Patch}
-use Rattle.history_restore.specs.Asking.{AreStored, AsksFor, FindsFull, IsFullFor, IsFullForOne, IsWithinChanges, StoresAsked}
+use Rattle.history_restore.specs.Asking.{AreStored, AsksFor, FindsFull, IsFullFor, IsFullForOne, IsMovedBy, StoresAsked, clock_by}
+use Rattle.history_restore.specs.Keeping.{IsDatedFrom}
+use Rattle.history_restore.proofs.Moving.{clock_by_more}
 use Rattle.history_restore.specs.Plans.{IsPatch, IsWritten, made_changes, written_changes}
 
 -- ---- one after the other
@@ -30,51 +32,52 @@ full_in_front [] ds store full = absurd full
 full_in_front (c ∷ cs) ds store (inl here) = inl here
 full_in_front (c ∷ cs) ds store (inr there) = inr (there.0, there.1, full_in_front cs ds there.0 there.2)
 
--- how far the clock moves by changes, of which some are made, or all one after the other
-pub clock_front : (cs ds : List Change) (s later : State) (now : ℕ) → IsWithinChanges s now (length cs) later → IsWithinChanges s now (length (cs ++ ds)) later
-clock_front cs ds s later now within = let both : length (cs ++ ds) ≡ length cs + length ds = length-append cs ds in omega (arith, both, within)
-
-pub clock_after : (cs ds : List Change) (s middle later : State) (now : ℕ) → IsWithinChanges s now (length cs) middle → IsWithinChanges middle now (length ds) later → IsWithinChanges s now (length (cs ++ ds)) later
-clock_after cs ds s middle later now first second = let both : length (cs ++ ds) ≡ length cs + length ds = length-append cs ds in omega (arith, both, first, second)
+-- where the clock is by all of them, at one moment
+moved_after : (cs ds : List Change) (s middle later : State) (now : ℕ) → IsMovedBy s now (length cs) middle → IsMovedBy middle now (length ds) later → IsMovedBy s now (length (cs ++ ds)) later
+moved_after cs ds s middle later now first second =
+    second ∙ ap (λ c. clock_by c now (length ds)) first ∙ clock_by_more (length cs) (length ds) s.clock now ∙ ap (clock_by s.clock now) (sym (length-append cs ds))
 
 -- ---- what asking for changes comes to
 
 -- for the change that a request asks for
 pub asked_one : {T : Type 0} (r : Result T Refusal) (d d' : DriveFields) (now : ℕ) (request : Request) (c : Change) → change_of (state_in d) request ≡ Some c → OnOk r (StoresAsked (store_of d) (state_in d) request (store_of d'))
-    → IfErr r (IsFullFor (store_of d) (state_in d) request) → IsWithinChanges (state_in d) now 1 (state_in d') → AsksFor d now (c ∷ []) r d'
-asked_one r d d' now request c is stored full clock = record {
+    → IfErr r (IsFullFor (store_of d) (state_in d) request) → OnOk r (IsMovedBy (state_in d) now 1 (state_in d')) → IsDatedFrom now (state_in d) (state_in d') → AsksFor d now (c ∷ []) r d'
+asked_one r d d' now request c is stored full moved dated = record {
   stored = on_ok_weaker r (λ (asked : StoresAsked (store_of d) (state_in d) request (store_of d')). (store_of d', asked c is, refl)) stored;
   full = IfErr-weaker r _ _ (λ e asked refused. inl (asked refused c is)) full;
-  clock = clock;
+  moved = moved;
+  dated = dated;
 }
 
 -- for none, and where memory was refused before anything was asked for
 pub asked_none : {T : Type 0} (x : T) (d : DriveFields) (now : ℕ) → AsksFor d now [] (Ok x) d
-asked_none x d now = record { stored = refl; full = tt; clock = omega arith }
+asked_none x d now = record { stored = refl; full = tt; moved = refl; dated = λ o t before. refl }
 
 pub asked_nothing : {T : Type 0} (d : DriveFields) (now : ℕ) (cs : List Change) → AsksFor {T = T} d now cs (Err NoMemory) d
-asked_nothing d now cs = record { stored = tt; full = λ e. cc; clock = omega arith }
+asked_nothing d now cs = record { stored = tt; full = λ e. cc; moved = tt; dated = λ o t before. refl }
 
 -- whatever is answered where they were granted
 pub asked_ok : {T U : Type 0} (d d' : DriveFields) (now : ℕ) (cs : List Change) (x : T) (y : U) → AsksFor d now cs (Ok x) d' → AsksFor d now cs (Ok y) d'
-asked_ok d d' now cs x y asked = record { stored = asked.stored; full = tt; clock = asked.clock }
+asked_ok d d' now cs x y asked = record { stored = asked.stored; full = tt; moved = asked.moved; dated = asked.dated }
 
 pub asked_err : {T U : Type 0} (d d' : DriveFields) (now : ℕ) (cs : List Change) (e : Refusal) → AsksFor {T = T} d now cs (Err e) d' → AsksFor {T = U} d now cs (Err e) d'
-asked_err d d' now cs e asked = record { stored = tt; full = asked.full; clock = asked.clock }
+asked_err d d' now cs e asked = record { stored = tt; full = asked.full; moved = tt; dated = asked.dated }
 
 -- for those of which one of the first was refused, or all of the first were granted
 pub asked_front : {T U : Type 0} (cs ds : List Change) (d d' : DriveFields) (now : ℕ) (e : Refusal) → AsksFor {T = T} d now cs (Err e) d' → AsksFor {T = U} d now (cs ++ ds) (Err e) d'
 asked_front cs ds d d' now e first = record {
   stored = tt;
   full = λ full. full_in_front cs ds (store_of d) (first.full full);
-  clock = clock_front cs ds (state_in d) (state_in d') now first.clock;
+  moved = tt;
+  dated = first.dated;
 }
 
 pub asked_then : {T U : Type 0} (r : Result U Refusal) (cs ds : List Change) (d middle d' : DriveFields) (now : ℕ) (x : T) → AsksFor d now cs (Ok x) middle → AsksFor middle now ds r d' → AsksFor d now (cs ++ ds) r d'
 asked_then r cs ds d middle d' now x first second = record {
   stored = on_ok_weaker r (stored_on cs ds (store_of d) (store_of middle) (store_of d') first.stored) second.stored;
   full = IfErr-weaker r _ _ (λ e last full. full_after cs ds (store_of d) (store_of middle) first.stored (last full)) second.full;
-  clock = clock_after cs ds (state_in d) (state_in middle) (state_in d') now first.clock second.clock;
+  moved = on_ok_weaker r (moved_after cs ds (state_in d) (state_in middle) (state_in d') now first.moved) second.moved;
+  dated = λ o t before. second.dated o t before ∙ first.dated o t before;
 }
 
 -- ---- all bytes of an object that has none

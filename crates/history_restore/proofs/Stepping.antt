@@ -27,7 +27,7 @@ use Rattle.s4_model.specs.Laws.{ActsAtItsMoment, AChangeActsAtItsMoment}
 use Rattle.s4_model.proofs.VersionLemmas.{version_of-settled}
 use Rattle.drive.specs.Later.{object_asked}
 use Rattle.history_restore.specs.Content.{content_of}
-use Rattle.history_restore.specs.Keeping.{LeavesPast, LeavesOthers}
+use Rattle.history_restore.specs.Keeping.{IsDatedFrom, LeavesPast, LeavesOthers}
 use Rattle.history_restore.specs.Asking.{Makes, Grants}
 use Rattle.history_restore.proofs.Contents.{effects_alike}
 
@@ -117,9 +117,10 @@ grants_of_took s request a asked makes c is = subst (λ k. Makes s k (took s a))
 -- ---- steps
 
 -- what an answered request leaves
-pub record Leaves (s : State) (request : Request) (later : State) : Type 0 where
+pub record Leaves (s : State) (request : Request) (now : ℕ) (later : State) : Type 0 where
   pub others : LeavesOthers (object_asked s.next request) s later
   pub past : LeavesPast s later
+  pub dated : IsDatedFrom now s later
 
 -- no change is answered by a refusal
 refused_by_none : (s : State) (c : Change) (now : ℕ) (e : Refusal) → reply_to_change s c now ≡ Refused e → ⊥
@@ -151,12 +152,16 @@ pub refused_saw : (h after : History) (role : Role) (request : Request) (now : �
 refused_saw h after role request now reply e unread refused (Refuses refusal is may after_is) = after_is
 refused_saw h after role request now reply e unread refused (Serves r free accepts after_is) = absurd (accepts_none h request now reply r e unread refused accepts)
 
+pub dated_refused : (h after : History) (role : Role) (request : Request) (now : ℕ) (reply : Reply) (e : Refusal) → BySeen → IsNoRead request → reply ≡ Refused e → Step h role request now reply after → IsDatedFrom now (state_of h) (state_of after)
+dated_refused h after role request now reply e by_seen unread refused step =
+    subst (IsDatedFrom now (state_of h)) (sym (ap state_of (refused_saw h after role request now reply e unread refused step) ∙ by_seen h now)) (λ o t before. refl)
+
 pub refused_leaves : (h after : History) (role : Role) (request : Request) (now : ℕ) (reply : Reply) (e : Refusal) → BySeen → IsSound (state_of h) → IsOfVersions request → reply ≡ Refused e → Step h role request now reply after
-    → Leaves (state_of h) request (state_of after)
+    → Leaves (state_of h) request now (state_of after)
 refused_leaves h after role request now reply e by_seen sound of refused step =
     let s : State = state_of h in
-    subst (Leaves s request) (sym (ap state_of (refused_saw h after role request now reply e (no_read request of) refused step) ∙ by_seen h now))
-    (record { others = λ q apart. present_of_seen s now sound q; past = past_of_seen s now })
+    subst (Leaves s request now) (sym (ap state_of (refused_saw h after role request now reply e (no_read request of) refused step) ∙ by_seen h now))
+    (record { others = λ q apart. present_of_seen s now sound q; past = past_of_seen s now; dated = λ o t before. refl })
 
 -- what isn't refused is a change taken
 pub record IsTaken (h : History) (request : Request) (now : ℕ) (after : History) : Type 0 where
@@ -173,13 +178,14 @@ granted_took h after role request now reply unread free (Refuses refusal is may 
 granted_took h after role request now reply unread free (Serves r none accepts after_is) = taken_by h after request now reply r unread after_is accepts
 
 -- what a granted request leaves
-pub record GrantsAndLeaves (s : State) (request : Request) (later : State) : Type 0 where
+pub record GrantsAndLeaves (s : State) (request : Request) (now : ℕ) (later : State) : Type 0 where
   pub granted : Grants s request later
   pub others : LeavesOthers (object_asked s.next request) s later
   pub past : LeavesPast s later
+  pub dated : IsDatedFrom now s later
 
 taken_leaves : (h : History) (role : Role) (request : Request) (now : ℕ) (reply : Reply) (c : Change) → ByTook → AChangeActsAtItsMoment → IsSound (state_of h) → IsOfVersions request → change_of (state_of h) request ≡ Some c
-    → Step h role request now reply (grown h (Took (accepted_record (state_of h) c now))) → GrantsAndLeaves (state_of h) request (took (state_of h) (accepted_record (state_of h) c now))
+    → Step h role request now reply (grown h (Took (accepted_record (state_of h) c now))) → GrantsAndLeaves (state_of h) request now (took (state_of h) (accepted_record (state_of h) c now))
 taken_leaves h role request now reply c by_took acts_law sound of asked step =
     let s : State = state_of h in
     let a : Accepted = accepted_record s c now in
@@ -189,11 +195,12 @@ taken_leaves h role request now reply c by_took acts_law sound of asked step =
       granted = grants_of_took s request a asked (makes_of_took s (object_asked s.next request) a about acts);
       others = others_of_took s (object_asked s.next request) a about acts;
       past = past_of_took s (object_asked s.next request) a about (omega arith) acts;
+      dated = λ o t before. acts.earlier o t (omega (arith, before));
     }
 
 pub granted_leaves : (h after : History) (role : Role) (request : Request) (now : ℕ) (reply : Reply) → ByTook → AChangeActsAtItsMoment → IsSound (state_of h) → IsOfVersions request → ((e : Refusal) → reply ≡ Refused e → ⊥)
-    → Step h role request now reply after → GrantsAndLeaves (state_of h) request (state_of after)
+    → Step h role request now reply after → GrantsAndLeaves (state_of h) request now (state_of after)
 granted_leaves h after role request now reply by_took acts_law sound of free step =
     let taken : IsTaken h request now after = granted_took h after role request now reply (no_read request of) free step in
-    subst (GrantsAndLeaves (state_of h) request) (sym (ap state_of taken.took ∙ by_took h (accepted_record (state_of h) taken.change now)))
+    subst (GrantsAndLeaves (state_of h) request now) (sym (ap state_of taken.took ∙ by_took h (accepted_record (state_of h) taken.change now)))
     (taken_leaves h role request now reply taken.change by_took acts_law sound of taken.asked (subst (λ k. Step h role request now reply k) taken.took step))

@@ -26,7 +26,7 @@ use Rattle.drive.specs.Answering.{Leaves, StoresChange, StoresVersion, is_accept
 use Rattle.drive.specs.Fields.{DriveFields, history_of, state_in, store_of}
 use Rattle.drive.specs.Refusing.{RefusesBy, RefusesExactly, or_then, refusal_of, storing_refusal, want_of}
 use Rattle.drive.proofs.Served.{accepts_change}
-use Rattle.history_restore.specs.Asking.{IsFullFor, IsWithinChanges, StoresAsked}
+use Rattle.history_restore.specs.Asking.{IsFullFor, IsMovedBy, IsWithinChanges, StoresAsked, clock_by}
 use Rattle.history_restore.proofs.Denying.{judged_as_was}
 use Rattle.history_restore.proofs.Stepping.{IsOfVersions, BySeen, ByTook, IsNoRead, IsTaken, granted_took, no_read, refused_saw}
 
@@ -107,7 +107,7 @@ stored_granted d later role request now reply of free step leaves c asked =
 pub clock_refused : (h after : History) (role : Role) (request : Request) (now : ℕ) (reply : Reply) (e : Refusal) → BySeen → IsNoRead request → reply ≡ Refused e → Step h role request now reply after → IsWithinChanges (state_of h) now 1 (state_of after)
 clock_refused h after role request now reply e by_seen unread refused step =
     let s : State = state_of h in
-    let within : (seen s now).clock ≤ max s.clock now + 1 = omega arith in
+    let within : (seen s now).clock ≤ clock_by s.clock now 1 = omega arith in
     subst (IsWithinChanges s now 1) (sym (ap state_of (refused_saw h after role request now reply e unread refused step) ∙ by_seen h now)) within
 
 pub clock_granted : (h after : History) (role : Role) (request : Request) (now : ℕ) (reply : Reply) → ByTook → IsNoRead request → ((e : Refusal) → reply ≡ Refused e → ⊥) → Step h role request now reply after → IsWithinChanges (state_of h) now 1 (state_of after)
@@ -115,5 +115,13 @@ clock_granted h after role request now reply by_took unread free step =
     let s : State = state_of h in
     let taken : IsTaken h request now after = granted_took h after role request now reply unread free step in
     let a : Accepted = accepted_record s taken.change now in
-    let within : (took s a).clock ≤ max s.clock now + 1 = omega arith in
+    let within : (took s a).clock ≤ clock_by s.clock now 1 = omega arith in
     subst (IsWithinChanges s now 1) (sym (ap state_of taken.took ∙ by_took h a)) within
+
+pub moved_granted : (h after : History) (role : Role) (request : Request) (now : ℕ) (reply : Reply) → ByTook → IsNoRead request → ((e : Refusal) → reply ≡ Refused e → ⊥) → Step h role request now reply after → IsMovedBy (state_of h) now 1 (state_of after)
+moved_granted h after role request now reply by_took unread free step =
+    let s : State = state_of h in
+    let taken : IsTaken h request now after = granted_took h after role request now reply unread free step in
+    let a : Accepted = accepted_record s taken.change now in
+    let moved : IsMovedBy s now 1 (took s a) = refl in
+    subst (IsMovedBy s now 1) (sym (ap state_of taken.took ∙ by_took h a)) moved

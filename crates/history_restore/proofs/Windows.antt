@@ -24,9 +24,10 @@ use Rattle.s4_model.specs.Sound.{IsSound}
 use Rattle.s4_model.specs.Laws.{ActsAtItsMoment, AChangeActsAtItsMoment}
 use Rattle.version_store.specs.Store.{StoreFields}
 use Rattle.drive.specs.Answering.{StoresChange}
-use Rattle.history_restore.specs.Asking.{IsGiven}
 use Rattle.history_restore.specs.Keeping.{LeavesPast}
 use Rattle.history_restore.specs.Widening.{Widens, IsWidened, AWidenedWindowKeepsItsMoment, window_for}
+use Rattle.history_restore.specs.Asking.{IsGiven, IsWithinChanges, clock_by}
+use Rattle.history_restore.proofs.Moving.{stamped_more}
 use Rattle.history_restore.proofs.Denying.{given_as_was}
 use Rattle.history_restore.proofs.Stepping.{BySeen, ByTook, IsTaken, granted_took, past_of_seen, refused_saw, spans_stay}
 
@@ -73,9 +74,9 @@ keeps_moment s middle later now at count None widens past within below end =
     let wide : window_for s now at count ≤ s.window = ltb-false s.window (window_for s now at count) widens.0 in
     let window : middle.window ≡ s.window = ap (λ (k : State). k.window) widens.1 in
     let floor : middle.floor ≡ s.floor = ap (λ (k : State). k.floor) widens.1 in
-    let clock : middle.clock ≡ s.clock = ap (λ (k : State). k.clock) widens.1 in
+    let clock : later.clock ≤ clock_by s.clock now count = subst (λ (k : State). IsWithinChanges k now count later) widens.1 within in
     let reach : later.floor ≤ max middle.floor (later.clock - middle.window) = past.reach in
-    omega (arith, wide, window, floor, clock, reach, within, below, end)
+    omega (arith, wide, window, floor, clock, reach, below, end)
 keeps_moment s middle later now at count (Some window) widens past within below end =
     let wide : window ≡ window_for s now at (count + 1) = widens.1 in
     let set : middle.window ≡ window = widens.2.window in
@@ -83,4 +84,5 @@ keeps_moment s middle later now at count (Some window) widens past within below 
     let clock : middle.clock ≡ stamp s now = widens.2.clock in
     let reach : later.floor ≤ max middle.floor (later.clock - middle.window) = past.reach in
     let on : middle.clock ≤ later.clock = past.clock in
-    omega (arith, wide, set, floor, clock, reach, on, within, below, end)
+    let passed : later.clock ≤ clock_by s.clock now (count + 1) = subst (λ n. later.clock ≤ n) (stamped_more s.clock now middle.clock count clock) within in
+    omega (arith, wide, set, floor, clock, reach, on, passed, below, end)

@@ -1,5 +1,5 @@
 -- What a request for a change of an object leaves.
-use Rattle.std.specs.Prelude.{◌≡◌, ◌⊎◌, ℕ, ◌≤◌, ◌+◌, max, Bool, true, List, [], ◌∷◌, length, Option, Some, Result, OnOk, IfErr}
+use Rattle.std.specs.Prelude.{◌≡◌, ◌⊎◌, ℕ, suc, zero, ◌≤◌, ◌+◌, max, Bool, true, List, [], ◌∷◌, length, Option, Some, Result, OnOk, IfErr}
 use Rattle.s4_types.specs.declared.changes.Change.{Change}
 use Rattle.s4_types.specs.declared.refusals.Refusal.{Refusal}
 use Rattle.s4_types.specs.declared.refusals.Refusal.TheVariants.{ChainFull, ClockEnd}
@@ -15,6 +15,7 @@ use Rattle.version_store.specs.Store.{StoreFields}
 use Rattle.drive.specs.Answering.{StoresVersion}
 use Rattle.drive.specs.Fields.{DriveFields, state_in, store_of}
 use Rattle.history_restore.specs.Content.{content_of}
+use Rattle.history_restore.specs.Keeping.{IsDatedFrom}
 
 -- A change was made: its object has the content that the change's effect on its version has.
 pub record Makes (s : State) (change : Change) (later : State) : Type 0 where
@@ -65,13 +66,24 @@ IsFullFor store s request refusal = refusal ≡ ChainFull → (change : Change) 
 abbrev pub IsFullForOne : StoreFields → List Change → Refusal → Type 0
 IsFullForOne store changes refusal = refusal ≡ ChainFull → FindsFull store changes
 
--- This many changes since a state were made by moments of a clock, or none was: the clock passed the greater of both by that number at most.
-abbrev pub IsWithinChanges : State → ℕ → ℕ → State → Type 0
-IsWithinChanges s now count later = later.clock ≤ max s.clock now + count
+-- where a clock is after this many changes that are asked for at one moment: the first has the greater of that moment and the one after the
+-- clock, and each further one the next
+abbrev pub clock_by : ℕ → ℕ → ℕ → ℕ
+clock_by clock now zero = clock
+clock_by clock now (suc more) = max now (clock + 1) + more
 
--- What asking for changes came to, one after the other, by moments of a clock: where all were granted they were stored, a refusal for a full
--- journal is so of one of them, and each moved the clock on by one at most.
+-- At most this many changes were made since a state, each asked for at this moment of another clock.
+abbrev pub IsWithinChanges : State → ℕ → ℕ → State → Type 0
+IsWithinChanges s now count later = later.clock ≤ clock_by s.clock now count
+
+-- This many changes were made.
+abbrev pub IsMovedBy : State → ℕ → ℕ → State → Type 0
+IsMovedBy s now count later = later.clock ≡ clock_by s.clock now count
+
+-- What asking for changes came to, one after the other, at a moment of a clock: where all were granted they were stored, and the clock is where
+-- they bring it; a refusal for a full journal is so of one of them. No change has a moment before that one.
 pub record AsksFor {T : Type 0} (d : DriveFields) (now : ℕ) (changes : List Change) (answer : Result T Refusal) (d' : DriveFields) : Type 0 where
   pub stored : OnOk answer (AreStored (store_of d) changes (store_of d'))
   pub full : IfErr answer (IsFullForOne (store_of d) changes)
-  pub clock : IsWithinChanges (state_in d) now (length changes) (state_in d')
+  pub moved : OnOk answer (IsMovedBy (state_in d) now (length changes) (state_in d'))
+  pub dated : IsDatedFrom now (state_in d) (state_in d')

@@ -1,5 +1,5 @@
 -- What restoring leaves as it was.
-use Rattle.std.specs.Prelude.{◌≡◌, ◌≢◌, ℕ, ◌-◌, ◌≤◌, max}
+use Rattle.std.specs.Prelude.{◌≡◌, ◌≢◌, ℕ, ◌-◌, ◌<◌, ◌≤◌, max}
 use Rattle.s4_model.specs.State.{State}
 use Rattle.s4_model.specs.VersionAt.{version_of}
 use Rattle.s4_model.specs.Visible.{is_hidden}
@@ -19,3 +19,7 @@ pub record LeavesPast (s later : State) : Type 0 where
 -- every object but one is what it was
 abbrev pub LeavesOthers : ℕ → State → State → Type 0
 LeavesOthers o s later = (q : ℕ) → q ≢ o → present later q ≡ present s q
+
+-- what was changed has a moment from this one on: every version before it is what it was
+abbrev pub IsDatedFrom : ℕ → State → State → Type 0
+IsDatedFrom now s later = (o t : ℕ) → t < now → version_of later o t ≡ version_of s o t

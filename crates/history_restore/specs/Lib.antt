@@ -6,6 +6,7 @@ pub mod Rows
 pub mod Aims
 pub mod Restoring
 pub mod Planning
+pub mod Presence
 pub mod Whole
 pub mod Room
 pub mod Widening

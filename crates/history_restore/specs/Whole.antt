@@ -13,7 +13,7 @@ use Rattle.history_restore.specs.declared.aims.StandIn.{StandIn}
 use Rattle.history_restore.specs.declared.failures.Failure.{Failure}
 use Rattle.history_restore.specs.declared.restoring.Restored.{Restored}
 use Rattle.history_restore.specs.Content.{content_of}
-use Rattle.history_restore.specs.Asking.{IsWithinChanges}
+use Rattle.history_restore.specs.Asking.{IsMovedBy}
 use Rattle.history_restore.specs.declared.planning.ObjectPlan.{ObjectPlan}
 use Rattle.history_restore.specs.declared.plans.Plan.{Plan}
 use Rattle.history_restore.specs.declared.plans.Plan.TheVariants.{Keep}
@@ -21,7 +21,7 @@ use Rattle.history_restore.specs.Aims.{AreAims, AreAskedAims, counting, has_stan
 use Rattle.history_restore.specs.Rows.{AscendBelow, is_among}
 use Rattle.history_restore.specs.Plans.{IsPlan, number_by, next_by_plan}
 use Rattle.history_restore.specs.Planning.{IsPlanned, aims_planned, changes_planned, is_older}
-use Rattle.history_restore.specs.Keeping.{LeavesPast}
+use Rattle.history_restore.specs.Keeping.{IsDatedFrom, LeavesPast}
 use Rattle.history_restore.specs.Restoring.{IsStopped}
 
 -- An object is now what it was at a moment, under its number; the plan was made of what it was then and when restoring began.
@@ -52,11 +52,12 @@ abbrev pub made_anew : List Restored → ℕ
 made_anew [] = 0
 made_anew (r ∷ all) = next_by_plan r.plan 0 + made_anew all
 
--- The next number is one more for each object that was made anew. The clock is at most the greater of the old one and of the moment of the
--- server's clock, and one more for each change of the plans.
+-- The next number is one more for each object that was made anew. The first change of the plans has the greater of the moment that is given and
+-- of the first after the clock, and each further one the next. So every version before the moment that is given is what it was.
 pub record IsCounted (s later : State) (now : ℕ) (all : List Restored) : Type 0 where
   pub next : later.next ≡ s.next + made_anew all
-  pub clock : IsWithinChanges s now (changes_of_all all) later
+  pub moved : IsMovedBy s now (changes_of_all all) later
+  pub dated : IsDatedFrom now s later
 
 -- what these objects were restored under
 abbrev pub aims_of : List Restored → List Aim

@@ -5,12 +5,12 @@ use Rattle.s4_model.specs.VersionAt.{version_of}
 use Rattle.s4_model.specs.Visible.{is_hidden}
 use Rattle.s4_model.specs.Refusals.{present, last_number}
 use Rattle.s4_model.specs.Step.{stamp}
-use Rattle.history_restore.specs.Asking.{IsWithinChanges}
+use Rattle.history_restore.specs.Asking.{IsWithinChanges, clock_by}
 use Rattle.history_restore.specs.Keeping.{LeavesPast}
 
--- the greatest moment that the clock may reach by this many changes at moments of another clock
+-- the greatest moment that the clock may reach by this many changes at a moment of another clock
 abbrev pub reached_by : State → ℕ → ℕ → ℕ
-reached_by s now count = min last_number (max s.clock now + count)
+reached_by s now count = min last_number (clock_by s.clock now count)
 
 -- the least window that reaches back to a moment from where this many changes may bring the clock
 abbrev pub window_for : State → ℕ → ℕ → ℕ → ℕ

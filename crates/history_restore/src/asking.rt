@@ -4,9 +4,9 @@ ghost use Rattle.s4_types.specs.declared.requests.Request.TheVariants.{Update};
 ghost use Rattle.s4_model.specs.Refusals.{first_refusal};
 ghost use Rattle.drive.specs.Fields.{state_in, store_of};
 ghost use Rattle.drive.specs.Later.{object_asked};
-ghost use Rattle.history_restore.specs.Asking.{Grants, IsGiven, IsFullFor, IsWithinChanges};
-ghost use Rattle.history_restore.specs.Asking.{StoresAsked};
-ghost use Rattle.history_restore.specs.Keeping.{LeavesPast, LeavesOthers};
+ghost use Rattle.history_restore.specs.Asking.{Grants, IsGiven, IsFullFor};
+ghost use Rattle.history_restore.specs.Asking.{IsMovedBy, StoresAsked};
+ghost use Rattle.history_restore.specs.Keeping.{IsDatedFrom, LeavesPast, LeavesOthers};
 
 use crate::laws::what_requests_come_to;
 use drive::{Drive, Session};
@@ -14,7 +14,8 @@ use s4_types::{Moment, ObjectRequest, Refusal, Reply, Request};
 use segment_word::Naming;
 
 /// Asks for a change of an object, the next one's creation among them. Nothing but that object
-/// changes, whatever is answered.
+/// changes, whatever is answered. The change has the greater of the moment `now` and of the first
+/// after the clock.
 pub(crate) fn ask<J: Naming>(
     drive: &mut Drive<J>,
     session: &mut Session<J>,
@@ -30,7 +31,8 @@ pub(crate) fn ask<J: Naming>(
         (store_of drive.new)) }
     ensures full { IfErr result
         (IsFullFor (store_of drive.old) (state_in drive.old) (Update update)) }
-    ensures clock { IsWithinChanges (state_in drive.old) now 1 (state_in drive.new) }
+    ensures moved { OnOk result (IsMovedBy (state_in drive.old) now 1 (state_in drive.new)) }
+    ensures dated { IsDatedFrom now (state_in drive.old) (state_in drive.new) }
     ensures others { LeavesOthers (object_asked (state_in drive.old).next (Update update))
         (state_in drive.old) (state_in drive.new) }
     ensures past { LeavesPast (state_in drive.old) (state_in drive.new) }

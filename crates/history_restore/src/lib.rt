@@ -21,7 +21,9 @@
 //! and the floor with it, so that the moment may fall below the floor while objects are restored;
 //! that is refused then, and what was done before stays. `widen_window` keeps it in reach until
 //! that many changes are made: `laws` says so. Whoever saves the drive saves it only where all was
-//! done.
+//! done. All changes are asked for at one moment of another clock: the first has the greater of that
+//! and of the first moment after the drive's clock, and each further one the next. `has_object` says
+//! whether anything is left.
 #![tactic(auto)]
 
 mod aims;
@@ -33,6 +35,7 @@ mod failures;
 pub mod laws;
 mod planning;
 mod plans;
+mod presence;
 mod restoring;
 mod room;
 mod whole;
@@ -44,6 +47,7 @@ pub use planning::{
     ObjectPlan, chosen_plans, count_changes, plan_all, plan_each, plan_objects, planned_aims,
 };
 pub use plans::{Changes, Patch, Plan, plan_of};
+pub use presence::has_object;
 pub use restoring::{Restored, plan_object, restore_object};
 pub use room::{make_room, newest_versions};
 pub use whole::{restore_all, restore_objects, restore_these};

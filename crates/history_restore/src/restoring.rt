@@ -5,9 +5,9 @@ ghost use Rattle.s4_model.specs.Refusals.{present};
 ghost use Rattle.s4_model.specs.VersionAt.{version_of};
 ghost use Rattle.s4_model.specs.Visible.{IsVisible};
 ghost use Rattle.drive.specs.Fields.{state_in, store_of};
-ghost use Rattle.history_restore.specs.Asking.{IsWithinChanges};
+ghost use Rattle.history_restore.specs.Asking.{IsMovedBy};
 ghost use Rattle.history_restore.specs.Plans.{IsPlan, change_count};
-ghost use Rattle.history_restore.specs.Keeping.{LeavesPast, LeavesOthers};
+ghost use Rattle.history_restore.specs.Keeping.{IsDatedFrom, LeavesPast, LeavesOthers};
 ghost use Rattle.history_restore.specs.Restoring.{IsUnread, Restores, IsStopped, IsTooFull};
 ghost use Rattle.history_restore.specs.Restoring.{number_after};
 
@@ -57,7 +57,8 @@ pub fn plan_object<J: Naming>(
 }
 
 /// Makes an object what it was at a moment, by requests at the moment `now` of the server's clock:
-/// exactly what [`plan_object`] plans. An object that was deleted since stays deleted, as numbers
+/// exactly what [`plan_object`] plans, the first of them at the greater of `now` and the first moment
+/// after the clock, and each further one at the next. An object that was deleted since stays deleted, as numbers
 /// are given once; what it was is made anew under the next number. Where the number is that of a
 /// stand-in, this is what becomes what the object was.
 ///
@@ -76,9 +77,10 @@ pub fn restore_object<J: Naming>(
     ensures full { IfErr result
         (λ failure. failure.refusal ≡ ChainFull
         → IsTooFull (state_in drive.old) (store_of drive.old) aim.now at) }
-    ensures clock { IfOk result
-        (λ restored. IsWithinChanges (state_in drive.old) now (change_count restored.plan)
+    ensures moved { IfOk result
+        (λ restored. IsMovedBy (state_in drive.old) now (change_count restored.plan)
         (state_in drive.new)) }
+    ensures dated { IsDatedFrom now (state_in drive.old) (state_in drive.new) }
     ensures others { LeavesOthers (number_after (state_in drive.old) aim.now at)
         (state_in drive.old) (state_in drive.new) }
     ensures past { LeavesPast (state_in drive.old) (state_in drive.new) }

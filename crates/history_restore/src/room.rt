@@ -4,7 +4,8 @@ ghost use Rattle.s4_types.specs.declared.refusals.Refusal.TheVariants.{NoMemory}
 ghost use Rattle.version_store.specs.Versions.{entries_of_object};
 ghost use Rattle.drive.specs.Fields.{state_in, store_of};
 ghost use Rattle.history_cleaner.specs.Cleaning.{IsClean};
-ghost use Rattle.history_restore.specs.Asking.{IsWithinChanges};
+ghost use Rattle.history_restore.specs.Asking.{IsMovedBy, IsWithinChanges};
+ghost use Rattle.history_restore.specs.Keeping.{IsDatedFrom};
 ghost use Rattle.history_restore.specs.Room.{LeavesObjects, HidesBetween, IsOfNewest, begun_after};
 
 use crate::laws::what_requests_come_to;
@@ -29,6 +30,8 @@ fn flush<J: Naming>(
         (HidesBetween (state_in drive.old) object first last (state_in drive.new)) }
     ensures objects { LeavesObjects (state_in drive.old) object (state_in drive.new) }
     ensures clock { IsWithinChanges (state_in drive.old) now 1 (state_in drive.new) }
+    ensures moved { OnOk result (IsMovedBy (state_in drive.old) now 1 (state_in drive.new)) }
+    ensures dated { IsDatedFrom now (state_in drive.old) (state_in drive.new) }
 {
     what_requests_come_to();
     drive.rules();
@@ -64,6 +67,8 @@ pub fn make_room<J: Naming>(
     ensures clean { OnOk result (IsClean (store_of drive.new) (state_in drive.new) object) }
     ensures objects { LeavesObjects (state_in drive.old) object (state_in drive.new) }
     ensures clock { IsWithinChanges (state_in drive.old) now 1 (state_in drive.new) }
+    ensures moved { OnOk result (IsMovedBy (state_in drive.old) now 1 (state_in drive.new)) }
+    ensures dated { IsDatedFrom now (state_in drive.old) (state_in drive.new) }
 {
     flush(drive, session, object, first, last, now)?;
     clean_object(alloc, drive, object)

@@ -1,10 +1,10 @@
 //! The window that keeps a moment in reach until it is restored.
-ghost use Rattle.std.specs.Prelude.{◌≡◌, ◌+◌, IfOk, IfErr, OnOk, OnErr};
+ghost use Rattle.std.specs.Prelude.{◌≡◌, ◌+◌, min, IfOk, IfErr, OnOk, OnErr};
 ghost use Rattle.s4_types.specs.declared.requests.Request.TheVariants.{Control};
 ghost use Rattle.s4_types.specs.declared.requests.AdminRequest.TheVariants.{SetWindow};
-ghost use Rattle.s4_model.specs.Refusals.{first_refusal};
+ghost use Rattle.s4_model.specs.Refusals.{first_refusal, last_number};
 ghost use Rattle.drive.specs.Fields.{state_in, store_of};
-ghost use Rattle.history_restore.specs.Asking.{IsGiven};
+ghost use Rattle.history_restore.specs.Asking.{IsGiven, clock_by};
 ghost use Rattle.history_restore.specs.Keeping.{LeavesPast};
 ghost use Rattle.history_restore.specs.Widening.{Widens, IsWidened, window_for};
 
@@ -13,12 +13,25 @@ use drive::{Drive, Session};
 use s4_types::{AdminRequest, Moment, Refusal, Reply, Request};
 use segment_word::Naming;
 
+/// Where a clock is after this many changes that are asked for at the moment `now` of another one;
+/// the last moment where it would be past that.
+#[tactic(auto, using(crate::proofs::Moving::clock_by_some))]
+fn clock_by(clock: u64, now: u64, changes: u64) -> u64
+    ensures { result ≡ min last_number (clock_by clock now changes) }
+{
+    if changes == 0 {
+        return clock;
+    }
+    let first = clock.saturating_add(1).max(now);
+    first.saturating_add(changes - 1)
+}
+
 /// The least window that reaches back to a moment from where this many changes may bring the clock.
 fn window_for<J: Naming>(drive: &Drive<J>, at: Moment, changes: u64, now: Moment) -> u64
     ensures { result ≡ window_for (state_in drive.now) now at changes }
 {
-    let begun = drive.clock().number().max(now.number());
-    begun.saturating_add(changes).saturating_sub(at.number())
+    let reached = clock_by(drive.clock().number(), now.number(), changes);
+    reached.saturating_sub(at.number())
 }
 
 /// Sets the window, by a request of an administrator's session.
@@ -50,6 +63,7 @@ fn set_window<J: Naming>(
 ///
 /// Refused as a SetWindow is, NotAdmin where the session isn't an administrator's among that; then
 /// the window is as it was.
+#[tactic(auto, using(crate::proofs::Moving::window_saturated))]
 pub fn widen_window<J: Naming>(
     drive: &mut Drive<J>,
     session: &mut Session<J>,

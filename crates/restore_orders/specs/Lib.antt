@@ -1,4 +1,5 @@
 pub mod Choosing
+pub mod Dating
 pub mod Lines
 pub mod MakingRoom
 pub mod Means

@@ -21,16 +21,16 @@ does_hide room = nat_lt 0 room.count
 abbrev pub changes_ahead : List ObjectPlan → List Room → ℕ
 changes_ahead chosen full = min last_number (min last_number (changes_planned chosen) + count_by does_hide full)
 
--- The window of a state was widened where a moment would expire by this many changes, by as little as serves, and the output ends with the line of that.
-pub record Reaches (s : State) (store : StoreFields) (at count : ℕ) (json : Bool) (wide : DriveFields) (output output' : Option (List ℕ)) : Type 0 where
+-- The window of a state was widened where a moment would expire by this many changes that are asked for at another, by as little as serves, and the output ends with the line of that.
+pub record Reaches (s : State) (store : StoreFields) (now at count : ℕ) (json : Bool) (wide : DriveFields) (output output' : Option (List ℕ)) : Type 0 where
   pub widened : Option ℕ
-  pub widens : Widens s 0 at count widened (state_in wide)
+  pub widens : Widens s now at count widened (state_in wide)
   pub store_stays : store_of wide ≡ store
   pub wrote : Appends output output' (window_text json s.window widened)
 
 -- A moment was brought in reach, room was made in full journals, and what was chosen was restored, with the lines of that at the output's end.
-pub record RestoresInReach (d later : DriveFields) (order : Order) (at : ℕ) (chosen : List ObjectPlan) (output output' : Option (List ℕ)) : Type 0 where
+pub record RestoresInReach (d later : DriveFields) (order : Order) (now at : ℕ) (chosen : List ObjectPlan) (output output' : Option (List ℕ)) : Type 0 where
   pub wide : DriveFields
   pub between : Option (List ℕ)
-  pub reaches : Reaches (state_in d) (store_of d) at (changes_ahead chosen order.full.now) order.json wide output between
-  pub restores : RestoresWithRoom wide later at order.json (aims_planned chosen) order.full.now between output'
+  pub reaches : Reaches (state_in d) (store_of d) now at (changes_ahead chosen order.full.now) order.json wide output between
+  pub restores : RestoresWithRoom wide later now at order.json (aims_planned chosen) order.full.now between output'

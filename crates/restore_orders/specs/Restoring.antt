@@ -26,15 +26,15 @@ SaysWhy s aim at NoSpace failure = failure ≡ NoRoom aim.target
 SaysWhy s aim at _ failure = HasNoMoments failure
 
 -- These objects were restored, in their order; every other one is what it was, and the past stays. As many numbers were given as objects were
--- made anew, and no more moments than there were changes.
-pub record AreRestored (s later : State) (at : ℕ) (aims : List Aim) (all : List Restored) : Type 0 where
+-- made anew, and each change has its moment by the one at which they are asked for.
+pub record AreRestored (s later : State) (now at : ℕ) (aims : List Aim) (all : List Restored) : Type 0 where
   pub each : RestoresEach s later at aims all
   pub rest : LeavesRest s later aims
   pub past : LeavesPast s later
-  pub counted : IsCounted s later 0 all
+  pub counted : IsCounted s later now all
 
 -- So it was, and the output ends with the lines of that.
-pub record RestoresDrive (s later : State) (at : ℕ) (json : Bool) (aims : List Aim) (output output' : Option (List ℕ)) : Type 0 where
+pub record RestoresDrive (s later : State) (now at : ℕ) (json : Bool) (aims : List Aim) (output output' : Option (List ℕ)) : Type 0 where
   pub all : List Restored
-  pub restored : AreRestored s later at aims all
+  pub restored : AreRestored s later now at aims all
   pub wrote : Appends output output' (flat_map (restored_text json) all)

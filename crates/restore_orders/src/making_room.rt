@@ -5,6 +5,7 @@ ghost use Rattle.drive.specs.Fields.{state_in, store_of};
 ghost use Rattle.restore_orders.specs.MakingRoom.{HasFewer, Hides, HidesAll, IsAimedAt, MakesRoom};
 ghost use Rattle.restore_orders.specs.MakingRoom.{RestoresWithRoom};
 
+use crate::dating::Moments;
 use crate::lines::hidden_text;
 use crate::restoring::{Wanted, restore};
 use drive::{Drive, Session};
@@ -13,7 +14,7 @@ use history_restore::{Aim, make_room, newest_versions};
 use image_commands::write_out;
 use restore_search::Room;
 use s4_images::Failure;
-use s4_types::{Moment, ObjectId, Refusal, Span};
+use s4_types::{ObjectId, Refusal, Span};
 use segment_word::Naming;
 use serving::Sink;
 use std::alloc::Global;
@@ -30,8 +31,8 @@ pub(crate) fn restore_with_room<J: Naming, W: Sink>(
 ) -> Result<(), Failure>
     requires writer { W.failures writer.old + 1 < 2 ^ 64 }
     ensures restores { OnOk result
-        (RestoresWithRoom drive.old drive.new wanted.now.at wanted.now.json wanted.now.aims.now
-        full.now (W.passed writer.old) (W.passed writer.new)) }
+        (RestoresWithRoom drive.old drive.new wanted.now.moments.now wanted.now.moments.at wanted.now.json
+        wanted.now.aims.now full.now (W.passed writer.old) (W.passed writer.new)) }
     ensures failures { OnOk result (W.failures writer.new ≡ W.failures writer.old) }
 {
     hide_all(alloc, drive, session, wanted, full, writer)?;
@@ -49,8 +50,8 @@ fn hide_all<J: Naming, W: Sink>(
 ) -> Result<(), Failure>
     requires writer { W.failures writer.old + 1 < 2 ^ 64 }
     ensures hides { OnOk result
-        (HidesAll drive.old wanted.now.at wanted.now.json wanted.now.aims.now full.now drive.new
-        (W.passed writer.old) (W.passed writer.new)) }
+        (HidesAll drive.old wanted.now.moments.now wanted.now.moments.at wanted.now.json wanted.now.aims.now full.now
+        drive.new (W.passed writer.old) (W.passed writer.new)) }
     ensures failures { OnOk result (W.failures writer.new ≡ W.failures writer.old) }
 {
     match full {
@@ -73,14 +74,14 @@ fn hide<J: Naming, W: Sink>(
 ) -> Result<(), Failure>
     requires writer { W.failures writer.old + 1 < 2 ^ 64 }
     ensures hides { OnOk result
-        (Hides drive.old wanted.now.at wanted.now.json wanted.now.aims.now room.now drive.new
-        (W.passed writer.old) (W.passed writer.new)) }
+        (Hides drive.old wanted.now.moments.now wanted.now.moments.at wanted.now.json wanted.now.aims.now room.now
+        drive.new (W.passed writer.old) (W.passed writer.new)) }
     ensures failures { OnOk result (W.failures writer.new ≡ W.failures writer.old) }
 {
     if !is_aimed_at(wanted.aims, room.object) {
         return Err(full(room.object));
     }
-    let made = prepare(alloc, drive, session, wanted.at, room)?;
+    let made = prepare(alloc, drive, session, wanted.moments, room)?;
     let Some(hidden) = made else {
         return Err(full(room.object));
     };
@@ -103,19 +104,19 @@ fn full(object: ObjectId) -> Failure {
     }
 }
 
-/// Cleans the journal of an object, hides that many of its newest versions, and cleans it again.
-/// Gives the moments that are hidden, if there are any; none at all where there are fewer versions
+/// Cleans the journal of an object, hides that many of its newest versions by a change that is asked
+/// for at the moment `moments.now`, and cleans it again. Gives the moments that are hidden, if there are any; none at all where there are fewer versions
 /// after the moment, of which none is hidden then.
 pub fn prepare<J: Naming>(
     alloc: Global,
     drive: &mut Drive<J>,
     session: &mut Session<J>,
-    at: u64,
+    moments: Moments,
     room: &Room,
 ) -> Result<Option<Option<Span>>, Failure>
     ensures made { IfOk result
-        (λ made. IfSome made (λ hidden. MakesRoom drive.old at room.now hidden drive.new)) }
-    ensures fewer { IfOk result (λ made. made ≡ None → HasFewer drive.old at room.now drive.new) }
+        (λ made. IfSome made (λ hidden. MakesRoom drive.old moments.now moments.at room.now hidden drive.new)) }
+    ensures fewer { IfOk result (λ made. made ≡ None → HasFewer drive.old moments.at room.now drive.new) }
 {
     let object = room.object;
     if let Err(refusal) = clean_object(alloc, drive, object) {
@@ -124,12 +125,11 @@ pub fn prepare<J: Naming>(
     if room.count == 0 {
         return Ok(Some(None));
     }
-    let at = Moment::new(at);
-    let Some(span) = newest_versions(alloc, drive, object, at, room.count)? else {
+    let Some(span) = newest_versions(alloc, drive, object, moments.at, room.count)? else {
         return Ok(None);
     };
     let (first, last) = (span.first, span.last);
-    match make_room(alloc, drive, session, object, first, last, Moment::new(0)) {
+    match make_room(alloc, drive, session, object, first, last, moments.now) {
         Ok(()) => Ok(Some(Some(span))),
         Err(refusal) => Err(unhidden(object, refusal)),
     }

@@ -4,18 +4,19 @@ ghost use Rattle.drive.specs.Fields.{state_in};
 ghost use Rattle.moment_words.specs.Texts as styles;
 ghost use Rattle.s4_images.specs.Failures.{IsInStyle};
 ghost use Rattle.s4_images.specs.declared.commands.Verdict.TheVariants.{Fine};
-ghost use Rattle.restore_orders.specs.Orders.{RestoresBy, WouldRestoreBy};
+ghost use Rattle.restore_orders.specs.Orders.{RestoresAt, RestoresBy, WouldRestoreBy};
 
 use crate::choosing::{chosen_by, readable};
+use crate::dating::{Moments, asked_at, check_left};
 use crate::lines::Form;
 use crate::means::{Means, compact_for};
 use crate::reaching::restore_in_reach;
-use drive::Drive;
-use history_restore::StandIn;
+use drive::{Drive, Session};
+use history_restore::{StandIn, has_object};
 use moment_words::{MomentWord, style_of};
 use restore_search::Room;
 use s4_images::{DriveChange, DriveCommand, Failure, Verdict, write_lines};
-use s4_types::{ObjectId, Role};
+use s4_types::{Moment, ObjectId, Role};
 use segment_word::Naming;
 use serving::Sink;
 use std::alloc::Global;
@@ -25,12 +26,18 @@ use std::alloc::Global;
 pub struct Order<'a> {
     /// The moment.
     pub at: MomentWord,
+    /// The machine's time in microseconds since 1970, 0 where it isn't known.
+    pub time: u64,
+    /// How far that may be above the drive's clock, in microseconds, where it would be too far.
+    pub leap: u64,
     /// The objects, in any order; none for all, where no name is given.
     pub objects: &'a [u64],
     /// The one object, by its attribute at the moment.
     pub name: Option<&'a str>,
     /// What was made anew by earlier restores, and of what.
     pub stand_ins: &'a [StandIn],
+    /// Whether it may leave no object, where some are there.
+    pub to_nothing: bool,
     /// Whether objects that were made since stay.
     pub keep_newer: bool,
     /// By which means room is made first.
@@ -93,8 +100,8 @@ fn restore_in_style<J: Naming, W: Sink>(
     }
 }
 
-// Restores a drive, and prints what was done. What is restored is chosen of the drive as it is
-// before room is made.
+// Restores a drive, and prints what was done. An error before anything is done where the machine's
+// time is too far above the clock, and one after it where no object is left that has to be.
 fn restore_by<J: Naming, W: Sink>(
     alloc: Global,
     drive: &mut Drive<J>,
@@ -106,19 +113,32 @@ fn restore_by<J: Naming, W: Sink>(
         (RestoresBy drive.old drive.new order.now (W.passed writer.old) (W.passed writer.new)) }
 {
     let mut session = drive.session(Role::Admin)?;
+    let now = asked_at(drive, order.time, order.leap)?;
+    let had = has_object(drive);
+    restore_at(alloc, drive, &mut session, order, now, writer)?;
+    check_left(drive, had, order.to_nothing)
+}
+
+// Restores a drive by changes that are asked for at a moment, and prints what was done. What is
+// restored is chosen of the drive as it is before room is made.
+fn restore_at<J: Naming, W: Sink>(
+    alloc: Global,
+    drive: &mut Drive<J>,
+    session: &mut Session<J>,
+    order: &Order<'_>,
+    now: Moment,
+    writer: &mut W,
+) -> Result<(), Failure>
+    requires writer { W.failures writer.old + 1 < 2 ^ 64 }
+    ensures restores { OnOk result
+        (RestoresAt drive.old drive.new order.now now (W.passed writer.old) (W.passed writer.new)) }
+{
     let at = readable(drive, order.at)?;
-    let chosen = chosen_by(alloc, drive, &mut session, order, at)?;
+    let chosen = chosen_by(alloc, drive, session, order, at)?;
     let chosen = chosen.as_slice();
-    compact_for(alloc, drive, &mut session, order.means)?;
-    restore_in_reach(
-        alloc,
-        drive,
-        &mut session,
-        order,
-        at.number(),
-        chosen,
-        writer,
-    )?;
+    compact_for(alloc, drive, session, order.means)?;
+    let moments = Moments { at, now };
+    restore_in_reach(alloc, drive, session, order, moments, chosen, writer)?;
     let form = Form { json: order.json };
     write_lines(alloc, &form, order.skipped, writer)
 }

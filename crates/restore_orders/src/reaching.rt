@@ -3,6 +3,7 @@ ghost use Rattle.std.specs.Prelude.{◌≡◌, ℕ, ◌+◌, ◌^◌, ◌<◌, c
 ghost use Rattle.drive.specs.Fields.{state_in, store_of};
 ghost use Rattle.restore_orders.specs.Reaching.{Reaches, RestoresInReach, changes_ahead, does_hide};
 
+use crate::dating::Moments;
 use crate::lines::window_text;
 use crate::making_room::restore_with_room;
 use crate::orders::Order;
@@ -12,7 +13,6 @@ use history_restore::{ObjectPlan, count_changes, planned_aims, widen_window};
 use image_commands::write_out;
 use restore_search::Room;
 use s4_images::Failure;
-use s4_types::Moment;
 use segment_word::Naming;
 use serving::Sink;
 use std::alloc::Global;
@@ -24,21 +24,21 @@ pub(crate) fn restore_in_reach<J: Naming, W: Sink>(
     drive: &mut Drive<J>,
     session: &mut Session<J>,
     order: &Order<'_>,
-    at: u64,
+    moments: Moments,
     chosen: &[ObjectPlan],
     writer: &mut W,
 ) -> Result<(), Failure>
     requires writer { W.failures writer.old + 1 < 2 ^ 64 }
     ensures restores { OnOk result
-        (RestoresInReach drive.old drive.new order.now at chosen.now (W.passed writer.old)
+        (RestoresInReach drive.old drive.new order.now moments.now moments.at chosen.now (W.passed writer.old)
         (W.passed writer.new)) }
     ensures failures { OnOk result (W.failures writer.new ≡ W.failures writer.old) }
 {
     let changes = changes_ahead(chosen, order.full);
-    reach(alloc, drive, session, at, changes, order.json, writer)?;
+    reach(alloc, drive, session, moments, changes, order.json, writer)?;
     let aims = planned_aims(alloc, chosen)?;
     let wanted = Wanted {
-        at,
+        moments,
         aims: aims.as_slice(),
         json: order.json,
     };
@@ -66,19 +66,19 @@ fn reach<J: Naming, W: Sink>(
     alloc: Global,
     drive: &mut Drive<J>,
     session: &mut Session<J>,
-    at: u64,
+    moments: Moments,
     changes: u64,
     json: bool,
     writer: &mut W,
 ) -> Result<(), Failure>
     requires writer { W.failures writer.old + 1 < 2 ^ 64 }
     ensures reaches { OnOk result
-        (Reaches (state_in drive.old) (store_of drive.old) at changes json drive.new
+        (Reaches (state_in drive.old) (store_of drive.old) moments.now moments.at changes json drive.new
         (W.passed writer.old) (W.passed writer.new)) }
     ensures failures { OnOk result (W.failures writer.new ≡ W.failures writer.old) }
 {
     let before = drive.window();
-    let widened = widen_window(drive, session, Moment::new(at), changes, Moment::new(0))?;
+    let widened = widen_window(drive, session, moments.at, changes, moments.now)?;
     let line = window_text(alloc, json, before, widened)?;
     write_out(writer, line.as_bytes())?;
     Ok(())

@@ -3,6 +3,7 @@ ghost use Rattle.std.specs.Prelude.{◌≡◌, ◌+◌, ◌^◌, ◌<◌, IfOk, 
 ghost use Rattle.drive.specs.Fields.{state_in};
 ghost use Rattle.restore_orders.specs.Restoring.{AreRestored, RestoresDrive, SaysWhy};
 
+use crate::dating::Moments;
 use crate::lines::Form;
 use drive::{Drive, Session};
 use history_restore::{Aim, Restored, restore_these};
@@ -15,8 +16,7 @@ use std::alloc::Global;
 /// What is restored, and how that is printed.
 #[derive(Clone, Copy)]
 pub(crate) struct Wanted<'a> {
-    /// The moment.
-    pub at: u64,
+    pub moments: Moments,
     /// The objects, and under which numbers.
     pub aims: &'a [Aim],
     /// Whether lines are for programs.
@@ -33,11 +33,11 @@ pub(crate) fn restore<J: Naming, W: Sink>(
 ) -> Result<(), Failure>
     requires writer { W.failures writer.old + 1 < 2 ^ 64 }
     ensures restores { OnOk result
-        (RestoresDrive (state_in drive.old) (state_in drive.new) wanted.now.at wanted.now.json
-        wanted.now.aims.now (W.passed writer.old) (W.passed writer.new)) }
+        (RestoresDrive (state_in drive.old) (state_in drive.new) wanted.now.moments.now
+        wanted.now.moments.at wanted.now.json wanted.now.aims.now (W.passed writer.old) (W.passed writer.new)) }
     ensures failures { OnOk result (W.failures writer.new ≡ W.failures writer.old) }
 {
-    let all = restored(alloc, drive, session, Moment::new(wanted.at), wanted.aims)?;
+    let all = restored(alloc, drive, session, wanted)?;
     let form = Form { json: wanted.json };
     write_lines(alloc, &form, all.as_slice(), writer)
 }
@@ -47,13 +47,14 @@ fn restored<J: Naming>(
     alloc: Global,
     drive: &mut Drive<J>,
     session: &mut Session<J>,
-    at: Moment,
-    aims: &[Aim],
+    wanted: &Wanted<'_>,
 ) -> Result<Vec<Restored>, Failure>
     ensures restored { IfOk result
-        (λ all. AreRestored (state_in drive.old) (state_in drive.new) at aims.now all.items) }
+        (λ all. AreRestored (state_in drive.old) (state_in drive.new) wanted.now.moments.now
+        wanted.now.moments.at wanted.now.aims.now all.items) }
 {
-    match restore_these(alloc, drive, session, aims, at, Moment::new(0)) {
+    let (at, now) = (wanted.moments.at, wanted.moments.now);
+    match restore_these(alloc, drive, session, wanted.aims, at, now) {
         Ok(all) => Ok(all),
         Err(failure) => Err(failure_of(drive, at, failure)),
     }

@@ -18,10 +18,12 @@ ghost use Rattle.restore_trials.specs.Surveys.{IsServedFrom, Serves};
 
 use crate::trying::{lacking_of, push, try_all};
 use drive::{Drive, OpenedDrive, Session};
-use history_restore::{Aim, ObjectPlan, chosen_plans, plan_object, widen_window};
+use history_restore::{Aim, ObjectPlan, Plan, chosen_plans, plan_object, widen_window};
 use image_commands::{Files, read_image};
 use moment_words::style_of;
-use restore_orders::{Order, aims_by, changes_ahead, compact_for, failure_of, prepare, readable};
+use restore_orders::{
+    Moments, Order, aims_by, asked_at, changes_ahead, check_left, compact_for, prepare, readable,
+};
 use restore_search::{Lack, Lacking, Room, Survey};
 use s4_images::Failure;
 use s4_types::{Moment, Refusal, Role};
@@ -101,6 +103,7 @@ fn survey_drive<J: Naming>(
     ensures serves { IfOk result (Serves drive.old order.now) }
 {
     let mut session = drive.session(Role::Admin)?;
+    let now = asked_at(drive, order.time, order.leap)?;
     let at = readable(drive, order.at)?;
     let mut hidden = Vec::new(alloc);
     let chosen = plans_found(alloc, drive, &mut session, order, at, &mut hidden)?;
@@ -110,8 +113,27 @@ fn survey_drive<J: Naming>(
         Err(refusal) => return Err(Failure::from(refusal)),
     }
     let chosen = chosen.as_slice();
-    let found = survey_cleared(alloc, drive, &mut session, order, at, chosen, hidden)?;
+    let moments = Moments { at, now };
+    let found = survey_cleared(alloc, drive, &mut session, order, moments, chosen, hidden)?;
+    check_found(drive, order, chosen, &found)?;
     Ok(Some(found))
+}
+
+// An error where a trial that found nothing lacking left no object, and the order has to leave one.
+// Where none is left some were there exactly where one was deleted.
+fn check_found<J: Naming>(
+    drive: &mut Drive<J>,
+    order: &Order<'_>,
+    chosen: &[ObjectPlan],
+    found: &Survey,
+) -> Result<(), Failure> {
+    if !found.is_fine() {
+        return Ok(());
+    }
+    let deletes = chosen
+        .iter()
+        .any(|planned| matches!(planned.plan, Plan::Delete));
+    check_left(drive, deletes, order.to_nothing)
 }
 
 // What a trial finds over a drive in which room was made by the order's means.
@@ -120,24 +142,24 @@ fn survey_cleared<J: Naming>(
     drive: &mut Drive<J>,
     session: &mut Session<J>,
     order: &Order<'_>,
-    at: Moment,
+    moments: Moments,
     chosen: &[ObjectPlan],
     hidden: Vec<Lacking>,
 ) -> Result<Survey, Failure>
     ensures refused { IfOk result
-        (λ found. AllByRecursion (IsRefusedFrom drive.old order.now at chosen.now)
+        (λ found. AllByRecursion (IsRefusedFrom drive.old order.now moments chosen.now)
         found.refused.items) }
     ensures hidden { IfOk result (λ found. found.hidden ≡ hidden) }
     ensures serves { IfOk result
         (λ found. found.refused.items ≡ [] → found.unmade.items ≡ []
-        → IsServedFrom drive.old order.now at chosen.now) }
+        → IsServedFrom drive.old order.now moments chosen.now) }
 {
     let changes = changes_ahead(chosen, order.full);
-    let _widened = widen_window(drive, session, at, changes, Moment::new(0))?;
+    let _widened = widen_window(drive, session, moments.at, changes, moments.now)?;
     let mut refused = Vec::new(alloc);
-    let unmade = make_rooms(alloc, drive, session, at, order.full)?;
+    let unmade = make_rooms(alloc, drive, session, moments, order.full)?;
     if unmade.is_empty() {
-        try_all(alloc, drive, session, at, chosen, &mut refused)?;
+        try_all(alloc, drive, session, moments, chosen, &mut refused)?;
     }
     Ok(Survey {
         hidden,
@@ -235,15 +257,15 @@ fn make_rooms<J: Naming>(
     alloc: Global,
     drive: &mut Drive<J>,
     session: &mut Session<J>,
-    at: Moment,
+    moments: Moments,
     full: &[Room],
 ) -> Result<Vec<Lacking>, Failure>
     ensures made { IfOk result
-        (λ unmade. unmade.items ≡ [] → AreMade drive.old at full.now drive.new) }
+        (λ unmade. unmade.items ≡ [] → AreMade drive.old moments full.now drive.new) }
 {
     let mut unmade = Vec::new(alloc);
     for room in full {
-        if let Some(lack) = make_room(alloc, drive, session, at, room)? {
+        if let Some(lack) = make_room(alloc, drive, session, moments, room)? {
             let object = room.object;
             push(&mut unmade, Lacking { object, lack })?;
         }
@@ -256,14 +278,14 @@ fn make_room<J: Naming>(
     alloc: Global,
     drive: &mut Drive<J>,
     session: &mut Session<J>,
-    at: Moment,
+    moments: Moments,
     room: &Room,
 ) -> Result<Option<Lack>, Failure>
     ensures made { IfOk result
         (λ lack. lack ≡ None
-        → (hidden : Option Span) × MakesRoom drive.old at room.now hidden drive.new) }
+        → (hidden : Option Span) × MakesRoom drive.old moments.now moments.at room.now hidden drive.new) }
 {
-    match prepare(alloc, drive, session, at.number(), room) {
+    match prepare(alloc, drive, session, moments, room) {
         Ok(Some(_hidden)) => Ok(None),
         Ok(None) => Ok(Some(Lack::Journal)),
         Err(Failure::TooManySpans { .. }) => Ok(Some(Lack::Runs)),

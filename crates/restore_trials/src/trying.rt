@@ -6,11 +6,11 @@ ghost use Rattle.restore_trials.specs.Trying.{Carries, PassesFine, RestoresAll, 
 use drive::{Drive, Session};
 use history_restore::{Aim, ObjectPlan, Patch, Plan, restore_object};
 use journal_chain::packing::blocks_needed;
-use restore_orders::failure_of;
+use restore_orders::{Moments, failure_of};
 use restore_search::{Lack, Lacking};
 use s4_images::Failure;
 use s4_types::limits::{BLOCK_BYTES, OBJECT_BLOCKS, SHORTEST_ENTRY_BYTES};
-use s4_types::{Moment, Refusal};
+use s4_types::Refusal;
 use segment_word::Naming;
 use std::alloc::Global;
 use undo_redo::entry_sizes;
@@ -52,23 +52,23 @@ pub(crate) fn try_all<J: Naming>(
     alloc: Global,
     drive: &mut Drive<J>,
     session: &mut Session<J>,
-    at: Moment,
+    moments: Moments,
     chosen: &[ObjectPlan],
     lacking: &mut Vec<Lacking>,
 ) -> Result<(), Failure>
     ensures carries { OnOk result
-        (Carries at drive.old lacking.old.items drive.new lacking.new.items) }
-    ensures fine { OnOk result (lacking.new.items ≡ [] → RestoresAll at drive.old chosen.now) }
+        (Carries moments drive.old lacking.old.items drive.new lacking.new.items) }
+    ensures fine { OnOk result (lacking.new.items ≡ [] → RestoresAll moments drive.old chosen.now) }
 {
     let mut progress = Progress {
         deferred: Vec::new(alloc),
         wasted: 0,
     };
     for planned in chosen {
-        try_planned(alloc, drive, session, at, planned, &mut progress, lacking)?;
+        try_planned(alloc, drive, session, moments, planned, &mut progress, lacking)?;
     }
     let deferred = progress.deferred.as_slice();
-    try_deferred(alloc, drive, session, at, deferred, lacking)
+    try_deferred(alloc, drive, session, moments, deferred, lacking)
 }
 
 // Tries what was put off, one after the other.
@@ -76,18 +76,18 @@ fn try_deferred<J: Naming>(
     alloc: Global,
     drive: &mut Drive<J>,
     session: &mut Session<J>,
-    at: Moment,
+    moments: Moments,
     deferred: &[ObjectPlan],
     lacking: &mut Vec<Lacking>,
 ) -> Result<(), Failure>
     ensures carries { OnOk result
-        (Carries at drive.old lacking.old.items drive.new lacking.new.items) }
+        (Carries moments drive.old lacking.old.items drive.new lacking.new.items) }
     ensures fine { OnOk result
         (lacking.new.items ≡ []
-        → (lacking.old.items ≡ []) × RestoresAll at drive.old deferred.now) }
+        → (lacking.old.items ≡ []) × RestoresAll moments drive.old deferred.now) }
 {
     for planned in deferred {
-        let _is_restored = try_aim(alloc, drive, session, at, &planned.aim, true, lacking)?;
+        let _is_restored = try_aim(alloc, drive, session, moments, &planned.aim, true, lacking)?;
     }
     Ok(())
 }
@@ -98,22 +98,22 @@ fn try_planned<J: Naming>(
     alloc: Global,
     drive: &mut Drive<J>,
     session: &mut Session<J>,
-    at: Moment,
+    moments: Moments,
     planned: &ObjectPlan,
     progress: &mut Progress,
     lacking: &mut Vec<Lacking>,
 ) -> Result<(), Failure>
     ensures carries { OnOk result
-        (Carries at drive.old lacking.old.items drive.new lacking.new.items) }
+        (Carries moments drive.old lacking.old.items drive.new lacking.new.items) }
     ensures fine { OnOk result (lacking.new.items ≡ []
-        → PassesFine drive.old at planned.now lacking.old.items progress.old.deferred.items progress.new.deferred.items progress.old.wasted progress.new.wasted drive.new) }
+        → PassesFine drive.old moments planned.now lacking.old.items progress.old.deferred.items progress.new.deferred.items progress.old.wasted progress.new.wasted drive.new) }
 {
     let room = drive.room();
     if room.saturating_add(progress.wasted) < least_blocks(&planned.plan) {
         return push(&mut progress.deferred, *planned);
     }
     let is_sure = progress.wasted == 0;
-    let is_restored = try_aim(alloc, drive, session, at, &planned.aim, is_sure, lacking)?;
+    let is_restored = try_aim(alloc, drive, session, moments, &planned.aim, is_sure, lacking)?;
     if !is_restored {
         let used = room.saturating_sub(drive.room());
         progress.wasted = progress.wasted.saturating_add(used);
@@ -127,18 +127,19 @@ fn try_aim<J: Naming>(
     alloc: Global,
     drive: &mut Drive<J>,
     session: &mut Session<J>,
-    at: Moment,
+    moments: Moments,
     aim: &Aim,
     is_sure: bool,
     lacking: &mut Vec<Lacking>,
 ) -> Result<bool, Failure>
     ensures carries { OnOk result
-        (Carries at drive.old lacking.old.items drive.new lacking.new.items) }
+        (Carries moments drive.old lacking.old.items drive.new lacking.new.items) }
     ensures fine { IfOk result
         (λ is_restored. lacking.new.items ≡ []
-        → TriesFine drive.old at aim.now lacking.old.items is_sure is_restored drive.new) }
+        → TriesFine drive.old moments aim.now lacking.old.items is_sure is_restored drive.new) }
 {
-    let failure = match restore_object(alloc, drive, session, aim, at, Moment::new(0)) {
+    let (at, now) = (moments.at, moments.now);
+    let failure = match restore_object(alloc, drive, session, aim, at, now) {
         Ok(_) => return Ok(true),
         Err(failure) => failure,
     };

@@ -95,6 +95,14 @@ pub enum Failure {
         objects: String,
         advice: &'static str,
     },
+    /// No object would be left, and some are there.
+    #[error("no object would be left; --to-nothing deletes them all")]
+    LeavesNothing,
+    /// The machine's time is too far above the clock. With a leap of this number of days it isn't.
+    #[error("its last moment is so long ago that too much of its past would age; --leap {days}d accepts that")]
+    AgesTooMuch {
+        days: u64,
+    },
     /// The folder can't be made, or isn't one.
     #[error("the folder cannot be made; name one that is empty, or a new one where you may write")]
     NoFolder,

@@ -1,5 +1,6 @@
 -- What `restore` does with the image in a file.
-use Rattle.std.specs.Prelude.{◌≡◌, ℕ, false, List, [], Option, MatchBool}
+use Rattle.std.specs.Prelude.{◌≡◌, ◌⊎◌, ℕ, true, false, List, [], Option, MatchBool}
+use Rattle.std.specs.Io.KnownBytes.{Keeps}
 use Rattle.history_restore.specs.declared.aims.StandIn.{StandIn}
 use Rattle.s4_command.specs.declared.restoring.RestoreAsked.{RestoreAsked}
 use Rattle.drive.specs.Fields.{DriveFields}
@@ -7,7 +8,7 @@ use Rattle.verifier.specs.Saved.{SpellsSaved}
 use Rattle.image_commands.specs.Files.{AreKnown}
 use Rattle.s4_images.specs.Commands.{ChangesImage, IsToldDrive, OverImage}
 use Rattle.s4_restore.specs.Maps.{IsMapIn}
-use Rattle.restore_orders.specs.Orders.{RestoresBy, WouldRestoreBy}
+use Rattle.restore_orders.specs.Orders.{RestoresBy, WouldChange, WouldRestoreBy}
 use Rattle.s4_restore.specs.Searching.{AreFewest, AreLeft, DoNotServe, HidesNothing, IsAskedBy, IsServed, means_tried}
 use Rattle.restore_search.specs.declared.rooms.Room.{Room}
 use Rattle.restore_orders.specs.declared.means.Means.{Means}
@@ -29,11 +30,22 @@ pub record IsOrderOf (known : Option (List ℕ)) (restore : RestoreAsked) (stand
   pub asks : IsAskedBy restore stand_ins order
   pub prepared : IsPrepared known restore stand_ins order.means order.full.now order.skipped.now
 
--- The drive in an image is restored and saved.
+-- Nothing of the drive in an image is to be changed, and what is known of it stays. The output ends with the lines of what is left as it is.
+pub record LeavesImage (known known' : Option (List ℕ)) (order : Order) (output output' : Option (List ℕ)) : Type 0 where
+  pub idle : OverImage known (λ d. WouldChange d order false)
+  pub kept : Keeps known known'
+  pub shows : OverImage known (λ d. WouldRestoreBy d order output output')
+
+-- Something is, and it is restored and saved.
+pub record ReplacesImage (known known' : Option (List ℕ)) (order : Order) (output output' : Option (List ℕ)) : Type 0 where
+  pub busy : OverImage known (λ d. WouldChange d order true)
+  pub changes : ChangesImage known known' (λ d later. RestoresBy d later order output output')
+
+-- The drive in an image is restored and saved, unless nothing of it is to be changed.
 pub record RestoresImage (known known' : Option (List ℕ)) (restore : RestoreAsked) (stand_ins : List StandIn) (output output' : Option (List ℕ)) : Type 0 where
   pub order : Order
   pub asks : IsOrderOf known restore stand_ins order
-  pub changes : ChangesImage known known' (λ d later. RestoresBy d later order output output')
+  pub done : LeavesImage known known' order output output' ⊎ ReplacesImage known known' order output output'
 
 -- The output ends with the lines of that, and nothing is saved.
 pub record WouldRestoreImage (known : Option (List ℕ)) (restore : RestoreAsked) (stand_ins : List StandIn) (output output' : Option (List ℕ)) : Type 0 where
@@ -50,7 +62,16 @@ pub record PerformsRestore (files files' : List ℕ → Option (List ℕ)) (rest
       (WouldRestoreImage (files restore.image.now) restore stand_ins output output')
       (RestoresImage (files restore.image.now) (files' restore.image.now) restore stand_ins output output')
 
--- What a dry run prints is what a restore prints: one of the drive that the image has, by the same order, once what the drive is then is saved.
+-- A restore prints these lines, by an order: where nothing is to be changed and the image stays, and else once what the drive in the image is then
+-- is saved.
+pub record PrintsSo (known known' : Option (List ℕ)) (restore : RestoreAsked) (stand_ins : List StandIn) (order : Order) (output output' : Option (List ℕ)) : Type 0 where
+  pub drive : DriveFields
+  pub told : IsToldDrive known drive
+  pub later : DriveFields
+  pub left : OverImage known (λ d. WouldChange d order false) → Keeps known known' → RestoresImage known known' restore stand_ins output output'
+  pub replaced : OverImage known (λ d. WouldChange d order true) → (bytes : List ℕ) → SpellsSaved later bytes → AreKnown known' bytes → RestoresImage known known' restore stand_ins output output'
+
+-- What a dry run prints is what a restore prints by the same order.
 abbrev pub ADryRunPrintsARestore : Type 0
-ADryRunPrintsARestore = (known known' : Option (List ℕ)) (restore : RestoreAsked) (stand_ins : List StandIn) (output output' : Option (List ℕ)) → WouldRestoreImage known restore stand_ins output output'
-    → (drive : DriveFields) × IsToldDrive known drive × (later : DriveFields) × ((bytes : List ℕ) → SpellsSaved later bytes → AreKnown known' bytes → RestoresImage known known' restore stand_ins output output')
+ADryRunPrintsARestore = (known known' : Option (List ℕ)) (restore : RestoreAsked) (stand_ins : List StandIn) (output output' : Option (List ℕ)) (would : WouldRestoreImage known restore stand_ins output output')
+    → PrintsSo known known' restore stand_ins would.order output output'

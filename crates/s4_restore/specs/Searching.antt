@@ -1,5 +1,5 @@
 -- What was found to be needed, by trials over the drive of an image.
-use Rattle.std.specs.Prelude.{◌≡◌, ◌⊎◌, ℕ, ◌+◌, ◌++◌, false, List, [], ◌∷◌, Option, map, IsPermutation}
+use Rattle.std.specs.Prelude.{◌≡◌, ◌⊎◌, ℕ, ◌+◌, ◌++◌, false, List, [], ◌∷◌, Option, None, Some, map, IsPermutation}
 use Rattle.std.specs.List.{AllByRecursion}
 use Rattle.history_restore.specs.declared.aims.StandIn.{StandIn}
 use Rattle.s4_command.specs.declared.restoring.RestoreAsked.{RestoreAsked}
@@ -8,8 +8,7 @@ use Rattle.moment_words.specs.Texts.{style_of}
 use Rattle.s4_images.specs.Commands.{FailsOver, OverImage}
 use Rattle.s4_images.specs.Failures.{IsInStyle}
 use Rattle.s4_images.specs.declared.faults.Failure.{Failure}
-use Rattle.s4_images.specs.Moments.{moment_said}
-use Rattle.restore_trials.specs.Surveys.{IsLackingBy, IsServedAt, LacksMeans}
+use Rattle.restore_trials.specs.Surveys.{IsLackingBy, IsServedAt, LacksMeans, moments_of}
 use Rattle.restore_search.specs.declared.rooms.Room.{Room}
 use Rattle.restore_orders.specs.declared.means.Means.{Means}
 use Rattle.restore_orders.specs.declared.means.Means.TheVariants.{Nothing, Cleaning, Moves}
@@ -27,12 +26,20 @@ use Rattle.restore_search.specs.declared.surveys.Survey.{Survey}
 abbrev pub FailsInStyle : Option (List ℕ) → Failure → Type 0
 FailsInStyle known failure = FailsOver known (λ d. IsInStyle (style_of (state_in d).clock false)) failure
 
+-- the leap that is asked for, and none where it isn't
+abbrev pub leap_of : Option ℕ → ℕ
+leap_of None = 0
+leap_of (Some leap) = leap
+
 -- An order has what is asked for, and these stand-ins.
 pub record IsAskedBy (restore : RestoreAsked) (stand_ins : List StandIn) (order : Order) : Type 0 where
   pub at : order.at ≡ restore.at
   pub objects : order.objects.now ≡ restore.objects.items
   pub name : order.name ≡ restore.name
   pub stand_ins_are : order.stand_ins.now ≡ stand_ins
+  pub time : order.time ≡ restore.now
+  pub leap : order.leap ≡ leap_of restore.leap
+  pub to_nothing : order.to_nothing ≡ restore.to_nothing
   pub newer : order.keep_newer ≡ restore.keep_newer
   pub json : order.json ≡ restore.json
 
@@ -143,7 +150,7 @@ pub record IsServed (known : Option (List ℕ)) (restore : RestoreAsked) (stand_
   pub by_means : order.means ≡ means
   pub full_is : order.full.now ≡ full
   pub skipped_are : IsPermutation order.skipped.now skipped
-  pub serves : OverImage known (λ d. IsServedAt d order (moment_said (state_in d) order.at))
+  pub serves : OverImage known (λ d. IsServedAt d order (moments_of (state_in d) order))
 
 -- What is needed was found by a search that knows so much, and serves.
 pub record IsFoundBy (known : Option (List ℕ)) (restore : RestoreAsked) (stand_ins : List StandIn) (means : Means) (found : Findings) : Type 0 where

@@ -11,8 +11,9 @@ use crate::maps::{MapFault, read_map};
 use crate::preparing::{order_of, prepare_image};
 use history_restore::StandIn;
 use image_commands::{Files, Placed};
+use restore_orders::Preview;
 use s4_command::RestoreAsked;
-use s4_images::{Failure, Verdict, change_image, over_image};
+use s4_images::{Failure, Verdict, change_image, over_image, use_image};
 use serving::Sink;
 use std::alloc::Global;
 use std::thread::Threads;
@@ -45,7 +46,8 @@ pub fn dry_run_image<T: Threads, F: Files, W: Sink>(
 /// among these stand-ins and there. What is needed for that is found before, by trials that aren't
 /// saved: by which means room is made, if it has to be, and where that is asked for how many
 /// versions are hidden of objects whose journals are full, as few as serve, and what is left out.
-/// The window is widened where the moment would expire on the way.
+/// The window is widened where the moment would expire on the way. Where nothing is to be changed
+/// the file isn't replaced.
 ///
 /// An error where the moment can't be read, where an object that is named has no row, where a
 /// stand-in's number was never given, or where something can't be restored and isn't to be left
@@ -69,7 +71,12 @@ pub fn restore_image<T: Threads, F: Files, W: Sink>(
 {
     let made = prepare_image(rt, alloc, files, asked, stand_ins)?;
     let order = order_of(files, asked, stand_ins, &made);
-    change_image(rt, alloc, files, asked.image, &order, writer)
+    let preview = Preview { order: &order };
+    if use_image(rt, alloc, files, asked.image, &preview, &mut ())? {
+        return change_image(rt, alloc, files, asked.image, &order, writer);
+    }
+    let _verdict = over_image(rt, alloc, files, asked.image, &order, writer)?;
+    Ok(Placed::Lasting)
 }
 
 /// Why a restore failed.

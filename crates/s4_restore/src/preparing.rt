@@ -65,6 +65,9 @@ pub(crate) fn order_with<'a>(
         objects: asked.objects.as_slice(),
         name: asked.name,
         stand_ins,
+        time: asked.now,
+        leap: asked.leap.unwrap_or(0),
+        to_nothing: asked.to_nothing,
         keep_newer: asked.keep_newer,
         json: asked.json,
         means,
@@ -166,9 +169,9 @@ fn found_leaving<T: Threads, F: Files>(trials: &Trials<'_, T, F>) -> Result<Find
     if serves_all(&moved) {
         return found_or_none(moved);
     }
-    let best = better(cleaned, moved);
+    // room isn't made where as much can be restored without
     let plain = found_by(trials, Means::Nothing)?;
-    found_or_none(better(best, plain))
+    found_or_none(better(plain, better(cleaned, moved)))
 }
 
 // What was found, where anything was. Without any means of making room a trial is always to be had.

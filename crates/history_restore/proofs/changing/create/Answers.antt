@@ -20,7 +20,7 @@ returns-clause-asked g c =
     let d = c.args.drive.now in
     let next = (state_in d).next in
     subst (λ (a : List ℕ). AsksFor d c.args.now (change.Create next a ∷ []) (Ok c.next-number.result) c.ask.new.drive) c.in-Ok.ensures
-    (asked_one (Ok c.next-number.result) d c.ask.new.drive c.args.now (request.Update (object_request.Create c.in-Ok.attribute)) (change.Create next c.in-Ok.attribute) refl c.in_ok-ask.ensures.stored tt c.ask.ensures.clock)
+    (asked_one (Ok c.next-number.result) d c.ask.new.drive c.args.now (request.Update (object_request.Create c.in-Ok.attribute)) (change.Create next c.in-Ok.attribute) refl c.in_ok-ask.ensures.stored tt c.in_ok-ask.ensures.moved c.ask.ensures.dated)
 
 pub returns-in_err-ask-clause-asked : goal.returns-in_err-ask-clause-asked
 returns-in_err-ask-clause-asked g c =
@@ -28,4 +28,4 @@ returns-in_err-ask-clause-asked g c =
     let d = c.args.drive.now in
     let next = (state_in d).next in
     rw (p.1, p.2) (subst (λ (a : List ℕ). AsksFor d c.args.now (change.Create next a ∷ []) (Err c.in_err-ask.field-0.0) c.ask.new.drive) c.in-Ok.ensures
-    (asked_one (Err c.in_err-ask.field-0.0) d c.ask.new.drive c.args.now (request.Update (object_request.Create c.in-Ok.attribute)) (change.Create next c.in-Ok.attribute) refl tt c.in_err-ask.ensures.full c.ask.ensures.clock))
+    (asked_one (Err c.in_err-ask.field-0.0) d c.ask.new.drive c.args.now (request.Update (object_request.Create c.in-Ok.attribute)) (change.Create next c.in-Ok.attribute) refl tt c.in_err-ask.ensures.full tt c.ask.ensures.dated))

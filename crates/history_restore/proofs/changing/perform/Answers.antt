@@ -42,7 +42,7 @@ returns-in_ok-ask-in-Delete-clause-asked g c =
     let d' = c.ask.new.drive in
     let o = c.args.object in
     subst (λ (p : Plan). AsksFor d c.args.now (changes_by c.args.before.now p (state_in d).next o) (Ok o) d') (sym c.in-Delete.is)
-    (asked_one (Ok o) d d' c.args.now (request.Update (object_request.Delete o)) (change.Delete o) refl c.in_ok-ask-in-Delete.ensures.stored tt c.ask.ensures.clock)
+    (asked_one (Ok o) d d' c.args.now (request.Update (object_request.Delete o)) (change.Delete o) refl c.in_ok-ask-in-Delete.ensures.stored tt c.in_ok-ask-in-Delete.ensures.moved c.ask.ensures.dated)
 
 pub returns-in_err-ask-in-Delete-clause-asked : goal.returns-in_err-ask-in-Delete-clause-asked
 returns-in_err-ask-in-Delete-clause-asked g c =
@@ -52,4 +52,4 @@ returns-in_err-ask-in-Delete-clause-asked g c =
     let o = c.args.object in
     let e = c.in_err-ask-in-Delete.field-0.0 in
     rw (p.1, p.2) (subst (λ (q : Plan). AsksFor {T = ℕ} d c.args.now (changes_by c.args.before.now q (state_in d).next o) (Err e) d') (sym c.in-Delete.is)
-    (asked_one (Err e) d d' c.args.now (request.Update (object_request.Delete o)) (change.Delete o) refl tt c.in_err-ask-in-Delete.ensures.full c.ask.ensures.clock))
+    (asked_one (Err e) d d' c.args.now (request.Update (object_request.Delete o)) (change.Delete o) refl tt c.in_err-ask-in-Delete.ensures.full tt c.ask.ensures.dated))

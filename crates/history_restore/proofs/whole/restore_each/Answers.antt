@@ -37,7 +37,7 @@ loop-aim-preserved g c =
           (subst (λ (l : List Aim). GoesOn s later c.args.at l (c.loop-aim.all.items ++ c.in_ok-restored.restored ∷ [])) (sym more)
           (goes_on s middle later c.args.at (take i aims) a c.loop-aim.all.items c.in_ok-restored.restored before.stands before.goes item.0 item.1 c.in_ok-restored.ensures.restored calls.others calls.past));
       counted = subst (IsCounted s later c.args.now) (sym c.in-Ok.ensures.items)
-          (counted_more s middle later c.args.now c.loop-aim.all.items c.in_ok-restored.restored before.counted c.in_ok-restored.ensures.restored.next c.in_ok-restored.ensures.clock);
+          (counted_more s middle later c.args.now c.loop-aim.all.items c.in_ok-restored.restored before.counted c.in_ok-restored.ensures.restored.next c.in_ok-restored.ensures.moved calls.dated);
     }
 
 pub returns : goal.returns

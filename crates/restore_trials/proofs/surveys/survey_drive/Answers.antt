@@ -1,13 +1,13 @@
-use Rattle.std.proofs.Common.{◌≡◌, ◌∙◌, ℕ, List, ap, sym, subst}
+use Rattle.std.proofs.Common.{◌≡◌, ◌∙◌, List, ap, refl, sym, subst}
 use Rattle.std.specs.List.{AllByRecursion}
 use Rattle.drive.specs.Fields.{DriveFields, state_in, store_of}
 use Rattle.history_restore.specs.Planning.{IsPlanned}
 use Rattle.history_restore.specs.declared.planning.ObjectPlan.{ObjectPlan}
-use Rattle.s4_images.specs.Moments.{moment_said}
 use Rattle.restore_orders.specs.Choosing.{AreChosen}
 use Rattle.restore_orders.specs.Means.{IsSameDrive}
-use Rattle.restore_trials.specs.Surveys.{IsHiddenAlone, IsRefusedFrom, IsServedAt, IsServedFrom}
-use Rattle.restore_trials.proofs.Finding.{finds_lacking}
+use Rattle.restore_orders.specs.declared.dating.Moments.{Moments}
+use Rattle.restore_trials.specs.Surveys.{IsHiddenAlone, IsRefusedFrom, IsServedAt, IsServedFrom, moments_of}
+use Rattle.restore_trials.proofs.Finding.{finds_lacking, same_moments}
 use Rattle.restore_trials.proofs.surveys.survey_drive.Goals as goal
 
 pub returns : goal.returns
@@ -18,23 +18,24 @@ returns g c =
     let chosen = c.in_ok-chosen.chosen.items in
     let found = c.in_ok-found.found in
     let same : IsSameDrive d c.plans_found.new.drive = record { state = c.plans_found.ensures.state ∙ ap state_in c.session.ensures.same; store = c.plans_found.ensures.store ∙ ap store_of c.session.ensures.same } in
-    let said = subst (λ (e : DriveFields). at ≡ moment_said (state_in e) order.at) c.session.ensures.same c.in_ok-at.ensures.moment in
+    let moments : Moments = record { at = at; now = c.in_ok-now.now } in
+    let said = subst (λ (e : DriveFields). moments ≡ moments_of (state_in e) order) c.session.ensures.same (same_moments (state_in c.session.new.self) order at c.in_ok-now.now moments refl c.in_ok-at.ensures.moment c.in_ok-now.ensures.at) in
     let planned = subst (λ (e : DriveFields). AllByRecursion (IsPlanned (state_in e) at) chosen) c.session.ensures.same c.in_ok-chosen.ensures.planned in
     let none = subst (AllByRecursion (IsHiddenAlone (state_in c.session.new.self) at)) (sym c.new-hidden.ensures.items) tt in
     let hides = subst (λ (e : DriveFields). AllByRecursion (IsHiddenAlone (state_in e) at) c.plans_found.new.hidden.items) c.session.ensures.same (c.in_ok-chosen.ensures.hidden none) in
     let hidden = subst (AllByRecursion (IsHiddenAlone (state_in d) at)) (sym (ap (λ v. v.items) c.in_ok-found.ensures.hidden)) hides in
-    let refused = subst (λ (plans : List ObjectPlan). AllByRecursion (IsRefusedFrom c.compact_for.new.drive order at plans) found.refused.items) c.as_slice-chosen.ensures.value c.in_ok-found.ensures.refused in
+    let refused = subst (λ (plans : List ObjectPlan). AllByRecursion (IsRefusedFrom c.compact_for.new.drive order moments plans) found.refused.items) c.as_slice-chosen.ensures.value c.in_ok-found.ensures.refused in
     record {
-      finds = finds_lacking d c.plans_found.new.drive c.compact_for.new.drive order at chosen found said same planned c.in-Ok.ensures.compacted hidden refused;
+      finds = finds_lacking d c.plans_found.new.drive c.compact_for.new.drive order moments chosen found said same planned c.in-Ok.ensures.compacted hidden refused;
       serves = λ fine.
           let none = sym (ap (λ v. v.items) c.in_ok-found.ensures.hidden) ∙ fine.hidden in
-          subst (λ (t : ℕ). IsServedAt d order t) said (record {
+          subst (λ (m : Moments). IsServedAt d order m) said (record {
             seen = c.plans_found.new.drive;
             same = same;
             cleared = c.compact_for.new.drive;
             compacted = c.in-Ok.ensures.compacted;
             chosen = chosen;
             choice = subst (λ (e : DriveFields). AreChosen (state_in e) (store_of e) order at chosen) c.session.ensures.same (c.in_ok-chosen.ensures.chosen none);
-            serves = subst (λ (plans : List ObjectPlan). IsServedFrom c.compact_for.new.drive order at plans) c.as_slice-chosen.ensures.value (c.in_ok-found.ensures.serves fine.refused fine.unmade);
+            serves = subst (λ (plans : List ObjectPlan). IsServedFrom c.compact_for.new.drive order moments plans) c.as_slice-chosen.ensures.value (c.in_ok-found.ensures.serves fine.refused fine.unmade);
           });
     }

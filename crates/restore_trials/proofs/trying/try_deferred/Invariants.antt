@@ -5,6 +5,6 @@ use Rattle.restore_trials.proofs.trying.try_deferred.Given as goal
 -- those so far were tried, and where nothing is listed they were restored
 abbrev pub invariant-loop-planned : goal.invariant-loop-planned
 invariant-loop-planned g l = record {
-  carries : Carries l.at l.fn.drive l.fn.lacking.items l.drive l.lacking.items;
-  fine : l.lacking.items ≡ [] → (l.fn.lacking.items ≡ []) × RestoresAll l.at l.fn.drive (take l.planned-index l.deferred);
+  carries : Carries l.moments l.fn.drive l.fn.lacking.items l.drive l.lacking.items;
+  fine : l.lacking.items ≡ [] → (l.fn.lacking.items ≡ []) × RestoresAll l.moments l.fn.drive (take l.planned-index l.deferred);
 }
