@@ -57,10 +57,10 @@ pub fn plan_object<J: Naming>(
 }
 
 /// Makes an object what it was at a moment, by requests at the moment `now` of the server's clock:
-/// exactly what [`plan_object`] plans, the first of them at the greater of `now` and the first moment
-/// after the clock, and each further one at the next. An object that was deleted since stays deleted, as numbers
-/// are given once; what it was is made anew under the next number. Where the number is that of a
-/// stand-in, this is what becomes what the object was.
+/// exactly what [`plan_object`] plans. The first of these changes has the greater of `now` and of the
+/// first moment after the clock, each further one the next. An object that was deleted since stays
+/// deleted, as numbers are given once; what it was is made anew under the next number. Where the
+/// number is that of a stand-in, this is what becomes what the object was.
 ///
 /// A refusal says why, as [`Failure`] tells. What was done before it stays.
 pub fn restore_object<J: Naming>(

@@ -105,8 +105,9 @@ fn full(object: ObjectId) -> Failure {
 }
 
 /// Cleans the journal of an object, hides that many of its newest versions by a change that is asked
-/// for at the moment `moments.now`, and cleans it again. Gives the moments that are hidden, if there are any; none at all where there are fewer versions
-/// after the moment, of which none is hidden then.
+/// for at the moment `moments.now`, and cleans it again. Gives the moments that are hidden, if there
+/// are any; none at all where there are fewer versions after the moment, of which none is hidden
+/// then.
 pub fn prepare<J: Naming>(
     alloc: Global,
     drive: &mut Drive<J>,

@@ -9,8 +9,8 @@ use journal_chain::packing::blocks_needed;
 use restore_orders::{Moments, failure_of};
 use restore_search::{Lack, Lacking};
 use s4_images::Failure;
-use s4_types::limits::{BLOCK_BYTES, OBJECT_BLOCKS, SHORTEST_ENTRY_BYTES};
 use s4_types::Refusal;
+use s4_types::limits::{BLOCK_BYTES, OBJECT_BLOCKS, SHORTEST_ENTRY_BYTES};
 use segment_word::Naming;
 use std::alloc::Global;
 use undo_redo::entry_sizes;
@@ -65,7 +65,15 @@ pub(crate) fn try_all<J: Naming>(
         wasted: 0,
     };
     for planned in chosen {
-        try_planned(alloc, drive, session, moments, planned, &mut progress, lacking)?;
+        try_planned(
+            alloc,
+            drive,
+            session,
+            moments,
+            planned,
+            &mut progress,
+            lacking,
+        )?;
     }
     let deferred = progress.deferred.as_slice();
     try_deferred(alloc, drive, session, moments, deferred, lacking)
@@ -113,7 +121,15 @@ fn try_planned<J: Naming>(
         return push(&mut progress.deferred, *planned);
     }
     let is_sure = progress.wasted == 0;
-    let is_restored = try_aim(alloc, drive, session, moments, &planned.aim, is_sure, lacking)?;
+    let is_restored = try_aim(
+        alloc,
+        drive,
+        session,
+        moments,
+        &planned.aim,
+        is_sure,
+        lacking,
+    )?;
     if !is_restored {
         let used = room.saturating_sub(drive.room());
         progress.wasted = progress.wasted.saturating_add(used);
