@@ -1,5 +1,7 @@
 //! Worked durations and starts.
-use service_time::{DAY, FIRST_START, StartFault, WEEK, duration_of, start_of};
+use service_time::{
+    DAY, FIRST_START, MINUTE, StartFault, WEEK, duration_of, most_leap, start_of,
+};
 use std::test::Fail;
 
 /// Durations, and what they say in microseconds.
@@ -30,30 +32,50 @@ fn durations_are_read(rt: HostRuntime) {
 /// The system's time in most cases.
 const NOW: u64 = 1_795_785_482_000_123;
 
-/// Clocks of images, times and leaps, and where a service begins over them.
-static STARTS: [(u64, u64, u64, Result<u64, StartFault>); 8] = [
-    (0, NOW, 0, Ok(NOW)),
-    (0, 5, 0, Ok(FIRST_START)),
-    (1, NOW, u64::MAX, Err(StartFault::Counted)),
-    (FIRST_START - 1, NOW, u64::MAX, Err(StartFault::Counted)),
-    (NOW - WEEK, NOW, 0, Ok(NOW)),
-    (NOW - WEEK - 1, NOW, 0, Err(StartFault::TooFar(9))),
-    (NOW - WEEK - 1, NOW + DAY, 9 * DAY, Ok(NOW + DAY)),
-    (NOW + 7, NOW, 0, Ok(NOW + 7)),
+/// Clocks of images, their windows, times and leaps, and where a service begins over them.
+static STARTS: [(u64, u64, u64, u64, Result<u64, StartFault>); 11] = [
+    (0, DAY, NOW, 0, Ok(NOW)),
+    (0, DAY, 5, 0, Ok(FIRST_START)),
+    (1, DAY, NOW, u64::MAX, Err(StartFault::Counted)),
+    (FIRST_START - 1, DAY, NOW, u64::MAX, Err(StartFault::Counted)),
+    (NOW - WEEK, 30 * DAY, NOW, 0, Ok(NOW)),
+    (NOW - WEEK - 1, 30 * DAY, NOW, 0, Err(StartFault::TooFar(9))),
+    (NOW - WEEK - 1, 30 * DAY, NOW + DAY, 9 * DAY, Ok(NOW + DAY)),
+    (NOW - DAY / 2, DAY, NOW, 0, Ok(NOW)),
+    (NOW - DAY / 2 - 1, DAY, NOW, 0, Err(StartFault::TooFar(2))),
+    (NOW - DAY / 2 - 1, DAY, NOW, DAY, Ok(NOW)),
+    (NOW + 7, DAY, NOW, 0, Ok(NOW + 7)),
 ];
 
 #[test]
 fn services_begin(rt: HostRuntime) {
-    for (image, system, leap, start) in &STARTS {
-        let found = start_of(*image, *system, *leap);
+    for (image, window, system, leap, start) in &STARTS {
+        let found = start_of(*image, *window, *system, *leap);
         assert!(rt; found == *start, "{image}: {found:?}");
+    }
+}
+
+/// Windows, and how much of the past of a drive that has one ages at a start.
+static LEAPS: [(u64, u64); 5] = [
+    (0, MINUTE),
+    (2 * MINUTE + 2, MINUTE + 1),
+    (DAY, DAY / 2),
+    (14 * DAY + 2, WEEK),
+    (u64::MAX, WEEK),
+];
+
+#[test]
+fn windows_have_leaps(rt: HostRuntime) {
+    for (window, leap) in &LEAPS {
+        assert!(rt; most_leap(*window) == *leap, "{window}");
     }
 }
 
 #[test]
 fn a_fault_names_the_leap(rt: HostRuntime) -> Result<(), Fail> {
     let fault = format!(in rt.alloc(); "{}", StartFault::TooFar(9))?;
-    let wanted = "its last moment is more than a week ago; --leap 9d accepts that";
+    let wanted = "its last moment is so long ago that too much of its past would age; \
+        --leap 9d accepts that";
     assert!(rt; fault.as_str() == wanted);
     Ok(())
 }
