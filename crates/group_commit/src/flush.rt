@@ -33,11 +33,12 @@ pub enum FlushError {
 pub trait Flush<T> {
     fn flush(&mut self) -> Result<T, FlushError>;
 
-    /// Memory or space is short, and a flush is tried again each second from now on.
-    fn announce_shortage(&mut self);
+    /// Memory or space is short, and a flush is tried again each second from now on: so often more
+    /// where the service is to stop, else without end.
+    fn announce_shortage(&mut self, left: Option<u64>);
 }
 
-/// Nothing is kept any more, since a flush has failed.
+/// Nothing is kept any more, since a flush has failed or the service has ended.
 #[derive(Clone, Copy)]
 pub struct NotKept;
 

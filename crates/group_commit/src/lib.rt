@@ -5,8 +5,10 @@
 //! of changes and the moment that were asked for, and a receipt is made by a flush that ended well,
 //! or is the one that the monitor began with. The receipt that is had by the monitor is replaced
 //! only by one that covers as much. A flush that failed ends the service: nothing is flushed after
-//! it. What a receipt shows is its type's to say. That a thread which waits goes on is no clause's;
-//! a model that is searched has it.
+//! it. So does `end`, which flushes a last time: whoever asks after that began is given no receipt,
+//! whatever an earlier one covers. A service that is to stop gives up a flush that has lacked
+//! memory or space too often. What a receipt shows is its type's to say. That a thread which waits
+//! goes on is no clause's; a model that is searched has it.
 #![tactic(auto)]
 
 mod flush;

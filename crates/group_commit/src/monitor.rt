@@ -5,7 +5,7 @@ ghost use Rattle.group_commit.specs.Commit.{Covers};
 ghost use Rattle.group_commit.specs.private.Given.{IsGiven};
 
 use crate::flush::{CommitStep, Flush, FlushError, NotKept, Receipt, Steps};
-use crate::progress::{Progress, Turn};
+use crate::progress::{Progress, Shortage, Turn};
 use std::sync::{Condvar, CondvarTimeouts, Mutex, MutexGuard, Wait};
 use std::thread::sleep;
 use std::time::{Clock, Duration};
@@ -19,13 +19,13 @@ const GATHERING_MILLISECONDS: u64 = 2;
 
 /// How long the end of the service waits for replies that are due, in seconds: a client may never
 /// read its own.
-const PATIENCE_SECONDS: u64 = 1;
+const DUE_SECONDS: u64 = 1;
 
 /// What a session was given that asked.
 enum Given<T> {
     /// What covers it.
     Receipt(T),
-    /// A flush has failed.
+    /// Nothing: a flush has failed, or the service has ended.
     NotKept,
     /// It is to flush.
     ToFlush,
@@ -40,17 +40,19 @@ pub struct Monitor<T> {
 }
 
 impl<T: Receipt + Drop> Monitor<T> {
-    /// A monitor where this is kept, and no request was taken up.
-    pub fn new(kept: T) -> Self {
+    /// A monitor where this is kept, and no request was taken up. Once the service is to stop, a
+    /// flush that lacks memory or space is tried again for `patience`, in seconds, and a little
+    /// longer as flushes take time.
+    pub fn new(kept: T, patience: u64) -> Self {
         Monitor {
-            progress: Mutex::new(Progress::new(kept)),
+            progress: Mutex::new(Progress::new(kept, patience / PAUSE_SECONDS)),
             news: Condvar::new(),
         }
     }
 
     /// Waits until this number of changes is kept, and what is kept has this clock at least: by
     /// flushing, where nobody does. No lock is held during a flush. One that lacks memory or space
-    /// is tried again each second.
+    /// is tried again each second. Once the service has ended it answers NotKept, whatever is kept.
     pub fn await_kept<R: Wait + Clock, F: Flush<T>, S: Steps>(
         &self,
         rt: &R,
@@ -124,7 +126,7 @@ impl<T: Receipt + Drop> Monitor<T> {
             .wait_timeout_while(rt, progress, most, |progress| !progress.is_gathered());
     }
 
-    /// Gathers others, and flushes until a flush ends well, or fails.
+    /// Gathers others, and flushes until a flush ends well, fails, or is given up.
     fn flush_for_all<R: Wait + Clock, F: Flush<T>, S: Steps>(
         &self,
         rt: &R,
@@ -148,7 +150,9 @@ impl<T: Receipt + Drop> Monitor<T> {
                 }
                 Err(FlushError::Short) => {
                     steps.before(CommitStep::PutsOff);
-                    self.put_off(rt, flusher);
+                    if !self.put_off::<R, T, F>(rt, flusher) {
+                        return;
+                    }
                 }
             }
         }
@@ -167,13 +171,19 @@ impl<T: Receipt + Drop> Monitor<T> {
     }
 
     /// A flush lacked memory or space. That is announced where the one before didn't, and the
-    /// next one waits a second.
-    fn put_off<R: Wait + Clock, F: Flush<T>>(&self, rt: &R, flusher: &mut F) {
-        let was_short = self.progress.lock(rt).put_off();
-        if !was_short {
-            flusher.announce_shortage();
+    /// next one waits a second. Answers whether there is a next one.
+    fn put_off<R: Wait + Clock, U, F: Flush<U>>(&self, rt: &R, flusher: &mut F) -> bool {
+        let shortage = self.progress.lock(rt).put_off();
+        match shortage {
+            Shortage::IsOver => {
+                self.news.notify_all();
+                return false;
+            }
+            Shortage::Begins(left) => flusher.announce_shortage(left),
+            Shortage::GoesOn => {}
         }
         sleep(rt, Duration::from_secs(PAUSE_SECONDS));
+        true
     }
 
     /// Whether another request may be taken up: not where the service is to stop, or a flush has
@@ -205,23 +215,50 @@ impl<T: Receipt + Drop> Monitor<T> {
     }
 
     /// Waits until a flush has failed; or the service is to stop, nobody flushes, and no reply is
-    /// due, where those who read them do so soon. Answers what is kept then.
-    pub fn await_end<R: Wait + Clock>(&self, rt: &R) -> Result<T, NotKept> {
-        let progress = self.await_over(rt);
-        if progress.has_failed {
-            Err(NotKept)
-        } else {
-            Ok(progress.kept.again())
+    /// due, where those who read them do so soon. Then no session is given a receipt any more, and
+    /// after that all is flushed a last time: again each second where memory or space is short, as
+    /// long as the service has patience.
+    ///
+    /// `Short` where it has none left, now or in a flush of before; `Failed` where a flush failed.
+    pub fn end<R: Wait + Clock, F: Flush<()>>(
+        &self,
+        rt: &R,
+        last: &mut F,
+    ) -> Result<(), FlushError> {
+        self.await_over(rt)?;
+        for _ in rt.forever() {
+            match last.flush() {
+                Ok(()) => return Ok(()),
+                Err(FlushError::Failed) => return Err(FlushError::Failed),
+                Err(FlushError::Short) => {
+                    if !self.put_off::<R, (), F>(rt, last) {
+                        return Err(FlushError::Short);
+                    }
+                }
+            }
         }
+        unreachable!()
     }
 
-    /// The struct once the service has come to its end.
-    fn await_over<R: Wait + Clock>(&self, rt: &R) -> MutexGuard<'_, Progress<T>> {
+    /// Waits until the service has come to its end, from which on no receipt is given. Answers what
+    /// became of the flush that failed, where one has.
+    fn await_over<R: Wait + Clock>(&self, rt: &R) -> Result<(), FlushError> {
+        let outcome = {
+            let mut progress = self.await_last(rt);
+            progress.end();
+            progress.outcome()
+        };
+        self.news.notify_all();
+        outcome
+    }
+
+    /// The struct once nothing more is waited for at the end of the service.
+    fn await_last<R: Wait + Clock>(&self, rt: &R) -> MutexGuard<'_, Progress<T>> {
         let progress = self.progress.lock(rt);
         let progress = self
             .news
             .wait_while(rt, progress, |progress| progress.goes_on());
-        let most = Duration::from_secs(PATIENCE_SECONDS);
+        let most = Duration::from_secs(DUE_SECONDS);
         let (progress, _) = self
             .news
             .wait_timeout_while(rt, progress, most, |progress| !progress.is_over());

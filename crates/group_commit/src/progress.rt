@@ -1,21 +1,33 @@
 //! What sessions wait for: one struct, which one lock guards.
 ghost use Rattle.std.specs.Prelude.{◌≡◌, ◌≢◌, ◌+◌, ◌-◌, ◌^◌, ◌||◌, ◌&&◌, ◌==◌, true, false, not, min};
-ghost use Rattle.std.specs.Prelude.{nat_le, Some};
-ghost use Rattle.group_commit.specs.Commit.{covers, later_of, turn_of};
+ghost use Rattle.std.specs.Prelude.{nat_le, None, Some, IfErr, OnOk, if◌then◌else◌};
+ghost use Rattle.group_commit.specs.Commit.{covers, later_of, left_after, shortage_of, turn_of};
 
-use crate::flush::Receipt;
+use crate::flush::{FlushError, Receipt};
 
 /// What a session is to do that waits until its change is kept.
 #[derive(Clone, Copy, PartialEq, Eq)]
 pub(crate) enum Turn {
     /// What is kept covers it: it goes on.
     Covered,
-    /// A flush has failed.
+    /// It is given no receipt: a flush has failed, or the service has ended.
     Failed,
     /// It flushes.
     Flushes,
     /// Somebody flushes.
     Waits,
+}
+
+/// What is to be done where a flush lacked memory or space.
+#[derive(Clone, Copy, PartialEq, Eq)]
+pub(crate) enum Shortage {
+    /// The one before didn't, so it is announced, and tried again: so often at most, where the
+    /// service is to stop.
+    Begins(Option<u64>),
+    /// It is tried again.
+    GoesOn,
+    /// It was tried often enough.
+    IsOver,
 }
 
 /// How far everything is kept, and who is to flush.
@@ -25,6 +37,10 @@ pub(crate) enum Turn {
 /// notifies the one condition variable after that, where the change may end a wait. For sessions
 /// and clients that may never come, a wait has a limit. Whoever holds the lock takes no other, and
 /// nobody asks for it with the drive's lock held.
+///
+/// **The end.** Once `has_ended` nobody is given a receipt, also for what an earlier one covers:
+/// what is kept then may be at a lower clock than that. Whoever was given one before had taken its
+/// step before, so whoever collects the drive afterwards finds it at no lower clock than that step.
 #[derive(Drop)]
 pub(crate) struct Progress<T> {
     /// What shows how much is kept.
@@ -33,12 +49,16 @@ pub(crate) struct Progress<T> {
     pub is_flushing: bool,
     /// A flush has failed.
     pub has_failed: bool,
-    /// The last flush lacked memory or space.
+    /// The last flush lacked memory or space, which was announced.
     pub is_short: bool,
     /// Replies that are due: their requests were taken up.
     pub due: u64,
     /// No request is to be taken up any more.
     pub is_stopping: bool,
+    /// How often a flush that lacks memory or space is tried again at most, once that is so.
+    pub left: u64,
+    /// What is kept at the end is collected, and no receipt is given any more.
+    pub has_ended: bool,
     /// Flushes that have ended well.
     pub round: u64,
     /// Sessions that wait for the one that flushes, and have looked since the last flush ended.
@@ -49,9 +69,9 @@ pub(crate) struct Progress<T> {
 
 impl<T: Receipt + Drop> Progress<T> {
     /// Before the first request.
-    pub(crate) fn new(kept: T) -> Self
+    pub(crate) fn new(kept: T, left: u64) -> Self
         ensures { result
-            ≡ record { kept = kept; is_flushing = false; has_failed = false; is_short = false; due = 0; is_stopping = false; round = 0; waiting = 0; expected = 0 } }
+            ≡ record { kept = kept; is_flushing = false; has_failed = false; is_short = false; due = 0; is_stopping = false; left = left; has_ended = false; round = 0; waiting = 0; expected = 0 } }
     {
         Progress {
             kept,
@@ -60,6 +80,8 @@ impl<T: Receipt + Drop> Progress<T> {
             is_short: false,
             due: 0,
             is_stopping: false,
+            left,
+            has_ended: false,
             round: 0,
             waiting: 0,
             expected: 0,
@@ -76,9 +98,13 @@ impl<T: Receipt + Drop> Progress<T> {
     /// What a session is to do that has seen this number of changes, and has read the drive at this
     /// clock.
     pub(crate) fn turn(&self, number: u64, clock: u64) -> Turn
-        ensures { result ≡ turn_of (covers T.number T.reach self.now.kept number clock) self.now.has_failed self.now.is_flushing }
+        ensures { result ≡ turn_of self.now.has_ended
+            (covers T.number T.reach self.now.kept number clock)
+            self.now.has_failed self.now.is_flushing }
     {
-        if Self::is_enough(&self.kept, number, clock) {
+        if self.has_ended {
+            Turn::Failed
+        } else if Self::is_enough(&self.kept, number, clock) {
             Turn::Covered
         } else if self.has_failed {
             Turn::Failed
@@ -93,6 +119,7 @@ impl<T: Receipt + Drop> Progress<T> {
     pub(crate) fn begin_flush(&mut self)
         requires alone { self.old.is_flushing ≡ false }
         requires well { self.old.has_failed ≡ false }
+        requires open { self.old.has_ended ≡ false }
         ensures { self.new ≡ record self.old { is_flushing = true } }
     {
         self.is_flushing = true;
@@ -157,23 +184,71 @@ impl<T: Receipt + Drop> Progress<T> {
         self.waiting = 0;
     }
 
-    /// The flush lacked memory or space, and is tried again by the one who flushes. Answers whether
-    /// the one before did, too.
-    pub(crate) fn put_off(&mut self) -> bool
-        ensures was { result ≡ self.old.is_short }
-        ensures short { self.new ≡ record self.old { is_short = true } }
+    /// The flush lacked memory or space. It is tried again by the one who flushes; or has failed,
+    /// where the service is to stop and it was tried often enough since then.
+    pub(crate) fn put_off(&mut self) -> Shortage
+        ensures shortage { result
+            ≡ shortage_of self.old.is_stopping self.old.is_short self.old.left }
+        ensures over { result ≡ Shortage.IsOver
+            → self.new ≡ record self.old { is_short = true; has_failed = true; is_flushing = false } }
+        ensures again { result ≢ Shortage.IsOver → self.new ≡ record self.old {
+          is_short = true;
+          left = left_after self.old.is_stopping self.old.left;
+        } }
     {
         let was_short = self.is_short;
         self.is_short = true;
-        was_short
+        if self.is_stopping && self.left == 0 {
+            self.end_badly(true);
+            return Shortage::IsOver;
+        }
+        let left = self.count_again();
+        if was_short { Shortage::GoesOn } else { Shortage::Begins(left) }
+    }
+
+    /// A flush is tried again. Answers how often that may be, where the service is to stop.
+    fn count_again(&mut self) -> Option<u64>
+        ensures left { result ≡ if self.old.is_stopping then Some self.old.left else None }
+        ensures counted { self.new
+            ≡ record self.old { left = left_after self.old.is_stopping self.old.left } }
+    {
+        if !self.is_stopping {
+            return None;
+        }
+        let left = self.left;
+        self.left = left.saturating_sub(1);
+        Some(left)
     }
 
     /// The flush has failed.
     pub(crate) fn fail(&mut self)
-        ensures { self.new ≡ record self.old { has_failed = true; is_flushing = false } }
+        ensures { self.new
+            ≡ record self.old { has_failed = true; is_flushing = false; is_short = false } }
+    {
+        self.end_badly(false);
+    }
+
+    /// The flush has failed, or lacked memory or space too often.
+    fn end_badly(&mut self, is_short: bool)
+        ensures { self.new
+            ≡ record self.old { has_failed = true; is_flushing = false; is_short = is_short } }
     {
         self.has_failed = true;
         self.is_flushing = false;
+        self.is_short = is_short;
+    }
+
+    /// What became of the flush that failed, where one has.
+    pub(crate) fn outcome(&self) -> Result<(), FlushError>
+        ensures well { OnOk result (self.now.has_failed ≡ false) }
+        ensures fault { IfErr result (λ why. (self.now.has_failed ≡ true)
+            × (why ≡ if self.now.is_short then FlushError.Short else FlushError.Failed)) }
+    {
+        match (self.has_failed, self.is_short) {
+            (false, _) => Ok(()),
+            (true, true) => Err(FlushError::Short),
+            (true, false) => Err(FlushError::Failed),
+        }
     }
 
     /// Whether another request may be taken up: not where the service is to stop, or a flush has
@@ -198,11 +273,23 @@ impl<T: Receipt + Drop> Progress<T> {
         self.due = self.due.saturating_sub(1);
     }
 
-    /// No request is to be taken up from now on.
+    /// No request is to be taken up from now on. That memory or space is short is announced once
+    /// more, as it is waited for only so long.
     pub(crate) fn stop(&mut self)
-        ensures { self.new ≡ record self.old { is_stopping = true } }
+        ensures { self.new ≡ record self.old {
+          is_stopping = true;
+          is_short = self.old.is_short && self.old.is_stopping;
+        } }
     {
+        self.is_short = self.is_short && self.is_stopping;
         self.is_stopping = true;
+    }
+
+    /// No receipt is given from now on.
+    pub(crate) fn end(&mut self)
+        ensures { self.new ≡ record self.old { has_ended = true } }
+    {
+        self.has_ended = true;
     }
 
     /// Whether the service has come to its end: a flush has failed; or it is to stop, no reply is

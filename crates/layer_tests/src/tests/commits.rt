@@ -110,10 +110,33 @@ impl<R: Wait> Flush<Kept> for Flusher<'_, R> {
         self.store.lock(self.rt).flush()
     }
 
-    fn announce_shortage(&mut self) {
+    fn announce_shortage(&mut self, _left: Option<u64>) {
         self.store.lock(self.rt).announce();
     }
 }
+
+/// What flushes it a last time.
+#[derive(Drop)]
+struct Last<'a, R: Wait> {
+    rt: &'a R,
+    store: &'a Mutex<Store>,
+}
+
+impl<R: Wait> Flush<()> for Last<'_, R> {
+    fn flush(&mut self) -> Result<(), FlushError> {
+        match self.store.lock(self.rt).flush() {
+            Ok(_) => Ok(()),
+            Err(error) => Err(error),
+        }
+    }
+
+    fn announce_shortage(&mut self, _left: Option<u64>) {
+        self.store.lock(self.rt).announce();
+    }
+}
+
+/// For this long a flush that lacks room is tried again once a service is to stop, in seconds.
+const PATIENCE: u64 = 1;
 
 /// A session accepts a change, and waits until it is kept. Answers whether its receipt covers it.
 fn is_kept<R: Wait + Clock, S: Steps>(

@@ -2,7 +2,7 @@
 //! that takes, and nobody waits for what doesn't come.
 ghost use Rattle.std.specs.Prelude.{◌≡◌};
 
-use crate::tests::commits::{Kept, NOTHING, Store, is_kept};
+use crate::tests::commits::{Kept, NOTHING, PATIENCE, Store, is_kept};
 use group_commit::{CommitStep, Monitor, Open, Steps};
 use std::io;
 use std::process::Abort;
@@ -106,7 +106,7 @@ struct Pair {
 impl Pair {
     fn new() -> Self {
         Pair {
-            monitor: Monitor::new(NOTHING),
+            monitor: Monitor::new(NOTHING, PATIENCE),
             store: Mutex::new(Store::new(0, false)),
             has_ended: AtomicBool::new(false),
         }

@@ -1,20 +1,33 @@
-//! How a session's source ends, and how long a service that is to stop waits for its replies.
-use crate::tests::commits::{Kept, NOTHING};
+//! How a session's source ends, how long a service that is to stop waits for its replies, and what
+//! becomes of those that wait then.
+use crate::tests::commits::{Flusher, Kept, Last, NOTHING, PATIENCE, Store, is_kept};
 use batch_serving::DueSource;
-use group_commit::Monitor;
+use group_commit::{FlushError, Monitor, Open};
 use serving::{MemorySource, Source};
-use std::sync::Wait;
+use std::sync::{Mutex, Wait};
 use std::time::Clock;
 
 /// For this long replies that are due are waited for at least.
 const SOON_MILLISECONDS: u128 = 900;
 
-/// How long the service takes to end that is to stop, in milliseconds.
+/// Ends a service, with a last flush of this store.
+fn end<R: Wait + Clock>(
+    rt: &R,
+    monitor: &Monitor<Kept>,
+    store: &Mutex<Store>,
+) -> Result<(), FlushError> {
+    let mut last = Last { rt, store };
+    monitor.end(rt, &mut last)
+}
+
+/// How long the service takes to end that is to stop, in milliseconds, where it ends well.
 fn milliseconds_to_the_end<R: Wait + Clock>(rt: &R, monitor: &Monitor<Kept>) -> u128 {
+    let store = Mutex::new(Store::new(0, false));
     let before = rt.monotonic();
-    let kept = monitor.await_end(rt);
-    match (kept, before, rt.monotonic()) {
-        (Ok(_), Ok(before), Ok(after)) => after.saturating_sub(before).as_millis(),
+    let ended = end(rt, monitor, &store);
+    drop(store);
+    match (ended, before, rt.monotonic()) {
+        (Ok(()), Ok(before), Ok(after)) => after.saturating_sub(before).as_millis(),
         _ => 0,
     }
 }
@@ -37,21 +50,64 @@ fn read_and_stop<R: Wait + Clock>(
 
 #[test]
 fn nothing_is_read_after_stop(rt: HostRuntime) {
-    let monitor = Monitor::new(NOTHING);
+    let monitor = Monitor::new(NOTHING, PATIENCE);
     let (before, after, milliseconds) = read_and_stop(&rt, &monitor);
-    let end = monitor.await_end(&rt);
     drop(monitor);
     assert!(rt; before == Some(4) && after.is_none());
     assert!(rt; milliseconds >= SOON_MILLISECONDS, "replies are due");
-    assert!(rt; end.ok() == Some(NOTHING));
 }
 
 #[test]
 fn a_reply_that_nobody_reads_does_not_hold_back_the_end(rt: HostRuntime) {
-    let monitor = Monitor::new(NOTHING);
+    let monitor = Monitor::new(NOTHING, PATIENCE);
     monitor.begin_replies(&rt);
     monitor.stop(&rt);
     let milliseconds = milliseconds_to_the_end(&rt, &monitor);
     drop(monitor);
     assert!(rt; milliseconds >= SOON_MILLISECONDS, "a reply is due");
+}
+
+/// Whether what was kept before is answered before a service ends, and after that.
+fn ask_and_end<R: Wait + Clock>(rt: &R, store: &Mutex<Store>) -> (bool, bool) {
+    let monitor = Monitor::new(NOTHING, PATIENCE);
+    let before = is_kept(rt, &monitor, store, &Open);
+    monitor.stop(rt);
+    let ended = end(rt, &monitor, store).is_ok();
+    let mut last = Flusher { rt, store };
+    let after = monitor.await_kept(rt, &mut last, &Open, 0, 0).is_ok();
+    drop(last);
+    drop(monitor);
+    (before && ended, after)
+}
+
+#[test]
+fn no_receipt_is_given_after_the_end(rt: HostRuntime) {
+    let store = Mutex::new(Store::new(0, false));
+    let (before, after) = ask_and_end(&rt, &store);
+    drop(store);
+    assert!(rt; before && !after);
+}
+
+/// Whether a service that is to stop gives up a session's flush, and then its own last one, where
+/// each lacks room.
+fn give_up<R: Wait + Clock>(rt: &R, store: &Mutex<Store>) -> (bool, bool) {
+    let asked = Monitor::new(NOTHING, PATIENCE);
+    asked.stop(rt);
+    let is_kept = is_kept(rt, &asked, store, &Open);
+    drop(asked);
+    let unasked = Monitor::new(NOTHING, PATIENCE);
+    unasked.stop(rt);
+    let is_short = matches!(end(rt, &unasked, store), Err(FlushError::Short));
+    drop(unasked);
+    (!is_kept, is_short)
+}
+
+#[test]
+fn a_service_that_is_to_stop_gives_up(rt: HostRuntime) {
+    let store = Mutex::new(Store::new(u64::MAX, false));
+    let (session, last) = give_up(&rt, &store);
+    let announced = store.lock(&rt).announced;
+    drop(store);
+    assert!(rt; session && last);
+    assert!(rt; announced == 2);
 }
