@@ -1,5 +1,5 @@
 -- What a crash may leave of a file.
-use Rattle.std.specs.Prelude.{◌≡◌, ◌⊎◌, ℕ, List}
+use Rattle.std.specs.Prelude.{◌≡◌, ◌⊎◌, ℕ, ℤ, List, Option}
 use Rattle.image_commands.specs.declared.obstacles.Obstacle.{Obstacle}
 use Rattle.image_commands.specs.declared.obstacles.Obstacle.TheVariants.{NoMemory, NoRoom}
 
@@ -17,4 +17,4 @@ LeavesMore others before now = (c : List ℕ) → now c → before c ⊎ others 
 
 -- an obstacle is that memory, or room on the disk, is short
 abbrev pub IsShort : Obstacle → Type 0
-IsShort obstacle = (obstacle ≡ NoMemory) ⊎ (obstacle ≡ NoRoom)
+IsShort obstacle = (obstacle ≡ NoMemory) ⊎ ((code : Option ℤ) × (obstacle ≡ NoRoom code))

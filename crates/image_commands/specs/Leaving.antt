@@ -1,8 +1,11 @@
 -- What is left in the place of files that were left beside an image.
-use Rattle.std.specs.Prelude.{◌≡◌, ◌⊎◌, ℕ, Bool, true, List, Option}
+use Rattle.std.specs.Prelude.{◌≡◌, ◌≤◌, ◌<◌, ◌<=◌, ◌⊎◌, ℕ, Bool, true, List, ⊤, Option, None, Some, string_bytes}
 use Rattle.std.specs.Io.KnownBytes.{Keeps}
 use Rattle.s4_types.specs.declared.refusals.Cause.{Cause}
-use Rattle.image_commands.specs.Verifying.{IsDamaged}
+use Rattle.verifier.specs.Images.{ImageFields}
+use Rattle.image_commands.specs.Verifying.{IsDamaged, IsVerified}
+use Rattle.image_commands.specs.declared.leftovers.LeftFault.{LeftFault}
+use Rattle.image_commands.specs.declared.leftovers.LeftFault.TheVariants.{NoMemory, Unread, Whole}
 
 -- what is known of a file encodes no drive
 abbrev pub IsNoImage : Option (List ℕ) → Type 0
@@ -19,3 +22,32 @@ IsBeside {Claim} leads reserves image path = (claim : Claim) × leads claim imag
 -- a file is as it was, or it was left beside an image and was none
 abbrev pub IsKeptOrLeft : (IsLeft : Type 0) → (known known' : Option (List ℕ)) → Type 0
 IsKeptOrLeft IsLeft known known' = Keeps known known' ⊎ (IsLeft × IsNoImage known)
+
+-- what is known of a file encodes a drive with this clock; or none, where there is no clock
+abbrev pub HasClock : Option (List ℕ) → Option ℕ → Type 0
+HasClock known None = IsNoImage known
+HasClock known (Some clock) = (image : ImageFields) × IsVerified known image × (image.clock ≡ clock)
+
+-- whether nothing is lost with a file that was left beside an image with this clock: it is no image, or one whose clock isn't above
+abbrev pub is_spent : (left : Option ℕ) (image : ℕ) → Bool
+is_spent None image = true
+is_spent (Some clock) image = clock <= image
+
+-- so it is, by what is known of the file
+abbrev pub IsSpent : (image : ℕ) → Option (List ℕ) → Type 0
+IsSpent image known = (left : Option ℕ) × HasClock known left × (is_spent left image ≡ true)
+
+-- A file was left beside a claimed image with this clock, and nothing is lost with it: it is where a service makes one before that is
+-- whole, or it is spent.
+abbrev pub IsLeftFor : {Claim Left : Type 0} → (is_left : Left → List ℕ → Bool) → (is_part : Claim → List ℕ → Bool) → (files : List ℕ → Option (List ℕ))
+    → Claim → (clock : ℕ) → Left → Type 0
+IsLeftFor is_left is_part files claim clock left = (path : List ℕ) → is_left left path ≡ true → (is_part claim path ≡ true) ⊎ IsSpent clock (files path)
+
+-- what is known of a file encodes a drive whose clock isn't below this one
+abbrev pub IsWholeFrom : (least : ℕ) → Option (List ℕ) → Type 0
+IsWholeFrom least known = (clock : ℕ) × HasClock known (Some clock) × (least ≤ clock)
+
+-- where a fault names a whole file, that has an image whose clock isn't below this one
+abbrev pub NamesWhole : (least : ℕ) → (List ℕ → Option (List ℕ)) → LeftFault → Type 0
+NamesWhole least files (Whole path) = IsWholeFrom least (files (string_bytes path))
+NamesWhole least files _ = ⊤

@@ -1,3 +1,4 @@
+pub mod Beside
 pub mod Crashes
 pub mod Faults
 pub mod Files

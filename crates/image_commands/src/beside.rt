@@ -1,20 +1,48 @@
 //! The names of files beside an image.
+ghost use Rattle.std.specs.Prelude.{◌≡◌, IfOk, string_bytes};
+ghost use Rattle.image_commands.specs.Beside.{part_path, whole_path};
+
 use crate::paths::path_beside;
 use std::alloc::{AllocError, Global};
 
-/// How many names of each kind there are for a file beside an image: `s4d.new`, and `s4d.new.1` to
-/// `s4d.new.99`.
+/// How many names of each kind there are for a file beside an image: one without a number, and
+/// those with a number from 1 to 99.
 pub const MOST_BESIDE: u32 = 100;
 
-/// How the name of a file beside an image begins that may be told of while it is there.
-pub const TOLD: &str = "s4d.new";
+/// How many files a service may have left beside an image: by each of these numbers below
+/// `MOST_BESIDE` a whole one, and by each further number a part of one.
+pub const MOST_LEFT: u32 = 200;
 
-/// The same of one that nobody is told of before it has the image's name.
-pub const UNTOLD: &str = "s4serve.new";
+/// The name of the file that a command writes in the folder of an image.
+const OF_COMMANDS: &str = "s4d.new";
 
-/// Whether a file of this name, in an image's folder, is one beside that image.
-pub fn is_beside_name(name: &str) -> bool {
-    is_numbered(name, TOLD) || is_numbered(name, UNTOLD)
+/// That of a service, before its files had the image's name. Nothing looks for those any more.
+const OF_EARLIER_SERVICES: &str = "s4serve.new";
+
+/// By which names files beside an image go.
+#[derive(Clone, Copy)]
+pub enum Names {
+    /// `s4d.new` in the image's folder, since somebody is told of them while they are there.
+    OfCommands,
+    /// The image's name and `.s4serve.new`; and that with `.part`, before one is whole.
+    OfServices,
+}
+
+/// Whether a file of this name, in the folder of the image of that name, is one beside it.
+pub fn is_beside_name(name: &str, image: &str) -> bool {
+    is_numbered(name, OF_COMMANDS)
+        || is_numbered(name, OF_EARLIER_SERVICES)
+        || is_of_service(name, image)
+}
+
+// Whether it is one that a service writes beside the image of that name.
+fn is_of_service(name: &str, image: &str) -> bool {
+    match name.strip_prefix(image) {
+        Some(ending) => {
+            is_numbered(ending, ".s4serve.new") || is_numbered(ending, ".s4serve.new.part")
+        }
+        None => false,
+    }
 }
 
 // Whether a name is this one, or has a number from 1 to 99 after it.
@@ -29,18 +57,65 @@ fn is_numbered(name: &str, front: &str) -> bool {
     }
 }
 
-/// The path of that number for a file beside the image at a path, whose name begins so.
+/// The path of that number at which a file is made that is to take the place of the image at a
+/// path.
 pub fn beside_path(
     alloc: Global,
     image: &str,
-    front: &str,
+    names: Names,
     number: u32,
 ) -> Result<String, AllocError> {
+    match names {
+        Names::OfCommands => command_path(alloc, image, number),
+        Names::OfServices => part_path(alloc, image, number),
+    }
+}
+
+/// The path of that number at which one may have been left. None where there are fewer names.
+pub fn left_path(
+    alloc: Global,
+    image: &str,
+    names: Names,
+    number: u32,
+) -> Result<Option<String>, AllocError> {
+    let path = match names {
+        Names::OfCommands if number >= MOST_BESIDE => return Ok(None),
+        Names::OfCommands => command_path(alloc, image, number)?,
+        Names::OfServices if number >= MOST_BESIDE => {
+            part_path(alloc, image, number - MOST_BESIDE)?
+        }
+        Names::OfServices => whole_path(alloc, image, number)?,
+    };
+    Ok(Some(path))
+}
+
+// The path of that number for the file that a command writes.
+fn command_path(alloc: Global, image: &str, number: u32) -> Result<String, AllocError> {
     match number {
-        0 => path_beside(alloc, image, front),
+        0 => path_beside(alloc, image, OF_COMMANDS),
         _ => {
-            let name = format!(in alloc; "{front}.{number}")?;
+            let name = format!(in alloc; "{OF_COMMANDS}.{number}")?;
             path_beside(alloc, image, name.as_str())
         }
+    }
+}
+
+/// The path of that number for a whole file that a service leaves beside the image at a path.
+pub fn whole_path(alloc: Global, image: &str, number: u32) -> Result<String, AllocError>
+    ensures { IfOk result (λ path. string_bytes path ≡ whole_path image.now number) }
+{
+    match number {
+        0 => format!(in alloc; "{image}.s4serve.new"),
+        _ => format!(in alloc; "{image}.s4serve.new.{number}"),
+    }
+}
+
+/// The same of a file that a service writes, before it is whole.
+pub fn part_path(alloc: Global, image: &str, number: u32) -> Result<String, AllocError>
+    ensures { IfOk result (λ path. string_bytes path ≡ part_path image.now number) }
+{
+    match number {
+        0 => format!(in alloc; "{image}.s4serve.new.part"),
+        _ => format!(in alloc; "{image}.s4serve.new.part.{number}"),
     }
 }

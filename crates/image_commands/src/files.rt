@@ -1,9 +1,10 @@
 //! The files that the commands read and write.
-ghost use Rattle.std.specs.Prelude.{◌≡◌, ℕ, Bool, true, false, List, [], Option, None, IfErr, IfOk};
+ghost use Rattle.std.specs.Prelude.{◌≡◌, ◌≤◌, ◌⊎◌, ℕ, Bool, true, false, List, [], Option, None, IfErr, IfOk};
 ghost use Rattle.std.specs.Prelude.{IfSome, IsFalse, IsTrue, OnErr, OnOk, string_bytes};
 ghost use Rattle.std.specs.Io.KnownBytes.{Keeps};
 ghost use Rattle.image_commands.specs.Crashes.{IsShort, LeavesMore, LeavesNoMore, LeavesOnly};
 ghost use Rattle.image_commands.specs.Files.{AreKnown, HasSome};
+ghost use Rattle.image_commands.specs.declared.beside.TheConstants.{MOST_BESIDE};
 
 use crate::obstacles::Obstacle;
 use std::alloc::Global;
@@ -26,6 +27,9 @@ pub trait Files {
 
     // Whether a path names a file that was left beside an image.
     ghost is_left: { Self.Leftover → List ℕ → Bool };
+
+    // Whether a path names where a service makes a file beside an image, before that is whole.
+    ghost is_part: { Self.Claim → List ℕ → Bool };
 
     // Whether two paths never lead to one file: what is written to the one is never what the other
     // has.
@@ -66,7 +70,7 @@ pub trait Files {
     type Beside: Send + Drop;
 
     /// A file that may have been left beside an image. While this is kept no other program has it.
-    type Leftover: Drop;
+    type Leftover: Send + Drop;
 
     /// Opens a file, to be read from its beginning.
     fn open(&self, path: &str) -> io::Result<Self::Reader>
@@ -104,12 +108,15 @@ pub trait Files {
     fn claim(&self, alloc: Global, path: &str) -> Result<Self::Claim, Obstacle>
         ensures claimed { IfOk result (λ c. leads c path.now) };
 
-    /// The claim of an image that is to be replaced again and again. From now on files beside it
-    /// have names of their own, since nobody is told of them before they have the image's name, and
-    /// those that were left by such names are removed.
-    fn keep_on(&mut self, claim: Self::Claim) -> Self::Claim
+    /// The claim of an image that a service replaces again and again. From now on files beside it
+    /// have names of their own, which begin as the image's.
+    fn keep_on(&self, claim: Self::Claim) -> Self::Claim
         ensures claimed { (path : List ℕ) → leads claim path → leads result path }
-        ensures others { (path : List ℕ) → reserves claim path ≡ false → Keeps (contents self.old path) (contents self.new path) };
+        ensures reserved { (path : List ℕ) → reserves result path ≡ reserves claim path };
+
+    /// Whether a claimed image is still where it was claimed: neither removed nor replaced by
+    /// somebody else. False where that isn't known.
+    fn is_in_place(&self, claim: &Self::Claim) -> bool;
 
     /// Whether what was claimed is a file that has bytes.
     fn has_bytes(&self, claim: &Self::Claim) -> io::Result<bool>
@@ -143,9 +150,16 @@ pub trait Files {
         ensures crash { (any : Self.Claim) → LeavesNoMore (may_leave self.old any) (may_leave self.new any) };
 
     /// The file of this number that was left beside a claimed image, where there is one that no
-    /// program has.
+    /// program has: of a service's by a number from `MOST_BESIDE` on one that need not be whole.
     fn leftover(&self, alloc: Global, claim: &Self::Claim, number: u32) -> Option<Self::Leftover>
-        ensures reserved { IfSome result (λ left. (path : List ℕ) → is_left left path ≡ true → reserves claim.now path ≡ true) };
+        ensures reserved { IfSome result (λ left. (path : List ℕ) → is_left left path ≡ true → reserves claim.now path ≡ true) }
+        ensures part { IfSome result
+            (λ left. MOST_BESIDE ≤ number → (path : List ℕ) → is_left left path ≡ true
+            → is_part claim.now path ≡ true) };
+
+    /// The path of a leftover.
+    fn leftover_path(&self, leftover: Self::Leftover) -> String
+        ensures { (is_left leftover (string_bytes result) ≡ true) ⊎ (contents self.now (string_bytes result) ≡ None) };
 
     /// Opens a leftover, to be read from its beginning.
     fn open_leftover(&self, leftover: &Self::Leftover) -> io::Result<Self::Reader>
@@ -153,7 +167,8 @@ pub trait Files {
 
     /// Removes a leftover.
     fn remove_leftover(&mut self, leftover: Self::Leftover)
-        ensures others { (path : List ℕ) → is_left leftover path ≡ false → Keeps (contents self.old path) (contents self.new path) };
+        ensures others { (path : List ℕ) → is_left leftover path ≡ false → Keeps (contents self.old path) (contents self.new path) }
+        ensures crash { (any : Self.Claim) → LeavesNoMore (may_leave self.old any) (may_leave self.new any) };
 
     /// Fills the file beside an image with these bytes and puts it in the image's place. Whoever
     /// reads the path, at whatever time, finds all bytes of the old file or all of the new one. An
@@ -227,6 +242,13 @@ pub trait Files {
         ensures short { IfErr result
             (λ why. IsShort why.obstacle
             → LeavesNoMore (may_leave self.old claim.old) (may_leave self.new claim.new)) };
+
+    /// Leaves the file beside an image, which was filled and can't take the image's place, by a name
+    /// at which whoever comes next looks for a whole one, where that can be had. Gives its path.
+    fn set_aside(&mut self, alloc: Global, claim: &Self::Claim, beside: Self::Beside) -> String
+        ensures kept { (bytes : List ℕ) → is_filled beside bytes → AreKnown (contents self.new (string_bytes result)) bytes }
+        ensures others { (path : List ℕ) → is_beside beside path ≡ false → Keeps (contents self.old path) (contents self.new path) }
+        ensures crash { (any : Self.Claim) → LeavesNoMore (may_leave self.old any) (may_leave self.new any) };
 
     /// Writes the folder of a claimed image to the disk, so that the file which has the image's
     /// name now keeps it. After an obstacle a failure of the machine may leave either file there,

@@ -1,7 +1,7 @@
 //! The files of this system.
 ghost use Rattle.std.specs.Prelude.{false, None, ⊤};
 
-use crate::beside::{MOST_BESIDE, TOLD, UNTOLD, beside_path, is_beside_name};
+use crate::beside::{MOST_BESIDE, Names, beside_path, is_beside_name, left_path, whole_path};
 use crate::files::{Files, NotExchanged, NotReplaced, Placed};
 use crate::obstacles::Obstacle;
 use crate::paths::{
@@ -36,8 +36,8 @@ pub struct ImageClaim {
     image: Option<File>,
     /// The folder that it is in, where it was put there.
     folder: Option<File>,
-    /// How the names of files beside it begin.
-    beside: &'static str,
+    /// By which names files beside it go.
+    names: Names,
 }
 
 /// A file of this system beside an image, locked.
@@ -143,6 +143,8 @@ impl Files for HostRuntime {
 
     ghost is_left = { λ _ _. false };
 
+    ghost is_part = { λ _ _. false };
+
     ghost apart = { λ _ _. ⊤ };
 
     ghost opens = { λ _ _. ⊤ };
@@ -213,19 +215,18 @@ impl Files for HostRuntime {
             path,
             image,
             folder: None,
-            beside: TOLD,
+            names: Names::OfCommands,
         })
     }
 
-    fn keep_on(&mut self, claim: ImageClaim) -> ImageClaim {
+    fn keep_on(&self, claim: ImageClaim) -> ImageClaim {
         let mut claim = claim;
-        claim.beside = UNTOLD;
-        for number in 0..MOST_BESIDE {
-            if let Some(leftover) = self.leftover(self.alloc(), &claim, number) {
-                self.remove_leftover(leftover);
-            }
-        }
+        claim.names = Names::OfServices;
         claim
+    }
+
+    fn is_in_place(&self, claim: &ImageClaim) -> bool {
+        is_as_claimed(self, claim).unwrap_or(false)
     }
 
     fn has_bytes(&self, claim: &ImageClaim) -> io::Result<bool> {
@@ -237,10 +238,10 @@ impl Files for HostRuntime {
 
     fn is_reserved(&self, claim: &ImageClaim, path: &str) -> io::Result<bool> {
         let path = end_of_path(self, path)?;
-        let path = Path::new(path.as_str());
-        match path.file_name() {
-            Some(name) if is_beside_name(name) => {
-                Ok(are_in_one_folder(self, path, Path::new(claim.path.as_str())))
+        let (path, image) = (Path::new(path.as_str()), Path::new(claim.path.as_str()));
+        match (path.file_name(), image.file_name()) {
+            (Some(name), Some(of)) if is_beside_name(name, of) => {
+                Ok(are_in_one_folder(self, path, image))
             }
             _ => Ok(false),
         }
@@ -268,10 +269,14 @@ impl Files for HostRuntime {
     }
 
     fn leftover(&self, alloc: Global, claim: &ImageClaim, number: u32) -> Option<LeftFile> {
-        match beside_path(alloc, claim.path.as_str(), claim.beside, number) {
-            Ok(path) => left_at(self, path),
-            Err(_) => None,
+        match left_path(alloc, claim.path.as_str(), claim.names, number) {
+            Ok(Some(path)) => left_at(self, path),
+            _ => None,
         }
+    }
+
+    fn leftover_path(&self, leftover: LeftFile) -> String {
+        leftover.path
     }
 
     fn open_leftover(&self, leftover: &LeftFile) -> io::Result<Input> {
@@ -328,6 +333,13 @@ impl Files for HostRuntime {
         claim.image = Some(file);
         claim.folder = Some(folder);
         Ok(())
+    }
+
+    fn set_aside(&mut self, alloc: Global, claim: &ImageClaim, beside: BesideFile) -> String {
+        match claim.names {
+            Names::OfCommands => beside.path,
+            Names::OfServices => set_aside(self, alloc, claim, beside),
+        }
     }
 
     fn sync_folder(&mut self, claim: &ImageClaim) -> Result<(), Obstacle> {
@@ -478,7 +490,7 @@ fn numbered_beside(
     claim: &ImageClaim,
     number: u32,
 ) -> Result<Option<(String, File)>, Obstacle> {
-    let path = beside_path(alloc, claim.path.as_str(), claim.beside, number)?;
+    let path = beside_path(alloc, claim.path.as_str(), claim.names, number)?;
     match made_beside(rt, claim, path.as_str())? {
         Some(file) => Ok(Some((path, file))),
         None => Ok(None),
@@ -670,6 +682,41 @@ fn rename_over(rt: &HostRuntime, claim: &ImageClaim, beside: &BesideFile) -> Res
     }
     fs::rename(rt, beside.path.as_str(), claim.path.as_str())?;
     Ok(())
+}
+
+// Gives the file beside an image the first name of a whole one that is free. Where it gets none it
+// keeps the one that it has.
+fn set_aside(rt: &HostRuntime, alloc: Global, claim: &ImageClaim, beside: BesideFile) -> String {
+    for number in 0..MOST_BESIDE {
+        if let Ok(path) = whole_path(alloc, claim.path.as_str(), number)
+            && let Ok(true) = is_renamed(rt, beside.path.as_str(), path.as_str())
+        {
+            // What is at the path is whole, whether this fails or not.
+            let _ = sync_names(&beside.folder);
+            return path;
+        }
+    }
+    beside.path
+}
+
+// Gives a file another name, where that is free, and says whether it was. No other file that gets
+// the name meanwhile is lost, where the file system knows links.
+fn is_renamed(rt: &HostRuntime, from: &str, to: &str) -> io::Result<bool> {
+    match fs::hard_link(rt, from, to) {
+        Ok(()) => {
+            // Where this fails it has both names.
+            let _ = fs::remove_file(rt, from);
+            Ok(true)
+        }
+        Err(error) if error.kind() == io::ErrorKind::AlreadyExists => Ok(false),
+        Err(_) => match fs::symlink_metadata(rt, to) {
+            Err(error) if error.kind() == io::ErrorKind::NotFound => {
+                fs::rename(rt, from, to)?;
+                Ok(true)
+            }
+            _ => Ok(false),
+        },
+    }
 }
 
 // Has the names of a folder on the disk, where its file system does that for a folder.

@@ -6,8 +6,9 @@
 //! whatever they are. `verify_file` writes its line, `write_object` the bytes of an object at a
 //! moment in the drive that begins with it, and `make_file` leaves the image of a new drive in a
 //! file that had no bytes; what was written has been passed on where they succeed.
-//! `remove_leftovers` removes nothing that `verify` takes. That is proved over any `Files` that say
-//! what files hold. The system's files say nothing of it, since no clause of the standard library
+//! `remove_leftovers` removes nothing that `verify` takes. `spent_leftovers` gives of the files that
+//! services left none that has an image with a later clock, and refuses where one is there;
+//! `refuse_whole` where any is whole. That is proved over any `Files` that say what files hold. The system's files say nothing of it, since no clause of the standard library
 //! does: that they read and write as the trait says is tested through the program, and so is the
 //! line that a `Fault` prints.
 #![tactic(auto)]
@@ -26,7 +27,7 @@ mod verifying;
 
 pub use faults::{Fault, reading, writing};
 pub use files::{Files, NotExchanged, NotReplaced, Placed};
-pub use leftovers::remove_leftovers;
+pub use leftovers::{LeftFault, refuse_whole, remove_leftovers, spent_leftovers};
 pub use obstacles::Obstacle;
 pub use reading_past::{write_object, write_version};
 pub use saving::{Place, claim_empty, longest_image, make_file, put_image};

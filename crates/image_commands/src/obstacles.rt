@@ -27,7 +27,8 @@ pub enum Obstacle {
     ReadOnly,
     NotKept,
     NoName,
-    NoRoom,
+    /// With the code by which the system said so, where it gave one.
+    NoRoom(Option<i32>),
     Mounted,
     Moved,
     NotLasting,
@@ -35,7 +36,8 @@ pub enum Obstacle {
     /// of a file beside the image.
     Shared,
     InUse,
-    Other,
+    /// With the code by which the system said what, where it gave one.
+    Other(Option<i32>),
 }
 
 impl Obstacle {
@@ -66,7 +68,7 @@ impl Obstacle {
             Obstacle::NoName => {
                 "s4d.new and s4d.new.1 to s4d.new.99 are taken in its folder; see what these files are"
             }
-            Obstacle::NoRoom => "there is no room for it; make room on its disk",
+            Obstacle::NoRoom(_) => "there is no room for it; make room on its disk",
             Obstacle::Mounted => "it is mounted as a single file; mount its folder in place of it",
             Obstacle::Moved => "its path leads to another file than before, or to none",
             Obstacle::NotLasting => {
@@ -76,7 +78,7 @@ impl Obstacle {
                 "it is the image, another session's file, or one beside the image; name another file"
             }
             Obstacle::InUse => "another program has it in use; end that one, or name another file",
-            Obstacle::Other => "the system refuses it",
+            Obstacle::Other(_) => "the system refuses it",
         }
     }
 
@@ -94,11 +96,22 @@ impl Obstacle {
             io::ErrorKind::ExecutableFileBusy => Obstacle::InUse,
             io::ErrorKind::StorageFull
             | io::ErrorKind::QuotaExceeded
-            | io::ErrorKind::FileTooLarge => Obstacle::NoRoom,
+            | io::ErrorKind::FileTooLarge => Obstacle::NoRoom(None),
             io::ErrorKind::WouldBlock => Obstacle::Served,
             // The second is what a rename over a file says that is mounted by itself.
             io::ErrorKind::CrossesDevices | io::ErrorKind::ResourceBusy => Obstacle::Mounted,
-            _ => Obstacle::Other,
+            _ => Obstacle::Other(None),
+        }
+    }
+
+    // The same, with the code of the system.
+    fn with_code(self, code: Option<i32>) -> Obstacle
+        ensures { IsShort result ↔ IsShort self }
+    {
+        match self {
+            Obstacle::NoRoom(_) => Obstacle::NoRoom(code),
+            Obstacle::Other(_) => Obstacle::Other(code),
+            other => other,
         }
     }
 
@@ -107,7 +120,7 @@ impl Obstacle {
         ensures { IsTrue result ↔ IsShort self }
     {
         match self {
-            Obstacle::NoMemory | Obstacle::NoRoom => true,
+            Obstacle::NoMemory | Obstacle::NoRoom(_) => true,
             _ => false,
         }
     }
@@ -122,14 +135,24 @@ impl Obstacle {
             io::ErrorKind::NotFound | io::ErrorKind::NotADirectory => Obstacle::NotThere,
             io::ErrorKind::IsADirectory => Obstacle::Folder,
             io::ErrorKind::PermissionDenied => Obstacle::Unreadable,
-            _ => Obstacle::Other,
+            _ => Obstacle::Other(None),
         }
     }
 }
 
 impl Display for Obstacle {
     fn fmt<W: fmt::Write>(&self, f: &mut Formatter<W>) -> fmt::Result {
-        f.write_str(self.text())
+        match self {
+            Obstacle::NoRoom(Some(code)) => {
+                let said = io::Error::from_raw_os_error(*code);
+                write!(f, "there is no room for it: {said}; make room on its disk")
+            }
+            Obstacle::Other(Some(code)) => {
+                let said = io::Error::from_raw_os_error(*code);
+                write!(f, "the system refuses it: {said}")
+            }
+            other => f.write_str(other.text()),
+        }
     }
 }
 
@@ -137,7 +160,7 @@ impl Error for Obstacle {}
 
 impl From<io::Error> for Obstacle {
     fn from(error: io::Error) -> Obstacle {
-        Obstacle::of(error.kind())
+        Obstacle::of(error.kind()).with_code(error.raw_os_error())
     }
 }
 

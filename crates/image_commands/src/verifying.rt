@@ -10,13 +10,14 @@ ghost use Rattle.image_parts.specs.Causes.{FirstSplitCause};
 ghost use Rattle.image_commands.specs.Faults.{SaysOverlong, SaysUnread, SaysUnreadable};
 ghost use Rattle.image_commands.specs.Faults.{SaysUnsplit, SaysUnverified, SaysUnwritten};
 ghost use Rattle.image_commands.specs.Files.{AreKnown};
-ghost use Rattle.image_commands.specs.Leaving.{IsNoImage};
+ghost use Rattle.image_commands.specs.Leaving.{HasClock, IsNoImage};
 ghost use Rattle.image_commands.specs.Verifying.{number_line, image_line, IsUnsplit, IsVerified};
 ghost use Rattle.image_commands.specs.Verifying.{IsOverlong, TellsImage};
 ghost use Rattle.image_commands.specs.Verifying.{longest_without_audit, mark_asked};
 
 use crate::faults::{Fault, reading};
 use crate::files::Files;
+use crate::obstacles::Obstacle;
 use crate::saving::longest_image;
 use image_parts::{ImageMark, LONGEST_IMAGE, earlier_version, longest_with, longest_with_by};
 use s4_types::limits::MOST_FRAMES;
@@ -82,17 +83,42 @@ pub fn read_image<'a, T: Threads, F: Files>(
 pub fn is_damaged<T: Threads, R: Read>(rt: &T, alloc: Global, reader: &mut R) -> bool
     ensures damaged { IsTrue result → IsNoImage (R.remaining reader.old) }
 {
-    match read_bounded(alloc, Asked::Present, reader) {
-        Ok(Ok(bytes)) => match verify(rt, alloc, bytes.as_slice()) {
-            Ok(image) => {
-                drop(image);
-                false
-            }
-            Err(Refusal::Damaged(_)) => true,
-            Err(_) => false,
-        },
-        Ok(Err(_)) => true,
+    match clock_in(rt, alloc, reader) {
+        Ok(None) => true,
+        Ok(Some(_)) => false,
         Err(_) => false,
+    }
+}
+
+/// The clock of the image that a reader gives; none where it gives no image. An obstacle where that
+/// isn't known: it can't be read, or memory is short.
+pub fn clock_in<T: Threads, R: Read>(
+    rt: &T,
+    alloc: Global,
+    reader: &mut R,
+) -> Result<Option<Moment>, Obstacle>
+    ensures clock { IfOk result (λ clock. HasClock (R.remaining reader.old) clock) }
+{
+    match read_bounded(alloc, Asked::Present, reader) {
+        Ok(Ok(bytes)) => clock_of(rt, alloc, bytes.as_slice()),
+        Ok(Err(_)) => Ok(None),
+        Err(error) => Err(Obstacle::of_reading(error.kind())),
+    }
+}
+
+// The clock of the image that these bytes are.
+fn clock_of<T: Threads>(rt: &T, alloc: Global, bytes: &[u8]) -> Result<Option<Moment>, Obstacle>
+    ensures clock { IfOk result
+        (λ clock. (known : Option (List ℕ)) → AreKnown known bytes.now → HasClock known clock) }
+{
+    match verify(rt, alloc, bytes) {
+        Ok(image) => {
+            let clock = image.clock();
+            drop(image);
+            Ok(Some(clock))
+        }
+        Err(Refusal::Damaged(_)) => Ok(None),
+        Err(_) => Err(Obstacle::NoMemory),
     }
 }
 
