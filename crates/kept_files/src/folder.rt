@@ -1,8 +1,10 @@
 //! The path of an image among files.
-ghost use Rattle.std.specs.Prelude.{◌≡◌, ◌≢◌, ◌↔◌, IfErr, IfOk, None, Some, true, is_ok};
-ghost use Rattle.image_commands.specs.Crashes.{IsShort};
+ghost use Rattle.std.specs.Prelude.{◌≡◌, ◌↔◌, [], IfErr, IfOk, None, Some, true};
+ghost use Rattle.std.specs.Prelude.{is_ok};
+ghost use Rattle.image_commands.specs.Crashes.{IsShort, LeavesNoMore};
+ghost use Rattle.kept_files.specs.Causes.{cause_of_sync};
 
-use crate::obstacles::KeepObstacle;
+use crate::obstacles::{KeepCause, KeepObstacle};
 use image_commands::{Files, NotExchanged, Obstacle};
 use image_keeping::{Folder, FolderError};
 use std::alloc::Global;
@@ -17,8 +19,12 @@ pub struct FileFolder<F: Files + Drop> {
     beside: Option<F::Beside>,
     /// Whether no sync failed.
     is_usable: bool,
+    /// What services left beside it, which is removed once an image is kept.
+    left: Vec<F::Leftover>,
+    /// The path of the file that has an image which couldn't take its place.
+    whole: Option<String>,
     /// What was in the way of the last call that failed.
-    obstacle: Option<KeepObstacle>,
+    cause: Option<KeepCause>,
 }
 
 // Written by hand, so that an owner lets it go by one call.
@@ -30,7 +36,9 @@ impl<F: Files + Drop> Drop for FileFolder<F> {
             claim: _,
             beside: _,
             is_usable: _,
-            obstacle: _,
+            left: _,
+            whole: _,
+            cause: _,
         } = self;
     }
 }
@@ -42,7 +50,9 @@ impl<F: Files + Drop> FileFolder<F> {
         ensures claim { result.claim ≡ claim }
         ensures beside { result.beside ≡ None }
         ensures usable { result.is_usable ≡ true }
-        ensures obstacle { result.obstacle ≡ None }
+        ensures left { result.left.items ≡ [] }
+        ensures whole { result.whole ≡ None }
+        ensures cause { result.cause ≡ None }
     {
         FileFolder {
             alloc,
@@ -50,15 +60,35 @@ impl<F: Files + Drop> FileFolder<F> {
             claim,
             beside: None,
             is_usable: true,
-            obstacle: None,
+            left: Vec::new(alloc),
+            whole: None,
+            cause: None,
         }
     }
 
-    /// What was in the way of the last call that failed.
-    pub fn obstacle(&self) -> Option<KeepObstacle>
-        ensures { result ≡ self.now.obstacle }
+    /// The same folder, beside whose image services left these files: they are removed once an
+    /// image is kept.
+    pub fn removing(self, left: Vec<F::Leftover>) -> Self
+        ensures { result ≡ record self { left = left } }
     {
-        self.obstacle
+        let mut folder = self;
+        folder.left = left;
+        folder
+    }
+
+    /// Whether the image is still where it was claimed, and kept since.
+    pub fn is_in_place(&self) -> bool {
+        self.files.is_in_place(&self.claim)
+    }
+
+    /// What was in the way of the last call that failed, and where the image is all the same.
+    pub fn obstacle(&self) -> Option<KeepObstacle> {
+        let cause = self.cause?;
+        let whole = match &self.whole {
+            Some(path) => String::from_str(self.alloc, path.as_str()).ok(),
+            None => None,
+        };
+        Some(KeepObstacle { cause, whole })
     }
 }
 
@@ -74,28 +104,37 @@ fn error_of(obstacle: Obstacle) -> FolderError
 }
 
 /// The same. What was in the way is noted.
-fn refusal(obstacle: Obstacle, noted: &mut Option<KeepObstacle>) -> FolderError
+fn refusal(obstacle: Obstacle, noted: &mut Option<KeepCause>) -> FolderError
     ensures error { (result ≡ FolderError.NoRoom) ↔ IsShort obstacle }
-    ensures noted { noted.new ≡ Some (KeepObstacle.Refused obstacle) }
+    ensures noted { noted.new ≡ Some (KeepCause.Refused obstacle) }
 {
-    *noted = Some(KeepObstacle::Refused(obstacle));
+    *noted = Some(KeepCause::Refused(obstacle));
     error_of(obstacle)
 }
 
 /// Whether a sync has ended well. Else what was in the way is noted, and only then.
-fn has_lasted(synced: Result<(), Obstacle>, noted: &mut Option<KeepObstacle>) -> bool
+fn has_lasted(synced: Result<(), Obstacle>, noted: &mut Option<KeepCause>) -> bool
     ensures well { result ≡ is_ok synced }
     ensures unchanged { IfOk synced (λ done. noted.new ≡ noted.old) }
-    ensures failed { IfErr synced (λ obstacle. obstacle ≡ Obstacle.Other
-        → noted.new ≡ Some KeepObstacle.DiskFailed) }
-    ensures refused { IfErr synced (λ obstacle. obstacle ≢ Obstacle.Other
-        → noted.new ≡ Some (KeepObstacle.Refused obstacle)) }
+    ensures noted { IfErr synced (λ obstacle. noted.new ≡ Some (cause_of_sync obstacle)) }
 {
     match synced {
         Ok(()) => true,
         Err(obstacle) => {
-            *noted = Some(KeepObstacle::of_sync(obstacle));
+            *noted = Some(KeepCause::of_sync(obstacle));
             false
+        }
+    }
+}
+
+/// Removes these files.
+fn remove_all<F: Files>(files: &mut F, left: &mut Vec<F::Leftover>)
+    ensures crash { (any : F.Claim)
+        → LeavesNoMore (F.may_leave files.old any) (F.may_leave files.new any) }
+{
+    for _ in 0..left.len() {
+        if let Some(leftover) = left.pop() {
+            files.remove_leftover(leftover);
         }
     }
 }
@@ -138,7 +177,7 @@ impl<F: Files + Drop> Folder for FileFolder<F> {
         // No room is taken before: the bytes take it at once.
         let mut beside = match self.files.make_beside(self.alloc, &self.claim, 0) {
             Ok(beside) => beside,
-            Err(obstacle) => return Err(refusal(obstacle, &mut self.obstacle)),
+            Err(obstacle) => return Err(refusal(obstacle, &mut self.cause)),
         };
         match self.files.fill(&mut beside, bytes) {
             Ok(()) => {
@@ -147,14 +186,14 @@ impl<F: Files + Drop> Folder for FileFolder<F> {
             }
             Err(obstacle) => {
                 self.files.remove_beside(beside);
-                Err(refusal(obstacle, &mut self.obstacle))
+                Err(refusal(obstacle, &mut self.cause))
             }
         }
     }
 
     fn sync_beside(&mut self) -> Result<(), FolderError> {
         self.is_usable = match &mut self.beside {
-            Some(beside) => has_lasted(self.files.sync_beside(beside), &mut self.obstacle),
+            Some(beside) => has_lasted(self.files.sync_beside(beside), &mut self.cause),
             None => false,
         };
         answer_of(self.is_usable)
@@ -174,14 +213,23 @@ impl<F: Files + Drop> Folder for FileFolder<F> {
         match self.files.exchange(&mut self.claim, beside) {
             Ok(()) => Ok(()),
             Err(NotExchanged { obstacle, beside }) => {
-                self.beside = Some(beside);
-                Err(refusal(obstacle, &mut self.obstacle))
+                // Where room is short it is tried again. Else nobody has what is new but this file.
+                match obstacle.is_short() {
+                    true => self.beside = Some(beside),
+                    false => {
+                        self.whole = Some(self.files.set_aside(self.alloc, &self.claim, beside));
+                    }
+                }
+                Err(refusal(obstacle, &mut self.cause))
             }
         }
     }
 
     fn sync_folder(&mut self) -> Result<(), FolderError> {
-        self.is_usable = has_lasted(self.files.sync_folder(&self.claim), &mut self.obstacle);
+        self.is_usable = has_lasted(self.files.sync_folder(&self.claim), &mut self.cause);
+        if self.is_usable {
+            remove_all(&mut self.files, &mut self.left);
+        }
         answer_of(self.is_usable)
     }
 }

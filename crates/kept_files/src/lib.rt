@@ -5,7 +5,8 @@
 //! the image's name, from before the name is that file's until the next one has it, so no other
 //! program claims the image in between. Want of memory or room leaves the file that was there, and
 //! the file beside it is removed at the next try. It knows what was in the way of the last call that
-//! failed. Nothing is said of the system's files, since no clause of the standard library says what
+//! failed, and which file has all of an image that couldn't take the place of the one before. What
+//! services left beside the image it removes once an image is kept, and not before. Nothing is said of the system's files, since no clause of the standard library says what
 //! a crash leaves of them.
 #![tactic(auto)]
 
@@ -13,4 +14,4 @@ mod folder;
 mod obstacles;
 
 pub use folder::FileFolder;
-pub use obstacles::KeepObstacle;
+pub use obstacles::{KeepCause, KeepObstacle, WholeIn};
