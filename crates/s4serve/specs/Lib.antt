@@ -1,3 +1,4 @@
+pub mod Leaving
 pub mod Lines
 pub mod Seats
 pub mod Traces

@@ -1,5 +1,5 @@
 //! Why a service doesn't begin, or ends without being stopped.
-use image_commands::Fault;
+use image_commands::{Fault, LeftFault};
 use kept_files::KeepObstacle;
 use service_time::StartFault;
 use std::alloc::AllocError;
@@ -41,6 +41,15 @@ pub enum ServeFault<'a> {
     /// What is in the image's file is of an earlier version, or no image at all.
     #[error("Damaged header; `s4d migrate` makes a new image of one of version 1 or 2")]
     NoHeader,
+    /// No image is made at this path, since a service left one beside it.
+    #[error("cannot write {0}: {1}; move it to {0}, or remove it")]
+    LeftBeside(&'a str, LeftFault),
+    /// The image isn't there, and a service left one beside its path.
+    #[error("cannot read {0}: it is not there, and {1}; move it to {0}")]
+    Gone(&'a str, LeftFault),
+    /// A service left an image beside this one, which has changes that this one doesn't have.
+    #[error("cannot serve {0}: {1}, and is later; move it to {0}, or remove it")]
+    Later(&'a str, LeftFault),
     /// No service begins over an image with this clock.
     #[error("cannot serve {0}: {1}")]
     Start(&'a str, StartFault),
@@ -50,14 +59,11 @@ pub enum ServeFault<'a> {
     /// The door of this folder can't be opened.
     #[error("cannot open {0}/door: {1}")]
     Door(&'a str, DoorObstacle),
-    /// Before the first session, memory or room is short.
-    #[error("cannot write {0}: memory or room on its disk is short; make room")]
-    Short(&'a str),
     /// Before the first session, the image can't be kept.
-    #[error("cannot write {0}: {1}")]
+    #[error("cannot write {0}: {1}{whole}", whole = .1.whole())]
     Unkept(&'a str, KeepObstacle),
     /// What was accepted last can't be kept.
-    #[error("{0} can't be kept: {1}; nothing more was acknowledged")]
+    #[error("{0} can't be kept: {1}; nothing more was acknowledged{whole}", whole = .1.whole())]
     NotKept(&'a str, KeepObstacle),
     /// The system gives too few threads.
     #[error("the system gives too few threads, or too little memory for them")]

@@ -3,7 +3,7 @@ ghost use Rattle.std.specs.Prelude.{IsTrue};
 
 use image_commands::{Files, Obstacle};
 use image_keeping::{Keeper, WholeImage};
-use kept_files::{FileFolder, KeepObstacle};
+use kept_files::{FileFolder, KeepCause, KeepObstacle};
 use std::alloc::Global;
 use std::marker::Send;
 
@@ -11,14 +11,25 @@ use std::marker::Send;
 pub trait Explaining {
     /// What was in the way of the last image that it couldn't keep.
     fn obstacle(&self) -> KeepObstacle;
+
+    /// Whether the last image that it kept is still where it was put.
+    fn is_in_place(&self) -> bool;
 }
 
 impl Explaining for WholeImage<FileFolder<HostRuntime>> {
     fn obstacle(&self) -> KeepObstacle {
         match self.folder().obstacle() {
             Some(obstacle) => obstacle,
-            None => KeepObstacle::Refused(Obstacle::Other),
+            // It wasn't asked: the image was never made.
+            None => KeepObstacle {
+                cause: KeepCause::Refused(Obstacle::NoMemory),
+                whole: None,
+            },
         }
+    }
+
+    fn is_in_place(&self) -> bool {
+        self.folder().is_in_place()
     }
 }
 
@@ -27,15 +38,20 @@ pub trait KeptFiles: Files {
     /// What keeps one. Any thread may.
     type Kept: Keeper + Explaining + Send + Drop + 'static;
 
-    /// What keeps the image that is claimed.
-    fn keeper(self, alloc: Global, claim: Self::Claim) -> Self::Kept
+    /// What keeps the image that is claimed. Once one was kept, what was left beside it is removed.
+    fn keeper(self, alloc: Global, claim: Self::Claim, left: Vec<Self::Leftover>) -> Self::Kept
         ensures { IsTrue (Self.Kept.is_usable result) };
 }
 
 impl KeptFiles for HostRuntime {
     type Kept = WholeImage<FileFolder<HostRuntime>>;
 
-    fn keeper(self, alloc: Global, claim: Self::Claim) -> WholeImage<FileFolder<HostRuntime>> {
-        WholeImage::new(FileFolder::new(alloc, self, claim))
+    fn keeper(
+        self,
+        alloc: Global,
+        claim: Self::Claim,
+        left: Vec<Self::Leftover>,
+    ) -> WholeImage<FileFolder<HostRuntime>> {
+        WholeImage::new(FileFolder::new(alloc, self, claim).removing(left))
     }
 }

@@ -20,6 +20,7 @@ mod collecting;
 mod doors;
 mod faults;
 mod keeping;
+mod leaving;
 mod opening;
 mod own_thread;
 mod parts;

@@ -6,10 +6,9 @@ ghost use Rattle.image_commands.specs.Making.{HasNew};
 ghost use Rattle.image_commands.specs.Verifying.{IsVerified};
 
 use crate::faults::ServeFault;
+use crate::leaving::{claim_left, refuse_making, unread_beside};
 use drive::OpenedDrive;
-use image_commands::{
-    Fault, Files, Obstacle, Placed, make_file, read_image, remove_leftovers, writing,
-};
+use image_commands::{Fault, Files, Obstacle, Placed, make_file, read_image, writing};
 use s4_types::{Cause, Moment, Refusal};
 use s4d_command::New;
 use s4serve_command::{Creation, ServiceAsked};
@@ -24,12 +23,15 @@ use verifier::{Image, open};
 #[derive(Drop)]
 pub struct Opened<F: Files> {
     pub claim: F::Claim,
+    /// What services left beside the image: it can be removed once the drive is kept.
+    pub left: Vec<F::Leftover>,
     pub drive: OpenedDrive,
     pub start: Moment,
 }
 
 /// Claims the image that is asked for, and opens its drive. Where one is asked to be made, that is
-/// done before; what has bytes is refused then. What was left beside the image is removed.
+/// done before; what has bytes is refused then, and a path beside which a service left a whole
+/// image. Where a service left a later one beside the image, nothing is opened.
 pub fn open_image<'a, T: Threads + Clock, F: Files>(
     rt: &T,
     alloc: Global,
@@ -40,15 +42,16 @@ pub fn open_image<'a, T: Threads + Clock, F: Files>(
     ensures claimed { IfOk result (λ opened. F.leads opened.claim asked.now.image.now) }
 {
     if let Some(creation) = asked.create {
+        refuse_making(rt, alloc, files, asked.image)?;
         create(alloc, files, asked.image, creation)?;
     }
     let (claim, image) = claim_image(rt, alloc, files, asked.image)?;
+    let (claim, left) = claim_left(rt, alloc, files, asked.image, claim, image.clock())?;
     let start = start_over(rt, asked, image.clock())?;
-    remove_leftovers(rt, alloc, files, &claim);
-    let claim = files.keep_on(claim);
     match open(alloc, image) {
         Ok(drive) => Ok(Opened {
             claim,
+            left,
             drive,
             start,
         }),
@@ -99,7 +102,10 @@ fn claim_image<'a, T: Threads, F: Files>(
     let claim = files.claim(alloc, path);
     let image = match read_image(rt, alloc, files, path) {
         Ok(image) => image,
-        Err(fault) => return Err(unread(fault)),
+        Err(fault) => {
+            drop(claim);
+            return Err(unread(rt, alloc, files, path, fault));
+        }
     };
     match claim {
         Ok(claim) => Ok((claim, image)),
@@ -107,11 +113,18 @@ fn claim_image<'a, T: Threads, F: Files>(
     }
 }
 
-/// Why an image isn't read, with what can be done where it may be one of an earlier version.
-fn unread<'a>(fault: Fault<'a>) -> ServeFault<'a> {
+/// Why an image isn't read, with what can be done where it may be one of an earlier version, or
+/// where a service left one beside it.
+fn unread<'a, T: Threads, F: Files>(
+    rt: &T,
+    alloc: Global,
+    files: &F,
+    path: &'a str,
+    fault: Fault<'a>,
+) -> ServeFault<'a> {
     match fault {
         Fault::Refused(Refusal::Damaged(Cause::Header)) => ServeFault::NoHeader,
-        other => ServeFault::Image(other),
+        other => unread_beside(rt, alloc, files, path, other),
     }
 }
 

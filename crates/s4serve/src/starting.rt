@@ -19,7 +19,7 @@ use crate::waiting::Lines;
 use crate::workers::keep_all;
 use door_files::{Fifos, open_door};
 use drive::OpenedDrive;
-use group_commit::{FlushError, Monitor, NotKept};
+use group_commit::{Monitor, NotKept};
 use image_commands::Fault;
 use image_keeping::Keeper;
 use kept_drive::{KeptImage, KeptReceipt};
@@ -78,6 +78,7 @@ pub fn serve_image<
     let (doors, inputs) = open_doors(alloc, &outside, asked)?;
     let Opened {
         claim,
+        left,
         drive,
         start,
     } = opened;
@@ -86,7 +87,7 @@ pub fn serve_image<
     };
     let ready = Ready {
         image: asked.image,
-        keeper: own.keeper(alloc, claim),
+        keeper: own.keeper(alloc, claim, left),
         drive,
         start,
         clock,
@@ -204,10 +205,7 @@ fn flush_first<'a, 'b, J: Running, C: serving::Clock, K: Keeper + Explaining, R:
     };
     let receipt = match kept.flush(rt, alloc, &lock) {
         Ok(receipt) => receipt,
-        Err(FlushError::Short) => return Err(ServeFault::Short(image)),
-        Err(FlushError::Failed) => {
-            return Err(ServeFault::Unkept(image, kept.keeper().obstacle()));
-        }
+        Err(_) => return Err(ServeFault::Unkept(image, kept.keeper().obstacle())),
     };
     let path = String::from_str(alloc, image)?;
     let lines = Lines::new(alloc)?;
@@ -233,8 +231,31 @@ fn await_end<
         return Err(ServeFault::NotKept(image, obstacle_of(rt, service)));
     }
     match keep_all(rt, alloc, service, outside) {
-        Ok(()) => Ok(()),
+        Ok(()) => end_in_place(rt, alloc, service, image),
         Err(NotKept) => Err(ServeFault::NotKept(image, obstacle_of(rt, service))),
+    }
+}
+
+/// Where the image was removed or replaced since it was kept, one more flush finds that, and leaves
+/// all in a file beside it. Else nobody would have the drive any more.
+fn end_in_place<'a, J: Running, C: serving::Clock, K: Keeper + Explaining, R: Threads + Wait>(
+    rt: &R,
+    alloc: Global,
+    service: &Service<J, C, K>,
+    image: &'a str,
+) -> Result<(), ServeFault<'a>> {
+    let lock = UnderLock {
+        rt,
+        drive: &service.drive,
+        pace: None,
+    };
+    let mut kept = service.kept.lock(rt);
+    if kept.keeper().is_in_place() {
+        return Ok(());
+    }
+    match kept.flush(rt, alloc, &lock) {
+        Ok(_) => Ok(()),
+        Err(_) => Err(ServeFault::NotKept(image, kept.keeper().obstacle())),
     }
 }
 

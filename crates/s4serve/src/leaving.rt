@@ -1,0 +1,116 @@
+//! What services left beside an image, and where no service begins for that.
+ghost use Rattle.std.specs.Prelude.{◌+◌, ℕ, List, IfErr, IfOk};
+ghost use Rattle.std.specs.List.{All};
+ghost use Rattle.image_commands.specs.Leaving.{IsLeftFor, NamesWhole};
+ghost use Rattle.s4serve.specs.Leaving.{NamesLater, NamesLeft};
+
+use crate::faults::ServeFault;
+use image_commands::{
+    Fault, Files, LeftFault, Obstacle, refuse_whole, remove_leftovers, spent_leftovers,
+};
+use s4_types::Moment;
+use std::alloc::Global;
+use std::thread::Threads;
+
+/// A fault where no image is at a path, or one without bytes, and a whole one that a service left
+/// lies beside it: a new one would hide that. Else whoever makes the image says what is in the way.
+pub fn refuse_making<'a, T: Threads, F: Files>(
+    rt: &T,
+    alloc: Global,
+    files: &F,
+    image: &'a str,
+) -> Result<(), ServeFault<'a>>
+    ensures left { IfErr result (NamesLeft (F.contents files.now)) }
+{
+    match refuse_left(rt, alloc, files, image) {
+        Ok(()) => Ok(()),
+        Err(LeftFault::NoMemory) => Err(ServeFault::NoMemory),
+        Err(fault) => Err(ServeFault::LeftBeside(image, fault)),
+    }
+}
+
+/// Why an image isn't read: where it isn't there, and a whole one that a service left lies beside
+/// its path, that is named.
+pub fn unread_beside<'a, T: Threads, F: Files>(
+    rt: &T,
+    alloc: Global,
+    files: &F,
+    image: &'a str,
+    fault: Fault<'a>,
+) -> ServeFault<'a>
+    ensures left { NamesLeft (F.contents files.now) result }
+{
+    match fault {
+        Fault::CannotRead(_, Obstacle::NotThere) => match refuse_left(rt, alloc, files, image) {
+            Err(LeftFault::Whole(path)) => ServeFault::Gone(image, LeftFault::Whole(path)),
+            _ => ServeFault::Image(fault),
+        },
+        fault => ServeFault::Image(fault),
+    }
+}
+
+// A fault where a path has no image with bytes, and a whole one that a service left lies beside it.
+fn refuse_left<T: Threads, F: Files>(
+    rt: &T,
+    alloc: Global,
+    files: &F,
+    path: &str,
+) -> Result<(), LeftFault>
+    ensures left { IfErr result (NamesWhole 0 (F.contents files.now)) }
+{
+    let Ok(claim) = files.claim(alloc, path) else {
+        return Ok(());
+    };
+    match files.has_bytes(&claim) {
+        Ok(false) => {
+            let claim = files.keep_on(claim);
+            let refused = refuse_whole(rt, alloc, files, &claim);
+            drop(claim);
+            refused
+        }
+        _ => {
+            drop(claim);
+            Ok(())
+        }
+    }
+}
+
+/// Removes what commands left beside a claimed image and is none. Gives the claim of a service, and
+/// what others left: it can be removed once the drive is kept. A fault where an image with a later
+/// clock than the claimed one's lies beside it.
+pub fn claim_left<'a, T: Threads, F: Files>(
+    rt: &T,
+    alloc: Global,
+    files: &mut F,
+    image: &'a str,
+    claim: F::Claim,
+    clock: Moment,
+) -> Result<(F::Claim, Vec<F::Leftover>), ServeFault<'a>>
+    ensures claimed { IfOk result
+        (λ had. (path : List ℕ) → F.leads claim path → F.leads had.0 path) }
+    ensures left { IfOk result
+        (λ had. All (IsLeftFor F.is_left F.is_part (F.contents files.new) had.0 clock)
+        had.1.items) }
+    ensures later { IfErr result (NamesLater clock (F.contents files.new)) }
+{
+    remove_leftovers(rt, alloc, files, &claim);
+    let claim = files.keep_on(claim);
+    match spent_leftovers(rt, alloc, files, &claim, clock) {
+        Ok(left) => Ok((claim, left)),
+        Err(fault) => {
+            drop(claim);
+            Err(later(image, fault))
+        }
+    }
+}
+
+// The fault of a service over an image beside which a later one lies.
+fn later<'a>(image: &'a str, fault: LeftFault) -> ServeFault<'a>
+    ensures { (clock : ℕ) (files : List ℕ → Option (List ℕ)) → NamesWhole (clock + 1) files fault
+        → NamesLater clock files result }
+{
+    match fault {
+        LeftFault::NoMemory => ServeFault::NoMemory,
+        fault => ServeFault::Later(image, fault),
+    }
+}
