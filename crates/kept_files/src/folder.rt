@@ -170,7 +170,8 @@ impl<F: Files + Drop> Folder for FileFolder<F> {
     ghost is_usable = { λ f. f.is_usable };
 
     fn write_beside(&mut self, bytes: &[u8]) -> Result<(), FolderError> {
-        // What an earlier try left is of no use.
+        // What an earlier try left is of no use, and what was in its way may not be there any more.
+        self.cause = None;
         if let Some(beside) = self.beside.take() {
             self.files.remove_beside(beside);
         }
