@@ -2,6 +2,7 @@
 use Rattle.std.specs.Prelude.{◌≡◌, ℕ, Bool, true, false, List, [], ◌∷◌, Result, length, All}
 use Rattle.s4_types.specs.History.{Base}
 use Rattle.s4_types.specs.declared.refusals.Refusal.{Refusal}
+use Rattle.s4_model.specs.Audit.{audit_of}
 use Rattle.version_store.specs.Upkeep.{KeepsObjects}
 use Rattle.drive.specs.Fields.{DriveFields, state_in, store_of}
 use Rattle.drive.specs.Keeping.{KeepsVersions}
@@ -31,7 +32,8 @@ pub record SharedVisit (base : Base) (object : ℕ) : Type 0 where
   pub ledger : after.ledger ≡ before.ledger
   pub needed : KeepsVersions (state_in before) (store_of before) (store_of after)
 
--- Frames were emptied of the drive as sessions had left it, one of this base: its history and all objects are as they were.
+-- Frames were emptied of the drive as sessions had left it, one of this base: its history and all objects are as they were, and no
+-- row of the audit is kept that is below the floor.
 pub record SharedSweep (base : Base) : Type 0 where
   pub before : DriveFields
   pub after : DriveFields
@@ -39,6 +41,7 @@ pub record SharedSweep (base : Base) : Type 0 where
   pub swept : IsSwept before.store.table after.store.table
   pub objects : KeepsObjects (store_of before) (store_of after)
   pub ledger : after.ledger ≡ before.ledger
+  pub audit : after.audit ≡ audit_of (state_in after)
 
 -- whether a turn ended its round
 abbrev pub ends_round : Turn → Bool

@@ -227,7 +227,7 @@ pub(crate) fn take_visit<J: Running, C: Clock>(
     settle(rt, &mut shared, pace, object, done.is_ok());
 }
 
-/// Frames are emptied, under the lock.
+/// Frames are emptied, and the audit's rows below the floor are dropped, under the lock.
 pub(crate) fn take_sweep<J: Running, C: Clock>(
     rt: &impl Wait,
     drive: &Mutex<SharedDrive<J, C>>,

@@ -8,7 +8,7 @@ use crate::accounts::Running;
 use crate::agenda::{History, history_left};
 use crate::shared::SharedDrive;
 use drive::Session;
-use history_cleaner::{Rounds, Turn, sweep, visit};
+use history_cleaner::{Rounds, Turn, clean_audit, sweep, visit};
 use s4_types::{ObjectId, Refusal};
 use segment_copier::{
     Candidate, MovePlan, Moved, candidate, commit, free_frames, gather, plan_move,
@@ -35,13 +35,14 @@ impl<J: Running, C: Clock> SharedDrive<J, C> {
         visit(alloc, &mut self.drive, object)
     }
 
-    /// Frames are emptied.
+    /// Frames are emptied, and the audit's rows below the floor are dropped.
     pub(crate) fn sweep(&mut self)
         requires { J.has_upkeep ≡ true }
         ensures { SharedSweep J.base }
     {
         self.drive.rules();
         sweep(&mut self.drive);
+        clean_audit(&mut self.drive);
     }
 
     /// The history that an object has left which was cleaned, if it has any.
