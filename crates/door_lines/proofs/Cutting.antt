@@ -1,10 +1,12 @@
 -- Bytes that are cut at a newline.
-use Rattle.std.proofs.Common.{◌≡◌, ◌∙◌, ℕ, ◌+◌, ◌-◌, ◌≤◌, ◌<◌, ◌==◌, true, false, List, [], ◌∷◌, ◌++◌, length, take, drop, get_or, slice_index, Some, None, Option, arith, refl, sym, ap, suc, append_assoc, take-append-drop, drop-cons}
+use Rattle.std.proofs.Common.{◌≡◌, ◌∙◌, ℕ, ◌+◌, ◌-◌, ◌≤◌, ◌<◌, ◌==◌, ◌||◌, Bool, true, false, List, [], ◌∷◌, ◌++◌, length, take, drop, get_or, slice_index, Some, None, Option, arith, refl, sym, ap, suc, append_assoc, take-append-drop, drop-cons}
 use Rattle.std.proofs.lemmas.List.{drop-drop, drop-take, length-take, take_more}
 use Rattle.std.proofs.lemmas.List.Folds.{list_any_more}
 use Rattle.door_lines.specs.Lines.{held_of, with_byte}
-use Rattle.door_lines.specs.Reading.{IsUnbroken}
-use Rattle.door_lines.specs.private.Scanning.{Finishes, IsScanned}
+use Rattle.std.specs.List.{list_any}
+use Rattle.std.proofs.lemmas.Bool.Decides.{nat_tests}
+use Rattle.door_lines.specs.Reading.{Held, cut_line}
+use Rattle.door_lines.specs.private.Scanning.{Finishes, IsScanned, IsUnbroken}
 use Rattle.door_lines.proofs.Holding.{held_more}
 
 -- bytes at a place: those before, the byte there, and those after
@@ -28,22 +30,54 @@ rest_after piece begin end at within =
 pub within_end : (piece : List ℕ) (begin end at : ℕ) → begin ≤ end → at < length (take (end - begin) (drop begin piece)) → begin + (at + 1) ≤ end
 within_end piece begin end at order less = omega (arith, less, order, length-take (end - begin) (drop begin piece))
 
-pub whole : (piece : List ℕ) (begin end at : ℕ) (front : List ℕ) (held : Option (List ℕ)) → begin + (at + 1) ≤ end
-    → IsScanned front (take (end - begin) (drop begin piece)) (Some at) held
-    → Finishes (take (end - begin) (drop begin piece)) front true (take (end - (begin + (at + 1))) (drop (begin + (at + 1)) piece)) held
-whole piece begin end at front held within s =
+-- by the test of the first byte
+cut_longer : (byte : ℕ) (part rest : List ℕ) (is_newline : Bool) → (byte == 10) ≡ is_newline → (is_newline || list_any (λ b. b == 10) part) ≡ false
+    → (IsUnbroken part → cut_line (part ++ 10 ∷ rest) ≡ Some (part, rest)) → cut_line (byte ∷ part ++ 10 ∷ rest) ≡ Some (byte ∷ part, rest)
+cut_longer byte part rest true test none shorter = absurd cc
+cut_longer byte part rest false test none shorter = rw (test, shorter none) refl
+
+-- bytes are cut at their first newline
+cut_at : (part rest : List ℕ) → IsUnbroken part → cut_line (part ++ 10 ∷ rest) ≡ Some (part, rest)
+cut_at [] rest unbroken = refl
+cut_at (byte ∷ part) rest unbroken = cut_longer byte part rest (byte == 10) refl unbroken (λ none. cut_at part rest none)
+
+uncut_longer : (byte : ℕ) (bytes : List ℕ) (is_newline : Bool) → (byte == 10) ≡ is_newline → (is_newline || list_any (λ b. b == 10) bytes) ≡ false
+    → (IsUnbroken bytes → cut_line bytes ≡ None) → cut_line (byte ∷ bytes) ≡ None
+uncut_longer byte bytes true test none shorter = absurd cc
+uncut_longer byte bytes false test none shorter = rw (test, shorter none) refl
+
+-- and nowhere where there is none
+uncut : (bytes : List ℕ) → IsUnbroken bytes → cut_line bytes ≡ None
+uncut [] unbroken = refl
+uncut (byte ∷ bytes) unbroken = uncut_longer byte bytes (byte == 10) refl unbroken (λ none. uncut bytes none)
+
+-- a line is whole in a range of bytes
+pub whole : (piece : List ℕ) (begin end at : ℕ) (front : List ℕ) (line : Option (List ℕ)) → begin + (at + 1) ≤ end
+    → IsScanned front (take (end - begin) (drop begin piece)) (Some at) line
+    → Finishes (record { rest = take (end - begin) (drop begin piece); is_full = end == 512 }) front true
+    (record { rest = take (end - (begin + (at + 1))) (drop (begin + (at + 1)) piece); is_full = end == 512 }) line
+whole piece begin end at front line within s =
     let bytes = take (end - begin) (drop begin piece) in (
       take at bytes,
-      cut bytes at 10 s.0 s.1 ∙ ap (λ rest. take at bytes ++ 10 ∷ rest) (rest_after piece begin end at within),
-      s.2,
+      ap cut_line (cut bytes at 10 s.0 s.1) ∙ cut_at (take at bytes) (drop (at + 1) bytes) s.2
+          ∙ ap (λ rest. Some (take at bytes, rest)) (rest_after piece begin end at within),
+      refl,
       s.3,
     )
 
-pub used_up : (piece : List ℕ) (begin end : ℕ) (front : List ℕ) (held : Option (List ℕ)) → IsScanned front (take (end - begin) (drop begin piece)) None held
-    → Finishes (take (end - begin) (drop begin piece)) front false (take (end - end) (drop end piece)) held
-used_up piece begin end front held s =
-    let none : end - end ≡ 0 = omega arith in
-    (s.0, ap (λ n. take n (drop end piece)) none, s.1)
+-- the rest of a line may come in another piece
+pub goes_on : (bytes front : List ℕ) (end : ℕ) (line : Option (List ℕ)) (held' : Held) → end ≤ 512 → 512 ≤ end → IsScanned front bytes None line
+    → Finishes (record { rest = bytes; is_full = end == 512 }) front false held' line
+goes_on bytes front end line held' most full s =
+    let test : (end == 512) ≡ true = grind (arith, nat_tests, most, full) in
+    (uncut bytes s.0, rw test s.1)
+
+-- half a line was written
+pub dropped : (bytes front : List ℕ) (end : ℕ) (line line' : Option (List ℕ)) (held' : Held) → end < 512 → line' ≡ Some [] → IsScanned front bytes None line
+    → Finishes (record { rest = bytes; is_full = end == 512 }) front false held' line'
+dropped bytes front end line line' held' less none s =
+    let test : (end == 512) ≡ false = grind (arith, nat_tests, less) in
+    (uncut bytes s.0, rw test none)
 
 -- one byte more that ends no line
 pub unbroken_more : (bytes : List ℕ) (at byte : ℕ) → at < length bytes → get_or bytes at 0 ≡ byte → (byte == 10) ≡ false → IsUnbroken (take at bytes) → IsUnbroken (take (at + 1) bytes)

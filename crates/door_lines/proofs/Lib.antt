@@ -2,3 +2,4 @@ pub mod Holding
 pub mod Saying
 pub mod Cutting
 pub mod Going
+pub mod Filling

@@ -6,11 +6,11 @@ use crate::service::{Door, Service};
 use crate::telling::{News, Telling};
 use crate::waiting::Line;
 use door_files::{Fifos, open_session};
-use door_lines::{DoorLine, DoorReader, SessionName};
+use door_lines::{DoorLine, DoorReader, PieceSource, SessionName};
 use image_keeping::Keeper;
 use s4_types::Role;
 use server::Running;
-use serving::{Clock, ReadSource, Source};
+use serving::{Clock, ReadSource};
 use std::alloc::Global;
 use std::sync::Wait;
 
@@ -34,7 +34,7 @@ pub fn watch_input<J: Running, C: Clock, K: Keeper, R: Wait, D: Fifos + Telling>
 }
 
 /// Reads the lines at the door of this number, as long as that can be read.
-fn watch<J: Running, C: Clock, K: Keeper, R: Wait, D: Fifos + Telling, S: Source>(
+fn watch<J: Running, C: Clock, K: Keeper, R: Wait, D: Fifos + Telling, S: PieceSource>(
     rt: &R,
     alloc: Global,
     service: &Service<J, C, K>,

@@ -1,6 +1,6 @@
 use Rattle.std.proofs.Common.{◌≡◌, List, ℕ, ◌++◌, take}
 use Rattle.door_lines.specs.Lines.{held_of}
-use Rattle.door_lines.specs.Reading.{IsUnbroken}
+use Rattle.door_lines.specs.private.Scanning.{IsUnbroken}
 use Rattle.door_lines.proofs.reader.scan.Given as goal
 
 abbrev pub invariant-loop-at : goal.invariant-loop-at
