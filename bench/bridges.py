@@ -55,11 +55,18 @@ class Bridge:
         self.folder, self.words, self.child = it.folder, words, None
 
     def begin(self):
+        """Starts it, and waits until clients get sessions."""
+        self.start()
+        return self.wait_until_ready()
+
+    def start(self):
         sockets = [it for role in ("client", "admin") for it in ("--unix", f"{role}={self.folder}/{role}.sock")]
         words = [sys.executable, "-B", "-m", "s4d.bridge", "--doors", self.folder, "--log", f"{self.folder}/access.log", *sockets, *self.words]
         with open(f"{self.folder}/bridge.log", "wb") as log:
-            self.child = subprocess.Popen(words, cwd=os.path.join(service.TOP, "python"), stdin=subprocess.DEVNULL, stderr=log)
-        wait_until(lambda: "ready" in self.said() or self.child.poll() is not None, "the bridge is ready")
+            self.child = subprocess.Popen(words, cwd=os.path.join(service.TOP, "python"), stdin=subprocess.DEVNULL, stdout=log, stderr=log)
+
+    def wait_until_ready(self):
+        wait_until(lambda: "ready" in self.said().splitlines() or self.child.poll() is not None, "the bridge is ready")
         if self.child.poll() is not None:
             raise RuntimeError(f"the bridge didn't begin: {self.said()}")
         return self
@@ -320,8 +327,9 @@ def kill_one(it, bridge, book, draw, numbers, taken):
         thread.join(PATIENCE)
         if thread.is_alive():
             raise TimeoutError("a client's session doesn't end")
-    for victim in victims:
-        victim.begin()
+    for victim in victims:  # a bridge also before the service that it waits for
+        victim.start() if victim is bridge else victim.begin()
+    bridge.wait_until_ready()
     with bridge.session("admin") as drive:
         book.judge(drive, draw, it in victims)
     mine = [client.object for client in clients if client.object in book.moments]
@@ -422,7 +430,7 @@ def crowd(seconds, least=200):
     """How many clients came, how many of them found the drive full, and what went wrong."""
     with service.Service(new=("--create", "256", "--keep", "5s")) as it:
         words, address, tls, port = secured(it) if shutil.which("openssl") else ([], None, None, 0)
-        with Bridge(it, *words, "--local", str(port), "--wait", str(PATIENCE)) as bridge:
+        with Bridge(it, *words, "--local", str(port), "--wait", str(PATIENCE), "--handshake", str(PATIENCE)) as bridge:
             it.begin()
             bridge.begin()
             crowd = Crowd([bridge.address(), *([address] if address else [])], tls, least)

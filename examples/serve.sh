@@ -43,9 +43,9 @@ serve() {
 # Begins a bridge from a socket to the clients' door.
 connect() {
     echo "\$ python3 -m s4d.bridge --doors doors --unix client=client.sock --log access.log &"
-    python3 -m s4d.bridge --doors doors --unix client=client.sock --log access.log 2> bridge.said &
+    python3 -m s4d.bridge --doors doors --unix client=client.sock --log access.log > bridge.said 2>&1 &
     bridge=$!
-    await test -S client.sock
+    await grep -qx ready bridge.said
 }
 
 # What a session of a client prints.

@@ -4,14 +4,18 @@ It listens on Unix sockets, whose paths say the role, and for TLS, where a clien
 it makes the two pipes of a session in the folder DIR/ROLE, and passes whole requests and replies. It knows the lengths
 of frames, and what they say for its log alone: the service judges them.
 
+It says `ready` once all sockets listen and the service reads at each door: a client that comes then gets a session. Who
+comes before is turned away. The line is on standard output, or an event of the access log where that is there.
+
 SIGTERM and SIGINT end it: who waits is turned away, requests that were passed on are answered. SIGHUP opens the log,
-the certificates and the file of roles anew. Status 0: a signal ended it; 1: something couldn't be had; 2: the call is
-wrong.
+the certificates and the file of roles anew; sessions of who has lost the role, or the authority of the certificate, take
+no further request. Status 0: a signal ended it; 1: something couldn't be had; 2: the call is wrong.
 """
 from __future__ import annotations
 
 import argparse
 import asyncio
+import contextlib
 import os
 import re
 import signal
@@ -25,15 +29,18 @@ from . import relay
 from .access_log import AccessLog, say
 from .doors import Door, Seats, TurnedAway
 from .frames import Asked, Said
-from .listeners import Listener, Peer, Tls, TlsListener, UnixListener
+from .handshakes import HANDSHAKE_SECONDS
+from .listeners import Listener, Peer, TlsListener, UnixListener
 from .metrics import Counts, Family, of_bridge
 from .relay import Client, Relay
 from .status import DriveNumbers, StatusServer
+from .trust import Tls
 
 SEATS = {"admin": 4}  # sessions at once, as many as the service has workers for
 OTHER_SEATS = 16
 MOST_DISMISSED = 256  # clients that were turned away, and whose requests are still taken for a moment
 TICK_SECONDS = 0.5  # between looks for sessions that are idle, or that the service doesn't open
+READY_SECONDS = 0.05  # between looks for the service, until it is there for the first time
 
 
 class UnixSocket(NamedTuple):
@@ -60,6 +67,8 @@ class Settings:
     port: Optional[int] = None
     image: Optional[str] = None
     s4: str = "s4"
+    handshake: float = HANDSHAKE_SECONDS
+    ready: Optional[int] = None
 
 
 class Bridge:
@@ -84,7 +93,7 @@ class Bridge:
             self._take_door(role)
             self._listeners.append(UnixListener(role, path, mode, self._serve, self._turn_away))
         if settings.tls is not None:
-            self._tls = TlsListener(settings.tls, settings.wait, self._take_door, self._serve, self._turn_away)
+            self._tls = TlsListener(settings.tls, settings.handshake, self._take_door, self._serve, self._turn_away)
             self._listeners.append(self._tls)
         if settings.port is not None:
             drive = DriveNumbers(settings.image, settings.s4) if settings.image is not None else None
@@ -129,7 +138,7 @@ class Bridge:
         """All that becomes of a client. Nothing that goes wrong with one reaches another."""
         door = self._doors[client.role]
         try:
-            await door.seats.take(client.is_gone)
+            await door.seats.take(client.fault)
             try:
                 await self._relay(client, door)
             finally:
@@ -155,6 +164,8 @@ class Bridge:
     async def _relay(self, client: Client, door: Door) -> None:
         if self._is_stopping:
             raise TurnedAway("stopping")
+        if client.lost is not None:
+            raise TurnedAway(client.lost)
         name = door.new_name()
         pipes = door.ask_for(name)
         counts = self._counts[client.role]
@@ -207,6 +218,18 @@ class Bridge:
         counts = {**self._counts, **({"none": self._strangers} if self._tls is not None else {})}
         return of_bridge(counts, waiting, self._log.lost)
 
+    async def announce(self) -> None:
+        """Waits until the service reads at each door, and says so, once."""
+        while not all(door.has_service() for door in self._doors.values()):
+            await asyncio.sleep(READY_SECONDS)
+        if self._settings.log is None:  # then standard output is the log
+            self._log.write(event="ready")
+        elif sys.stdout is not None:
+            with contextlib.suppress(OSError):  # nobody reads it
+                print("ready", flush=True)
+        if self._settings.ready is not None:
+            say_ready(self._settings.ready)
+
     def reload(self) -> None:
         """Opens the log anew, and takes certificates and roles anew. What can't be had stays as it was."""
         try:
@@ -216,9 +239,22 @@ class Bridge:
         if self._tls is None:
             return
         try:
-            self._tls.reload()
+            self._end_sessions(self._tls.reload())
         except (OSError, ValueError) as error:
             say(f"{fault_of(error)}: certificates and roles stay as they were")
+
+    def _end_sessions(self, clients: Sequence[Client]) -> None:
+        """Ends those of clients who have lost their role or certificate, once the requests that were passed on are answered,
+        or time is over. Who waits for one is turned away.
+        """
+        for door in self._doors.values():
+            door.seats.drop_gone()
+        loop = asyncio.get_running_loop()
+        for session in self._relays:
+            why = session.client.lost
+            if session.client in clients and why is not None:
+                session.stop(why)
+                loop.call_later(self._settings.grace, session.end, why)
 
     async def stop(self) -> None:
         """Accepts no more, turns away who waits, and ends sessions once they have their replies, or time is over."""
@@ -288,6 +324,18 @@ def seconds(text: str) -> float:
     return float(text)
 
 
+def descriptor(text: str) -> int:
+    """A descriptor that is open: it is looked for before this program opens any itself."""
+    number = count(text)
+    try:
+        os.fstat(number)
+    except OSError:
+        raise argparse.ArgumentTypeError(f"{text!r} is no open descriptor") from None
+    if number < 3:
+        raise argparse.ArgumentTypeError(f"{text!r} is a standard stream: give 3 or more")
+    return number
+
+
 def count(text: str) -> int:
     if not re.fullmatch(r"[0-9]{1,9}", text):
         raise argparse.ArgumentTypeError(f"{text!r} is no number")
@@ -311,12 +359,16 @@ def parser() -> Parser:
         help="sessions of a role at once (admin=4, other roles 16)")
     add("--queue", metavar="N", type=count, default=64, help="clients of a role that may wait for a session (64)")
     add("--wait", metavar="SECONDS", type=seconds, default=10.0,
-        help="how long a handshake may take, how long a client waits for a session, and then for the service to open it (10)")
+        help="how long a client waits for a session, and then for the service to open it (10)")
+    add("--handshake", metavar="SECONDS", type=seconds, default=HANDSHAKE_SECONDS,
+        help="how long a handshake of TLS may take, from the connection on (5)")
     add("--idle", metavar="SECONDS", type=seconds, default=60.0,
         help="how long a session may be idle while others wait (60)")
     add("--grace", metavar="SECONDS", type=seconds, default=10.0,
         help="how long sessions may take to end at SIGTERM (10)")
     add("--log", metavar="FILE", help="the access log; standard output where none is given")
+    add("--ready-fd", metavar="N", type=descriptor,
+        help="an open descriptor that gets the line `ready` once clients get sessions, and is closed then")
     add("--local", metavar="PORT", type=port, help="a port of 127.0.0.1 for /health and /metrics")
     add("--image", metavar="FILE", help="the image, for the drive's numbers in /metrics")
     add("--s4", metavar="PROGRAM", default="s4", help="the program that reads them (s4)")
@@ -339,7 +391,16 @@ def settings_of(words: Sequence[str]) -> Settings:
         options.error("--image is for --local alone")
     tls = None if found.tls is None else Tls(*found.tls, *files.values())
     return Settings(found.doors, found.unix, tls, dict(found.sessions), found.queue, found.wait, found.idle,
-                    found.grace, found.log, found.local, found.image, found.s4)
+                    found.grace, found.log, found.local, found.image, found.s4, found.handshake, found.ready_fd)
+
+
+def say_ready(number: int) -> None:
+    """Writes the line to a descriptor, and closes it."""
+    try:
+        with open(number, "wb", 0) as file:
+            file.write(b"ready\n")
+    except OSError as error:
+        say(f"descriptor {number}: {error.strerror}")
 
 
 def notify_systemd(state: str) -> None:
@@ -370,10 +431,11 @@ async def serve(settings: Settings) -> int:
         say(fault_of(error))
         await bridge.stop()
         return 1
-    say("ready")
-    notify_systemd("READY=1")
+    notify_systemd("READY=1")  # also where no service is there yet: who comes then is turned away
+    announcing = asyncio.ensure_future(bridge.announce())
     await bridge.run(ended)
     notify_systemd("STOPPING=1")
+    announcing.cancel()
     await bridge.stop()
     return 0
 

@@ -35,15 +35,15 @@ class Seats:
 
     def __init__(self, count: int, most_waiting: int, seconds: float) -> None:
         self.free, self._most, self._seconds = count, most_waiting, seconds
-        self._waiting: Dict[asyncio.Future[None], Callable[[], bool]] = {}  # in the order in which they came
+        self._waiting: Dict[asyncio.Future[None], Callable[[], Optional[str]]] = {}  # in the order in which they came
 
     @property
     def waiting(self) -> int:
         """How many wait."""
         return len(self._waiting)
 
-    async def take(self, is_gone: Callable[[], bool]) -> None:
-        """Takes a seat, at once or in turn. TurnedAway where too many wait, no seat was left in time, or `is_gone` holds."""
+    async def take(self, fault: Callable[[], Optional[str]]) -> None:
+        """Takes a seat, at once or in turn. TurnedAway where too many wait, no seat was left in time, or `fault` names one."""
         if self.free:  # then nobody waits, since who leaves hands the seat on
             self.free -= 1
             return
@@ -52,7 +52,7 @@ class Seats:
             raise TurnedAway("queue full")
         loop = asyncio.get_running_loop()
         place: asyncio.Future[None] = loop.create_future()
-        self._waiting[place] = is_gone
+        self._waiting[place] = fault
         timer = loop.call_later(self._seconds, self._give_up, place, "waited too long")
         try:
             await place
@@ -66,6 +66,7 @@ class Seats:
 
     def leave(self) -> None:
         """Hands a seat to who waits longest, or back."""
+        self.drop_gone()
         for place in list(self._waiting):
             del self._waiting[place]
             if not place.done():
@@ -74,10 +75,11 @@ class Seats:
         self.free += 1
 
     def drop_gone(self) -> None:
-        """Turns away who doesn't wait any more."""
-        for place, is_gone in list(self._waiting.items()):
-            if is_gone():
-                self._give_up(place, "client gone")
+        """Turns away who doesn't wait any more, or may not."""
+        for place, fault in list(self._waiting.items()):
+            why = fault()
+            if why is not None:
+                self._give_up(place, why)
 
     def turn_away(self, why: str) -> None:
         """Turns away all who wait, and who comes later unless a seat is free."""

@@ -10,85 +10,22 @@ import socket
 import ssl
 import stat
 import struct
-from typing import Any, Awaitable, Callable, Dict, NamedTuple, Optional, Set, Tuple
+from typing import Any, Awaitable, Callable, Dict, List, NamedTuple, Optional, Set, Tuple
 
 from .access_log import say
 from .doors import TurnedAway
+from .handshakes import HANDSHAKES, Handshakes
 from .relay import Client
 from .tls_server import TlsWriter, tls_streams
+from .trust import Certificate, Tls, Trust, common_name, trust_of
 from .wire import BODY_BYTES
 
-HANDSHAKES = 64  # of connections, of which it isn't known yet whether they are clients
 PAUSE_SECONDS = 0.2  # after a connection that couldn't be accepted, as where no descriptor is free
 BACKLOG = 128
-
-ROLE = re.compile(r"[a-z0-9-]+")  # no path
 
 Peer = Dict[str, Any]
 Serve = Callable[[Client], Awaitable[None]]
 TurnAway = Callable[[Optional[str], Peer, TurnedAway], None]  # a role where one is known, who it was, and why
-
-
-class Tls(NamedTuple):
-    """What a listener for TLS needs: its address, and paths of certificate, key, clients' authority and file of roles."""
-
-    host: str
-    port: int
-    cert: str
-    key: str
-    client_ca: str
-    roles: str
-
-
-def roles_in(path: str) -> Dict[str, str]:
-    """The role of each common name. A line of the file is a role and a name; ValueError where one isn't.
-
-    Empty lines, and those that begin with `#`, are passed over.
-    """
-    roles: Dict[str, str] = {}
-    with open(path, encoding="utf-8", errors="replace") as file:
-        for number, line in enumerate(file, 1):
-            if "\ufffd" in line:
-                raise ValueError(f"{path}:{number}: it is no text in UTF-8")
-            words = line.split(maxsplit=1)
-            if not words or words[0].startswith("#"):
-                continue
-            if len(words) != 2:
-                raise ValueError(f"{path}:{number}: give a role and a common name")
-            role, name = words[0], words[1].strip()
-            if not ROLE.fullmatch(role):
-                raise ValueError(f"{path}:{number}: {role} is no role: give lower-case letters, digits and -")
-            if name in roles:
-                raise ValueError(f"{path}:{number}: {name} is named twice")
-            roles[name] = role
-    return roles
-
-
-def context_of(tls: Tls) -> ssl.SSLContext:
-    """A context that asks each client for a certificate of the authority. OSError where a file can't be taken."""
-    context = ssl.SSLContext(ssl.PROTOCOL_TLS_SERVER)
-    context.minimum_version = ssl.TLSVersion.TLSv1_2
-    context.verify_mode = ssl.CERT_REQUIRED
-    context.options |= ssl.OP_NO_RENEGOTIATION
-    for path in (tls.cert, tls.key, tls.client_ca):
-        with open(path, "rb"):  # so that the fault names its file
-            pass
-    try:
-        context.load_cert_chain(tls.cert, tls.key, password="")  # so that nobody is asked for the password of a key that has one
-    except ssl.SSLError as error:
-        raise OSError(errno.EINVAL, f"no certificate with this key ({error.reason or 'no PEM, or the key has a password'})", tls.cert) from None
-    try:
-        context.load_verify_locations(tls.client_ca)
-    except ssl.SSLError as error:
-        raise OSError(errno.EINVAL, f"no certificate ({error.reason or error})", tls.client_ca) from None
-    return context
-
-
-def common_name(certificate: Optional[Dict[str, Any]]) -> Optional[str]:
-    """The common name in a certificate's subject, where there is exactly one."""
-    subject = (certificate or {}).get("subject", ())
-    names = [value for part in subject for key, value in part if key == "commonName"]
-    return names[0] if len(names) == 1 else None
 
 
 def listen_unix(path: str, mode: int) -> socket.socket:
@@ -149,10 +86,9 @@ class Listener:
 
     def __init__(self, link: socket.socket, serve: Serve, turn_away: TurnAway) -> None:
         self._link, self._serve, self._turn_away = link, serve, turn_away
-        self._handshakes = asyncio.Semaphore(HANDSHAKES)
         self._accepting: Optional[asyncio.Future[None]] = None
         self._greeting: Set[asyncio.Future[None]] = set()  # of connections that aren't clients yet
-        self._serving: Set[asyncio.Future[None]] = set()
+        self._serving: Dict[asyncio.Future[None], Client] = {}
 
     def start(self) -> None:
         """Accepts from now on."""
@@ -161,11 +97,9 @@ class Listener:
     async def _accept(self) -> None:
         loop, said = asyncio.get_running_loop(), ""
         while True:
-            await self._handshakes.acquire()
             try:
                 link, address = await loop.sock_accept(self._link)
             except OSError as error:
-                self._handshakes.release()
                 line = f"no connection could be accepted: {error.strerror or error}"
                 if line != said:  # once, not at each try
                     say(line)
@@ -176,6 +110,7 @@ class Listener:
             task = asyncio.ensure_future(self._greet(link, address))
             self._greeting.add(task)
             task.add_done_callback(self._greeting.discard)
+            await asyncio.sleep(0)  # else nothing else is done while connections come faster than they are accepted
 
     async def _greet(self, link: socket.socket, address: Any) -> None:
         try:
@@ -185,11 +120,9 @@ class Listener:
         except OSError:
             link.close()
             return
-        finally:
-            self._handshakes.release()
         task = asyncio.ensure_future(self._serve(client))
-        self._serving.add(task)
-        task.add_done_callback(self._serving.discard)
+        self._serving[task] = client
+        task.add_done_callback(self._serving.pop)
 
     async def _client(self, link: socket.socket, address: Any) -> Client:
         """The client of a connection. TurnedAway, which was said already, where it is none: then the connection is closed.
@@ -242,46 +175,92 @@ class TlsListener(Listener):
     """A port for TLS. The common name of a client's certificate says its role. A handshake may take as many `seconds`."""
 
     def __init__(self, tls: Tls, seconds: float, take_door: Callable[[str], None], serve: Serve, turn_away: TurnAway) -> None:
-        self._tls, self._seconds, self._take_door = tls, seconds, take_door
-        self._context, self._roles = self._read()
+        self._tls, self._take_door, self._handshakes = tls, take_door, Handshakes(seconds)
+        self._refused = 0  # connections to which it is still said why
+        self._trust = self._read()
         super().__init__(listen_tcp(tls.host, tls.port), serve, turn_away)
 
-    def _read(self) -> Tuple[ssl.SSLContext, Dict[str, str]]:
+    def _read(self) -> Trust:
         """Certificates and roles, of which each has its door. OSError or ValueError where something can't be had."""
-        context, roles = context_of(self._tls), roles_in(self._tls.roles)
-        for role in sorted(set(roles.values())):
+        trust = trust_of(self._tls)
+        for role in sorted(set(trust.roles.values())):
             self._take_door(role)
-        return context, roles
+        return trust
 
-    def reload(self) -> None:
-        """Takes certificates and roles anew, for who comes from now on. At OSError or ValueError they stay as they were."""
-        self._context, self._roles = self._read()
+    def reload(self) -> List[Client]:
+        """Takes certificates and roles anew, and notes of each client what it has lost thereby: these clients.
+
+        At OSError or ValueError all stay as they were.
+        """
+        earlier, self._trust = self._trust, self._read()
+        for client in self._serving.values():
+            client.lost = client.lost or self._trust.loss(client.role, client.certificate, earlier)
+        return [client for client in self._serving.values() if client.lost]
 
     async def _client(self, link: socket.socket, address: Tuple[Any, ...]) -> Client:
-        reader, writer = await tls_streams(link, self._context)
-        client = Client("", {"address": f"{address[0]}:{address[1]}"}, reader, writer)
+        peer = {"address": f"{address[0]}:{address[1]}"}
         try:
-            client.role = await self._role_of(client, writer)
+            return await self._greeted(link, str(address[0]), peer)
         except TurnedAway as turned:
-            self._turn_away(None, client.peer, turned)
-            client.close()
-            await client.drop_requests()
-            client.abort()
+            self._turn_away(None, peer, turned)
+            raise
+
+    async def _greeted(self, link: socket.socket, host: str, peer: Peer) -> Client:
+        """The client, after its handshake. TurnedAway where it is none."""
+        trust, client = self._trust, None
+        try:
+            async with self._handshakes.turn(link, host) as seconds:
+                reader, writer = await tls_streams(link, trust.context)
+                client = Client("", peer, reader, writer)
+                client.certificate = await certificate_of(writer, seconds)
+                self._judge(client, trust)
+            return client
+        except TurnedAway:
+            await self._refuse(link, client)
             raise
         except asyncio.CancelledError:
-            client.abort()
+            self._drop(link, client)
             raise
-        return client
 
-    async def _role_of(self, client: Client, writer: TlsWriter) -> str:
-        """The role by the client's certificate, whose name the log has; TurnedAway where there is none."""
-        try:
-            certificate = await writer.handshake(self._seconds)
-        except OSError as error:
-            reason = getattr(error, "reason", None) or error.strerror or str(error)
-            raise TurnedAway("no tls", reason) from None
-        client.peer["name"] = name = common_name(certificate)
-        if name not in self._roles:
+    def _judge(self, client: Client, trust: Trust) -> None:
+        """Gives a client its role by its certificate, which a trust took that may be an earlier one now, and the name in it to
+        the log. TurnedAway where it has no role.
+        """
+        client.peer["name"] = common_name(client.certificate)
+        role = self._trust.role_of(client.certificate)
+        if role is None:
             client.dismiss()
             raise TurnedAway("no role")
-        return self._roles[name]
+        lost = self._trust.loss(role, client.certificate, trust)
+        if lost is not None:
+            client.dismiss()
+            raise TurnedAway(lost)
+        client.role = role
+
+    async def _refuse(self, link: socket.socket, client: Optional[Client]) -> None:
+        """Closes a connection, where TLS has begun once the other side knows why."""
+        self._refused += 1
+        try:
+            if client is not None and self._refused <= HANDSHAKES:
+                client.close()
+                await client.drop_requests()
+        finally:
+            self._refused -= 1
+            self._drop(link, client)
+
+    @staticmethod
+    def _drop(link: socket.socket, client: Optional[Client]) -> None:
+        """Closes a connection at once."""
+        if client is not None:
+            client.abort()
+        else:
+            link.close()
+
+
+async def certificate_of(writer: TlsWriter, seconds: float) -> Certificate:
+    """The client's certificate, after its handshake; TurnedAway where there is none."""
+    try:
+        return await writer.handshake(seconds) or {}
+    except OSError as error:
+        reason = getattr(error, "reason", None) or error.strerror or str(error)
+        raise TurnedAway("no tls", reason) from None

@@ -5,7 +5,7 @@ import asyncio
 import contextlib
 import time
 from collections import deque
-from dataclasses import dataclass
+from dataclasses import dataclass, field
 from typing import Any, Awaitable, Callable, Deque, Dict, Optional
 
 from . import frames
@@ -29,18 +29,26 @@ NOT_OPENED = "not opened"
 BAD_REPLY = "bad reply"
 
 
-@dataclass
+@dataclass(eq=False)
 class Client:
-    """A client that is connected: its role, who it is for the log, and its streams."""
+    """A client that is connected: its role, who it is for the log, its streams, and its certificate where it has one.
+
+    `lost` says what it has lost since it came, its role or its certificate: it gets no session then, and keeps none.
+    """
 
     role: str
     peer: Dict[str, Any]
     reader: asyncio.StreamReader
     writer: asyncio.StreamWriter
+    certificate: Dict[str, Any] = field(default_factory=dict)
+    lost: Optional[str] = None
 
-    def is_gone(self) -> bool:
-        """Whether it has ended the connection, and left nothing to be answered, or can't be understood any more."""
-        return self.reader.at_eof() or self.reader.exception() is not None or self.writer.transport.is_closing()
+    def fault(self) -> Optional[str]:
+        """Why it needs no session any more: it has lost its role, has ended the connection and left nothing to be answered,
+        or can't be understood any more. None where it does.
+        """
+        is_gone = self.reader.at_eof() or self.reader.exception() is not None or self.writer.transport.is_closing()
+        return self.lost or (CLIENT_GONE if is_gone else None)
 
     def dismiss(self) -> None:
         """Says that it has no session, and that nothing was passed on. Nothing more is written."""
@@ -82,7 +90,7 @@ class Relay:
     """Passes whole requests on, so that a client that ends inside one, or sends one too long, changes nothing there."""
 
     def __init__(self, client: Client, pipes: Pipes, report: Report, settle: Settle) -> None:
-        self._client, self._pipes, self._report, self._settle = client, pipes, report, settle
+        self.client, self._pipes, self._report, self._settle = client, pipes, report, settle
         self._asked: Deque[Asked] = deque()
         self._room = asyncio.Event()
         self._room.set()
@@ -110,12 +118,12 @@ class Relay:
             await asyncio.wait({self._requests, self._replies})
             self._pipes.close()
             self._report_lost()
-            self._client.close()
+            self.client.close()
         return self._end or SERVICE_ENDED
 
-    def stop(self) -> None:
+    def stop(self, why: str = STOPPED) -> None:
         """Takes no further request; the session ends once those that it has are answered."""
-        self._note(STOPPED)
+        self._note(why)
         self._is_stopping = True
         if self._is_reading and self._requests is not None:
             self._requests.cancel()
@@ -125,7 +133,7 @@ class Relay:
         self._note(why)
         if self._replies is not None:
             self._replies.cancel()
-        self._client.abort()
+        self.client.abort()
 
     def is_idle(self, seconds: float) -> bool:
         """Whether the client has sent no whole request and taken no reply for that time, and the service owes it none."""
@@ -165,12 +173,12 @@ class Relay:
         """The client's next request, whole; None where there is none, with the reason noted."""
         self._is_reading, head = True, b""
         try:
-            head = await self._client.reader.readexactly(LENGTH_BYTES)
+            head = await self.client.reader.readexactly(LENGTH_BYTES)
             length = int.from_bytes(head, "big")
             if length > BODY_BYTES:
                 self._note(LONG_FRAME)
                 return None
-            return head + await self._client.reader.readexactly(length)
+            return head + await self.client.reader.readexactly(length)
         except asyncio.IncompleteReadError as error:
             self._note(CUT_FRAME if head or error.partial else CLIENT_ENDED)
         except OSError:
@@ -214,8 +222,8 @@ class Relay:
 
     async def _write(self, data: bytes) -> None:
         self._is_writing = True
-        self._client.writer.write(data)
-        await self._client.writer.drain()
+        self.client.writer.write(data)
+        await self.client.writer.drain()
         self._is_writing = False
         self.moved = time.monotonic()
 

@@ -51,20 +51,39 @@ class Bridged(unittest.TestCase):
         folder = tempfile.TemporaryDirectory()
         self.addCleanup(folder.cleanup)
         self.folder = pathlib.Path(folder.name)
-        self.service, self.process, self.said = None, None, []
+        self.service, self.process, self.printed, self.said = None, None, [], []
         self.addCleanup(self.end)
 
     def start(self, *more, unix=True, **environment):
-        """Starts service and bridge. Its log is access.log in the folder."""
+        """Starts service and bridge, and waits until it is ready. Its log is access.log in the folder."""
         self.service = self.service or Service(self.folder / "doors")
-        sockets = ["--unix", f"client={self.folder}/client.sock:660", "--unix", f"admin={self.folder}/admin.sock"] if unix else []
-        waits = [] if "--wait" in more else ["--wait", PATIENCE]
-        words = words_of(self.folder, "--log", self.folder / "access.log", *sockets, *waits, *more)
-        self.process = subprocess.Popen(words, cwd=PACKAGE, env={**os.environ, **environment}, stderr=subprocess.PIPE, text=True)
-        self.said = []
-        threading.Thread(target=self.hear, args=(self.process.stderr, self.said), daemon=True).start()
-        wait_until(lambda: "s4d.bridge: ready" in self.said or self.process.poll() is not None, "the bridge is ready")
+        self.begin_bridge(*more, unix=unix, **environment)
+        wait_until(lambda: self.printed or self.process.poll() is not None, "the bridge is ready")
         self.assertIsNone(self.process.poll(), self.said)
+        self.assertEqual(self.printed, ["ready"])
+
+    def start_without_service(self, *more, pass_fds=()):
+        """Starts a bridge, and waits until it listens."""
+        with self.systemd() as systemd:
+            self.begin_bridge(*more, pass_fds=pass_fds, NOTIFY_SOCKET=systemd.getsockname())
+            self.assertEqual(systemd.recv(100), b"READY=1")
+
+    def begin_bridge(self, *more, unix=True, pass_fds=(), **environment):
+        sockets = ["--unix", f"client={self.folder}/client.sock:660", "--unix", f"admin={self.folder}/admin.sock"] if unix else []
+        waits = [word for name in ("--wait", "--handshake") if name not in more for word in (name, PATIENCE)]
+        words = words_of(self.folder, "--log", self.folder / "access.log", *sockets, *waits, *more)
+        self.process = subprocess.Popen(words, cwd=PACKAGE, env={**os.environ, **environment}, stdout=subprocess.PIPE,
+                                        stderr=subprocess.PIPE, text=True, pass_fds=pass_fds)
+        self.printed, self.said = [], []
+        for lines, heard in ((self.process.stdout, self.printed), (self.process.stderr, self.said)):
+            threading.Thread(target=self.hear, args=(lines, heard), daemon=True).start()
+
+    def systemd(self):
+        """A socket at which a program's state is said to systemd."""
+        link = socket.socket(socket.AF_UNIX, socket.SOCK_DGRAM)
+        link.bind(f"{self.folder}/systemd")
+        link.settimeout(PATIENCE)
+        return link
 
     @staticmethod
     def hear(lines, said):

@@ -46,15 +46,20 @@ class Service:
         self.names: List[str] = []
         self.asked = 0  # requests that came whole
         self.cut: List[str] = []  # sessions whose requests ended inside a frame
-        self.open_sessions: Dict[str, int] = {role: 0 for role in roles}
-        self.most_open: Dict[str, int] = {role: 0 for role in roles}
+        self.open_sessions: Dict[str, int] = {}
+        self.most_open: Dict[str, int] = {}
         for role in roles:
-            path = folder / role
-            path.mkdir(parents=True, exist_ok=True)
-            with contextlib.suppress(FileExistsError):
-                os.mkfifo(path / "door")
-            door = os.open(path / "door", os.O_RDWR | os.O_CLOEXEC)
-            threading.Thread(target=self._attend, args=(role, path, door), daemon=True).start()
+            self.attend(role)
+
+    def attend(self, role: str) -> None:
+        """Serves the door of a role."""
+        self.open_sessions[role] = self.most_open[role] = 0
+        path = self.folder / role
+        path.mkdir(parents=True, exist_ok=True)
+        with contextlib.suppress(FileExistsError):
+            os.mkfifo(path / "door")
+        door = os.open(path / "door", os.O_RDWR | os.O_CLOEXEC)
+        threading.Thread(target=self._attend, args=(role, path, door), daemon=True).start()
 
     def _attend(self, role: str, path: pathlib.Path, door: int) -> None:
         """Takes the lines of a door; each names a session."""

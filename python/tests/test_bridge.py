@@ -18,6 +18,7 @@ from unittest import mock
 import s4d
 from s4d import Attributes, Created, bridge, wire
 from s4d.access_log import AccessLog
+from s4d.handshakes import HANDSHAKES
 from s4d.metrics import of_drive, text_of
 from s4d.status import DriveNumbers
 
@@ -264,7 +265,7 @@ class Limits(Bridged):
     def test_no_service(self):
         self.service = Service(self.folder / "doors", ["client"])
         (self.folder / "doors" / "admin").mkdir()
-        self.start()
+        self.start_without_service()
         for number in (1, 2):
             if number == 2:
                 os.mkfifo(self.folder / "doors" / "admin" / "door")
@@ -438,7 +439,8 @@ class Certified(Bridged):
         (self.folder / "roles").write_text(text, encoding="utf-8")
 
     def begin(self, *more, **how):
-        self.start(*tls_words(self.folder, self.port), *more, **how)
+        self.page = free_port()
+        self.start(*tls_words(self.folder, self.port), "--local", self.page, *more, **how)
 
     def drive(self, tls):
         return s4d.Drive.connect(f"tls:127.0.0.1:{self.port}", PATIENCE, tls=tls)
@@ -485,16 +487,108 @@ class Certified(Bridged):
         self.begin()
         with self.drive(alice) as it:
             it.create()
-            self.roles("client bob\n")
+            self.roles("client bob\nclient alice\n")
             self.certificates.make("bridge")
             self.process.send_signal(signal.SIGHUP)
             wait_until(lambda: self.is_served(bob), "bob has a role")
-            self.assertFalse(self.is_served(alice))
-            self.assertEqual(it.read(1), b"")  # who is there stays
+            self.assertEqual(it.read(1), b"")  # who keeps role and certificate stays
+            self.roles("client bob\n")
+            self.process.send_signal(signal.SIGHUP)
+            wait_until(lambda: not self.is_served(alice), "alice has no role")
             self.roles("nobody bob\n")
             self.process.send_signal(signal.SIGHUP)
             wait_until(lambda: any("nobody: No such file" in line for line in self.said), "a line on the role without a door")
             self.assertTrue(self.is_served(bob))
+
+    def test_who_loses_a_role_loses_the_session(self):
+        """An administrator who becomes a client, while writing; all that was acknowledged is there, and others go on."""
+        alice, root = self.certificates.make("alice"), self.certificates.make("The Root Admin", "root")
+        self.begin()
+        acknowledged = []
+        with self.connect("admin") as owner, self.drive(alice) as client, self.drive(root) as demoted:
+            moments = [client.create().moment, owner.append(1, b"x")]
+
+            def write():
+                with contextlib.suppress(s4d.Disconnected):
+                    while True:
+                        acknowledged.append(demoted.append(1, b"x"))
+
+            writing = threading.Thread(target=write)
+            writing.start()
+            wait_until(lambda: len(acknowledged) > 20, "changes")
+            self.roles("client alice\nclient The Root Admin\n")
+            self.process.send_signal(signal.SIGHUP)
+            writing.join()
+            self.wait_for_line(event="session", role="admin", end="role lost")
+            with self.assertRaises(s4d.Disconnected):
+                demoted.flush(1, 1)
+            moments += [client.append(1, b"y"), owner.append(1, b"y")]
+            self.assertEqual([row.moment for row in owner.audit()], sorted(moments + acknowledged))
+            with self.drive(root) as it, self.assertRaises(s4d.NotAdmin):
+                it.flush(1, 1)
+
+    def test_who_loses_a_role_while_waiting(self):
+        root = self.certificates.make("The Root Admin", "root")
+        self.begin("--sessions", "admin=1")
+        with self.connect("admin") as owner:
+            owner.create()
+            with self.drive(root) as it:
+                wait_until(lambda: self.is_waiting("admin"), "who waits")
+                self.roles("client The Root Admin\n")
+                self.process.send_signal(signal.SIGHUP)
+                self.assertEqual(self.wait_for_line(event="turned away", why="role lost")["peer"]["name"], "The Root Admin")
+                with self.assertRaises(s4d.NotAsked):
+                    it.flush(1, 1)
+            self.assertEqual(owner.append(1, b"x"), 2)
+
+    def is_waiting(self, role):
+        return value_of(got(self.page, "/metrics")[1], "s4_bridge_waiting", role=role) == 1
+
+    def test_who_loses_a_certificate_loses_the_session(self):
+        """Its authority goes; that of others stays, or one is added."""
+        alice = self.certificates.make("alice")
+        (self.folder / "other").mkdir()
+        second = Certificates(self.folder / "other", "second")
+        bob = second.make("bob")
+        self.roles("client alice\nclient bob\n")
+        first = self.certificates.authority.read_text(encoding="ascii")
+        both = self.folder / "both.pem"
+        both.write_text(first, encoding="ascii")
+        self.begin("--client-ca", both)
+        with self.drive(alice) as stays:
+            stays.create()
+            both.write_text(second.authority.read_text(encoding="ascii") + first, encoding="ascii")
+            self.process.send_signal(signal.SIGHUP)
+            tls = s4d.Tls(self.certificates.authority, bob.cert, bob.key)
+            wait_until(lambda: self.is_served(tls), "another authority")
+            stays.append(1, b"x")
+            with self.drive(tls) as goes:
+                goes.append(1, b"y")
+                both.write_text(first, encoding="ascii")
+                self.process.send_signal(signal.SIGHUP)
+                self.assertEqual(self.wait_for_line(event="session", end="certificate lost")["peer"]["name"], "bob")
+                with self.assertRaises(s4d.Disconnected):
+                    goes.append(1, b"never")
+            self.assertEqual(stays.read(1), b"xy")
+
+    def test_an_authority_that_goes_inside_a_handshake(self):
+        alice = self.certificates.make("alice")
+        bob, path = self.certificates.make("bob"), self.folder / "authority.pem"
+        path.write_bytes(self.certificates.authority.read_bytes())
+        self.roles("client alice\nclient bob\n")
+        self.begin("--client-ca", path)
+        link, side, (incoming, outgoing), perform = self.ungreeted(alice)
+        with self.assertRaises(ssl.SSLWantReadError):
+            side.do_handshake()
+        link.sendall(outgoing.read())
+        incoming.write(link.recv(65_536))
+        Certificates(self.folder, "other")
+        path.write_bytes((self.folder / "other.pem").read_bytes())
+        self.process.send_signal(signal.SIGHUP)
+        wait_until(lambda: not self.is_served(bob), "another authority")
+        perform(side.do_handshake)
+        self.assertEqual(perform(lambda: side.read(100)), AWAY)
+        self.wait_for_line(event="turned away", why="certificate lost")
 
     def is_served(self, tls):
         try:
@@ -530,6 +624,12 @@ class Certified(Bridged):
 
     def greeted(self, tls, version=ssl.TLSVersion.TLSv1_3):
         """A socket and its TLS after the handshake, and what performs a step of that."""
+        link, side, _, perform = self.ungreeted(tls, version)
+        perform(side.do_handshake)
+        return link, side, perform
+
+    def ungreeted(self, tls, version=ssl.TLSVersion.TLSv1_3):
+        """The same before the handshake, with what was received and what is to be sent."""
         context, incoming, outgoing = tls.context(), ssl.MemoryBIO(), ssl.MemoryBIO()
         context.maximum_version = version
         side = context.wrap_bio(incoming, outgoing, server_hostname="127.0.0.1")
@@ -547,8 +647,7 @@ class Certified(Bridged):
                         link.sendall(outgoing.read())
                 incoming.write(link.recv(65_536) or self.fail("the connection ended without an end of TLS"))
 
-        perform(side.do_handshake)
-        return link, side, perform
+        return link, side, (incoming, outgoing), perform
 
     def test_an_end_in_order(self):
         """A client that sends ever more requests gets the replies to those that were passed on, and then an end of TLS."""
@@ -569,6 +668,48 @@ class Certified(Bridged):
         perform(side.unwrap)
         self.assertEqual(self.process.wait(PATIENCE), 0)
 
+    def test_connections_that_say_nothing(self):
+        """They keep nobody out, however long their handshakes may take: where there are too many the oldest go."""
+        root = self.certificates.make("The Root Admin", "root")
+        self.begin()
+        silent = []
+        for count in (200, 300):
+            while len(silent) < count:
+                link = socket.create_connection(("127.0.0.1", self.port), PATIENCE)
+                self.addCleanup(link.close)
+                silent.append(link)
+            for _ in range(5):
+                with self.drive(root) as it:
+                    it.create()
+        self.assertEqual(rest_of(silent[0]), b"")
+        self.wait_for_line(300 - HANDSHAKES, event="turned away", why="too many handshakes")
+        silent[-1].setblocking(False)
+        with self.assertRaises(BlockingIOError):
+            silent[-1].recv(1)
+        self.assertEqual(self.lines(event="turned away", why="no tls"), [])
+
+    def test_handshakes_that_do_not_go_on(self):
+        """Those of one address keep nobody of another one out, and end in time."""
+        alice = self.certificates.make("alice")
+        self.begin()
+        for _ in range(300):
+            link = socket.create_connection(("127.0.0.1", self.port), PATIENCE, source_address=("127.0.0.2", 0))
+            self.addCleanup(link.close)
+            link.sendall(b"\x16\x03\x01")
+        for _ in range(5):
+            with self.drive(alice) as it:
+                it.create()
+        self.wait_for_line(300 - HANDSHAKES, event="turned away", why="too many handshakes")
+
+    def test_a_handshake_has_a_time(self):
+        self.begin("--handshake", "0.2")
+        for said in (b"", b"\x16\x03\x01"):
+            with socket.create_connection(("127.0.0.1", self.port), PATIENCE) as link:
+                link.sendall(said)
+                self.assertEqual(rest_of(link), b"")
+        for line in (self.wait_for_line(2, event="turned away"), *self.lines(event="turned away")):
+            self.assertEqual((line["why"], line["fault"]), ("no tls", "its handshake took too long"))
+
     def test_clients_whose_tls_breaks(self):
         """One that has a session, one that waits, and strangers in their handshakes; others aren't disturbed."""
         alice = self.certificates.make("alice")
@@ -578,10 +719,10 @@ class Certified(Bridged):
         self.assertEqual(len(perform(lambda: side.read(21))), 21)
         second, _, _ = self.greeted(alice)
         waiting = self.drive(alice)
-        for link in (second, first):
-            link.sendall(b"no record of TLS")
+        second.sendall(b"no record of TLS")
+        self.wait_for_line(event="turned away", why="client gone")  # else it could get the seat that the first one leaves
+        first.sendall(b"no record of TLS")
         self.wait_for_line(event="session", end="client gone")
-        self.wait_for_line(event="turned away", why="client gone")
         for number, said in enumerate((b"no record of TLS", b"", b"\x16\x03\x01"), 1):
             with socket.create_connection(("127.0.0.1", self.port), PATIENCE) as link:
                 link.sendall(said)
@@ -590,7 +731,7 @@ class Certified(Bridged):
             self.wait_for_line(number, event="turned away", why="no tls")
         with waiting as it:
             self.assertEqual(it.create().object, 2)
-        self.assertEqual(self.said, ["s4d.bridge: ready"])
+        self.assertEqual(self.said, [])
 
 
 class Logs(Bridged):
@@ -654,7 +795,7 @@ class Logs(Bridged):
             it.create()
             it.append(1, b"")
         wait_until(lambda: value_of(got(port, "/metrics")[1], "s4_bridge_log_lines_lost_total") == 3, "lines that are lost")
-        self.assertEqual(self.said[1:], ["s4d.bridge: access log: No space left on device: lines are lost"])
+        self.assertEqual(self.said, ["s4d.bridge: access log: No space left on device: lines are lost"])
 
 
     def test_a_disk_that_takes_nothing(self):
@@ -763,6 +904,45 @@ class Pages(Bridged):
         self.assertEqual(self.service.names, [])  # nothing was asked of the drive
 
 
+class Ready(Bridged):
+    """What is said once a client gets a session."""
+
+    def test_it_waits_for_the_service(self):
+        doors = self.folder / "doors"
+        for role in ("client", "admin"):
+            (doors / role).mkdir(parents=True)
+        source, sink = os.pipe()
+        self.addCleanup(os.close, source)
+        self.start_without_service("--ready-fd", sink, pass_fds=[sink])
+        os.close(sink)
+        self.service = Service(doors, ["client"])
+        time.sleep(0.3)  # far longer than it takes where it doesn't wait for the other door
+        self.assertEqual(self.printed, [])
+        self.service.attend("admin")
+        self.assertEqual(os.read(source, 100), b"ready\n")
+        self.assertEqual(os.read(source, 100), b"")
+        wait_until(lambda: self.printed == ["ready"], "a line")
+        with self.connect("admin") as it:
+            it.create()
+        self.assertEqual(self.said, [])
+
+    def test_where_standard_output_is_the_log(self):
+        Service(self.folder / "doors")
+        words = words_of(self.folder, "--unix", f"client={self.folder}/client.sock")
+        with subprocess.Popen(words, cwd=PACKAGE, stdout=subprocess.PIPE, text=True) as process:
+            self.assertEqual(json.loads(process.stdout.readline())["event"], "ready")
+            self.connect().close()
+            self.assertEqual(json.loads(process.stdout.readline())["event"], "session")
+            process.terminate()
+
+    def test_words(self):
+        for word, why in (("1", "is a standard stream: give 3 or more"), ("99", "is no open descriptor"), ("x", "is no number")):
+            with self.subTest(word):
+                ran = subprocess.run(words_of(self.folder, "--unix", "client=s", "--ready-fd", word), cwd=PACKAGE, capture_output=True,
+                                     text=True, check=False)
+                self.assertEqual((ran.returncode, ran.stderr), (2, f"s4d.bridge: argument --ready-fd: {word!r} {why}; --help lists the options\n"))
+
+
 class Ends(Bridged):
     def test_an_end_in_order(self):
         self.start("--sessions", "client=1")
@@ -791,9 +971,7 @@ class Ends(Bridged):
 
     def test_a_bridge_that_starts_again(self):
         """What systemd waits for is said each time."""
-        with socket.socket(socket.AF_UNIX, socket.SOCK_DGRAM) as systemd:
-            systemd.bind(f"{self.folder}/systemd")
-            systemd.settimeout(PATIENCE)
+        with self.systemd() as systemd:
             for number in (1, 2):
                 self.start(NOTIFY_SOCKET=f"{self.folder}/systemd")
                 self.assertEqual(systemd.recv(100), b"READY=1")
