@@ -25,10 +25,11 @@ from .async_drive import AsyncDrive, AsyncPast
 from .connection import Peer, Reader, Writer
 from .drive import Drive, Past
 from .errors import (REFUSALS, BadAttr, BadFrame, BadReply, BadSpan, Busy, ChainFull, ClockEnd, Disconnected, Ended,
-                     Error, Expired, Flushed, Future, InUse, NoMemory, NoObject, NoRoom, NoSpace, NotAdmin, NotAsked,
-                     ProgramFailed, Refused, ReplyLost, Stale, TooLarge, TooManySpans)
+                     Error, Expired, Flushed, Future, ImageServed, InUse, NoMemory, NoObject, NoRoom, NoSpace, NotAdmin,
+                     NotAsked, ProgramFailed, Refused, ReplyLost, Stale, TooLarge, TooManySpans)
 from .history import Kind, Span
 from .image import Facts, Image, Moment
+from .moments import When
 from .pipeline import Pipeline, Reply
 from .retry import NEVER, Retry
 from .rows import (Change, ChangeKind, Checked, Compacted, Difference, Flush, Hidden, HiddenCounts, HiddenVersions, Info,
@@ -43,9 +44,9 @@ __all__ = [
     "ATTRIBUTE_BYTES", "AUDIT_ROWS", "AsyncDrive", "AsyncPast", "Attributes", "AuditKind", "AuditRow", "BODY_BYTES",
     "BadAttr", "BadFrame", "BadReply", "BadSpan", "Busy", "ChainFull", "Change", "ChangeKind", "Checked", "ClockEnd",
     "Compacted", "Created", "Difference", "Disconnected", "Drive", "Ended", "Error", "Expired", "Facts", "Flush",
-    "Flushed", "Future", "Hidden", "HiddenCounts", "HiddenVersions", "Image", "InUse", "Info", "Kind", "LAST",
+    "Flushed", "Future", "Hidden", "HiddenCounts", "HiddenVersions", "Image", "ImageServed", "InUse", "Info", "Kind", "LAST",
     "Listed", "Moment", "NEVER", "NoMemory", "NoObject", "NoRoom", "NoSpace", "NotAdmin", "NotAsked", "OBJECT_BYTES",
     "Past", "Peer", "Pipeline", "ProgramFailed", "READ_BYTES", "REFUSALS", "Range", "Reader", "Refused", "Reply", "ReplyLost",
     "Restored", "Retry", "Span", "Stale", "Stat", "Times", "Tls", "TooLarge", "TooManySpans", "WRITE_BYTES",
-    "Widened", "Writer",
+    "When", "Widened", "Writer",
 ]

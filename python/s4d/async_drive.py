@@ -10,7 +10,8 @@ from . import wire
 from .addresses import Address, address_of
 from .errors import BadReply, Disconnected, NotAsked, Refused, ReplyLost
 from .history import Search, Span, history_of
-from .pieces import Steps, read_all, starts
+from .moments import When, moment_of
+from .pieces import Steps, read_all, write_all
 from .retry import NEVER, Retry
 from .tls import Tls, refuses_certificate
 from .wire import AUDIT_ROWS, LAST, READ_BYTES, TURNED_AWAY, Attributes, AuditRow, Created, Request
@@ -66,9 +67,9 @@ class AsyncDrive:
                         trace: Optional[TracebackType]) -> None:
         await self.close()
 
-    def at(self, moment: int) -> AsyncPast:
-        """The drive as it was at a moment."""
-        return AsyncPast(self, moment)
+    def at(self, moment: When) -> AsyncPast:
+        """The drive as it was at a moment; an age is counted from now, once."""
+        return AsyncPast(self, moment_of(moment))
 
     async def _take_replies(self) -> None:
         """Gives each reply to the request whose turn it is."""
@@ -187,7 +188,7 @@ class AsyncDrive:
     async def delete(self, object: int) -> int:
         return await self._ask(wire.delete(object))
 
-    async def read(self, object: int, offset: int = 0, length: Optional[int] = None, at: Optional[int] = None) -> bytes:
+    async def read(self, object: int, offset: int = 0, length: Optional[int] = None, at: Optional[When] = None) -> bytes:
         if length is not None:
             return await self._ask(wire.read(object, offset, length, at))
         return await self._follow(read_all(object, offset, at))
@@ -196,7 +197,7 @@ class AsyncDrive:
         return await self._ask(wire.write(object, offset, data))
 
     async def write_pieces(self, object: int, offset: int, data: bytes) -> List[int]:
-        return [await self.write(object, offset + start, data[start:start + READ_BYTES]) for start in starts(data)]
+        return await self._search(write_all(object, offset, data))
 
     async def append(self, object: int, data: bytes) -> int:
         return await self._ask(wire.append(object, data))
@@ -204,10 +205,10 @@ class AsyncDrive:
     async def truncate(self, object: int, size: int) -> int:
         return await self._ask(wire.truncate(object, size))
 
-    async def attributes(self, object: int, at: Optional[int] = None) -> Attributes:
+    async def attributes(self, object: int, at: Optional[When] = None) -> Attributes:
         return await self._ask(wire.attributes(object, at))
 
-    async def audit(self, first: int = 0) -> AsyncIterator[AuditRow]:
+    async def audit(self, first: When = 0) -> AsyncIterator[AuditRow]:
         page = await self._ask(wire.audit(first, AUDIT_ROWS))
         while page:
             for row in page:
@@ -221,10 +222,10 @@ class AsyncDrive:
     async def set_window(self, moments: int) -> int:
         return await self._ask(wire.set_window(moments))
 
-    async def flush(self, first: int, last: int) -> int:
+    async def flush(self, first: When, last: When) -> int:
         return await self._ask(wire.flush(first, last))
 
-    async def flush_object(self, object: int, first: int, last: int) -> int:
+    async def flush_object(self, object: int, first: When, last: When) -> int:
         return await self._ask(wire.flush_object(object, first, last))
 
 

@@ -7,7 +7,7 @@ import socket
 from typing import Callable, Optional, Protocol, Union
 
 from .addresses import Address
-from .errors import BadReply, Disconnected, Ended, NotAsked, ReplyLost
+from .errors import SERVED, BadReply, Disconnected, Ended, ImageServed, NotAsked, ReplyLost
 from .tls import Tls, TlsStream, refuses_certificate
 from .wire import READ_BYTES, TURNED_AWAY
 
@@ -66,7 +66,7 @@ class Connection:
             raise Disconnected("the session has ended", self.ended)
 
     def send(self, data: bytes) -> None:
-        """Writes frames of requests. ReplyLost where a part of them may have gone."""
+        """Writes frames of requests. ReplyLost where a part of them may have gone, ImageServed where nobody took them."""
         self.check()
         try:
             self._writer.write(data)
@@ -84,7 +84,9 @@ class Connection:
             raise
 
     def receive(self) -> bytes:
-        """The body of the next reply to what was sent; ReplyLost where none comes, NotAsked where a bridge has no session."""
+        """The body of the next reply to what was sent. ReplyLost where none comes, NotAsked where a bridge has no session,
+        ImageServed where the program can't have the image.
+        """
         if self._is_turned_away:
             raise self._not_asked()
         length = int.from_bytes(self._bytes(4), "big")
@@ -123,10 +125,12 @@ class Connection:
             found += more
         return found
 
-    def _lost(self, why: str, error: Optional[Exception] = None) -> ReplyLost:
+    def _lost(self, why: str, error: Optional[Exception] = None) -> Disconnected:
         self._usable = False
         if not isinstance(error, TimeoutError):  # after one it still runs
             self.ended = self.ended or self._peer.outcome()
+        if self._is_new and self.ended is not None and self.ended.said.endswith(SERVED):
+            return ImageServed("no session was to be had", self.ended)
         return ReplyLost(why, self.ended)
 
 

@@ -1,6 +1,7 @@
 """A session with a drive."""
 from __future__ import annotations
 
+import contextlib
 import os
 import time
 from types import TracebackType
@@ -9,14 +10,15 @@ from typing import Any, Iterator, List, Optional, Type, TypeVar, Union, cast
 from . import wire
 from .addresses import address_of
 from .connection import Connection, Peer, Reader, Writer, connected
-from .errors import Ended, ProgramFailed, Refused
+from .errors import BadFrame, Disconnected, Ended, NotAsked, ProgramFailed, Refused
 from .history import Search, Span, history_of
-from .pieces import Steps, read_all, starts
+from .moments import When, moment_of
+from .pieces import Steps, read_all, write_all
 from .pipeline import Pipeline, Reply
 from .program import Program
 from .retry import NEVER, Retry
 from .tls import Tls
-from .wire import AUDIT_ROWS, LAST, READ_BYTES, Attributes, AuditRow, Created, Request
+from .wire import AUDIT_ROWS, LAST, Attributes, AuditRow, Created, Request
 
 T = TypeVar("T")
 
@@ -25,7 +27,8 @@ class Drive:
     """A session over two binary streams: one that replies are read from, and one that requests are written to.
 
     Each method asks one request and gives plain numbers and bytes. A refusal is raised as an exception of its own class.
-    One session is for one thread.
+    One session is for one thread. A moment that is given is its number, or, where moments are microseconds since 1970, a
+    `datetime` with its offset from UTC, or a `timedelta`: an age, before this machine's time when it is asked.
 
     Where a session is made with a timeout, in seconds, each wait for the other side ends after as long with Disconnected.
     """
@@ -44,17 +47,20 @@ class Drive:
 
     @classmethod
     def image(cls, path: Union[str, os.PathLike[str]], program: str = "s4d", role: str = "client", *, tick: int = 0,
-              upkeep: bool = True, timeout: Optional[float] = None, retry: Retry = NEVER) -> Drive:
+              upkeep: bool = True, waits: bool = False, timeout: Optional[float] = None, retry: Retry = NEVER) -> Drive:
         """A session with the drive in an image's file, by `s4d run`. The file is written when the session is closed.
 
         With a tick of 0 only changes move the clock. Without upkeep, nothing beside the session cleans or moves blocks.
         The file is locked until the session is closed. One that is dropped is closed then, but whether it was saved
-        isn't said.
+        isn't said. Where the image can't be had that is raised by the first request, or, with `waits`, here.
         """
         options = ["--tick", str(tick), *([] if upkeep else ["--no-upkeep"])]
         peer = Program([program, "run", *options, os.fspath(path), f"{role}:/dev/stdin:/dev/stdout"],
                        timeout)
-        return cls(peer.reader, peer.writer, peer, retry)
+        drive = cls(peer.reader, peer.writer, peer, retry)
+        if waits:
+            drive._wait_until_open()
+        return drive
 
     @classmethod
     def connect(cls, address: str, timeout: Optional[float] = None, *, tls: Optional[Tls] = None,
@@ -89,15 +95,16 @@ class Drive:
         else:
             self._connection.close()  # the error that is on its way says more
 
-    def at(self, moment: int) -> Past:
-        """The drive as it was at a moment."""
-        return Past(self, moment)
+    def at(self, moment: When) -> Past:
+        """The drive as it was at a moment; an age is counted from now, once."""
+        return Past(self, moment_of(moment))
 
     def history(self, object: int) -> List[Span]:
         """The versions of an object that can be read, oldest first, and what lies between them.
 
-        They are found by many requests, so ask it with a tick of 0: else old versions expire while it runs. Of more than
-        4,096 hidden moments in a row, and of an object that was deleted, not each version may be found: see `audit`.
+        Each version takes a request, and the end of the last one a few; so ask it with a tick of 0: else old versions expire
+        while it runs. Of more than 4,096 hidden moments in a row, and of an object that was deleted, not each version may
+        be found: see `audit`. The last span ends at the drive's clock, or at this machine's time where the clock is later.
         """
         return self._search(history_of(object))
 
@@ -105,13 +112,37 @@ class Drive:
         """Collects requests and sends them together."""
         return Pipeline(self._connection)
 
+    def _wait_until_open(self) -> None:
+        """Waits until the program has the image open, by an empty frame. NotAsked where it hasn't; the session is closed then."""
+        try:
+            self._once(wire.nothing())
+        except BadFrame:
+            pass  # as an empty frame is answered
+        except Disconnected as error:
+            with contextlib.suppress(ProgramFailed):
+                self.close()
+            if isinstance(error, NotAsked):
+                raise
+            why = "the image was not opened" if error.ended else f"the image was not opened: {error.args[0]}"
+            raise NotAsked(why, error.ended) from error
+
     def _ask(self, request: Request[T]) -> T:
+        try:
+            return self._once(request)
+        except Refused as refusal:
+            return self._ask_again(request, refusal)
+
+    def _ask_again(self, request: Request[T], refusal: Refused) -> T:
+        """What a request that was refused is answered in the end; the last refusal is raised."""
         for wait in self._retry.waits():
+            if not isinstance(refusal, self._retry.refusals):
+                break
+            time.sleep(wait)
             try:
                 return self._once(request)
-            except self._retry.refusals:
-                time.sleep(wait)
-        return self._once(request)
+            except Refused as later:
+                refusal = later
+        raise refusal
 
     def _once(self, request: Request[T]) -> T:
         reply = Reply(request)
@@ -143,7 +174,7 @@ class Drive:
             return cast(T, end.value)
 
     def _together(self, requests: List[Request[Any]]) -> List[Any]:
-        """What each request is answered, refusals among it."""
+        """What each request is answered, refusals among it. What is to be asked again follows the others."""
         if len(requests) == 1:
             try:
                 return [self._ask(requests[0])]
@@ -152,7 +183,17 @@ class Drive:
         batch = self.pipeline()
         replies = [batch.add(request) for request in requests]
         batch.run()
-        return [reply.refusal() or reply.result() for reply in replies]
+        return [self._settled(request, reply) for request, reply in zip(requests, replies)]
+
+    def _settled(self, request: Request[Any], reply: Reply[Any]) -> Any:
+        """What a request that was answered is answered in the end."""
+        refusal = reply.refusal()
+        if refusal is None:
+            return reply.result()
+        try:
+            return self._ask_again(request, refusal)
+        except Refused as last:
+            return last
 
     def create(self, attribute: bytes = b"") -> Created:
         """Makes an empty object: its number, and the moment."""
@@ -162,7 +203,7 @@ class Drive:
         """Deletes an object. Its versions can still be read. The moment of the change."""
         return self._ask(wire.delete(object))
 
-    def read(self, object: int, offset: int = 0, length: Optional[int] = None, at: Optional[int] = None) -> bytes:
+    def read(self, object: int, offset: int = 0, length: Optional[int] = None, at: Optional[When] = None) -> bytes:
         """The bytes of a range of at most `READ_BYTES`, now or at a moment; fewer where the object ends before.
 
         Without a length all bytes from the offset on, of one version, by as many requests as that takes.
@@ -181,9 +222,10 @@ class Drive:
     def write_pieces(self, object: int, offset: int, data: bytes) -> List[int]:
         """Puts any number of bytes at an offset, by several changes where one hasn't room for them. Their moments.
 
-        Each change makes a version of its own, which others may read; where one is refused those before it stay.
+        Each change makes a version of its own, which others may read. Up to eight are asked before the first is answered;
+        where one is refused those before it stay, and so do those of them after it that weren't refused.
         """
-        return [self.write(object, offset + start, data[start:start + READ_BYTES]) for start in starts(data)]
+        return self._search(write_all(object, offset, data))
 
     def append(self, object: int, data: bytes) -> int:
         """Puts bytes at the object's end. The moment of the change."""
@@ -193,11 +235,11 @@ class Drive:
         """Cuts the object to a size, or lengthens it by zeros. The moment of the change."""
         return self._ask(wire.truncate(object, size))
 
-    def attributes(self, object: int, at: Optional[int] = None) -> Attributes:
+    def attributes(self, object: int, at: Optional[When] = None) -> Attributes:
         """Size, creation, last change and attribute, now or at a moment."""
         return self._ask(wire.attributes(object, at))
 
-    def audit(self, first: int = 0) -> Iterator[AuditRow]:
+    def audit(self, first: When = 0) -> Iterator[AuditRow]:
         """What was accepted from a moment on, oldest first, whether a flush hides it or not; for administrators alone.
 
         It is asked for in pages. Changes that are accepted meanwhile come at the end, and what falls below the floor before its
@@ -217,11 +259,11 @@ class Drive:
         """Sets the window, for administrators. The moment of the change."""
         return self._ask(wire.set_window(moments))
 
-    def flush(self, first: int, last: int) -> int:
+    def flush(self, first: When, last: When) -> int:
         """Hides the moments of a span, of all objects, for administrators. The moment of the change."""
         return self._ask(wire.flush(first, last))
 
-    def flush_object(self, object: int, first: int, last: int) -> int:
+    def flush_object(self, object: int, first: When, last: When) -> int:
         """Hides the moments of a span, of one object, for administrators. The moment of the change."""
         return self._ask(wire.flush_object(object, first, last))
 

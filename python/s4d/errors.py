@@ -4,6 +4,8 @@ from __future__ import annotations
 from typing import ClassVar, Dict, NamedTuple, Optional, Type
 
 
+SERVED = ": a program serves it; end that one"  # how the line of `s4d` ends where another program has the image
+
 ADVICE = {"s4d: Damaged header": "image of an earlier version: `s4d migrate OLD NEW` makes a new one; or no image"}
 
 
@@ -41,6 +43,12 @@ class Disconnected(Error):
 
 class NotAsked(Disconnected):
     """The other side had no session for this one, or refused its certificate. Nothing was passed on to the drive."""
+
+
+class ImageServed(NotAsked):
+    """A program serves the image, or another session has it: nothing was asked. A session is to be had by the service's doors
+    or its bridge, or once that program has ended; what only reads, as `Image.list`, `log` and `cat`, goes on beside it.
+    """
 
 
 class ReplyLost(Disconnected):

@@ -1,7 +1,8 @@
 """The versions of an object, found by GetAttr, and by the audit where that may be asked.
 
 GetAttr now says the moment of the last change; GetAttr just before it says the one before, and so on, down to the
-creation or to what the window no longer keeps. Nothing here sends requests: sessions follow the steps.
+creation or to what the window no longer keeps: a request for each version. Nothing here sends requests: sessions follow
+the steps.
 """
 from __future__ import annotations
 
@@ -10,11 +11,13 @@ from typing import Any, Callable, Generator, List, NamedTuple, Optional, Tuple, 
 
 from . import wire
 from .errors import Expired, Flushed, Future, NoObject, Refused
+from .moments import machine_time
 from .wire import AUDIT_ROWS, LAST, Attributes, AuditRow, Request
 
-BATCH = 256  # moments that are asked for together
+BATCH = 256  # moments that are asked for together, at most
 NEAR = 4_096  # moments that are looked at one by one; of those beyond, ever further ones
 TRIALS = 16_384  # moments at which a deleted object is looked for
+TIMES = 10**15  # from here on moments are microseconds since 1970
 
 T = TypeVar("T")
 Found = Union[Attributes, Refused]
@@ -43,16 +46,20 @@ class Span(NamedTuple):
 
 
 def history_of(object: int) -> Search[List[Span]]:
-    """The spans of an object, oldest first, up to the drive's clock; none where it never was, as far as can be read."""
-    clock = yield from clock_now()
-    last = yield from last_readable(object, clock)
-    if last is None:
-        return []
-    spans = [] if last == clock else (yield from after_the_end(object, last, clock))
+    """The spans of an object, oldest first, up to the drive's clock, or to this machine's time where the clock is later; none
+    where it never was, as far as can be read.
+    """
+    clock, found = yield from present(object)
+    last: Optional[int] = clock
+    spans: List[Span] = []
+    if not isinstance(found, Attributes):
+        last = yield from last_readable(object, clock)
+        if last is None:
+            return []
+        spans, found = (yield from after_the_end(object, last, clock)), (yield from readable(object, last))
     while last is not None:
-        found = yield from readable(object, last)
         spans.append(Span(Kind.LIVE, found.changed, last, found.size, found.attribute))
-        last, between = yield from before_version(object, found)
+        last, found, between = yield from before_version(object, found)
         spans += between
     return without_overlaps(spans[::-1])
 
@@ -80,14 +87,40 @@ def readable(object: int, moment: int) -> Search[Attributes]:
     return found
 
 
-def clock_now() -> Search[int]:
-    """The drive's clock, by bisection: a moment is refused as Future exactly where it is above the clock."""
-    low, high = 0, LAST + 1
-    while high - low > 1:
-        middle = (low + high) // 2
-        found = yield from probe(1, middle)
-        low, high = (low, middle) if isinstance(found, Future) else (middle, high)
-    return low
+def present(object: int) -> Search[Tuple[int, Found]]:
+    """The drive's clock, or this machine's time where the clock is later, and what the object is then."""
+    now: List[Found] = yield [wire.attributes(object, None)]
+    found = now[0]
+    if isinstance(found, Attributes):
+        return (yield from clock_from(object, found.changed, found))
+    if not isinstance(found, NoObject):
+        raise found
+    in_times = yield from probe(object, TIMES)
+    if isinstance(in_times, Future):
+        return (yield from clock_from(object, 0, found))
+    return (yield from clock_from(object, TIMES, in_times))
+
+
+def clock_from(object: int, low: int, found: Found) -> Search[Tuple[int, Found]]:
+    """The same, from a moment on at which the object was found: a moment is refused as Future exactly where it is above the
+    clock. First the next moment is asked, then, where moments are times, this machine's; else ever further ones, and what
+    is left is halved.
+    """
+    high, step, time = LAST + 1, 1, machine_time()
+    while high - low > 1 and low != time:
+        if high <= LAST:
+            moment = (low + high) // 2
+        elif TIMES <= low < time and step > 1:
+            moment = time
+        else:
+            moment = min(low + step, LAST)
+        step *= 2
+        answer = yield from probe(object, moment)
+        if isinstance(answer, Future):
+            high = moment
+        else:
+            low, found = moment, answer
+    return low, found
 
 
 def floor_below(clock: int) -> Search[int]:
@@ -101,12 +134,14 @@ def floor_below(clock: int) -> Search[int]:
 
 
 def first_of(object: int, moments: range, is_wanted: Callable[[Found], bool]) -> Search[Optional[Tuple[int, Found]]]:
-    """The first of these moments whose answer is wanted, and that answer."""
-    for start in range(0, len(moments), BATCH):
-        batch = moments[start:start + BATCH]
+    """The first of these moments whose answer is wanted, and that answer: mostly it is the very first."""
+    start, count = 0, 1
+    while start < len(moments):
+        batch = moments[start:start + count]
         for moment, found in zip(batch, (yield from asked(object, batch))):
             if is_wanted(found):
                 return moment, found
+        start, count = start + count, min(2 * count, BATCH)
     return None
 
 
@@ -148,8 +183,9 @@ def is_gone(found: Found) -> bool:
     return isinstance(found, NoObject)
 
 
-def changes_of(object: int, first: int) -> Search[List[int]]:
-    """The moments of an object's accepted changes from a moment on; none where the session may not ask for them."""
+def changes_of(object: int) -> Search[List[int]]:
+    """The moments of an object's accepted changes; none where the session may not ask for them."""
+    first = 0
     moments: List[int] = []
     while True:
         found: List[Union[List[AuditRow], Refused]] = yield [wire.audit(first, AUDIT_ROWS)]
@@ -162,13 +198,14 @@ def changes_of(object: int, first: int) -> Search[List[int]]:
         first = rows[-1].moment + 1
 
 
-def any_live(object: int, first: int, last: int) -> Search[Optional[int]]:
+def any_live(object: int, last: int) -> Search[Optional[int]]:
     """A moment at which an object can be read, or None: one of its changes, or ever finer steps through the moments."""
-    changes = yield from changes_of(object, first)
+    changes = yield from changes_of(object)
     for moment in changes[::-1]:
         found = yield from probe(object, moment)
         if is_live(found):
             return moment
+    first = yield from floor_below(last)
     step = 1 << max(last - first, 1).bit_length()
     while step and (last - first) // step < TRIALS:
         moments = range(first + step // 2, last + 1, step) if step > 1 else range(first, last + 1)
@@ -200,12 +237,8 @@ def last_live(object: int, live: int, above: int) -> Search[int]:
 
 
 def last_readable(object: int, clock: int) -> Search[Optional[int]]:
-    """The last moment at which the object can be read, or None where there is none."""
-    found = yield from probe(object, clock)
-    if is_live(found):
-        return clock
-    floor = yield from floor_below(clock)
-    live = yield from any_live(object, floor, clock)
+    """The last moment at which an object can be read that can't be at the clock, or None where there is none."""
+    live = yield from any_live(object, clock)
     return None if live is None else (yield from last_live(object, live, clock + 1))
 
 
@@ -217,19 +250,23 @@ def after_the_end(object: int, last: int, clock: int) -> Search[List[Span]]:
     return spans + ([Span(Kind.HIDDEN, last + 1, first - 1)] if first > last + 1 else [])
 
 
-def before_version(object: int, found: Attributes) -> Search[Tuple[Optional[int], List[Span]]]:
-    """The last readable moment before a version's first, and what lies between, newest first."""
+def before_version(object: int, found: Attributes) -> Search[Tuple[Optional[int], Attributes, List[Span]]]:
+    """The last readable moment before a version's first, the version then, and what lies between, newest first. No moment
+    where there is none.
+    """
     if found.changed == found.created:
-        return None, []
+        return None, found, []
     last = found.changed - 1
     shown = yield from nearest(object, downwards(last, found.created), is_shown)
     if shown is None:
-        return None, [Span(Kind.HIDDEN, found.created, last)]
+        return None, found, [Span(Kind.HIDDEN, found.created, last)]
     moment, before = shown
     spans = [Span(Kind.HIDDEN, moment + 1, last)] if moment < last else []
+    if isinstance(before, Attributes):
+        return moment, before, spans
     if isinstance(before, Expired):
-        return None, spans + [Span(Kind.EXPIRED, found.created, moment)]
-    return moment, spans
+        return None, found, spans + [Span(Kind.EXPIRED, found.created, moment)]
+    raise before
 
 
 def without_overlaps(spans: List[Span]) -> List[Span]:

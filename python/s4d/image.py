@@ -2,12 +2,13 @@
 from __future__ import annotations
 
 import os
-from datetime import datetime, timezone
+from datetime import datetime, timedelta, timezone
 from typing import Iterable, List, NamedTuple, NoReturn, Optional, Tuple, Union
 
 from . import rows
 from .drive import Drive
 from .errors import REFUSALS, ProgramFailed
+from .moments import EPOCH, MICROSECOND, When, checked_age, moment_of, with_offset
 from .program import output_of
 from .retry import NEVER, Retry
 from .rows import (Change, ChangeKind, Checked, Compacted, Difference, Flush, Hidden, HiddenVersions, Info, Listed,
@@ -16,7 +17,7 @@ from .wire import AuditKind, AuditRow
 
 DIFFERS = 1  # the status of `diff` where anything differs
 
-Moment = Union[int, datetime, str]
+Moment = Union[When, str]
 Option = Union[Moment, ChangeKind, AuditKind, Tuple[int, ...], None]
 
 
@@ -36,8 +37,9 @@ class Facts(NamedTuple):
 class Image:
     """A drive's image in a file. Programs named otherwise than `s4d` and `s4` on the path are handed in.
 
-    What fails in `s4` is raised as ProgramFailed, with the program's line and status. A moment is its number, a time
-    with its offset from UTC, or a text that `s4` takes, as `2026-11-27T13:18:02Z` or the age `2h`. With a timeout, in
+    What fails in `s4` is raised as ProgramFailed, with the program's line and status. A moment is its number, a `datetime`
+    with its offset from UTC, a `timedelta`, which is an age, or a text that `s4` takes, as `2026-11-27T13:18:02Z` or the age
+    `2h`. With a timeout, in
     seconds, a command that takes longer is killed, and the file stays as it was; each wait of a session has it too.
     """
 
@@ -55,16 +57,22 @@ class Image:
         fields = dict(word.split("=") for word in words[1:])
         return Facts(**{name: int(fields[name]) for name in Facts._fields})
 
-    def read(self, object: int, at: int) -> bytes:
+    def read(self, object: int, at: When) -> bytes:
         """The whole bytes of an object at a moment. Neither file nor clock changes, also while the image is served."""
+        moment = moment_of(at)
         try:
-            return self._s4d("at", self.path, str(object), str(at))
+            return self._s4d("at", self.path, str(object), str(moment))
         except ProgramFailed as failure:
-            raise_refusal(failure, object, at)
+            raise_refusal(failure, object, moment)
 
     def session(self, role: str = "client", *, tick: int = 0, upkeep: bool = True, retry: Retry = NEVER) -> Drive:
-        """A session with the drive, which is saved when the session is closed."""
-        return Drive.image(self.path, self.program, role, tick=tick, upkeep=upkeep, timeout=self.timeout, retry=retry)
+        """A session with the drive, which is saved when the session is closed.
+
+        ImageServed where a program serves the image, or has it open in a session; NotAsked where it can't be had for
+        another reason. Nothing is asked of the drive then.
+        """
+        return Drive.image(self.path, self.program, role, tick=tick, upkeep=upkeep, waits=True, timeout=self.timeout,
+                           retry=retry)
 
     def list(self, at: Optional[Moment] = None, *, deleted: bool = False) -> List[Listed]:
         """The objects that are live at a moment, now where none is given, by ascending number; with `deleted` also those
@@ -167,11 +175,17 @@ def word_of(value: Union[Moment, ChangeKind, AuditKind]) -> str:
         return str(value.value)
     if isinstance(value, AuditKind):
         return next(word for word, (kind, _) in rows.AUDIT_KINDS.items() if kind is value)
+    if isinstance(value, timedelta):
+        return word_of_age(value)
     if not isinstance(value, datetime):
         return str(value)
-    if value.utcoffset() is None:
-        raise ValueError(f"{value} has no offset from UTC")
-    return value.astimezone(timezone.utc).isoformat().replace("+00:00", "Z")
+    return with_offset(value).astimezone(timezone.utc).isoformat().replace("+00:00", "Z")
+
+
+def word_of_age(age: timedelta) -> str:
+    """The word for an age; where that isn't one of whole seconds, which `s4` counts in, for the time that it means."""
+    seconds, rest = divmod(checked_age(age), timedelta(seconds=1))
+    return f"{seconds}s" if not rest else word_of(EPOCH + moment_of(age) * MICROSECOND)
 
 
 def raise_refusal(failure: ProgramFailed, object: int, at: int) -> NoReturn:

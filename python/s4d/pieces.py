@@ -1,11 +1,14 @@
 """Objects that are larger than a request or a reply, in pieces. Nothing here sends requests: sessions follow the steps."""
 from __future__ import annotations
 
-from typing import Any, Generator, Optional, TypeVar
+from typing import Any, Generator, List, Optional, TypeVar, Union
 
 from . import wire
-from .errors import Expired, Flushed
+from .errors import Expired, Flushed, Refused
+from .moments import When, moment_of
 from .wire import READ_BYTES, Request
+
+IN_FLIGHT = 8  # changes of a large write that are asked before the first of them is answered
 
 T = TypeVar("T")
 
@@ -17,10 +20,25 @@ def starts(data: bytes) -> range:
     return range(0, max(len(data), 1), READ_BYTES)
 
 
-def read_all(object: int, offset: int, at: Optional[int]) -> Steps[bytes]:
+def write_all(object: int, offset: int, data: bytes) -> Generator[List[Request[Any]], List[Union[int, Refused]], List[int]]:
+    """Puts bytes at an offset, by requests of which several are sent together, in their order: the moments of the changes.
+
+    The first refusal is raised, and nothing is sent after those that were sent with that one.
+    """
+    requests = [wire.write(object, offset + start, data[start:start + READ_BYTES]) for start in starts(data)]
+    moments: List[int] = []
+    for first in range(0, len(requests), IN_FLIGHT):
+        for answer in (yield requests[first:first + IN_FLIGHT]):
+            if isinstance(answer, Refused):
+                raise answer
+            moments.append(answer)
+    return moments
+
+
+def read_all(object: int, offset: int, at: Optional[When]) -> Steps[bytes]:
     """All bytes from an offset on, of one version: that of a moment, or the present one."""
     if at is not None:
-        return (yield from read_on(object, offset, at))
+        return (yield from read_on(object, offset, moment_of(at)))
     data: bytes = yield wire.read(object, offset, READ_BYTES, None)
     return data if len(data) < READ_BYTES else (yield from read_version(object, offset))
 

@@ -9,6 +9,7 @@ from typing import Any, Generic, Iterator, List, Optional, Type, TypeVar, Union
 from . import wire
 from .connection import Connection
 from .errors import BadReply, Disconnected, NotAsked, Refused, ReplyLost
+from .moments import When
 from .wire import READ_BYTES, Attributes, Created, Request
 
 T = TypeVar("T")
@@ -140,7 +141,7 @@ class Pipeline:
     def delete(self, object: int) -> Reply[int]:
         return self.add(wire.delete(object))
 
-    def read(self, object: int, offset: int = 0, length: int = READ_BYTES, at: Optional[int] = None) -> Reply[bytes]:
+    def read(self, object: int, offset: int = 0, length: int = READ_BYTES, at: Optional[When] = None) -> Reply[bytes]:
         return self.add(wire.read(object, offset, length, at))
 
     def write(self, object: int, offset: int, data: bytes) -> Reply[int]:
@@ -152,7 +153,7 @@ class Pipeline:
     def truncate(self, object: int, size: int) -> Reply[int]:
         return self.add(wire.truncate(object, size))
 
-    def attributes(self, object: int, at: Optional[int] = None) -> Reply[Attributes]:
+    def attributes(self, object: int, at: Optional[When] = None) -> Reply[Attributes]:
         return self.add(wire.attributes(object, at))
 
     def set_attribute(self, object: int, attribute: bytes) -> Reply[int]:
@@ -161,8 +162,8 @@ class Pipeline:
     def set_window(self, moments: int) -> Reply[int]:
         return self.add(wire.set_window(moments))
 
-    def flush(self, first: int, last: int) -> Reply[int]:
+    def flush(self, first: When, last: When) -> Reply[int]:
         return self.add(wire.flush(first, last))
 
-    def flush_object(self, object: int, first: int, last: int) -> Reply[int]:
+    def flush_object(self, object: int, first: When, last: When) -> Reply[int]:
         return self.add(wire.flush_object(object, first, last))

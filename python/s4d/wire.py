@@ -6,6 +6,7 @@ from enum import Enum
 from typing import Callable, Generic, List, NamedTuple, Optional, TypeVar, Union
 
 from .errors import REFUSALS, BadReply, Refused
+from .moments import When, moment_of, moment_or_none
 
 OBJECT_BYTES = 98_304  # the greatest size of an object
 READ_BYTES = 24_576  # the most bytes of one read
@@ -113,6 +114,10 @@ def read_changed(kind: int, rest: bytes) -> int:
     return int.from_bytes(rest, "big")
 
 
+def read_nothing(_kind: int, _rest: bytes) -> None:
+    raise BadReply("an empty request was answered")
+
+
 def read_created(kind: int, rest: bytes) -> Created:
     if kind != 2 or len(rest) != 16:
         raise BadReply("no Created came")
@@ -162,9 +167,10 @@ def delete(object: int) -> Request[int]:
     return change("delete", b"\x02" + numbers(object), object)
 
 
-def read(object: int, offset: int, length: int, at: Optional[int]) -> Request[bytes]:
-    body = b"\x03" + numbers(object, offset) + number(length, 4) + moment_or_now(at)
-    return Request("read", body, read_data, object, at)
+def read(object: int, offset: int, length: int, at: Optional[When]) -> Request[bytes]:
+    moment = moment_or_none(at)
+    body = b"\x03" + numbers(object, offset) + number(length, 4) + moment_or_now(moment)
+    return Request("read", body, read_data, object, moment)
 
 
 def write(object: int, offset: int, data: bytes) -> Request[int]:
@@ -179,12 +185,13 @@ def truncate(object: int, size: int) -> Request[int]:
     return change("truncate", b"\x06" + numbers(object, size), object)
 
 
-def attributes(object: int, at: Optional[int]) -> Request[Attributes]:
-    return Request("attributes", b"\x07" + numbers(object) + moment_or_now(at), read_attributes, object, at)
+def attributes(object: int, at: Optional[When]) -> Request[Attributes]:
+    moment = moment_or_none(at)
+    return Request("attributes", b"\x07" + numbers(object) + moment_or_now(moment), read_attributes, object, moment)
 
 
-def audit(first: int, most: int) -> Request[List[AuditRow]]:
-    return Request("audit", b"\x0c" + numbers(first) + number(most, 2), read_audit_rows)
+def audit(first: When, most: int) -> Request[List[AuditRow]]:
+    return Request("audit", b"\x0c" + numbers(moment_of(first)) + number(most, 2), read_audit_rows)
 
 
 def set_attribute(object: int, attribute: bytes) -> Request[int]:
@@ -195,9 +202,14 @@ def set_window(moments: int) -> Request[int]:
     return change("set_window", b"\x09" + numbers(moments))
 
 
-def flush(first: int, last: int) -> Request[int]:
-    return change("flush", b"\x0a" + numbers(first, last))
+def flush(first: When, last: When) -> Request[int]:
+    return change("flush", b"\x0a" + numbers(moment_of(first), moment_of(last)))
 
 
-def flush_object(object: int, first: int, last: int) -> Request[int]:
-    return change("flush_object", b"\x0b" + numbers(object, first, last), object)
+def flush_object(object: int, first: When, last: When) -> Request[int]:
+    return change("flush_object", b"\x0b" + numbers(object, moment_of(first), moment_of(last)), object)
+
+
+def nothing() -> Request[None]:
+    """An empty frame, which is refused as BadFrame, changes nothing and draws no moment."""
+    return Request("nothing", b"", read_nothing)

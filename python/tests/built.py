@@ -15,3 +15,4 @@ def program(variable, name):
 
 PROGRAM, needs_program = program("S4D", "s4d")
 S4, needs_s4 = program("S4", "s4")
+S4SERVE, needs_s4serve = program("S4SERVE", "s4serve")

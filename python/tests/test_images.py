@@ -2,6 +2,7 @@
 import json
 import os
 import pathlib
+import subprocess
 import tempfile
 import unittest
 from datetime import datetime, timedelta, timezone
@@ -11,7 +12,7 @@ import s4d
 from s4d import (AuditKind, AuditRow, Change, ChangeKind, Flush, Hidden, HiddenVersions, Listed, Range, Restored, Stat,
                  Widened, program)
 
-from .built import PROGRAM, S4, needs_program, needs_s4
+from .built import PROGRAM, S4, S4SERVE, needs_program, needs_s4, needs_s4serve
 
 
 @needs_program
@@ -241,8 +242,75 @@ class DatedImages(unittest.TestCase):
             self.image.list(at=self.START.replace(tzinfo=None))
 
 
+@needs_program
+class ServedImages(unittest.TestCase):
+    """An image that another program has."""
+
+    def setUp(self):
+        folder = tempfile.TemporaryDirectory()
+        self.addCleanup(folder.cleanup)
+        self.folder = folder.name
+        self.image = s4d.Image(f"{self.folder}/drive.image", PROGRAM, S4, timeout=600)
+
+    def check_served(self):
+        for _ in range(2):
+            with self.assertRaisesRegex(s4d.ImageServed, "a program serves it") as caught:
+                self.image.session()
+            self.assertEqual(caught.exception.ended.status, 1)
+            self.assertIsInstance(caught.exception, s4d.NotAsked)
+        with self.assertRaises(s4d.ImageServed), s4d.Drive.image(self.image.path, PROGRAM) as it:
+            it.create()
+        with self.assertRaises(s4d.ImageServed), s4d.Drive.image(self.image.path, PROGRAM) as it, it.pipeline() as batch:
+            batch.create()
+
+    def test_another_session(self):
+        self.image.make(24)
+        with self.image.session(tick=5) as it:
+            self.check_served()
+            self.assertEqual(it.create().moment, 5)  # a session that begins draws no moment
+        self.assertEqual((self.image.verify().objects, self.image.verify().clock), (1, 5))
+
+    @needs_s4
+    @needs_s4serve
+    def test_a_service(self):
+        os.mkfifo(f"{self.folder}/door")
+        words = [S4SERVE, "--create", "24", "--keep", "30d", "--door", f"admin={self.folder}", self.image.path]
+        with subprocess.Popen(words, stderr=subprocess.PIPE, text=True) as service:
+            try:
+                self.assertIn("serves", service.stderr.readline())
+                self.check_served()
+                self.assertEqual(self.image.list(), [])
+                pathlib.Path(f"{self.folder}/door").write_text("stop\n", encoding="ascii")
+                self.assertEqual(service.wait(600), 0)
+            finally:
+                service.kill()
+        with self.image.session() as it:
+            it.create()
+
+    def test_an_image_that_is_not_there(self):
+        with self.assertRaisesRegex(s4d.NotAsked, "the image was not opened: s4d: cannot read .* \\(status 1\\)"):
+            self.image.session()
+
+
 class Fakes(unittest.TestCase):
-    """What another program prints in the place of `s4`."""
+    """What another program prints in the place of `s4`, and of `s4d`."""
+
+    def test_sessions_that_do_not_begin(self):
+        line = "s4d: cannot write none: a program serves it; end that one"
+        for said, kind in ((line, s4d.ImageServed), (f"{line} or another", s4d.NotAsked)):
+            image = self.image(f"echo '{said}' >&2; exit 1")
+            image.program = image.s4
+            with self.assertRaises(s4d.NotAsked) as caught:
+                image.session()
+            self.assertIs(type(caught.exception), kind)
+            self.assertEqual(caught.exception.ended, s4d.Ended(1, said))
+
+    def test_a_session_whose_program_ends_later(self):
+        """Only at its beginning the line means that nothing was asked."""
+        image = self.image("printf '\\0\\0\\0\\2\\0\\17'; head -c 9 > /dev/null; echo 's4d: x: a program serves it; end that one' >&2; exit 1")
+        image.program = image.s4
+        with self.assertRaises(s4d.ReplyLost), image.session() as it:
+            it.create()
 
     def image(self, line):
         folder = tempfile.TemporaryDirectory()

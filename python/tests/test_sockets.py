@@ -151,6 +151,81 @@ class LostReplies(Served):
             self.assertNotIsInstance(caught.exception, s4d.ReplyLost)
 
 
+class Together(Served):
+    """A large write, whose pieces are asked before the first of them is answered."""
+
+    def serve(self, count, replies, more=()):
+        """Takes as many requests before it answers any, and then one for each reply of `more`; what came is in `asked`."""
+        self.asked = []
+
+        def run():
+            link, _ = self.listener.accept()
+            with link, contextlib.suppress(EOFError):
+                self.take(link, count)
+                link.sendall(b"".join(map(frame, replies)))
+                for reply in more:
+                    self.take(link, 1)
+                    link.sendall(frame(reply))
+                self.take(link, 1)
+
+        thread = threading.Thread(target=run, daemon=True)
+        thread.start()
+        self.addCleanup(thread.join, PATIENCE)
+        return thread
+
+    def take(self, link, count):
+        for _ in range(count):
+            self.asked.append(Server.taken(link, int.from_bytes(Server.taken(link, 4), "big")))
+
+    def write(self, data, is_async, **how):
+        async def session():
+            async with await s4d.AsyncDrive.connect(self.address, PATIENCE, **how) as it:
+                return await it.write_pieces(1, 5, data)
+
+        if is_async:
+            return asyncio.run(session())
+        with s4d.Drive.connect(self.address, PATIENCE, **how) as it:
+            return it.write_pieces(1, 5, data)
+
+    @staticmethod
+    def changed(moment):
+        return b"\1" + moment.to_bytes(8, "big")
+
+    def test_pieces_are_asked_together_and_in_order(self):
+        data = bytes(range(256)) * 350
+        for is_async in (False, True):
+            with self.subTest(is_async=is_async):
+                thread = self.serve(4, [self.changed(moment) for moment in (4, 5, 6, 9)])
+                self.assertEqual(self.write(data, is_async), [4, 5, 6, 9])
+                thread.join(PATIENCE)
+                self.assertEqual(self.asked, [wire.write(1, 5 + at, data[at:at + 24_576]).body for at in range(0, len(data), 24_576)])
+
+    def test_no_more_than_eight_at_once(self):
+        for is_async in (False, True):
+            with self.subTest(is_async=is_async):
+                thread = self.serve(8, [self.changed(1), *[b"\0\6"] * 7])
+                with self.assertRaisesRegex(s4d.TooLarge, "write of object 1"):
+                    self.write(bytes(10 * 24_576), is_async)
+                thread.join(PATIENCE)
+                self.assertEqual(len(self.asked), 8)
+
+    def test_a_piece_that_is_refused(self):
+        """The first refusal is raised. One that passes is asked again, where that is wanted."""
+        data, full = bytes(3 * 24_576), [self.changed(1), b"\0\x09", b"\0\6"]
+        for is_async in (False, True):
+            with self.subTest(is_async=is_async):
+                self.serve(3, full)
+                with self.assertRaises(s4d.NoSpace):
+                    self.write(data, is_async)
+                thread = self.serve(3, [self.changed(1), b"\0\x09", self.changed(2)], [b"\0\x0e", self.changed(3)])
+                self.assertEqual(self.write(data, is_async, retry=s4d.Retry(wait=0)), [1, 3, 2])
+                thread.join(PATIENCE)
+                self.assertEqual(self.asked[3:], [self.asked[1]] * 2)
+                self.serve(3, [self.changed(1), b"\0\x09", self.changed(2)], [b"\0\x09"])
+                with self.assertRaises(s4d.NoSpace):
+                    self.write(data, is_async, retry=s4d.Retry(times=1, wait=0))
+
+
 class Tasks(Served):
     """AsyncDrive."""
 
@@ -227,6 +302,25 @@ class Tasks(Served):
             drive.floor = one + 9
             live[0] = s4d.Span(s4d.Kind.EXPIRED, made, one - 1)
             self.check_history(1, live + ended)
+
+    def test_a_version_takes_a_request(self):
+        """Whether moments are numbers, times at which the clock stands still, or times with which it goes on."""
+        server = self.server()
+        for clock, goes_on, most in ((0, 0, 4), (10**15, 0, 4), (10**15, 10**18, 5), (0, 1_000, 24), (10**15, 3_600_000_000, 60)):
+            with self.subTest(clock=clock, goes_on=goes_on):
+                drive = server.drive = PlainDrive(10**18)
+                drive.clock = clock
+                with s4d.Drive.connect(self.address, PATIENCE) as it:
+                    moments = [it.create().moment, it.append(1, b"x"), it.append(1, b"y")]
+                    drive.clock += goes_on
+                    server.asked.clear()
+                    spans = it.history(1)
+                self.assertEqual([span.first for span in spans], moments)
+                self.assertEqual([span.last for span in spans[:2]], [moments[1] - 1, moments[2] - 1])
+                self.assertLessEqual(len(server.asked), most)
+                self.assertEqual(spans[-1].last == drive.clock, goes_on < 10**18)
+                self.assertLessEqual(moments[2], spans[-1].last)
+                self.assertLessEqual(spans[-1].last, drive.clock)
 
     def test_many_tasks(self):
         self.server()
