@@ -1,14 +1,18 @@
 """Tests of install.sh over files that are put in the place of the built programs, and of README's first commands over the programs."""
+import contextlib
 import os
 import pathlib
 import re
 import shutil
+import signal
 import subprocess
 import tempfile
+import textwrap
 import unittest
 
 TOP = pathlib.Path(__file__).resolve().parents[1]
 BUILT = {name.upper(): os.environ.get(name.upper(), f"{TOP}/crates/{name}/out/{name}") for name in ("s4d", "s4serve", "s4")}
+PATIENCE = 120  # seconds for what takes a few on a machine without other work
 MANUALS = {f"share/man/man1/{name}.1": f"{name}.1" for name in ("s4d", "s4serve", "s4")}
 COMPLETIONS = {f"share/{folder}{name}{ending}": f"completions/{source}" for name in ("s4d", "s4serve", "s4")
                for folder, ending, source in (("bash-completion/completions/", "", f"{name}.bash"), ("zsh/site-functions/_", "", f"_{name}"),
@@ -104,6 +108,29 @@ class Readme(unittest.TestCase):
                     with self.subTest(command):
                         self.assertEqual(pathlib.Path(f"{folder}/said.{number}").read_text(encoding="utf-8").splitlines(), lines)
             self.assertIn("<html", pathlib.Path(f"{folder}/report.html").read_text(encoding="utf-8").lower())
+
+
+    def test_the_service_runs_as_it_is_typed(self):
+        """A client gets its session at the first try, and what was begun has ended with the last line."""
+        blocks = re.findall(r"(?m)(?:^    .*\n)+", (TOP / "README.md").read_text(encoding="utf-8"))
+        typed = textwrap.dedent(next(block for block in blocks if "s4d.bridge" in block))
+        with tempfile.TemporaryDirectory() as folder:
+            os.mkdir(f"{folder}/bin")
+            for name in ("s4d", "s4serve", "s4"):
+                os.symlink(os.path.realpath(BUILT[name.upper()]), f"{folder}/bin/{name}")
+            os.symlink(TOP / "python" / "s4d", f"{folder}/s4d")  # as in the folder python
+            env = {**os.environ, "PATH": f"{folder}/bin:{os.environ['PATH']}", "PYTHONDONTWRITEBYTECODE": "1"}
+            with subprocess.Popen(["bash"], cwd=folder, env=env, stdin=subprocess.PIPE, stdout=subprocess.PIPE, stderr=subprocess.PIPE,
+                                  text=True, start_new_session=True) as shell:
+                try:
+                    printed, said = shell.communicate(typed, timeout=PATIENCE)  # as long as any of them could still write
+                    with self.assertRaises(ProcessLookupError):
+                        os.killpg(shell.pid, 0)
+                finally:
+                    with contextlib.suppress(ProcessLookupError):
+                        os.killpg(shell.pid, signal.SIGKILL)
+            self.assertRegex(printed, r"\Aready\nCreated\(object=1, moment=\d{16}\)\n\Z")
+            self.assertEqual((shell.returncode, [line for line in said.splitlines() if not line.startswith("s4serve: ")]), (0, []))
 
 
 if __name__ == "__main__":

@@ -41,6 +41,7 @@ OTHER_SEATS = 16
 MOST_DISMISSED = 256  # clients that were turned away, and whose requests are still taken for a moment
 TICK_SECONDS = 0.5  # between looks for sessions that are idle, or that the service doesn't open
 READY_SECONDS = 0.05  # between looks for the service, until it is there for the first time
+LATE_SECONDS = 5.0  # after which it is said that it isn't there
 
 
 class UnixSocket(NamedTuple):
@@ -220,7 +221,11 @@ class Bridge:
 
     async def announce(self) -> None:
         """Waits until the service reads at each door, and says so, once."""
-        while not all(door.has_service() for door in self._doors.values()):
+        began, is_said = time.monotonic(), False
+        while faults := self._faults():
+            if not is_said and time.monotonic() - began >= LATE_SECONDS:
+                is_said = True
+                say(f"{', '.join(faults)}: who comes is turned away until there is one")
             await asyncio.sleep(READY_SECONDS)
         if self._settings.log is None:  # then standard output is the log
             self._log.write(event="ready")

@@ -92,22 +92,22 @@ def present(object: int) -> Search[Tuple[int, Found]]:
     now: List[Found] = yield [wire.attributes(object, None)]
     found = now[0]
     if isinstance(found, Attributes):
-        return (yield from clock_from(object, found.changed, found))
+        return (yield from clock_from(object, found.changed, found, is_live))
     if not isinstance(found, NoObject):
         raise found
     in_times = yield from probe(object, TIMES)
     if isinstance(in_times, Future):
-        return (yield from clock_from(object, 0, found))
-    return (yield from clock_from(object, TIMES, in_times))
+        return (yield from clock_from(object, 0, found, is_gone))
+    return (yield from clock_from(object, TIMES, in_times, is_gone))
 
 
-def clock_from(object: int, low: int, found: Found) -> Search[Tuple[int, Found]]:
+def clock_from(object: int, low: int, found: Found, is_as_now: Callable[[Found], bool]) -> Search[Tuple[int, Found]]:
     """The same, from a moment on at which the object was found: a moment is refused as Future exactly where it is above the
-    clock. First the next moment is asked, then, where moments are times, this machine's; else ever further ones, and what
-    is left is halved.
+    clock. First the next moment is asked, then, where moments are times, this machine's, which is enough if the object was
+    there then as it is now; else ever further ones, and what is left is halved.
     """
     high, step, time = LAST + 1, 1, machine_time()
-    while high - low > 1 and low != time:
+    while high - low > 1 and not (low == time and is_as_now(found)):
         if high <= LAST:
             moment = (low + high) // 2
         elif TIMES <= low < time and step > 1:

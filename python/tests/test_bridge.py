@@ -924,7 +924,14 @@ class Ready(Bridged):
         wait_until(lambda: self.printed == ["ready"], "a line")
         with self.connect("admin") as it:
             it.create()
-        self.assertEqual(self.said, [])
+
+    def test_a_service_that_does_not_come(self):
+        (self.folder / "doors" / "client").mkdir(parents=True)
+        (self.folder / "doors" / "admin").mkdir()
+        self.start_without_service()
+        wait_until(lambda: self.said, "a line")
+        self.assertEqual(self.said, ["s4d.bridge: client: no service, admin: no service: who comes is turned away until there is one"])
+        self.assertEqual(self.printed, [])
 
     def test_where_standard_output_is_the_log(self):
         Service(self.folder / "doors")

@@ -12,6 +12,7 @@ import unittest
 import s4d
 from s4d import Created, wire
 from s4d.addresses import Address, address_of
+from s4d.moments import machine_time
 
 from .bridged import PATIENCE, Certificates, needs_openssl
 from .plain_drive import PlainDrive
@@ -321,6 +322,16 @@ class Tasks(Served):
                 self.assertEqual(spans[-1].last == drive.clock, goes_on < 10**18)
                 self.assertLessEqual(moments[2], spans[-1].last)
                 self.assertLessEqual(spans[-1].last, drive.clock)
+
+    def test_what_was_deleted_after_this_machines_time(self):
+        """As where the clock of the drive's machine is ahead."""
+        drive = self.server().drive
+        drive.clock, drive.window = machine_time() - 10**6, 10**18
+        with s4d.Drive.connect(self.address, PATIENCE) as it:
+            made = it.create().moment
+            drive.clock += 10**10
+            gone = it.delete(1)
+            self.assertEqual(it.history(1), [s4d.Span(s4d.Kind.LIVE, made, gone - 1), s4d.Span(s4d.Kind.GONE, gone, gone)])
 
     def test_many_tasks(self):
         self.server()
