@@ -4,14 +4,14 @@ from __future__ import annotations
 import asyncio
 from collections import deque
 from types import TracebackType
-from typing import Any, AsyncIterator, Deque, List, Optional, Tuple, Type, TypeVar, cast
+from typing import Any, AsyncIterator, Deque, List, Optional, Tuple, Type, TypeVar, Union, cast
 
 from . import wire
 from .addresses import Address, address_of
 from .errors import BadReply, Disconnected, NotAsked, Refused, ReplyLost
 from .history import Search, Span, history_of
 from .moments import When, moment_of
-from .pieces import Steps, read_all, write_all
+from .pieces import Steps, read_all, write_batches
 from .retry import NEVER, Retry
 from .tls import Tls, refuses_certificate
 from .wire import AUDIT_ROWS, LAST, READ_BYTES, TURNED_AWAY, Attributes, AuditRow, Created, Request
@@ -197,7 +197,13 @@ class AsyncDrive:
         return await self._ask(wire.write(object, offset, data))
 
     async def write_pieces(self, object: int, offset: int, data: bytes) -> List[int]:
-        return await self._search(write_all(object, offset, data))
+        batches = write_batches(object, offset, data)
+        return [moment for batch in batches for moment in await self._all_changes(batch)]
+
+    async def _all_changes(self, requests: List[Request[int]]) -> List[int]:
+        """The moments of changes that are sent together. What failed first in their order is raised."""
+        found = await asyncio.gather(*[self._ask(it) for it in requests], return_exceptions=True)
+        return [answered(it) for it in found]
 
     async def append(self, object: int, data: bytes) -> int:
         return await self._ask(wire.append(object, data))
@@ -240,6 +246,13 @@ class AsyncPast:
 
     async def attributes(self, object: int) -> Attributes:
         return await self._drive.attributes(object, at=self.moment)
+
+
+def answered(found: Union[T, BaseException]) -> T:
+    """An answer; an error is raised."""
+    if isinstance(found, BaseException):
+        raise found
+    return found
 
 
 def lost_reply(request: Request[Any], why: str) -> ReplyLost:

@@ -13,7 +13,7 @@ from .connection import Connection, Peer, Reader, Writer, connected
 from .errors import BadFrame, Disconnected, Ended, NotAsked, ProgramFailed, Refused
 from .history import Search, Span, history_of
 from .moments import When, moment_of
-from .pieces import Steps, read_all, write_all
+from .pieces import Steps, read_all, write_batches
 from .pipeline import Pipeline, Reply
 from .program import Program
 from .retry import NEVER, Retry
@@ -174,7 +174,7 @@ class Drive:
             return cast(T, end.value)
 
     def _together(self, requests: List[Request[Any]]) -> List[Any]:
-        """What each request is answered, refusals among it. What is to be asked again follows the others."""
+        """What each request is answered, refusals among it."""
         if len(requests) == 1:
             try:
                 return [self._ask(requests[0])]
@@ -183,17 +183,25 @@ class Drive:
         batch = self.pipeline()
         replies = [batch.add(request) for request in requests]
         batch.run()
+        return [reply.refusal() or reply.result() for reply in replies]
+
+    def _all_changes(self, requests: List[Request[int]]) -> List[int]:
+        """The moments of changes that are sent together; one that may be asked again follows the others. What failed first in
+        their order is raised.
+        """
+        batch = self.pipeline()
+        replies = [batch.add(request) for request in requests]
+        try:
+            batch.run()
+        except Disconnected:
+            if not any(reply.done and reply.refusal() for reply in replies):
+                raise
         return [self._settled(request, reply) for request, reply in zip(requests, replies)]
 
-    def _settled(self, request: Request[Any], reply: Reply[Any]) -> Any:
-        """What a request that was answered is answered in the end."""
+    def _settled(self, request: Request[T], reply: Reply[T]) -> T:
+        """What a request is answered in the end."""
         refusal = reply.refusal()
-        if refusal is None:
-            return reply.result()
-        try:
-            return self._ask_again(request, refusal)
-        except Refused as last:
-            return last
+        return reply.result() if refusal is None else self._ask_again(request, refusal)
 
     def create(self, attribute: bytes = b"") -> Created:
         """Makes an empty object: its number, and the moment."""
@@ -225,7 +233,8 @@ class Drive:
         Each change makes a version of its own, which others may read. Up to eight are asked before the first is answered;
         where one is refused those before it stay, and so do those of them after it that weren't refused.
         """
-        return self._search(write_all(object, offset, data))
+        batches = write_batches(object, offset, data)
+        return [moment for batch in batches for moment in self._all_changes(batch)]
 
     def append(self, object: int, data: bytes) -> int:
         """Puts bytes at the object's end. The moment of the change."""

@@ -1,10 +1,10 @@
 """Objects that are larger than a request or a reply, in pieces. Nothing here sends requests: sessions follow the steps."""
 from __future__ import annotations
 
-from typing import Any, Generator, List, Optional, TypeVar, Union
+from typing import Any, Generator, List, Optional, TypeVar
 
 from . import wire
-from .errors import Expired, Flushed, Refused
+from .errors import Expired, Flushed
 from .moments import When, moment_of
 from .wire import READ_BYTES, Request
 
@@ -20,19 +20,10 @@ def starts(data: bytes) -> range:
     return range(0, max(len(data), 1), READ_BYTES)
 
 
-def write_all(object: int, offset: int, data: bytes) -> Generator[List[Request[Any]], List[Union[int, Refused]], List[int]]:
-    """Puts bytes at an offset, by requests of which several are sent together, in their order: the moments of the changes.
-
-    The first refusal is raised, and nothing is sent after those that were sent with that one.
-    """
+def write_batches(object: int, offset: int, data: bytes) -> List[List[Request[int]]]:
+    """The changes that put bytes at an offset, in their order. Those of a batch are sent together."""
     requests = [wire.write(object, offset + start, data[start:start + READ_BYTES]) for start in starts(data)]
-    moments: List[int] = []
-    for first in range(0, len(requests), IN_FLIGHT):
-        for answer in (yield requests[first:first + IN_FLIGHT]):
-            if isinstance(answer, Refused):
-                raise answer
-            moments.append(answer)
-    return moments
+    return [requests[first:first + IN_FLIGHT] for first in range(0, len(requests), IN_FLIGHT)]
 
 
 def read_all(object: int, offset: int, at: Optional[When]) -> Steps[bytes]:

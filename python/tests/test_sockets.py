@@ -227,6 +227,25 @@ class Together(Served):
                     self.write(data, is_async, retry=s4d.Retry(times=1, wait=0))
 
 
+    def test_a_refusal_before_a_loss(self):
+        """What failed first is raised."""
+        for is_async in (False, True):
+            for replies, kind in (([self.changed(1), b"\0\x09"], s4d.NoSpace), ([self.changed(1)], s4d.ReplyLost)):
+                with self.subTest(is_async=is_async, kind=kind.__name__):
+                    thread = threading.Thread(target=self.answer_and_end, args=(3, replies))
+                    thread.start()
+                    with self.assertRaises(kind):
+                        self.write(bytes(3 * 24_576), is_async)
+                    thread.join(PATIENCE)
+
+    def answer_and_end(self, count, replies):
+        self.asked = []
+        link, _ = self.listener.accept()
+        with link:
+            self.take(link, count)
+            link.sendall(b"".join(map(frame, replies)))
+
+
 class Tasks(Served):
     """AsyncDrive."""
 
