@@ -52,38 +52,10 @@ find_or_build_program() {
     find_program
 }
 
-# Compiles the program by `rt try`, which proves nothing, and keeps it. `rt try` removes what it compiled once that has
-# ended, so the program is made to wait, for the rest of its input or at a door, and is copied while it runs.
+# Compiles the program with no proof, and keeps it.
 build_unproved() {
-    local running seconds=0 words
-    room=$(mktemp -d)
-    mkdir -p "$(dirname "$unproved")" "$room/rt"
-    rm -f "$unproved"
-    mkfifo "$room/door"
-    exec 3<> "$room/door"
-    words=(verify "$room/door")
-    [ "$name" = s4d ] || words=(--create 24 --keep 1d --door "admin=$room" "$room/image")
-    echo "$me: no built $name is here: compiling it by rt try, with no proof, once; a minute or two" >&2
-    (cd "$top/crates/$name" && TMPDIR=$room/rt exec rt try -- "${words[@]}") 3<&- < /dev/null > "$room/said" 2>&1 &
-    building=$!
-    trap 'kill "$building" 2> /dev/null || true; rm -rf "$room"' EXIT
-    while kill -0 "$building" 2> /dev/null; do
-        running=$(grep -hso "r-xp .*$room/rt/.*" /proc/[0-9]*/maps | grep -o "$room/rt/.*" | head -n 1 || true)
-        if [ -n "$running" ] && cp "$running" "$unproved.part" 2> /dev/null; then
-            chmod 755 "$unproved.part"
-            mv "$unproved.part" "$unproved"
-            kill "$building" # rt removes what it made
-            break
-        fi
-        [ -t 2 ] && printf '\r%s: %s s ' "$me" $seconds >&2
-        sleep 1
-        seconds=$((seconds + 1))
-    done
-    [ -t 2 ] && printf '\r' >&2
-    exec 3>&-
-    wait "$building" || true
-    [ -x "$unproved" ] || { cat "$room/said" >&2; fail 1 "rt try compiled no program"; }
-    trap - EXIT
-    rm -rf "$room"
+    local said
+    echo "$me: no built $name is here: compiling it with no proof, once; a minute or two" >&2
+    said=$("$top/tests/unproved" "$name" 2>&1) || { echo "$said" >&2; fail 1 "no program was compiled"; }
     echo "$me: kept as out/unproved/$name; it isn't proved. The proved program is built as CONTRIBUTING.md says" >&2
 }
