@@ -13,14 +13,13 @@ use history_restore::StandIn;
 use image_commands::{Files, Placed};
 use restore_orders::Preview;
 use s4_command::RestoreAsked;
-use s4_images::{Failure, Verdict, change_image, over_image, use_image};
-use serving::Sink;
+use s4_images::{CommandOutput, Failure, Verdict, change_image, over_image, use_image};
 use std::alloc::Global;
 use std::thread::Threads;
 
 /// Prints what [`restore_image`] does, and leaves the image as it is; or fails as that does. The
 /// moments of a failure are dates where the drive's clock counts microseconds of Unix time.
-pub fn dry_run_image<T: Threads, F: Files, W: Sink>(
+pub fn dry_run_image<T: Threads, F: Files, W: CommandOutput>(
     rt: &T,
     alloc: Global,
     files: &F,
@@ -53,7 +52,7 @@ pub fn dry_run_image<T: Threads, F: Files, W: Sink>(
 /// stand-in's number was never given, or where something can't be restored and isn't to be left
 /// out: then it names all of that. Where anything fails all files are as they were.
 #[tactic(auto, using(s4_images::proofs::Kept::untouched))]
-pub fn restore_image<T: Threads, F: Files, W: Sink>(
+pub fn restore_image<T: Threads, F: Files, W: CommandOutput>(
     rt: &T,
     alloc: Global,
     files: &mut F,
@@ -92,7 +91,7 @@ pub enum RestoreFailure {
 /// where nothing is to be changed, else as [`restore_image`]. Where it fails all files are as they
 /// were.
 #[tactic(auto, using(s4_images::proofs::Kept::untouched))]
-pub fn perform_restore<T: Threads, F: Files, W: Sink>(
+pub fn perform_restore<T: Threads, F: Files, W: CommandOutput>(
     rt: &T,
     alloc: Global,
     files: &mut F,
