@@ -20,6 +20,7 @@ CASES = [
     (["s4", "reset"], []),
     (["s4", "-"], ["--help", "--version"]),
     (["s4", "restore", "--k"], ["--keep-newer"]),
+    (["s4", "restore", "--to"], ["--to-nothing"]),
     (["s4", "diff", "--p"], ["--patch"]),
     # After help comes one command, and no option.
     (["s4", "help", "re"], ["report", "restore"]),

@@ -1,8 +1,8 @@
 //! What an order restores.
-ghost use Rattle.std.specs.Prelude.{◌≡◌, ◌<◌, IfErr, IfOk, MatchBool, OnOk};
+ghost use Rattle.std.specs.Prelude.{◌≡◌, ◌<◌, Some, IfErr, IfOk, MatchBool, OnOk};
 ghost use Rattle.s4_model.specs.Visible.{IsVisible};
 ghost use Rattle.drive.specs.Fields.{state_in, store_of};
-ghost use Rattle.s4_images.specs.Moments.{IsUnreadable, moment_said};
+ghost use Rattle.s4_images.specs.Moments.{IsRefusedAt, moment_said};
 ghost use Rattle.restore_orders.specs.Choosing.{AreAimedAt, AreAimsOf, AreAsked, AreChosen};
 ghost use Rattle.restore_orders.specs.Choosing.{AreGiven, HaveRows, objects_or};
 
@@ -18,14 +18,13 @@ use s4_types::{Moment, ObjectId};
 use segment_word::Naming;
 use std::alloc::{AllocError, Global};
 
-/// The moment that a word says. An error where it can be read of no object: it is to come, expired,
-/// or hidden of all.
+/// The moment that a word says. An error where it says none, or where it can be read of no object:
+/// it is to come, expired, or hidden of all.
 pub fn readable<J: Naming>(drive: &Drive<J>, word: MomentWord) -> Result<Moment, Failure>
     ensures moment { IfOk result (λ at. at ≡ moment_said (state_in drive.now) word) }
     ensures readable { OnOk result
         (IsVisible (state_in drive.now) 0 (moment_said (state_in drive.now) word)) }
-    ensures refused { IfErr result
-        (IsUnreadable (state_in drive.now) 0 (moment_said (state_in drive.now) word)) }
+    ensures refused { IfErr result (IsRefusedAt (state_in drive.now) 0 (Some word)) }
 {
     moment_asked(drive, ObjectId::new(0), Some(word))
 }

@@ -7,7 +7,7 @@ use Rattle.clap.specs.Simple.{App, new_app, new_rule, on_top, with_rule, with_su
 use Rattle.clap.specs.declared.builder.action.ArgAction.TheVariants.{Set, Append}
 use Rattle.s4_types.specs.declared.audit_rows.AuditKind.{AuditKind}
 use Rattle.s4_types.specs.declared.audit_rows.AuditKind.TheVariants.{Create, Delete, Write, Truncate, SetAttr, SetWindow, Flush, FlushO}
-use Rattle.moment_words.specs.Words.{IsMomentWord}
+use Rattle.moment_words.specs.Words.{IsAge, IsMomentWord}
 use Rattle.moment_words.specs.declared.words.MomentWord.{MomentWord}
 use Rattle.s4d_command.specs.CommandLine.{flag_rule, needed_rule, value_rule, IsGiven, IsNumber}
 use Rattle.s4_command.specs.declared.Command.{Command}
@@ -112,18 +112,20 @@ export_line = with_rule (with_rule (with_rule (new_app (codes "export"))
     (needed_rule (codes "image")))
     (needed_rule (codes "folder"))
 
--- `[--map FILE] [--dry-run] [--flush] [--skip] [--keep-newer] [--json] IMAGE` after what is there
+-- `[--map FILE] [--dry-run] [--flush] [--skip] [--keep-newer] [--to-nothing] [--leap DURATION] [--json] IMAGE` after what is there
 abbrev pub with_restore_rules : App → App
-with_restore_rules app = with_rule (with_rule (with_rule (with_rule (with_rule (with_rule (with_rule app
+with_restore_rules app = with_rule (with_rule (with_rule (with_rule (with_rule (with_rule (with_rule (with_rule (with_rule app
     (value_rule (codes "map")))
     (flag_rule (codes "dry-run")))
     (flag_rule (codes "flush")))
     (flag_rule (codes "skip")))
     (flag_rule (codes "keep-newer")))
+    (flag_rule (codes "to-nothing")))
+    (value_rule (codes "leap")))
     (flag_rule (codes "json")))
     (needed_rule (codes "image"))
 
--- `restore --at M [--object O].. [--name TEXT] [--map FILE] [--dry-run] [--flush] [--skip] [--keep-newer] [--json] IMAGE`
+-- `restore --at M [--object O].. [--name TEXT] [--map FILE] [--dry-run] [--flush] [--skip] [--keep-newer] [--to-nothing] [--leap DURATION] [--json] IMAGE`
 abbrev pub restore_line : App
 restore_line = with_restore_rules (with_rule (with_rule (with_rule (new_app (codes "restore"))
     (needed_value_rule (codes "at")))
@@ -237,6 +239,16 @@ AreNumbers = AllZip (λ text. IsNumber (Some text))
 abbrev pub texts_of : Text → List Row → List Text
 texts_of name rows = unwrap_or (all_of name rows) []
 
+-- a text is a duration, in microseconds: a number with the letter of a unit
+abbrev pub IsDurationAt : Option Text → ℕ → Type 0
+IsDurationAt None micros = ⊥
+IsDurationAt (Some text) micros = IsAge text micros
+
+-- the duration that is given is what its text reads as; none is where no text is there
+abbrev pub IsDurationAsked : Text → List Row → Option ℕ → Type 0
+IsDurationAsked name rows None = first_of name rows ≡ None
+IsDurationAsked name rows (Some micros) = IsDurationAt (first_of name rows) micros
+
 -- The matches of `list` have this text, this moment and these flags.
 pub record SpellsList (now : ℕ) (rows : List Row) (list : ListAsked) : Type 0 where
   pub image : first_of (codes "image") rows ≡ Some list.image.now
@@ -321,6 +333,8 @@ pub record SpellsRestore (time : ℕ) (rows : List Row) (restore : RestoreAsked)
   pub flush : (restore.flush ≡ true) ↔ IsGiven (codes "flush") rows
   pub skip : (restore.skip ≡ true) ↔ IsGiven (codes "skip") rows
   pub keep_newer : (restore.keep_newer ≡ true) ↔ IsGiven (codes "keep-newer") rows
+  pub to_nothing : (restore.to_nothing ≡ true) ↔ IsGiven (codes "to-nothing") rows
+  pub leap : IsDurationAsked (codes "leap") rows restore.leap
   pub json : (restore.json ≡ true) ↔ IsGiven (codes "json") rows
 
 -- The matches of `check` have this text and this flag.

@@ -5,6 +5,9 @@ use std::fmt::{self, Display, Formatter};
 const MOMENTS: &str =
     "; give a number, a time as 2026-11-27T13:18:02Z, or an age as 90s, 15m, 2h, 3d or 1w";
 
+/// What may be given for a duration.
+const DURATIONS: &str = "; give one as 90s, 15m, 2h, 30d or 4w";
+
 /// What is wrong with words that the parser took.
 #[derive(Clone, Copy, Debug)]
 pub enum WordFault<'a> {
@@ -15,6 +18,11 @@ pub enum WordFault<'a> {
     },
     /// The word for this is no moment.
     NoMoment {
+        name: &'static str,
+        word: &'a str,
+    },
+    /// The word for this is no duration.
+    NoDuration {
         name: &'static str,
         word: &'a str,
     },
@@ -50,6 +58,9 @@ impl<'a> WordFault<'a> {
                 )
             }
             WordFault::NoMoment { name, word } => { (word, " is no moment for ", name, MOMENTS) }
+            WordFault::NoDuration { name, word } => {
+                (word, " is no duration for ", name, DURATIONS)
+            }
             WordFault::NoKind { word, kinds } => (word, " is no kind of change; give ", kinds, ""),
             WordFault::Both { one, other } => (one, " and ", other, " can't be given together"),
             WordFault::Neither { one, other } => (one, " or ", other, " has to be given"),

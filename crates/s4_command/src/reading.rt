@@ -4,12 +4,13 @@
 ghost use Rattle.std.specs.Prelude.{◌≡◌, ◌≢◌, IfOk, IsOk, None, Some};
 ghost use Rattle.clap.specs.Walk.{first_of, rows_of, texts};
 ghost use Rattle.clap.specs.Matches.{found_of};
-ghost use Rattle.s4_command.specs.CommandLine.{AreNumbers, IsAsked, IsMomentAsked};
+ghost use Rattle.s4_command.specs.CommandLine.{AreNumbers, IsAsked, IsDurationAsked};
+ghost use Rattle.s4_command.specs.CommandLine.{IsMomentAsked};
 ghost use Rattle.s4_command.specs.CommandLine.{texts_of};
 
 use crate::WordFault;
 use clap::ArgMatches;
-use moment_words::{MomentWord, read};
+use moment_words::{MomentWord, age_of, read};
 use s4d_command::reading::{number, number_of, text_in, texts_in};
 use std::alloc::{AllocError, Global};
 
@@ -60,6 +61,26 @@ pub(crate) fn number_in<'a>(
         note(noted, WordFault::NoNumber { name: id, word });
     }
     number
+}
+
+/// The duration that is given, in microseconds, and none where none is.
+pub(crate) fn duration_in<'a>(
+    matches: &ArgMatches<'a>,
+    id: &'static str,
+    noted: &mut Option<WordFault<'a>>,
+) -> Option<u64>
+    ensures asked { noted.new ≡ None
+        → IsDurationAsked id.now (rows_of (found_of matches.now)) result }
+    ensures kept { noted.new ≡ None → noted.old ≡ None }
+    ensures usage { (micros : _) → IsDurationAsked id.now (rows_of (found_of matches.now)) micros
+        → noted.old ≡ None → noted.new ≡ None }
+{
+    let word = text_in(matches, id)?;
+    let micros = age_of(word);
+    if micros.is_none() {
+        note(noted, WordFault::NoDuration { name: id, word });
+    }
+    micros
 }
 
 /// The moment that is given, and none where none is.

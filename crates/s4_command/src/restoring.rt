@@ -6,7 +6,7 @@ ghost use Rattle.refused_lines.specs.Refusals.{IsOwn};
 ghost use Rattle.s4_command.specs.CommandLine.{Spells, SpellsNone};
 
 use crate::choosing::one_at_most;
-use crate::reading::{needed_moment_in, needed_text_in, numbers_in};
+use crate::reading::{duration_in, needed_moment_in, needed_text_in, numbers_in};
 use crate::{Command, NoCommand, WordFault};
 use clap::ArgMatches;
 use moment_words::MomentWord;
@@ -38,6 +38,11 @@ pub struct RestoreAsked<'a> {
     pub skip: bool,
     /// Whether objects that were made since are kept.
     pub keep_newer: bool,
+    /// Whether no object may be left, where some are there.
+    pub to_nothing: bool,
+    /// How far the machine's time may be above the image's clock, in microseconds. None where that
+    /// isn't said.
+    pub leap: Option<u64>,
     pub json: bool,
 }
 
@@ -56,6 +61,7 @@ pub(crate) fn restore_asked<'a>(
     let image = needed_text_in(found, "image", &mut fault);
     one_at_most(found, "object", "name", &mut fault);
     let at = needed_moment_in(found, "at", now, &mut fault);
+    let leap = duration_in(found, "leap", &mut fault);
     let objects = numbers_in(alloc, found, "object", &mut fault)?;
     match fault {
         None => Ok(Command::Restore(RestoreAsked {
@@ -69,6 +75,8 @@ pub(crate) fn restore_asked<'a>(
             flush: is_given(found, "flush"),
             skip: is_given(found, "skip"),
             keep_newer: is_given(found, "keep-newer"),
+            to_nothing: is_given(found, "to-nothing"),
+            leap,
             json: is_given(found, "json"),
         })),
         Some(fault) => Err(NoCommand::Fault(fault)),

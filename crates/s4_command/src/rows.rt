@@ -166,6 +166,12 @@ pub(crate) const ROWS: &[CommandRow] = &[
                 "keep-newer",
                 "Keeps objects that were made since the moment",
             ),
+            Flag("to-nothing", "Restores also where no object is left"),
+            Value(
+                "leap",
+                "DURATION",
+                "Restores though the image's clock is this much earlier: 90s, 15m, 2h, 30d or 4w",
+            ),
             JSON,
             IMAGE,
         ],
