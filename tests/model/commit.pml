@@ -5,8 +5,9 @@
 
    A step is a section of a lock; a part of a flush; a sleep; a wake-up. With FINE each of these is
    several steps, each lock and each unlock among them. A flush ends well, lacks room, or fails:
-   each is tried, whenever there is one. `main` waits for the end, and somebody says `stop` at any
-   time.
+   each is tried, whenever there is one. `main` waits for the end, and flushes a last time then, at
+   the drive's own clock; and somebody says `stop` at any time. A flush that lacks room is given up
+   then, sooner or later.
 
    Left out: what is in the drive; how long a flush is put off. A thread that goes on after `main`
    has returned is ended by the system: here it may go on.
@@ -21,7 +22,7 @@
    BATCH         requests that may be done before one wait; one where it isn't given
    FALLS_SILENT  a client may ask no more though its input is open, or not read its reply: nothing
                  may wait for it then, but `main` for a moment
-   FAULT         1 .. 13, a fault: see there */
+   FAULT         1 .. 16, a fault: see there */
 #ifndef SESSIONS
 #define SESSIONS 2
 #endif
@@ -38,7 +39,7 @@
 bit monitor;                      /* the monitor's mutex. What follows is under it */
 byte kept_number;                 /* the receipt: changes that are kept, */
 byte kept_reach = AHEAD;          /* and the clock of what is kept */
-bit is_flushing, has_failed, is_short, is_stopping;
+bit is_flushing, has_failed, is_short, is_stopping, has_ended;
 byte due;                         /* pieces whose replies are */
 byte waiting, expected;           /* sessions that wait for a flush, now and when the last one ended */
 bit is_counted[SESSIONS];         /* those of `waiting` */
@@ -54,11 +55,12 @@ byte new_number[SESSIONS], new_reach[SESSIONS];
 byte disk_number;                 /* what a crash leaves */
 byte disk_reach = AHEAD;
 bit is_lost;                      /* what was written may be lost */
+bit was_given_up;                 /* a flush was that lacked room */
 byte flushing;                    /* who are in a flush */
 
 byte left, mute;                  /* sessions that have ended; that do nothing more, but haven't */
 byte unread;                      /* those whose replies nobody reads */
-bit has_ended;                    /* `main` has */
+bit has_returned;                 /* `main` has */
 #ifdef SHORTAGES
 byte shortages = SHORTAGES;
 #define LACKS_ROOM shortages > 0 -> shortages--;
@@ -93,14 +95,20 @@ inline sleep(me) {
 /* The sections of the monitor's lock. */
 
 #define COVERS(a_number, a_reach, me) (number[me] <= a_number && moment[me] <= a_reach)
-#define MUST_WAIT(me) (!COVERS(kept_number, kept_reach, me) && !has_failed && is_flushing)
+#if FAULT == 14
+#define IS_OVER(me) (has_ended && !COVERS(kept_number, kept_reach, me))
+#else
+#define IS_OVER(me) has_ended
+#endif
+#define MUST_WAIT(me) (!IS_OVER(me) && !COVERS(kept_number, kept_reach, me) && !has_failed && is_flushing)
 
 inline ask(me) {
   SECTION { LOCK(monitor);
     do
-    :: COVERS(kept_number, kept_reach, me) -> given = RECEIPT; break
-    :: !COVERS(kept_number, kept_reach, me) && has_failed -> given = NOT_KEPT; break
-    :: !COVERS(kept_number, kept_reach, me) && !has_failed && !is_flushing ->
+    :: IS_OVER(me) -> given = NOT_KEPT; break
+    :: !IS_OVER(me) && COVERS(kept_number, kept_reach, me) -> given = RECEIPT; break
+    :: !IS_OVER(me) && !COVERS(kept_number, kept_reach, me) && has_failed -> given = NOT_KEPT; break
+    :: !IS_OVER(me) && !COVERS(kept_number, kept_reach, me) && !has_failed && !is_flushing ->
 #if FAULT != 1
        is_flushing = 1;
 #endif
@@ -204,7 +212,15 @@ inline put_off() {
 #if FAULT == 5
     is_flushing = 0;
 #endif
+    if                                                        /* it was tried often enough */
+    :: is_stopping -> has_failed = 1; is_flushing = 0; was_given_up = 1
+    :: skip
+    fi;
+    gives_up = was_given_up;
     UNLOCK(monitor) }
+#if FAULT != 16
+  if :: gives_up -> notify_all() :: else fi
+#endif
 }
 
 #define MAY_GO_ON (!is_stopping && !has_failed)
@@ -239,7 +255,7 @@ inline stop() {
 #endif
 }
 
-inline await_over() {
+inline await_last() {
   SECTION { LOCK(monitor);
     do
     :: MAY_GO_ON -> sleep(MAIN)
@@ -264,7 +280,34 @@ inline await_over() {
        each = 0
     :: else
     fi;
+#if FAULT != 15
+    has_ended = 1;
+#endif
+    is_well = !has_failed;
     UNLOCK(monitor) }
+  notify_all()
+}
+
+/* The last flush, which `main` makes. */
+inline close() {
+  do
+  :: atomic { flushing++; assert(flushing == 1 && !is_lost) };
+     SECTION { LOCK(drive);                                   /* it collects */
+       last_number = accepted; last_clock = clock;
+       UNLOCK(drive) };
+     atomic {
+       if                                                     /* it writes */
+       :: disk_number = last_number; disk_reach = last_clock; came = WELL
+       :: LACKS_ROOM came = SHORT
+       :: is_lost = 1; came = FAILED
+       fi;
+       flushing--
+     };
+     if
+     :: came == SHORT -> put_off(); if :: gives_up -> break :: else fi
+     :: else -> break
+     fi
+  od
 }
 
 /* A session. */
@@ -304,7 +347,7 @@ inline flush_for_all(me) {
      if
      :: came == WELL -> keep(me); break
      :: came == FAILED -> fail(); break
-     :: came == SHORT -> put_off()
+     :: came == SHORT -> put_off(); if :: gives_up -> break :: else fi
      fi
   od
 }
@@ -331,7 +374,7 @@ mtype = { RECEIPT, NOT_KEPT, TO_FLUSH, WELL, SHORT, FAILED };
 proctype Session(byte me) {
   byte each;
   mtype given, came;
-  bit may_go_on, is_second, gathers;
+  bit may_go_on, is_second, gathers, gives_up;
 #ifdef REQUESTS
   byte asked;
 #define ASKS asked < REQUESTS -> asked++;
@@ -375,9 +418,15 @@ over:
 }
 
 proctype Main() {
-  byte each;
-  await_over();
-  has_ended = 1
+  byte each, last_number, last_clock;
+  mtype came;
+  bit gives_up, is_well;
+  await_last();
+  if :: is_well -> close() :: else fi;
+#if FAULT == 15
+  has_ended = 1;
+#endif
+  has_returned = 1
 }
 
 proctype Stopper() {
@@ -389,9 +438,9 @@ proctype Stopper() {
 /* No thread can take a step. Then all is over, or sessions are mute and nobody waits for them. */
 proctype Quiet() {
   timeout;
-  assert(left + mute == SESSIONS && has_ended);
+  assert(left + mute == SESSIONS && has_returned);
   assert(drive == 0 && monitor == 0 && flushing == 0 && !is_flushing);
-  assert(is_lost == has_failed && due == unread)
+  assert(due == unread && (was_given_up || is_lost == has_failed || has_ended))
 }
 #endif
 
@@ -407,5 +456,5 @@ init {
   }
 }
 
-ltl ends  { <> (has_ended && left == SESSIONS) } /* each run, where shortages end */
+ltl ends  { <> (has_returned && left == SESSIONS) } /* each run, where shortages end */
 ltl waits { [] (is_waiting[0] -> <> !is_waiting[0]) }         /* the same */

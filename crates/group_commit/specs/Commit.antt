@@ -1,5 +1,5 @@
 -- What sessions wait for until their changes are kept.
-use Rattle.std.specs.Prelude.{ℕ, ◌≤◌, ◌-◌, ◌&&◌, Bool, true, false, zero, suc, Option, None, Some, nat_le, if◌then◌else◌}
+use Rattle.std.specs.Prelude.{ℕ, ◌≤◌, ◌-◌, ◌&&◌, Bool, true, false, zero, suc, None, Some, nat_le, if◌then◌else◌}
 use Rattle.group_commit.specs.declared.progress.Shortage.{Shortage}
 use Rattle.group_commit.specs.declared.progress.Shortage.TheVariants.{Begins, GoesOn, IsOver}
 use Rattle.group_commit.specs.declared.progress.Turn.{Turn}
