@@ -1,3 +1,4 @@
+pub mod ClosedLemmas
 pub mod Counting
 pub mod FlushedLemmas
 pub mod Fronts

@@ -1,5 +1,5 @@
 -- Which bytes keep a drive. It is said by what `verify` accepts and what a drive that is opened begins with, and by no keeper.
-use Rattle.std.specs.Prelude.{◌≡◌, ◌<◌, ◌≤◌, ◌^◌, ℕ, List}
+use Rattle.std.specs.Prelude.{◌≡◌, ◌<◌, ◌≤◌, ◌^◌, ℕ, zero, suc, List}
 use mathlib.Core.List.{IsPrefix}
 use Rattle.s4_types.specs.History.{Base, History, Seen, accepted}
 use Rattle.s4_types.specs.declared.changes.Accepted.{Accepted}
@@ -51,6 +51,30 @@ pub record IsFlushed (has_had : History → Type 0) (base : Base) (seen : List A
   pub history : History
   pub had : has_had history
   pub is : IsFlushedOf history base seen last reach bytes
+
+-- the clock at which a drive is kept at the end of its service: its own; or where the service began, of one that has seen nothing yet
+abbrev pub last_clock : (start clock : ℕ) → ℕ
+last_clock start zero = start
+last_clock start (suc clock) = suc clock
+
+-- the history whose image is kept then, of a drive with this one, by its clock
+abbrev pub last_history : (start clock : ℕ) → History → History
+last_history start zero history = grown history (Seen start)
+last_history start (suc clock) history = history
+
+-- The bytes are what is kept of a drive that had this history when a session met it at the end of its service: the image of the drive at
+-- its own clock. The history has this base, and the session has seen all that was accepted in it.
+pub record IsClosedOf (history : History) (base : Base) (seen : List Accepted) (start : ℕ) (bytes : List ℕ) : Type 0 where
+  pub begins : history.base ≡ base
+  pub met : accepted history ≡ seen
+  pub sound : IsSound (state_of history)
+  pub image : IsImageOf (last_history start (clock_of history) history) bytes
+
+-- The bytes are what is kept at the end of a drive that had such a history then.
+pub record IsClosed (has_had : History → Type 0) (base : Base) (seen : List Accepted) (start : ℕ) (bytes : List ℕ) : Type 0 where
+  pub history : History
+  pub had : has_had history
+  pub is : IsClosedOf history base seen start bytes
 
 -- What is begun goes on where a history ended that a drive can have, with this base, in which just these changes were accepted, and which
 -- had come to this clock.

@@ -11,8 +11,9 @@ use std::thread::Threads;
 
 /// By whom the administrator hears that memory or space is short.
 pub trait Announce {
-    /// Memory or space is short, and a flush is tried again each second from now on.
-    fn announce_shortage(&mut self);
+    /// Memory or space is short, and a flush is tried again each second from now on: so often more
+    /// where the service is to stop, else without end.
+    fn announce_shortage(&mut self, left: Option<u64>);
 }
 
 /// What a session flushes with, for all that wait. The kept image has a lock of its own, which only
@@ -35,7 +36,29 @@ impl<J: Naming, K: Keeper + Drop, L: DriveLock<J>, R: Wait + Threads, A: Announc
             .flush(self.rt, self.alloc, &self.drive)
     }
 
-    fn announce_shortage(&mut self) {
-        self.announcing.announce_shortage();
+    fn announce_shortage(&mut self, left: Option<u64>) {
+        self.announcing.announce_shortage(left);
+    }
+}
+
+/// What keeps the drive a last time, at the end of its service.
+#[derive(Drop)]
+pub struct Closing<'a, J: Naming, K: Keeper, L, R, A> {
+    /// What flushed it before.
+    pub flushing: Flushing<'a, J, K, L, R, A>,
+}
+
+impl<J: Naming, K: Keeper + Drop, L: DriveLock<J>, R: Wait + Threads, A: Announce> Flush<()>
+    for Closing<'_, J, K, L, R, A> {
+    fn flush(&mut self) -> Result<(), FlushError> {
+        let flushing = &self.flushing;
+        flushing
+            .kept
+            .lock(flushing.rt)
+            .close(flushing.rt, flushing.alloc, &flushing.drive)
+    }
+
+    fn announce_shortage(&mut self, left: Option<u64>) {
+        self.flushing.announcing.announce_shortage(left);
     }
 }

@@ -19,13 +19,15 @@ use std::thread::Threads;
 
 /// The image of a drive that is kept. Those that flush have it one after the other.
 pub struct KeptImage<J: Naming, K: Keeper> {
-    keeper: K,
+    pub(crate) keeper: K,
     /// What meets the drive at each flush: it has seen all that was collected.
-    session: Session<J>,
-    /// The clock of the image that the keeper was given last.
+    pub(crate) session: Session<J>,
+    /// Where the service began.
+    pub(crate) start: Moment,
+    /// The clock of the image that a flush gave to the keeper last.
     reach: u64,
-    /// Nothing more may be asked of the keeper.
-    has_failed: bool,
+    /// Nothing more may be asked of the keeper: it has failed, or was asked for the last time.
+    pub(crate) has_failed: bool,
     ghost usable: { IsTrue (has_failed || K.is_usable keeper) },
 }
 
@@ -35,6 +37,7 @@ impl<J: Naming, K: Keeper + Drop> Drop for KeptImage<J, K> {
         let KeptImage {
             keeper: _,
             session: _,
+            start: _,
             reach: _,
             has_failed: _,
         } = self;
@@ -43,17 +46,19 @@ impl<J: Naming, K: Keeper + Drop> Drop for KeptImage<J, K> {
 
 impl<J: Naming, K: Keeper> KeptImage<J, K> {
     /// Where nothing was kept yet: a first flush, before the first session, gives the first
-    /// receipt. What is kept isn't below this clock.
+    /// receipt. What a flush keeps isn't below this clock, at which the service begins.
     pub fn new(keeper: K, session: Session<J>, clock: Moment) -> Self
         requires { IsTrue (K.is_usable keeper) }
         ensures keeper { result.keeper ≡ keeper }
         ensures session { result.session ≡ session }
+        ensures start { result.start ≡ clock }
         ensures reach { result.reach ≡ clock }
         ensures usable { result.has_failed ≡ false }
     {
         KeptImage {
             keeper,
             session,
+            start: clock,
             reach: clock.number(),
             has_failed: false,
         }
@@ -98,6 +103,7 @@ impl<J: Naming, K: Keeper> KeptImage<J, K> {
             → IsErrOf result FlushError.Failed × (self.new ≡ self.old) }
         ensures grows { HasSeenMore self.old.session self.new.session }
         ensures later { self.old.reach ≤ self.new.reach }
+        ensures start { self.new.start ≡ self.old.start }
     {
         if self.has_failed {
             return Err(FlushError::Failed);

@@ -13,7 +13,8 @@ ghost use Rattle.image_parts.specs.Image.{image_in};
 ghost use Rattle.verifier.specs.Grammar.{SpellsDrive};
 ghost use Rattle.verifier.specs.Opened.{TellsBase};
 ghost use Rattle.kept_drive.specs.Collecting.{HasSeenMore};
-ghost use Rattle.kept_drive.specs.Images.{GoesOnFrom, IsFlushedOf, Keeps, KeepsFrom};
+ghost use Rattle.kept_drive.specs.Images.{GoesOnFrom, IsClosedOf, IsFlushedOf, Keeps, KeepsFrom};
+ghost use Rattle.kept_drive.specs.Images.{last_clock};
 
 use drive::{Drive, Session};
 use segment_word::Naming;
@@ -75,6 +76,26 @@ pub fn what_is_kept_lasts()
         (bytes : List ℕ)
         → IsPrefix kept seen → clock ≤ last → IsFlushedOf history base seen last reach bytes
         → KeepsFrom base kept clock bytes }
+{}
+
+/// What is kept at the end of a service has all changes that its session has seen, at the drive's
+/// own clock where the drive has seen anything.
+pub fn what_is_closed_is_kept()
+    ensures kept { (history : History) (base : Base) (seen : List Accepted) (start : ℕ)
+        (bytes : List ℕ)
+        → IsClosedOf history base seen start bytes
+        → Keeps base seen (last_clock start (clock_of history)) bytes }
+    ensures own { (start clock : ℕ) → 0 < clock → last_clock start clock ≡ clock }
+{}
+
+/// So a step of a session that has come to such a history is kept then, where the drive's history
+/// goes on from it.
+pub fn what_was_answered_lasts()
+    ensures { (answered closed : History) (base : Base) (seen : List Accepted) (start : ℕ)
+        (bytes : List ℕ)
+        → IsPrefix (accepted answered) seen → clock_of answered ≤ clock_of closed
+        → IsClosedOf closed base seen start bytes
+        → KeepsFrom base (accepted answered) (clock_of answered) bytes }
 {}
 
 /// What is kept is an image, so that `recover` refuses it only where memory is short; and a drive

@@ -8,6 +8,8 @@
 //! the reach, and is left as it was. `recover` refuses what is kept only where memory is short,
 //! and what it opens goes on where the kept history ended.
 //!
+//! `close` keeps the drive a last time, at its own clock, and nothing more is asked then.
+//!
 //! What two sessions of one drive have seen are beginnings of one list, so all changes that a
 //! session has seen are among the kept ones, at their numbers and moments, where a receipt covers
 //! its last step. Then the clock of what is kept isn't below that step's, so no later change has a
@@ -17,6 +19,7 @@
 //! the drive's clock doesn't fall from one session's step to the next one's.
 #![tactic(auto)]
 
+mod closing;
 mod collecting;
 mod flushing;
 mod keeping;
@@ -28,9 +31,9 @@ mod recovering;
 mod seeing;
 
 pub use collecting::{Collected, DriveLock, collect};
-pub use flushing::{Announce, Flushing};
+pub use flushing::{Announce, Closing, Flushing};
 pub use keeping::KeptImage;
-pub use reach::reach_after;
+pub use reach::{MOST_AHEAD, reach_after};
 pub use receipts::KeptReceipt;
 pub use recovering::recover;
 pub use seeing::seen_image;

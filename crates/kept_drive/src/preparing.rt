@@ -2,7 +2,7 @@
 ghost use Rattle.std.specs.Prelude.{◌≡◌, ◌≤◌, ◌⊎◌, IfErr, IfOk, length};
 ghost use Rattle.s4_types.specs.declared.refusals.Refusal.TheVariants.{Busy, NoMemory};
 ghost use Rattle.kept_drive.specs.Collecting.{HasSeenMore};
-ghost use Rattle.kept_drive.specs.Images.{IsFlushed};
+ghost use Rattle.kept_drive.specs.Images.{IsClosed, IsFlushed};
 
 use crate::collecting::{Collected, DriveLock};
 use crate::reach::reach_after;
@@ -55,4 +55,33 @@ pub(crate) fn prepare<J: Naming, R: Threads, L: DriveLock<J>>(
         reach,
         image,
     })
+}
+
+/// Collects a drive at the end of its service that began at `start`, and answers its image at its
+/// own clock; of a drive that has seen nothing, the image that it has after it has seen the start.
+/// NoMemory or Busy alone, where memory is refused.
+pub(crate) fn prepare_last<J: Naming, R: Threads, L: DriveLock<J>>(
+    rt: &R,
+    alloc: Global,
+    lock: &L,
+    session: &mut Session<J>,
+    start: Moment,
+) -> Result<Vec<u8>, Refusal>
+    ensures closed { IfOk result
+        (λ image. IsClosed (L.has_had lock.now) J.base session.new.told.seen
+        start image.items) }
+    ensures refusal { IfErr result (λ e. (e ≡ NoMemory) ⊎ (e ≡ Busy)) }
+    ensures grows { HasSeenMore session.old session.new }
+{
+    let collected = lock.collect(alloc, session)?;
+    let Collected {
+        number: _,
+        clock,
+        window: _,
+        image,
+    } = collected;
+    if clock > 0 {
+        return Ok(image);
+    }
+    seen_image(rt, alloc, image, start)
 }

@@ -2,8 +2,9 @@
 ghost use Rattle.std.specs.Prelude.{◌≡◌};
 ghost use Rattle.kept_drive.specs.Reach.{reach_after as the_reach_after};
 
-/// Ten seconds, where moments are microseconds.
-const MOST_AHEAD: u64 = 10_000_000;
+/// How far ahead of its clock a drive is kept at most, and so how far a crash may leave it ahead:
+/// ten seconds, where moments are microseconds.
+pub const MOST_AHEAD: u64 = 10_000_000;
 
 /// Which part of a window a drive is kept ahead of its clock at most.
 const PART_OF_WINDOW: u64 = 16;
