@@ -23,12 +23,13 @@ needed_values_rule name =
 abbrev pub program : App
 program = on_top (λ s. record s { has_version = true }) (new_app (codes "s4serve"))
 
--- `[--create FRAMES] [--keep DURATION] [--leap DURATION] --door ROLE=DIR.. IMAGE`
+-- `[--create FRAMES] [--keep DURATION] [--leap DURATION] [--patience DURATION] --door ROLE=DIR.. IMAGE`
 abbrev pub line : App
-line = with_rule (with_rule (with_rule (with_rule (with_rule program
+line = with_rule (with_rule (with_rule (with_rule (with_rule (with_rule program
     (value_rule (codes "create")))
     (value_rule (codes "keep")))
     (value_rule (codes "leap")))
+    (value_rule (codes "patience")))
     (needed_values_rule (codes "door")))
     (needed_rule (codes "image"))
 
@@ -96,6 +97,7 @@ pub record Spells (rows : List Row) (service : ServiceAsked) : Type 0 where
   pub image : first_of (codes "image") rows ≡ Some service.image.now
   pub create : IsCreatedAt (first_of (codes "create") rows) (first_of (codes "keep") rows) service.create
   pub leap : IsDurationAsked (codes "leap") rows service.leap
+  pub patience : IsDurationAsked (codes "patience") rows service.patience
   pub doors : AreDoors (texts_of (codes "door") rows) service.doors.items
 
 -- They ask for none.

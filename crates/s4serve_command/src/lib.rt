@@ -46,6 +46,9 @@ pub struct ServiceAsked<'a> {
     /// How long after the image's clock the service may begin, in microseconds. None where that
     /// isn't said.
     pub leap: Option<u64>,
+    /// How long it tries to keep its drive, once it is stopped, where memory or room is short, in
+    /// microseconds. None where that isn't said.
+    pub patience: Option<u64>,
     /// Where sessions are asked for, in the order of the words: one door at least, and `MOST_DOORS`
     /// at most, each with a folder of its own. That two folders with different names are two isn't
     /// known.
@@ -82,7 +85,7 @@ fn asked_in<'a>(
         → SpellsNone (rows_of (found_of matches.now))) }
     ensures own { IfErr result IsOwn }
 {
-    let (image, create, leap) = match words_in(matches) {
+    let (image, create, leap, patience) = match words_in(matches) {
         Ok(words) => words,
         Err(fault) => return Err(NoCommand::Fault(fault)),
     };
@@ -91,14 +94,15 @@ fn asked_in<'a>(
         image,
         create,
         leap,
+        patience,
         doors,
     })
 }
 
-// What is asked for beside doors: the image, the drive that is made, and the leap.
+// What is asked for beside doors: the image, the drive that is made, the leap, and the patience.
 fn words_in<'a>(
     matches: &ArgMatches<'a>,
-) -> Result<(&'a str, Option<Creation>, Option<u64>), WordFault<'a>>
+) -> Result<(&'a str, Option<Creation>, Option<u64>, Option<u64>), WordFault<'a>>
     ensures image { IfOk result
         (λ words. first_of (codes "image") (rows_of (found_of matches.now)) ≡ Some words.0.now) }
     ensures create { IfOk result (λ words. IsCreatedAt
@@ -106,10 +110,13 @@ fn words_in<'a>(
         (first_of (codes "keep") (rows_of (found_of matches.now))) words.1) }
     ensures leap { IfOk result
         (λ words. IsDurationAsked (codes "leap") (rows_of (found_of matches.now)) words.2) }
+    ensures patience { IfOk result
+        (λ words. IsDurationAsked (codes "patience") (rows_of (found_of matches.now)) words.3) }
     ensures usage { OnErr result (SpellsNone (rows_of (found_of matches.now))) }
 {
     let image = text_in(matches, "image").ok_or(WordFault::Unspelled)?;
     let create = creation_in(matches)?;
     let leap = duration_in(matches, "leap")?;
-    Ok((image, create, leap))
+    let patience = duration_in(matches, "patience")?;
+    Ok((image, create, leap, patience))
 }

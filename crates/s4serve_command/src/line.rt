@@ -28,7 +28,12 @@ const ARGUMENTS: &[Argument] = &[
     Value(
         "leap",
         "DURATION",
-        "Begins though the image's clock is this much earlier; a week without it",
+        "Begins though the image's clock is this much earlier; half the window, or a week where that is less, without it",
+    ),
+    Value(
+        "patience",
+        "DURATION",
+        "How long a service that is stopped tries to keep what isn't, where room is short; 60s without it",
     ),
     NeededValues(
         "door",
