@@ -1,3 +1,4 @@
+pub mod Beginnings
 pub mod Collected
 pub mod Created
 pub mod Growing

@@ -3,3 +3,4 @@ pub mod Lines
 pub mod Seats
 pub mod Traces
 pub mod Collecting
+pub mod Starts

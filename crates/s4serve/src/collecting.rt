@@ -66,8 +66,12 @@ pub struct Announcing<'a, D: Telling> {
 }
 
 impl<D: Telling> Announce for Announcing<'_, D> {
-    fn announce_shortage(&mut self) {
-        self.outside.tell(News::Short(self.image));
+    fn announce_shortage(&mut self, left: Option<u64>) {
+        let news = match left {
+            Some(seconds) => News::ShortAtEnd(self.image, seconds),
+            None => News::Short(self.image),
+        };
+        self.outside.tell(news);
     }
 }
 

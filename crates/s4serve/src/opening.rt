@@ -1,61 +1,108 @@
 //! The drive that a service serves: the one in its image, which is made before where that is asked.
-ghost use Rattle.std.specs.Prelude.{◌≡◌, ◌≤◌, [], IfOk, IfSome, OnOk};
+ghost use Rattle.std.specs.Prelude.{◌≡◌, [], IfOk, IfSome, OnOk};
 ghost use Rattle.s4_types.specs.Sizes.{IsFrameCount};
 ghost use Rattle.image_commands.specs.Files.{AreKnown};
 ghost use Rattle.image_commands.specs.Making.{HasNew};
 ghost use Rattle.image_commands.specs.Verifying.{IsVerified};
+ghost use Rattle.s4serve.specs.Starts.{IsStart};
 
 use crate::faults::ServeFault;
 use crate::leaving::{claim_left, refuse_making, unread_beside};
+use crate::telling::{News, Telling};
 use drive::OpenedDrive;
 use image_commands::{Fault, Files, Obstacle, Placed, make_file, read_image, writing};
+use kept_drive::MOST_AHEAD;
 use s4_types::{Cause, Moment, Refusal};
 use s4d_command::New;
 use s4serve_command::{Creation, ServiceAsked};
-use service_time::{start_of, system_time};
+use service_time::{Monotonic, ServiceClock, start_of, system_time, wait_before};
 use std::alloc::Global;
 use std::sync::Wait;
-use std::thread::Threads;
-use std::time::Clock;
+use std::thread::{Threads, sleep};
+use std::time::{Clock, Duration};
 use verifier::{Image, open};
 
-/// A drive that was just opened, the claim of its image, and when its service begins.
+/// Microseconds of a second.
+const SECOND: u64 = 1_000_000;
+
+/// The clock of a service that has just begun.
 #[derive(Drop)]
-pub struct Opened<F: Files> {
+pub struct Begun<T: Clock> {
+    /// The machine's time then, in microseconds since 1970.
+    pub system: u64,
+    /// The moment at which it began.
+    pub start: Moment,
+    pub clock: ServiceClock<Monotonic<T>>,
+}
+
+/// A drive that was just opened, the claim of its image, and the clock of its service.
+#[derive(Drop)]
+pub struct Opened<T: Clock, F: Files> {
     pub claim: F::Claim,
     /// What services left beside the image: it can be removed once the drive is kept.
     pub left: Vec<F::Leftover>,
     pub drive: OpenedDrive,
-    pub start: Moment,
+    pub begun: Begun<T>,
 }
 
-/// Claims the image that is asked for, and opens its drive. Where one is asked to be made, that is
-/// done before; what has bytes is refused then, and a path beside which a service left a whole
-/// image. Where a service left a later one beside the image, nothing is opened.
-pub fn open_image<'a, T: Threads + Clock, F: Files>(
+/// Claims the image that is asked for, opens its drive, and begins the clock of its service. Where
+/// one is asked to be made, that is done before; what has bytes is refused then, and a path beside
+/// which a service left a whole image. Where a service left a later one beside the image, nothing
+/// is opened.
+///
+/// Where the image's clock is above the machine's time, that is waited for first, but no longer
+/// than a crash may have left it ahead.
+pub fn open_image<'a, T: Threads + Wait + Clock + Copy + Drop, F: Files, D: Telling>(
     rt: &T,
     alloc: Global,
     files: &mut F,
+    outside: &D,
     asked: &ServiceAsked<'a>,
-) -> Result<Opened<F>, ServeFault<'a>>
+) -> Result<Opened<T, F>, ServeFault<'a>>
     requires { IfSome asked.now.create (λ creation. IsFrameCount creation.frames) }
     ensures claimed { IfOk result (λ opened. F.leads opened.claim asked.now.image.now) }
+    // By the machine's time that was read, over the drive that was opened.
+    ensures start { IfOk result
+        (λ opened. IsStart opened.drive.timeline.clock opened.drive.timeline.window
+        asked.now.leap opened.begun.system opened.begun.start) }
+    ensures began { IfOk result (λ opened. opened.begun.clock.began ≡ opened.begun.start) }
+    ensures last { IfOk result (λ opened. opened.begun.clock.last ≡ opened.begun.start) }
 {
     if let Some(creation) = asked.create {
         refuse_making(rt, alloc, files, asked.image)?;
         create(alloc, files, asked.image, creation)?;
     }
     let (claim, image) = claim_image(rt, alloc, files, asked.image)?;
-    let (claim, left) = claim_left(rt, alloc, files, asked.image, claim, image.clock())?;
-    let start = start_over(rt, asked, image.clock())?;
-    match open(alloc, image) {
-        Ok(drive) => Ok(Opened {
-            claim,
-            left,
-            drive,
-            start,
-        }),
-        Err(refusal) => Err(ServeFault::Image(Fault::Refused(refusal))),
+    let (clock, window) = (image.clock(), image.window());
+    let (claim, left) = claim_left(rt, alloc, files, asked.image, claim, clock)?;
+    await_time(rt, outside, asked.image, clock);
+    let drive = match open(alloc, image) {
+        Ok(drive) => drive,
+        Err(refusal) => return Err(ServeFault::Image(Fault::Refused(refusal))),
+    };
+    let begun = begin_over(rt, asked, clock, window)?;
+    Ok(Opened {
+        claim,
+        left,
+        drive,
+        begun,
+    })
+}
+
+/// Waits until the machine's time isn't below the clock of an image any more, at most as long as a
+/// crash may have left that ahead. Says so, and how far ahead it still is.
+fn await_time<T: Wait + Clock, D: Telling>(rt: &T, outside: &D, image: &str, clock: Moment) {
+    // Where the time can't be read no service begins.
+    let system = system_time(rt).unwrap_or(u64::MAX);
+    let wait = wait_before(clock.number(), system, MOST_AHEAD);
+    if wait == 0 {
+        return;
+    }
+    outside.tell(News::Waits(image, wait.div_ceil(SECOND)));
+    sleep(rt, Duration::from_micros(wait));
+    let further = clock.number().saturating_sub(system).saturating_sub(wait);
+    if further > 0 {
+        outside.tell(News::Ahead(image, further.div_ceil(SECOND)));
     }
 }
 
@@ -128,19 +175,34 @@ fn unread<'a, T: Threads, F: Files>(
     }
 }
 
-/// When a service begins over an image with this clock.
-fn start_over<'a, T: Clock>(
+/// Begins the clock of a service over a drive with this clock and this window. The machine's time
+/// and its monotonic clock are read one right after the other, so that the moments of the service
+/// are the machine's time.
+fn begin_over<'a, T: Clock + Copy + Drop>(
     rt: &T,
     asked: &ServiceAsked<'a>,
     clock: Moment,
-) -> Result<Moment, ServeFault<'a>>
-    ensures { IfOk result (λ start. clock ≤ start) }
+    window: u64,
+) -> Result<Begun<T>, ServeFault<'a>>
+    ensures start { IfOk result
+        (λ begun. IsStart clock window asked.now.leap begun.system begun.start) }
+    ensures began { IfOk result (λ begun. begun.clock.began ≡ begun.start) }
+    ensures last { IfOk result (λ begun. begun.clock.last ≡ begun.start) }
 {
     let Some(system) = system_time(rt) else {
         return Err(ServeFault::NoTime);
     };
-    match start_of(clock.number(), system, asked.leap.unwrap_or(0)) {
-        Ok(start) => Ok(Moment::new(start)),
-        Err(fault) => Err(ServeFault::Start(asked.image, fault)),
+    let leap = asked.leap.unwrap_or(0);
+    let start = match start_of(clock.number(), window, system, leap) {
+        Ok(start) => Moment::new(start),
+        Err(fault) => return Err(ServeFault::Start(asked.image, fault)),
+    };
+    match ServiceClock::new(start, Monotonic::new(*rt)) {
+        Some(clock) => Ok(Begun {
+            system,
+            start,
+            clock,
+        }),
+        None => Err(ServeFault::NoTime),
     }
 }

@@ -7,22 +7,21 @@ ghost use Rattle.drive.specs.Fields.{DriveFields};
 ghost use Rattle.drive.specs.Opened.{base_of};
 ghost use Rattle.serving.specs.Drawing.{Drawn};
 
-use crate::collecting::UnderLock;
+use crate::collecting::{UnderLock, flusher};
 use crate::faults::{DoorObstacle, ServeFault};
 use crate::keeping::{Explaining, KeptFiles};
-use crate::opening::{Opened, open_image};
+use crate::opening::{Begun, Opened, open_image};
 use crate::parts::{ALL_PARTS, Parts};
 use crate::service::{Door, Service};
 use crate::spawning::Starting;
 use crate::telling::{News, Telling};
 use crate::waiting::Lines;
-use crate::workers::keep_all;
 use door_files::{Fifos, open_door};
 use drive::OpenedDrive;
-use group_commit::{Monitor, NotKept};
+use group_commit::{FlushError, Monitor};
 use image_commands::Fault;
 use image_keeping::Keeper;
-use kept_drive::{KeptImage, KeptReceipt};
+use kept_drive::{Closing, KeptImage, KeptReceipt};
 use kept_files::KeepObstacle;
 use s4_types::{Moment, Role};
 use s4serve_command::ServiceAsked;
@@ -35,6 +34,13 @@ use std::sync::{Arc, Mutex, Wait};
 use std::thread::Threads;
 use std::time::Clock;
 
+/// How long a service that is stopped tries to keep its drive where memory or room is short, in
+/// microseconds, where that isn't said.
+const PATIENCE: u64 = 60_000_000;
+
+/// Microseconds of a second.
+const SECOND: u64 = 1_000_000;
+
 /// A service that is about to begin: its drive, just opened, and what is had before.
 #[derive(Drop)]
 struct Ready<'a, K, C> {
@@ -46,6 +52,8 @@ struct Ready<'a, K, C> {
     clock: C,
     blanks: Blanks,
     doors: Vec<Door>,
+    /// How long it tries to keep its drive once it is stopped, in seconds.
+    patience: u64,
 }
 
 /// What a service has besides once its drive was kept a first time.
@@ -74,17 +82,19 @@ pub fn serve_image<
     requires frames { IfSome asked.now.create (λ creation. IsFrameCount creation.frames) }
 {
     let mut own = files;
-    let opened = open_image(rt, alloc, &mut own, asked)?;
+    let opened = open_image(rt, alloc, &mut own, &outside, asked)?;
     let (doors, inputs) = open_doors(alloc, &outside, asked)?;
     let Opened {
         claim,
         left,
         drive,
-        start,
+        begun,
     } = opened;
-    let Some(clock) = ServiceClock::new(start, Monotonic::new(*rt)) else {
-        return Err(ServeFault::NoTime);
-    };
+    let Begun {
+        system: _,
+        start,
+        clock,
+    } = begun;
     let ready = Ready {
         image: asked.image,
         keeper: own.keeper(alloc, claim, left),
@@ -93,6 +103,7 @@ pub fn serve_image<
         clock,
         blanks: Blanks::new(ALL_PARTS),
         doors,
+        patience: asked.patience.unwrap_or(PATIENCE) / SECOND,
     };
     serve_ready::<Brand, H, F::Kept, ServiceClock<Monotonic<H>>, D>(
         rt, alloc, outside, ready, inputs,
@@ -134,6 +145,7 @@ fn serve_ready<
         clock,
         blanks,
         doors,
+        patience,
     } = ready;
     let (shared, rest) = SharedDrive::new(drive.named::<J>(), clock, blanks);
     let drive = Mutex::new(shared);
@@ -141,7 +153,7 @@ fn serve_ready<
     let service = Service {
         pace: Pace::new(rt, alloc, &drive),
         drive,
-        monitor: Monitor::new(first.receipt),
+        monitor: Monitor::new(first.receipt, patience),
         kept: Mutex::new(first.kept),
         parts: Mutex::new(Parts::new(rest)),
         lines: first.lines,
@@ -212,7 +224,7 @@ fn flush_first<'a, 'b, J: Running, C: serving::Clock, K: Keeper + Explaining, R:
     Ok((receipt, lines, path))
 }
 
-/// Waits until the service is to end. Then all that was accepted is kept.
+/// Waits until the service is to end. Then all that was accepted is kept, at the drive's own clock.
 fn await_end<
     'a,
     J: Running,
@@ -227,35 +239,13 @@ fn await_end<
     outside: &D,
     image: &'a str,
 ) -> Result<(), ServeFault<'a>> {
-    if service.monitor.await_end(rt).is_err() {
-        return Err(ServeFault::NotKept(image, obstacle_of(rt, service)));
-    }
-    match keep_all(rt, alloc, service, outside) {
-        Ok(()) => end_in_place(rt, alloc, service, image),
-        Err(NotKept) => Err(ServeFault::NotKept(image, obstacle_of(rt, service))),
-    }
-}
-
-/// Where the image was removed or replaced since it was kept, one more flush finds that, and leaves
-/// all in a file beside it. Else nobody would have the drive any more.
-fn end_in_place<'a, J: Running, C: serving::Clock, K: Keeper + Explaining, R: Threads + Wait>(
-    rt: &R,
-    alloc: Global,
-    service: &Service<J, C, K>,
-    image: &'a str,
-) -> Result<(), ServeFault<'a>> {
-    let lock = UnderLock {
-        rt,
-        drive: &service.drive,
-        pace: None,
+    let mut last = Closing {
+        flushing: flusher(rt, alloc, service, outside),
     };
-    let mut kept = service.kept.lock(rt);
-    if kept.keeper().is_in_place() {
-        return Ok(());
-    }
-    match kept.flush(rt, alloc, &lock) {
-        Ok(_) => Ok(()),
-        Err(_) => Err(ServeFault::NotKept(image, kept.keeper().obstacle())),
+    match service.monitor.end(rt, &mut last) {
+        Ok(()) => Ok(()),
+        Err(FlushError::Short) => Err(ServeFault::StillShort(image)),
+        Err(FlushError::Failed) => Err(ServeFault::NotKept(image, obstacle_of(rt, service))),
     }
 }
 

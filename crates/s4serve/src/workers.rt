@@ -7,9 +7,9 @@ use crate::service::Service;
 use crate::sessions::{Seat, serve_seat};
 use crate::telling::Telling;
 use crate::waiting::Line;
-use batch_serving::{AtMonitor, DueSource, Keeping};
+use batch_serving::{AtMonitor, DueSource};
 use door_files::{Fifos, open_session};
-use group_commit::{NotKept, Open as AnyStep};
+use group_commit::Open as AnyStep;
 use image_keeping::Keeper;
 use kept_drive::KeptReceipt;
 use s4_types::Role;
@@ -126,20 +126,4 @@ fn keeping<'a, J: Running, C: Clock, K: Keeper, R: Wait, D: Telling>(
         steps,
         receipt: None,
     }
-}
-
-/// Waits until all that was accepted before is kept.
-pub fn keep_all<
-    J: Running,
-    C: Clock,
-    K: Keeper + Drop,
-    R: Threads + Wait + time::Clock,
-    D: Telling,
->(rt: &R, alloc: Global, service: &Service<J, C, K>, outside: &D) -> Result<(), NotKept> {
-    let gate = Open;
-    let Some(seat) = seat_for(rt, alloc, service, &gate, Role::Admin) else {
-        return Ok(());
-    };
-    let mut at_monitor = keeping(rt, alloc, service, outside, &AnyStep);
-    at_monitor.await_kept(&seat)
 }
