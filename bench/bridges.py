@@ -340,7 +340,8 @@ def kills(count, seed):
     draw, faults, done, changes = random.Random(seed), [], 0, 0
     while done < count:
         book, numbers, taken = Book(), [], []
-        with service.Service(new=("--create", "256", "--keep", "30d")) as it, Bridge(it) as bridge:
+        new = ("--create", "256", "--keep", "30d")
+        with service.Service(new=new, env=service.without_waits()) as it, Bridge(it) as bridge:
             it.begin()
             if (done // ROUNDS) % 2 == 0:
                 it.stop()

@@ -131,7 +131,7 @@ def kill_once(it, models, draw, faults, full):
 def over_one_image(count, draw, faults):
     """At most COUNT kills of services over one image: how many, and how many changes were acknowledged."""
     full, kills, changes = threading.Event(), 0, 0
-    with service.Service(new=("--create", "256", "--keep", "30d")) as it:
+    with service.Service(new=("--create", "256", "--keep", "30d"), env=service.without_waits()) as it:
         it.begin()
         models = []
         with it.session() as drive:
