@@ -50,7 +50,7 @@ _s4_options() {
         audit) echo --object --since --until --kind --limit --moments --json --help --version ;;
         cat) echo --at --name --help --version ;;
         info) echo --moments --json --help --version ;;
-        diff) echo --object --name --patch --text --moments --json --help --version ;;
+        diff) echo --object --name --patch --text --raw --moments --json --help --version ;;
         export) echo --at --help --version ;;
         restore) echo --at --object --name --map --dry-run --flush --skip --keep-newer --to-nothing --leap --json --help --version ;;
         check | compact | salvage) echo --json --help --version ;;

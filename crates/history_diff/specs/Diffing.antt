@@ -18,7 +18,7 @@ use Rattle.history_diff.specs.Differences.{AreAlike, IsDifferenceOf, Told, told_
 use Rattle.history_diff.specs.Lines.{difference_line}
 use Rattle.history_diff.specs.Patches.{patch_lines}
 use Rattle.history_diff.specs.Json.{difference_data, ranges_data, text_members, has_bytes}
-use Rattle.history_diff.specs.Texts.{IsAskedText, bytes_shown}
+use Rattle.history_diff.specs.Texts.{IsAskedText, bytes_printed}
 
 -- an object's two versions, and what differs between them
 pub record ObjectDifference : Type 0 where
@@ -30,15 +30,15 @@ pub record ObjectDifference : Type 0 where
 abbrev pub row_of : DifferingObject → ObjectDifference
 row_of d = record { object = d.object; before = d.before; after = d.after; told = told_of d.difference }
 
--- what follows the line of an object: nothing, the lines of its bytes, or those of a unified difference
-abbrev pub detail_lines : Detail → ObjectDifference → Option (List ℕ) → List ℕ
-detail_lines Ranges d text = []
-detail_lines Bytes d text = patch_lines (content_of d.before) (content_of d.after) d.told.ranges
-detail_lines Lines d text = bytes_shown text
+-- what follows the line of an object: nothing, the lines of its bytes, or those of a unified difference, as they are or as they are shown
+abbrev pub detail_lines : Bool → Detail → ObjectDifference → Option (List ℕ) → List ℕ
+detail_lines raw Ranges d text = []
+detail_lines raw Bytes d text = patch_lines (content_of d.before) (content_of d.after) d.told.ranges
+detail_lines raw Lines d text = bytes_printed raw text
 
 -- the text of what differs of an object: its line, and the detail that is asked for
-abbrev pub text_of : Detail → ObjectDifference → Option (List ℕ) → List ℕ
-text_of detail d text = difference_line d.object d.told ++ detail_lines detail d text
+abbrev pub text_of : Bool → Detail → ObjectDifference → Option (List ℕ) → List ℕ
+text_of raw detail d text = difference_line d.object d.told ++ detail_lines raw detail d text
 
 -- its line for programs
 abbrev pub json_of : Detail → ObjectDifference → Option (List ℕ) → List ℕ
@@ -46,7 +46,7 @@ json_of detail d text = json_line (difference_data d.object (ranges_data (has_by
 
 -- what is written of it, for programs or for people
 abbrev pub lines_with : Comparison → ObjectDifference → Option (List ℕ) → List ℕ
-lines_with c d text = if c.json then json_of c.detail d text else text_of c.detail d text
+lines_with c d text = if c.json then json_of c.detail d text else text_of c.raw c.detail d text
 
 -- This is what is written of an object's difference.
 pub record AreLinesOf (c : Comparison) (d : ObjectDifference) (lines : List ℕ) : Type 0 where
@@ -123,7 +123,7 @@ moment_asked s (Some at) = at
 
 -- which moments are compared, and how what differs is told
 abbrev pub comparison_of : State → DiffAsked → Comparison
-comparison_of s asked = record { before = asked.before; after = moment_asked s asked.after; json = asked.json; detail = asked.detail; style = asked.style }
+comparison_of s asked = record { before = asked.before; after = moment_asked s asked.after; json = asked.json; detail = asked.detail; raw = asked.raw; style = asked.style }
 
 -- both moments of an object can be read
 pub record AreVisible (s : State) (o t u : ℕ) : Type 0 where

@@ -1,7 +1,8 @@
 -- The lines that differ, where both versions are text.
-use Rattle.std.specs.Prelude.{◌≡◌, ℕ, ◌++◌, ◌==◌, if◌then◌else◌, List, [], length, option_map, Option, Some, None, IsUtf8, string_bytes, codes, decimal}
+use Rattle.std.specs.Prelude.{◌≡◌, ℕ, ◌++◌, ◌==◌, if◌then◌else◌, Bool, List, [], length, option_map, Option, Some, None, IsUtf8, string_bytes, codes, decimal}
 use Rattle.moment_words.specs.declared.printing.MomentStyle.{MomentStyle}
 use Rattle.moment_words.specs.Texts.{moment_text}
+use Rattle.shown_text.specs.Shown.{shown_lines}
 use Rattle.line_diff.specs.Lines.{lines_of}
 use Rattle.line_diff.specs.Unified.{IsUnified}
 use Rattle.history_diff.specs.declared.diffing.Comparison.{Comparison}
@@ -58,7 +59,11 @@ text_shown shown.TheVariants.Ranges = None
 text_shown shown.TheVariants.Bytes = None
 text_shown (shown.TheVariants.Lines text) = option_map string_bytes text
 
--- its bytes, none where there is none
-abbrev pub bytes_shown : Option (List ℕ) → List ℕ
-bytes_shown None = []
-bytes_shown (Some text) = text
+-- lines as they are printed: as they are where that is asked for, and else as they are shown
+abbrev pub lines_printed : Bool → List ℕ → List ℕ
+lines_printed raw text = if raw then text else shown_lines text
+
+-- the same of a unified difference, and nothing where there is none
+abbrev pub bytes_printed : Bool → Option (List ℕ) → List ℕ
+bytes_printed raw None = []
+bytes_printed raw (Some text) = lines_printed raw text

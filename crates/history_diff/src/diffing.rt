@@ -6,7 +6,7 @@ ghost use Rattle.history_diff.specs.Differences.{told_of};
 ghost use Rattle.history_diff.specs.Diffing.{TellsDifferences, IsFaultOf, WritesAsked};
 ghost use Rattle.history_diff.specs.Diffing.{comparison_of, detail_lines, object_asked, row_of};
 ghost use Rattle.history_diff.specs.Lines.{difference_line};
-ghost use Rattle.history_diff.specs.Texts.{detail_of, text_shown};
+ghost use Rattle.history_diff.specs.Texts.{detail_of, lines_printed, text_shown};
 ghost use Rattle.history_diff.specs.private.Writing.{WritesLines};
 
 use crate::differing::{DifferingObject, differing_at, first_unreadable, next_differing};
@@ -22,6 +22,7 @@ use moment_words::MomentStyle;
 use s4_types::{Moment, ObjectId, Role};
 use segment_word::Naming;
 use serving::Sink;
+use shown_text::shown_lines;
 use std::alloc::Global;
 
 /// What is asked for.
@@ -37,6 +38,8 @@ pub struct DiffAsked {
     pub json: bool,
     /// How much is shown of the bytes that differ.
     pub detail: Detail,
+    /// Whether lines for people are printed as they are, and not as they are shown.
+    pub raw: bool,
     /// How the moments of versions are printed.
     pub style: MomentStyle,
 }
@@ -48,6 +51,7 @@ pub struct Comparison {
     pub after: Moment,
     pub json: bool,
     pub detail: Detail,
+    pub raw: bool,
     pub style: MomentStyle,
 }
 
@@ -96,6 +100,7 @@ fn comparison_of<J: Naming>(drive: &Drive<J>, asked: &DiffAsked) -> Comparison
         after,
         json: asked.json,
         detail: asked.detail,
+        raw: asked.raw,
         style: asked.style,
     }
 }
@@ -201,7 +206,7 @@ fn write_lines<W: Sink>(
         return write_out(writer, line.as_bytes());
     }
     write_line(alloc, found, writer)?;
-    write_detail(alloc, found, &shown, writer)
+    write_detail(alloc, found, &shown, comparison.raw, writer)
 }
 
 // Writes what follows the line of a difference for people.
@@ -209,12 +214,13 @@ fn write_detail<W: Sink>(
     alloc: Global,
     found: &DifferingObject,
     shown: &Shown,
+    raw: bool,
     writer: &mut W,
 ) -> Result<(), Stop>
     requires writer { W.failures writer.old + 1 < 2 ^ 64 }
     ensures lines { OnOk result
         (Appends (W.passed writer.old) (W.passed writer.new)
-        (detail_lines (detail_of shown.now) (row_of found.now) (text_shown shown.now))) }
+        (detail_lines raw (detail_of shown.now) (row_of found.now) (text_shown shown.now))) }
     ensures failures { OnOk result (W.failures writer.new ≡ W.failures writer.old) }
 {
     match shown {
@@ -223,9 +229,23 @@ fn write_detail<W: Sink>(
             let (old, new) = (content_of(&found.before), content_of(&found.after));
             write_patch(alloc, old, new, found.difference.ranges.as_slice(), writer)
         }
-        Shown::Lines(Some(text)) => write_out(writer, text.as_bytes()),
+        Shown::Lines(Some(text)) => write_printed(alloc, text.as_str(), raw, writer),
         Shown::Lines(None) => Ok(()),
     }
+}
+
+// Writes lines as they are, or as they are shown.
+fn write_printed<W: Sink>(alloc: Global, text: &str, raw: bool, writer: &mut W) -> Result<(), Stop>
+    requires writer { W.failures writer.old + 1 < 2 ^ 64 }
+    ensures lines { OnOk result
+        (Appends (W.passed writer.old) (W.passed writer.new) (lines_printed raw text.now)) }
+    ensures failures { OnOk result (W.failures writer.new ≡ W.failures writer.old) }
+{
+    if raw {
+        return write_out(writer, text.as_bytes());
+    }
+    let shown = shown_lines(alloc, text)?;
+    write_out(writer, shown.as_bytes())
 }
 
 /// Writes the line of a difference for people.

@@ -1,11 +1,13 @@
 -- Data has no markup, and stays where it is.
-use Rattle.std.proofs.Common.{◌≡◌, ◌∙◌, ◌+◌, ◌/◌, ◌%◌, ◌≤◌, ◌&&◌, ◌==◌, ℕ, true, false, not, List, [], ◌∷◌, flat_map, nat_lt, refl, ap, arith}
+use Rattle.std.proofs.Common.{◌≡◌, ◌∙◌, ◌+◌, ◌/◌, ◌%◌, ◌≤◌, ◌&&◌, ◌==◌, ℕ, true, false, not, Bool, List, [], ◌∷◌, codes, flat_map, nat_lt, zero, suc, refl, ap, arith}
+use Rattle.std.specs.Fmt.{digit_glyph, digits, digits_onto}
 use Rattle.std.specs.List.{list_all, AllByRecursion}
 use Rattle.std.specs.Str.{chars}
-use Rattle.std.proofs.lemmas.Bool.{cond_both, cond-false, and_parts, and_from, not-true, not_from_false, ne_eqb}
+use Rattle.std.proofs.lemmas.Bool.{cond_both, cond-false, ltb-true, and_parts, and_from, not-true, not_from_false, ne_eqb}
 use Rattle.std.proofs.lemmas.List.Folds.{list_all-append}
 use lib.Utf8.{encode}
-use Rattle.history_report.specs.Page.{Escaped, escaped_char, is_shown, part_text, shown}
+use Rattle.shown_text.specs.Shown.{is_plain, number_of}
+use Rattle.history_report.specs.Page.{Escaped, escaped_char, part_text, shown}
 use Rattle.history_report.specs.Markup.{Text, Name, Tag, Value, read, is_harmless, DataIsHarmless}
 
 -- such a byte, by its four tests
@@ -36,7 +38,27 @@ encoded c harmless =
     (λ _. all_high ((224 + c / 4096) ∷ (128 + c / 64 % 64) ∷ (128 + c % 64) ∷ []) (omega arith, (omega arith, (omega arith, tt))))
     (λ _. all_high ((240 + c / 262144) ∷ (128 + c / 4096 % 64) ∷ (128 + c / 64 % 64) ∷ (128 + c % 64) ∷ []) (omega arith, (omega arith, (omega arith, (omega arith, tt)))))))
 
--- so is each character as a page has it
+-- so is a number in hex
+glyph_harmless : (d : ℕ) → is_harmless (digit_glyph false d) ≡ true
+glyph_harmless d =
+    cond_both (nat_lt d 10) (48 + d) (87 + d) (λ b. is_harmless b ≡ true)
+    (λ low. let small = ltb-true d 10 low in harmless_by (48 + d) (ne_eqb (48 + d) 60 (λ is. omega (arith, small, is))) (ne_eqb (48 + d) 62 (λ is. omega (arith, small, is)))
+    (ne_eqb (48 + d) 34 (λ is. omega (arith, is))) (ne_eqb (48 + d) 39 (λ is. omega (arith, is))))
+    (λ _. harmless_by (87 + d) (ne_eqb (87 + d) 60 (λ is. omega (arith, is))) (ne_eqb (87 + d) 62 (λ is. omega (arith, is))) (ne_eqb (87 + d) 34 (λ is. omega (arith, is))) (ne_eqb (87 + d) 39 (λ is. omega (arith, is))))
+
+digits_harmless : (k n : ℕ) (acc : List ℕ) → list_all is_harmless acc ≡ true → list_all is_harmless (digits_onto k 16 false n acc) ≡ true
+digits_harmless zero n acc all = all
+digits_harmless (suc k) n acc all =
+    let more : list_all is_harmless (digit_glyph false (n % 16) ∷ acc) ≡ true = and_from (is_harmless (digit_glyph false (n % 16))) (list_all is_harmless acc) (glyph_harmless (n % 16)) all in
+    cond_both (n / 16 == 0) (digit_glyph false (n % 16) ∷ acc) (digits_onto k 16 false (n / 16) (digit_glyph false (n % 16) ∷ acc)) (λ l. list_all is_harmless l ≡ true)
+    (λ _. more) (λ _. digits_harmless k (n / 16) (digit_glyph false (n % 16) ∷ acc) more)
+
+number_harmless : (c : ℕ) → list_all is_harmless (number_of c) ≡ true
+unfolding digits
+number_harmless c =
+    list_all-append is_harmless (digits 16 false c) (codes "}") ∙ and_from (list_all is_harmless (digits 16 false c)) true (digits_harmless 64 c [] refl) refl
+
+-- and each character as a page has it
 char_harmless : (c : ℕ) → list_all is_harmless (escaped_char c) ≡ true
 char_harmless c =
     let P : List ℕ → Type 0 = λ l. list_all is_harmless l ≡ true in
@@ -45,7 +67,7 @@ char_harmless c =
     (λ greater. cond_both (c == 38) _ _ P (λ _. refl)
     (λ _. cond_both (c == 34) _ _ P (λ _. refl)
     (λ double. cond_both (c == 39) _ _ P (λ _. refl)
-    (λ single. cond_both (is_shown c) _ _ P (λ _. encoded c (harmless_by c less greater double single)) (λ _. refl))))))
+    (λ single. cond_both (is_plain c) _ _ P (λ _. encoded c (harmless_by c less greater double single)) (λ _. number_harmless c))))))
 
 chars_harmless : (cs : List ℕ) → list_all is_harmless (flat_map escaped_char cs) ≡ true
 chars_harmless [] = refl

@@ -17,11 +17,12 @@ use Rattle.moment_words.specs.declared.printing.MomentStyle.{MomentStyle}
 use Rattle.moment_words.specs.declared.printing.MomentStyle.TheVariants.{Number, Date}
 use Rattle.moment_words.specs.Texts.{moment_text}
 use Rattle.s4_types.specs.declared.spans.Span.{Span}
+use Rattle.shown_text.specs.Shown.{shown_json}
 use Rattle.history_text.specs.declared.numbers.DriveNumbers.{DriveNumbers}
 
--- a value's line
+-- a value's line, in which characters that aren't printed as they are are there by their units of UTF-16
 abbrev pub json_line : Data → List ℕ
-json_line value = compact_text value ++ codes "\n"
+json_line value = shown_json (compact_text value) ++ codes "\n"
 
 -- the word for whether an object is live
 abbrev pub state_word : Bool → List ℕ

@@ -18,6 +18,7 @@ use Rattle.moment_words.specs.declared.printing.MomentStyle.{MomentStyle}
 use Rattle.moment_words.specs.declared.printing.MomentStyle.TheVariants.{Number, Date}
 use Rattle.moment_words.specs.Texts.{moment_text}
 use Rattle.s4_types.specs.declared.spans.Span.{Span}
+use Rattle.shown_text.specs.Hidden.{is_hidden_character}
 use Rattle.history_text.specs.declared.numbers.DriveNumbers.{DriveNumbers}
 use Rattle.history_text.specs.Json.{kind_word}
 
@@ -25,12 +26,9 @@ use Rattle.history_text.specs.Json.{kind_word}
 abbrev pub column : ℕ → ℕ → List ℕ
 column width n = padded_integral (format_spec 32 0 0 width (2 ^ 64 - 1)) false [] (decimal n)
 
--- whether a character can be shown between quotation marks: none of ASCII's or Unicode's controls, neither a quotation mark nor a
--- backslash, no line or paragraph separator, and none that has no width or turns the direction of a line
+-- whether a character can be shown between quotation marks: one that is printed as it is, neither a quotation mark nor a backslash
 abbrev pub is_printable : ℕ → Bool
-is_printable c =
-    nat_le 32 c && (not (c == 34) && (not (c == 92) && (not (nat_le 127 c && nat_le c 159) && (not (nat_le 8_203 c && nat_le c 8_207)
-    && (not (nat_le 8_232 c && nat_le c 8_238) && (not (nat_le 8_288 c && nat_le c 8_303) && not (c == 65_279)))))))
+is_printable c = not (is_hidden_character c) && (not (c == 34) && not (c == 92))
 
 -- whether bytes are UTF-8 of such characters
 abbrev pub are_printable : List ℕ → Bool

@@ -5,25 +5,14 @@ ghost use Rattle.std.specs.List.{list_all};
 ghost use Rattle.std.specs.Str.{chars};
 ghost use Rattle.history_text.specs.Lines.{is_printable, are_printable, printed_attribute};
 
+use shown_text::is_hidden_character;
 use std::alloc::{AllocError, Global};
 use std::str;
 
 fn is_printable(character: char) -> bool
     ensures { result ≡ is_printable character }
 {
-    let code = u32::from(character);
-    let is_control = 127 <= code && code <= 159;
-    let has_no_width = 0x200B <= code && code <= 0x200F;
-    let is_separator = 0x2028 <= code && code <= 0x202E;
-    let is_invisible = 0x2060 <= code && code <= 0x206F;
-    32 <= code
-        && code != 34
-        && code != 92
-        && !is_control
-        && !has_no_width
-        && !is_separator
-        && !is_invisible
-        && code != 0xFEFF
+    !is_hidden_character(character) && character != '"' && character != '\\'
 }
 
 fn has_printable(text: &str) -> bool

@@ -17,15 +17,17 @@ use history_view::{Blocks, Kind, KindCounts, Listed, LogRow, ObjectChange, Objec
 use moment_words::{MomentStyle, moment_text};
 use s4_types::{Moment, ObjectId, Span};
 use serde_json::Value;
+use shown_text::shown_json;
 use std::alloc::{AllocError, Global};
 use std::str;
 
-/// The line of a value.
+/// The line of a value. What isn't printed as it is, is in its strings by its units of UTF-16.
 pub fn json_line(alloc: Global, value: &Value) -> Result<String, AllocError>
     requires { has_float (view value.now) ≡ false }
     ensures { IfOk result (λ line. string_bytes line ≡ json_line (view value.now)) }
 {
-    let mut line = value.to_string(alloc)?;
+    let text = value.to_string(alloc)?;
+    let mut line = shown_json(alloc, text.as_str())?;
     line.push_str("\n")?;
     Ok(line)
 }

@@ -92,13 +92,14 @@ info_line = with_rule (with_rule (with_rule (new_app (codes "info"))
     (flag_rule (codes "json")))
     (needed_rule (codes "image"))
 
--- `diff [--object O] [--name TEXT] [--patch] [--text] [--moments] [--json] IMAGE FROM [TO]`
+-- `diff [--object O] [--name TEXT] [--patch] [--text] [--raw] [--moments] [--json] IMAGE FROM [TO]`
 abbrev pub diff_line : App
-diff_line = with_rule (with_rule (with_rule (with_rule (with_rule (with_rule (with_rule (with_rule (with_rule (new_app (codes "diff"))
+diff_line = with_rule (with_rule (with_rule (with_rule (with_rule (with_rule (with_rule (with_rule (with_rule (with_rule (new_app (codes "diff"))
     (value_rule (codes "object")))
     (value_rule (codes "name")))
     (flag_rule (codes "patch")))
     (flag_rule (codes "text")))
+    (flag_rule (codes "raw")))
     (flag_rule (codes "moments")))
     (flag_rule (codes "json")))
     (needed_rule (codes "image")))
@@ -310,6 +311,7 @@ pub record SpellsDiff (now : ℕ) (rows : List Row) (diff : DiffAsked) : Type 0 
   pub name : IsTextAsked (codes "name") rows diff.name
   pub patch : (diff.patch ≡ true) ↔ IsGiven (codes "patch") rows
   pub text : (diff.text ≡ true) ↔ IsGiven (codes "text") rows
+  pub raw : (diff.raw ≡ true) ↔ IsGiven (codes "raw") rows
   pub moments : (diff.moments ≡ true) ↔ IsGiven (codes "moments") rows
   pub json : (diff.json ≡ true) ↔ IsGiven (codes "json") rows
 

@@ -69,6 +69,8 @@ pub struct DiffAsked<'a> {
     pub patch: bool,
     /// Whether the lines that differ are printed too, where both versions are text.
     pub text: bool,
+    /// Whether these lines are printed as they are, with characters that a terminal obeys.
+    pub raw: bool,
     /// Whether moments are numbers also where they could be dates.
     pub moments: bool,
     pub json: bool,
@@ -136,6 +138,7 @@ pub(crate) fn diff_asked<'a>(found: &ArgMatches<'a>, now: u64) -> Result<Command
             name: text_in(found, "name"),
             patch: is_given(found, "patch"),
             text: is_given(found, "text"),
+            raw: is_given(found, "raw"),
             moments: is_given(found, "moments"),
             json: is_given(found, "json"),
         })),

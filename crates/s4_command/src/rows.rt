@@ -128,6 +128,7 @@ pub(crate) const ROWS: &[CommandRow] = &[
                 "text",
                 "Also the lines that differ, where both versions are text",
             ),
+            Flag("raw", "Lines as they are, with what terminals obey"),
             MOMENTS,
             JSON,
             IMAGE,

@@ -24,6 +24,7 @@ comparison_asked s words object = record {
   after = moment_given s words.to;
   json = words.json;
   detail = detail_asked words;
+  raw = words.raw;
   style = style_of s.clock words.moments;
 }
 

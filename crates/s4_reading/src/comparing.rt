@@ -71,6 +71,7 @@ fn comparison_asked<J: Naming>(
         after,
         json: asked.json,
         detail: detail_asked(asked),
+        raw: asked.raw,
         style: style_of(drive.clock().number(), asked.moments),
     })
 }
