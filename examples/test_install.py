@@ -6,6 +6,7 @@ import re
 import shutil
 import signal
 import subprocess
+import sys
 import tempfile
 import textwrap
 import unittest
@@ -131,6 +132,46 @@ class Readme(unittest.TestCase):
                         os.killpg(shell.pid, signal.SIGKILL)
             self.assertRegex(printed, r"\Aready\nCreated\(object=1, moment=\d{16}\)\n\Z")
             self.assertEqual((shell.returncode, [line for line in said.splitlines() if not line.startswith("s4serve: ")]), (0, []))
+
+
+def python_that_builds():
+    """The folder of a python3 that makes environments, and has setuptools and wheel: none where there is none."""
+    for folder in (os.path.dirname(sys.executable), "/usr/bin"):
+        program = f"{folder}/python3"
+        if os.access(program, os.X_OK) and not subprocess.run(
+                [program, "-Ic", "import ensurepip, setuptools, venv, wheel"], capture_output=True, check=False).returncode:
+            return folder
+    return None
+
+
+class Package(unittest.TestCase):
+    """The Python package is installed without a network, by the words of its readme and of the bridge's unit."""
+
+    @staticmethod
+    def command(file):
+        """The line of a file that makes an environment and installs the package there."""
+        return re.search(r"(python3 -m venv .*)", (TOP / file).read_text(encoding="utf-8"))[1]
+
+    def test_readme_and_unit_say_the_same(self):
+        unit = self.command("deploy/s4bridge.service")
+        self.assertEqual(unit.replace("/opt/s4d", "venv"), self.command("python/README.md"))
+        self.assertIn("\nExecStart=/opt/s4d/bin/python3 -I -m s4d.bridge ", (TOP / "deploy/s4bridge.service").read_text(encoding="utf-8"))
+
+    def test_it_is_installed_in_a_fresh_environment(self):
+        folder_of_python = python_that_builds()
+        if folder_of_python is None:
+            self.skipTest("no python3 here has venv, setuptools and wheel")
+        with tempfile.TemporaryDirectory() as folder:
+            shutil.copytree(TOP / "python", f"{folder}/python", ignore=shutil.ignore_patterns("tests", "build", "*.egg-info", "__pycache__"))
+            nowhere = "http://127.0.0.1:9"  # that no proxy serves
+            env = {"PATH": f"{folder_of_python}:/usr/bin:/bin", "HOME": folder, "http_proxy": nowhere, "https_proxy": nowhere}
+            ran = subprocess.run(["sh", "-ec", self.command("python/README.md")], env=env, cwd=folder, capture_output=True, text=True, check=False)
+            self.assertEqual(ran.returncode, 0, ran.stdout + ran.stderr)
+            shutil.rmtree(f"{folder}/python")
+            for words, wanted in ((["-c", "import s4d; print(s4d.__file__)"], f"{folder}/venv/lib/"), (["-m", "s4d.bridge", "--help"], "--doors")):
+                ran = subprocess.run([f"{folder}/venv/bin/python3", "-I", *words], env=env, cwd=folder, capture_output=True, text=True, check=True)
+                self.assertIn(wanted, ran.stdout)
+            self.assertEqual(len(list(pathlib.Path(folder).glob("venv/lib/*/site-packages/s4d/py.typed"))), 1)
 
 
 if __name__ == "__main__":

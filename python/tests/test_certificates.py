@@ -39,8 +39,8 @@ class Recipe(Bridged):
             client.create(b"note")
         with self.drive("keeper") as admin:
             admin.create(b"note")
-        self.wait_for_line(event="session", name="alice", role="client")
-        self.wait_for_line(event="session", name="keeper", role="admin")
+        self.assertEqual(self.wait_for_line(event="session", role="client")["peer"]["name"], "alice")
+        self.assertEqual(self.wait_for_line(event="session", role="admin")["peer"]["name"], "keeper")
 
     def test_a_client_makes_no_certificates(self):
         self.run_in_folder("""export OPENSSL_CONF=/dev/null
@@ -48,7 +48,7 @@ class Recipe(Bridged):
             openssl x509 -req -in forged.csr -CA alice.pem -CAkey alice.key -CAcreateserial -days 2 -out forged.pem
             cat alice.pem >> forged.pem""")
         self.start("--tls", f"127.0.0.1:{self.port}", *self.words, unix=False)
-        with self.assertRaises(s4d.NotAsked), self.drive("forged") as it:
+        with self.assertRaisesRegex(s4d.NotAsked, "the certificate was refused"), self.drive("forged") as it:
             it.create(b"note")
         with self.drive("alice") as client:
             client.create(b"note")
