@@ -1,1 +1,2 @@
 mod Undone
+mod Unread

@@ -1,5 +1,5 @@
 -- What the status of a line of words says.
-use Rattle.std.specs.Prelude.{◌≡◌, ◌⊎◌, ⊤, ℕ, Bool, List, Option, None, true, false}
+use Rattle.std.specs.Prelude.{◌≡◌, ◌⊎◌, ⊤, ℕ, Bool, List, Option, None, true}
 use Rattle.std.specs.Io.KnownBytes.{Keeps}
 use Rattle.clap.specs.Faults.{fault_of}
 use Rattle.clap.specs.Kinds.{IsAmong}
@@ -43,20 +43,19 @@ IsDoneOver files files' Exported Salvaged output output' (command.Check check) =
 IsDoneOver files files' Exported Salvaged output output' (command.Compact compact) = ChangesImage (files compact.image.now) (files' compact.image.now) (λ d later. Compacts d later compact output output')
 IsDoneOver files files' Exported Salvaged output output' (command.Salvage salvage) = Salvaged (files salvage.image.now) salvage output output'
 
--- whether a command only prints what an image has, and its status says nothing of the image but `diff`'s
-abbrev pub is_reading : Command → Bool
-is_reading (command.Export export) = false
-is_reading (command.Restore restore) = false
-is_reading (command.Check check) = false
-is_reading (command.Compact compact) = false
-is_reading (command.Salvage salvage) = false
-is_reading _ = true
+-- The reader of the output has gone, and all files are as they were.
+abbrev pub IsUnread : (gone : Bool) → (files files' : List ℕ → Option (List ℕ)) → Type 0
+IsUnread gone files files' = (gone ≡ true) × ((path : List ℕ) → Keeps (files path) (files' path))
 
--- A command is done; or it only prints what an image has, the reader of the output has gone, and all files are as they were.
+-- What status 0 says of a command: it is done, or the reader of what it prints of an image has gone. The latter isn't enough where the command
+-- does more than print, or where its status is asked for.
 abbrev pub IsEndedOver : (gone : Bool) → (files files' : List ℕ → Option (List ℕ)) → (Exported : DriveFields → ExportAsked → Type 0) → (Salvaged : Option (List ℕ) → SalvageAsked → (output output' : Option (List ℕ)) → Type 0) → (output output' : Option (List ℕ)) → Command → Type 0
-IsEndedOver gone files files' Exported Salvaged output output' c =
-    IsDoneOver files files' Exported Salvaged output output' c
-    ⊎ ((gone ≡ true) × (is_reading c ≡ true) × ((path : List ℕ) → Keeps (files path) (files' path)))
+IsEndedOver gone files files' Exported Salvaged output output' (command.Export export) = IsDoneOver files files' Exported Salvaged output output' (command.Export export)
+IsEndedOver gone files files' Exported Salvaged output output' (command.Restore restore) = IsDoneOver files files' Exported Salvaged output output' (command.Restore restore)
+IsEndedOver gone files files' Exported Salvaged output output' (command.Check check) = IsDoneOver files files' Exported Salvaged output output' (command.Check check)
+IsEndedOver gone files files' Exported Salvaged output output' (command.Compact compact) = IsDoneOver files files' Exported Salvaged output output' (command.Compact compact)
+IsEndedOver gone files files' Exported Salvaged output output' (command.Salvage salvage) = IsDoneOver files files' Exported Salvaged output output' (command.Salvage salvage)
+IsEndedOver gone files files' Exported Salvaged output output' c = IsDoneOver files files' Exported Salvaged output output' c ⊎ IsUnread gone files files'
 
 -- A command isn't done: all files are as they were. Or it is done, but that this lasts wasn't seen.
 abbrev pub IsUndone : (files files' : List ℕ → Option (List ℕ)) → (Done : Type 0) → Type 0

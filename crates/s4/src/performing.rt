@@ -5,7 +5,7 @@ ghost use Rattle.s4_folders.specs.Exporting.{Exported};
 ghost use Rattle.s4_folders.specs.Salvaging.{SalvagesFile};
 ghost use Rattle.s4_reading.specs.Comparing.{Compares};
 ghost use Rattle.s4.specs.Performing.{DiffersOver, IsDiffering, IsDone, IsDoneOver, IsEnded};
-ghost use Rattle.s4.specs.Performing.{IsEndedOver, IsUndone};
+ghost use Rattle.s4.specs.Performing.{IsEndedOver, IsUndone, IsUnread};
 
 use crate::terminal::ProgramOutput;
 use crate::times::times_of;
@@ -158,8 +158,7 @@ fn perform_command<T: Threads, F: Files, D: Folders + Screens, W: ProgramOutput,
     }
 }
 
-// Performs a command that prints something of its image, and answers the status of that: it is done
-// too where the writer's reader has gone.
+// Performs a command that prints something of its image, and answers the status of that.
 fn show_over<T: Threads, F: Files, C: DriveCommand + ImageCommand, W: ProgramOutput, E: Write>(
     rt: &T,
     alloc: Global,
@@ -173,18 +172,17 @@ fn show_over<T: Threads, F: Files, C: DriveCommand + ImageCommand, W: ProgramOut
     ensures done { result ≡ 0
         → OverImage (F.contents files.now (C.file command.now))
         (λ d. C.shows command.now d Verdict.Fine (W.passed writer.old) (W.passed writer.new))
-        ⊎ (W.is_gone writer.new ≡ true) }
+        ⊎ IsUnread (W.is_gone writer.new) (F.contents files.now) (F.contents files.now) }
 {
-    let found = show_image(rt, alloc, files, command, writer);
-    if is_unread(&found, writer) {
-        drop(found);
-        return DONE;
-    }
-    shown(found, command.image(), errors)
+    printed(
+        show_image(rt, alloc, files, command, writer),
+        command.image(),
+        writer,
+        errors,
+    )
 }
 
-// Compares two moments, and answers the status of that: it is done too where the writer's reader
-// has gone.
+// Compares two moments, and answers the status of that.
 fn compare_over<T: Threads, F: Files, W: ProgramOutput, E: Write>(
     rt: &T,
     alloc: Global,
@@ -198,27 +196,17 @@ fn compare_over<T: Threads, F: Files, W: ProgramOutput, E: Write>(
     ensures done { result ≡ 0
         → OverImage (F.contents files.now diff.now.image.now)
         (λ d. Compares d diff.now Verdict.Fine (W.passed writer.old) (W.passed writer.new))
-        ⊎ (W.is_gone writer.new ≡ true) }
+        ⊎ IsUnread (W.is_gone writer.new) (F.contents files.now) (F.contents files.now) }
     ensures differs { result ≡ 1
         → OverImage (F.contents files.now diff.now.image.now)
         (λ d. Compares d diff.now Verdict.Differs (W.passed writer.old) (W.passed writer.new)) }
 {
-    let found = show_image(rt, alloc, files, &Showing::Diff(diff), writer);
-    if is_unread(&found, writer) {
-        drop(found);
-        return DONE;
-    }
-    compared(found, diff.image, errors)
-}
-
-// Whether nothing failed but that the writer's reader has gone.
-fn is_unread<W: ProgramOutput>(found: &Result<Verdict, Failure>, writer: &W) -> bool
-    ensures { IsTrue result → W.is_gone writer.now ≡ true }
-{
-    match found {
-        Err(Failure::WriteFailed) => writer.is_gone(),
-        _ => false,
-    }
+    compared(
+        show_image(rt, alloc, files, &Showing::Diff(diff), writer),
+        diff.image,
+        writer,
+        errors,
+    )
 }
 
 // The status of a restore, with why it failed where it did.
@@ -247,7 +235,7 @@ fn fail_of_map<E: Write>(errors: &mut E, restore: &RestoreAsked<'_>, why: MapFau
     FAILED
 }
 
-// The status of a command that printed something, with why it failed where it did.
+// The status of a command whose status is asked for, with why it failed where it did.
 fn shown<E: Write>(found: Result<Verdict, Failure>, image: &str, errors: &mut E) -> u8
     ensures status { result ≤ 1 }
     ensures done { result ≡ 0 → found ≡ Ok Verdict.Fine }
@@ -259,19 +247,61 @@ fn shown<E: Write>(found: Result<Verdict, Failure>, image: &str, errors: &mut E)
     }
 }
 
+// The status of a command that printed something, with why it failed where it did.
+fn printed<W: ProgramOutput, E: Write>(
+    found: Result<Verdict, Failure>,
+    image: &str,
+    writer: &W,
+    errors: &mut E,
+) -> u8
+    ensures status { result ≤ 1 }
+    ensures done { result ≡ 0 → (found ≡ Ok Verdict.Fine) ⊎ (W.is_gone writer.now ≡ true) }
+{
+    match found {
+        Ok(Verdict::Fine) => DONE,
+        Ok(Verdict::Differs) => FAILED,
+        Err(failure) => {
+            if has_no_reader(&failure, writer) {
+                drop(failure);
+                return DONE;
+            }
+            fail_over(errors, image, failure)
+        }
+    }
+}
+
 // The status of a comparison, with why it failed where it did.
-fn compared<E: Write>(found: Result<Verdict, Failure>, image: &str, errors: &mut E) -> u8
+fn compared<W: ProgramOutput, E: Write>(
+    found: Result<Verdict, Failure>,
+    image: &str,
+    writer: &W,
+    errors: &mut E,
+) -> u8
     ensures status { result ≤ 2 }
-    ensures same { result ≡ 0 → found ≡ Ok Verdict.Fine }
+    ensures same { result ≡ 0 → (found ≡ Ok Verdict.Fine) ⊎ (W.is_gone writer.now ≡ true) }
     ensures differs { result ≡ 1 → found ≡ Ok Verdict.Differs }
 {
     match found {
         Ok(Verdict::Fine) => DONE,
         Ok(Verdict::Differs) => FAILED,
         Err(failure) => {
+            if has_no_reader(&failure, writer) {
+                drop(failure);
+                return DONE;
+            }
             say_over(errors, image, failure);
             TROUBLE
         }
+    }
+}
+
+// Whether what failed is a write for a reader that has gone.
+fn has_no_reader<W: ProgramOutput>(failure: &Failure, writer: &W) -> bool
+    ensures { IsTrue result → W.is_gone writer.now ≡ true }
+{
+    match failure {
+        Failure::WriteFailed => writer.is_gone(),
+        _ => false,
     }
 }
 

@@ -9,11 +9,16 @@ use Rattle.s4.proofs.performing.perform.Goals as goal
 
 -- the words give the command that isn't done, or is
 pub returns-in-Ok-clause-kept : goal.returns-in-Ok-clause-kept
-returns-in-Ok-clause-kept g c = λ failed. undone_on _ _ _ _ (λ done. inl (c.in-Ok.command, c.in-Ok.ensures.spelled, done)) (c.perform_command.ensures.kept failed)
+returns-in-Ok-clause-kept g c = λ failed.
+    rw (← c.asks.ensures.passed) (undone_on _ _ _ _ (λ done. inl (c.in-Ok.command, c.in-Ok.ensures.spelled, done)) (c.perform_command.ensures.kept failed))
 
 -- they encode the command that status 1 says something of
 pub returns-in-Ok-clause-differs : goal.returns-in-Ok-clause-differs
-returns-in-Ok-clause-differs g c = λ one. inl (c.in-Ok.command, c.in-Ok.ensures.spelled, c.perform_command.ensures.differs one)
+returns-in-Ok-clause-differs g c = λ one. rw (← c.asks.ensures.passed) (inl (c.in-Ok.command, c.in-Ok.ensures.spelled, c.perform_command.ensures.differs one))
+
+-- they encode the command that is done, or that nobody reads to the end
+pub returns-in-Ok-clause-done : goal.returns-in-Ok-clause-done
+returns-in-Ok-clause-done g c = λ zero. rw (← c.asks.ensures.passed) (inl (c.in-Ok.command, c.in-Ok.ensures.spelled, c.perform_command.ensures.done zero))
 
 -- they give none, and ask for help or the version
 pub returns-in-Err-Asked-clause-done : goal.returns-in-Err-Asked-clause-done
@@ -23,5 +28,5 @@ returns-in-Err-Asked-clause-done g c = λ done.
 
 pub returns-in-Err-Asked-clause-differs : goal.returns-in-Err-Asked-clause-differs
 returns-in-Err-Asked-clause-differs g c = λ one.
-    let none : IsUsage (map g.S.AsStr.text c.args.words.now) = search rules in
+    let none : IsUsage c.args.now (map g.S.AsStr.text c.args.words.now) = search rules in
     inr none
