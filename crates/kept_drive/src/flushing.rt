@@ -40,25 +40,3 @@ impl<J: Naming, K: Keeper + Drop, L: DriveLock<J>, R: Wait + Threads, A: Announc
         self.announcing.announce_shortage(left);
     }
 }
-
-/// What keeps the drive a last time, at the end of its service.
-#[derive(Drop)]
-pub struct Closing<'a, J: Naming, K: Keeper, L, R, A> {
-    /// What flushed it before.
-    pub flushing: Flushing<'a, J, K, L, R, A>,
-}
-
-impl<J: Naming, K: Keeper + Drop, L: DriveLock<J>, R: Wait + Threads, A: Announce> Flush<()>
-    for Closing<'_, J, K, L, R, A> {
-    fn flush(&mut self) -> Result<(), FlushError> {
-        let flushing = &self.flushing;
-        flushing
-            .kept
-            .lock(flushing.rt)
-            .close(flushing.rt, flushing.alloc, &flushing.drive)
-    }
-
-    fn announce_shortage(&mut self, left: Option<u64>) {
-        self.flushing.announcing.announce_shortage(left);
-    }
-}

@@ -31,7 +31,7 @@ mod recovering;
 mod seeing;
 
 pub use collecting::{Collected, DriveLock, collect};
-pub use flushing::{Announce, Closing, Flushing};
+pub use flushing::{Announce, Flushing};
 pub use keeping::KeptImage;
 pub use reach::{MOST_AHEAD, reach_after};
 pub use receipts::KeptReceipt;

@@ -2,9 +2,11 @@
 ghost use Rattle.std.specs.Prelude.{◌≡◌};
 ghost use Rattle.s4serve.specs.Collecting.{Collects, HasHad};
 
+use crate::keeping::Explaining;
 use crate::service::Service;
 use crate::telling::{News, Telling};
 use drive::{Drive, Session};
+use group_commit::{Flush, FlushError};
 use image_keeping::Keeper;
 use kept_drive::{Announce, Collected, DriveLock, Flushing, collect};
 use s4_types::Refusal;
@@ -13,6 +15,7 @@ use server::{Pace, Running, SharedDrive, Visit, show};
 use serving::Clock;
 use std::alloc::Global;
 use std::sync::{Mutex, Wait};
+use std::thread::Threads;
 
 /// Collects the drive that it is shown.
 #[derive(Drop)]
@@ -105,5 +108,33 @@ pub fn flusher<'a, J: Running, C: Clock, K: Keeper, R: Wait, D: Telling>(
             outside,
             image: service.image.as_str(),
         },
+    }
+}
+
+/// What keeps the drive of a service a last time, at its end.
+#[derive(Drop)]
+pub struct Closing<'a, J: Running, C: Clock, K: Keeper, R: Wait, D: Telling> {
+    /// What flushed it before.
+    pub flushing: ServiceFlush<'a, J, C, K, R, D>,
+}
+
+impl<J: Running, C: Clock, K: Keeper + Explaining + Drop, R: Threads + Wait, D: Telling> Flush<()>
+    for Closing<'_, J, C, K, R, D> {
+    /// Where the image was removed or replaced since it was kept, all is left in a file beside it.
+    /// That is at the reach, so that it is the later one of the two.
+    fn flush(&mut self) -> Result<(), FlushError> {
+        let flushing = &self.flushing;
+        let mut kept = flushing.kept.lock(flushing.rt);
+        if kept.keeper().is_in_place() {
+            return kept.close(flushing.rt, flushing.alloc, &flushing.drive);
+        }
+        match kept.flush(flushing.rt, flushing.alloc, &flushing.drive) {
+            Ok(_) => Ok(()),
+            Err(error) => Err(error),
+        }
+    }
+
+    fn announce_shortage(&mut self, left: Option<u64>) {
+        self.flushing.announce_shortage(left);
     }
 }

@@ -65,9 +65,6 @@ pub enum ServeFault<'a> {
     /// What was accepted last can't be kept.
     #[error("{0} can't be kept: {1}; nothing more was acknowledged{whole}", whole = .1.whole())]
     NotKept(&'a str, KeepObstacle),
-    /// What was accepted last can't be kept, as memory or room is short, and the service is to stop.
-    #[error("{0} can't be kept: memory or room on its disk is short; nothing more was acknowledged")]
-    StillShort(&'a str),
     /// The system gives too few threads.
     #[error("the system gives too few threads, or too little memory for them")]
     NoThreads,

@@ -11,6 +11,9 @@ use std::marker::Send;
 pub trait Explaining {
     /// What was in the way of the last image that it couldn't keep.
     fn obstacle(&self) -> KeepObstacle;
+
+    /// Whether the last image that it kept is still where it was put.
+    fn is_in_place(&self) -> bool;
 }
 
 impl Explaining for WholeImage<FileFolder<HostRuntime>> {
@@ -23,6 +26,10 @@ impl Explaining for WholeImage<FileFolder<HostRuntime>> {
                 whole: None,
             },
         }
+    }
+
+    fn is_in_place(&self) -> bool {
+        self.folder().is_in_place()
     }
 }
 

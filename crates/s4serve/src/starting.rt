@@ -7,7 +7,7 @@ ghost use Rattle.drive.specs.Fields.{DriveFields};
 ghost use Rattle.drive.specs.Opened.{base_of};
 ghost use Rattle.serving.specs.Drawing.{Drawn};
 
-use crate::collecting::{UnderLock, flusher};
+use crate::collecting::{Closing, UnderLock, flusher};
 use crate::faults::{DoorObstacle, ServeFault};
 use crate::keeping::{Explaining, KeptFiles};
 use crate::opening::{Begun, Opened, open_image};
@@ -18,10 +18,10 @@ use crate::telling::{News, Telling};
 use crate::waiting::Lines;
 use door_files::{Fifos, open_door};
 use drive::OpenedDrive;
-use group_commit::{FlushError, Monitor};
+use group_commit::Monitor;
 use image_commands::Fault;
 use image_keeping::Keeper;
-use kept_drive::{Closing, KeptImage, KeptReceipt};
+use kept_drive::{KeptImage, KeptReceipt};
 use kept_files::KeepObstacle;
 use s4_types::{Moment, Role};
 use s4serve_command::ServiceAsked;
@@ -244,8 +244,7 @@ fn await_end<
     };
     match service.monitor.end(rt, &mut last) {
         Ok(()) => Ok(()),
-        Err(FlushError::Short) => Err(ServeFault::StillShort(image)),
-        Err(FlushError::Failed) => Err(ServeFault::NotKept(image, obstacle_of(rt, service))),
+        Err(_) => Err(ServeFault::NotKept(image, obstacle_of(rt, service))),
     }
 }
 
