@@ -7,6 +7,7 @@ import select
 import signal
 import subprocess
 import tempfile
+import threading
 import warnings
 import weakref
 from typing import IO, Any, NamedTuple, Optional, Sequence
@@ -116,6 +117,7 @@ class Program(Peer):
             self.reader = io.BufferedReader(TimedReader(self._running.reader, timeout))
             self.writer = TimedWriter(self._running.writer, timeout)
         self._ended: Optional[Ended] = None
+        self._lock = threading.Lock()  # a pipeline's two threads may both find that it has ended
         self._drop = weakref.finalize(self, end_dropped, self._running)
 
     def close(self) -> Ended:
@@ -134,11 +136,12 @@ class Program(Peer):
         return self._take(None)
 
     def _take(self, seconds: Optional[float]) -> Ended:
-        if self._ended is None:
-            self._ended = self._running.wait(seconds)
-            self._running.errors.close()
-            self._drop.detach()
-        return self._ended
+        with self._lock:
+            if self._ended is None:
+                self._ended = self._running.wait(seconds)
+                self._running.errors.close()
+                self._drop.detach()
+            return self._ended
 
 
 def started(words: Sequence[str], is_timed: bool) -> Running:

@@ -527,6 +527,21 @@ class Certified(Bridged):
             with self.drive(root) as it, self.assertRaises(s4d.NotAdmin):
                 it.flush(1, 1)
 
+    def test_who_loses_a_role_and_does_not_read(self):
+        """Time is over for replies that nobody takes."""
+        root = self.certificates.make("The Root Admin", "root")
+        self.begin("--grace", "0.5")
+        with self.connect() as it:
+            it.create()
+            it.truncate(1, 24_576)
+            _, side, perform = self.greeted(root)
+            perform(lambda: side.write(wire.read(1, 0, 24_576, None).frame() * 400))
+            wait_until(lambda: len(self.lines(request="read")) > 5, "replies that nobody reads")
+            self.roles("client The Root Admin\n")
+            self.process.send_signal(signal.SIGHUP)
+            self.wait_for_line(event="session", role="admin", end="role lost")
+            self.assertEqual(it.read(1), bytes(24_576))
+
     def test_who_loses_a_role_while_waiting(self):
         root = self.certificates.make("The Root Admin", "root")
         self.begin("--sessions", "admin=1")
