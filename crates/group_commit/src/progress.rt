@@ -203,7 +203,11 @@ impl<T: Receipt + Drop> Progress<T> {
             return Shortage::IsOver;
         }
         let left = self.count_again();
-        if was_short { Shortage::GoesOn } else { Shortage::Begins(left) }
+        if was_short {
+            Shortage::GoesOn
+        } else {
+            Shortage::Begins(left)
+        }
     }
 
     /// A flush is tried again. Answers how often that may be, where the service is to stop.

@@ -15,6 +15,4 @@ mod starts;
 pub use clock::{Readings, ServiceClock};
 pub use durations::duration_of;
 pub use machine::{Monotonic, system_time};
-pub use starts::{
-    DAY, FIRST_START, MINUTE, StartFault, WEEK, most_leap, start_of, wait_before,
-};
+pub use starts::{DAY, FIRST_START, MINUTE, StartFault, WEEK, most_leap, start_of, wait_before};

@@ -1,7 +1,5 @@
 //! Worked durations and starts.
-use service_time::{
-    DAY, FIRST_START, MINUTE, StartFault, WEEK, duration_of, most_leap, start_of,
-};
+use service_time::{DAY, FIRST_START, MINUTE, StartFault, WEEK, duration_of, most_leap, start_of};
 use std::test::Fail;
 
 /// Durations, and what they say in microseconds.
@@ -37,7 +35,13 @@ static STARTS: [(u64, u64, u64, u64, Result<u64, StartFault>); 11] = [
     (0, DAY, NOW, 0, Ok(NOW)),
     (0, DAY, 5, 0, Ok(FIRST_START)),
     (1, DAY, NOW, u64::MAX, Err(StartFault::Counted)),
-    (FIRST_START - 1, DAY, NOW, u64::MAX, Err(StartFault::Counted)),
+    (
+        FIRST_START - 1,
+        DAY,
+        NOW,
+        u64::MAX,
+        Err(StartFault::Counted),
+    ),
     (NOW - WEEK, 30 * DAY, NOW, 0, Ok(NOW)),
     (NOW - WEEK - 1, 30 * DAY, NOW, 0, Err(StartFault::TooFar(9))),
     (NOW - WEEK - 1, 30 * DAY, NOW + DAY, 9 * DAY, Ok(NOW + DAY)),
