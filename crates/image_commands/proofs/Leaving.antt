@@ -1,9 +1,10 @@
 -- What is left of files, step by step.
-use Rattle.std.proofs.Common.{◌≡◌, ℕ, List, Option, Some, None, inl, inr, subst}
+use Rattle.std.proofs.Common.{◌≡◌, ◌≤◌, ◌+◌, ◌⊎◌, ℕ, Bool, true, false, List, Option, Some, None, inl, inr, subst, arith}
+use Rattle.std.proofs.lemmas.Bool.Decides.{nat_tests}
 use Rattle.std.specs.Io.KnownBytes.{Keeps}
 use Rattle.std.proofs.KnownBytes.{Keeps-refl, Keeps-trans}
 use Rattle.verifier.specs.Grammar.{FirstFault}
-use Rattle.image_commands.specs.Leaving.{IsNoImage, IsKeptWhereWhole}
+use Rattle.image_commands.specs.Leaving.{HasClock, IsNoImage, IsKeptWhereWhole, IsWholeFrom, is_spent}
 
 -- of a file that wasn't touched
 pub whole_untouched : (known : Option (List ℕ)) → IsKeptWhereWhole known known
@@ -20,3 +21,18 @@ pub whole_on : (a b c : Option (List ℕ)) → IsKeptWhereWhole a b → IsKeptWh
 whole_on a b c (inl kept) (inl on) = inl (Keeps-trans a b c kept on)
 whole_on a b c (inl kept) (inr none) = inr (none_before a b kept none)
 whole_on a b c (inr none) second = inr none
+
+-- a file is whole of which an image with this clock was read, or nothing is known
+pub whole_named : (known : Option (List ℕ)) (is : Bool) (found : Option ℕ) (clock least : ℕ) → found ≡ Some clock → (is ≡ true → HasClock known found) → least ≤ clock
+    → (is ≡ true) ⊎ (known ≡ None) → IsWholeFrom least known
+whole_named None is found clock least same has up which = tt
+whole_named (Some bytes) is found clock least same has up (inl left) = (clock, subst (HasClock (Some bytes)) same (has left), up)
+whole_named (Some bytes) is found clock least same has up (inr none) = absurd cc
+
+-- one that isn't spent is whole, and its clock is later
+pub later_named : (known : Option (List ℕ)) (is : Bool) (found : Option ℕ) (clock : ℕ) → is_spent found clock ≡ false → (is ≡ true → HasClock known found)
+    → (is ≡ true) ⊎ (known ≡ None) → IsWholeFrom (clock + 1) known
+later_named None is found clock spent has which = tt
+later_named (Some bytes) is None clock spent has which = absurd cc
+later_named (Some bytes) is (Some later) clock spent has (inl left) = (later, has left, grind (arith, nat_tests))
+later_named (Some bytes) is (Some later) clock spent has (inr none) = absurd cc

@@ -1,5 +1,5 @@
 -- What is left in the place of files that were left beside an image.
-use Rattle.std.specs.Prelude.{◌≡◌, ◌≤◌, ◌<◌, ◌<=◌, ◌⊎◌, ℕ, Bool, true, List, ⊤, Option, None, Some, string_bytes}
+use Rattle.std.specs.Prelude.{◌≡◌, ◌≤◌, ◌⊎◌, ℕ, nat_le, Bool, true, List, ⊤, Option, None, Some, string_bytes}
 use Rattle.std.specs.Io.KnownBytes.{Keeps}
 use Rattle.s4_types.specs.declared.refusals.Cause.{Cause}
 use Rattle.verifier.specs.Images.{ImageFields}
@@ -31,7 +31,7 @@ HasClock known (Some clock) = (image : ImageFields) × IsVerified known image ×
 -- whether nothing is lost with a file that was left beside an image with this clock: it is no image, or one whose clock isn't above
 abbrev pub is_spent : (left : Option ℕ) (image : ℕ) → Bool
 is_spent None image = true
-is_spent (Some clock) image = clock <= image
+is_spent (Some clock) image = nat_le clock image
 
 -- so it is, by what is known of the file
 abbrev pub IsSpent : (image : ℕ) → Option (List ℕ) → Type 0
@@ -45,7 +45,8 @@ IsLeftFor is_left is_part files claim clock left = (path : List ℕ) → is_left
 
 -- what is known of a file encodes a drive whose clock isn't below this one
 abbrev pub IsWholeFrom : (least : ℕ) → Option (List ℕ) → Type 0
-IsWholeFrom least known = (clock : ℕ) × HasClock known (Some clock) × (least ≤ clock)
+IsWholeFrom least None = ⊤
+IsWholeFrom least (Some bytes) = (clock : ℕ) × HasClock (Some bytes) (Some clock) × (least ≤ clock)
 
 -- where a fault names a whole file, that has an image whose clock isn't below this one
 abbrev pub NamesWhole : (least : ℕ) → (List ℕ → Option (List ℕ)) → LeftFault → Type 0
