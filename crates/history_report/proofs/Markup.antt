@@ -1,5 +1,5 @@
 -- Data has no markup, and stays where it is.
-use Rattle.std.proofs.Common.{◌≡◌, ◌∙◌, ◌+◌, ◌/◌, ◌%◌, ◌≤◌, ◌&&◌, ◌==◌, ℕ, true, false, not, Bool, List, [], ◌∷◌, codes, flat_map, nat_lt, zero, suc, refl, ap, arith}
+use Rattle.std.proofs.Common.{◌≡◌, ◌∙◌, ◌+◌, ◌/◌, ◌%◌, ◌≤◌, ◌&&◌, ◌==◌, ℕ, true, false, not, List, [], ◌∷◌, codes, flat_map, nat_lt, zero, suc, refl, ap, arith}
 use Rattle.std.specs.Fmt.{digit_glyph, digits, digits_onto}
 use Rattle.std.specs.List.{list_all, AllByRecursion}
 use Rattle.std.specs.Str.{chars}
