@@ -24,9 +24,9 @@ as_it_is start zero history some = absurd (omega (arith, some))
 as_it_is start (suc clock) history some = refl
 
 -- one that has seen nothing sees the start
-pub sees_the_start : (start clock : ℕ) (history : History) → (0 < clock → ⊥) → grown history (Seen start) ≡ last_history start clock history
+pub sees_the_start : (start clock : ℕ) (history : History) → clock ≡ 0 → grown history (Seen start) ≡ last_history start clock history
 sees_the_start start zero history none = refl
-sees_the_start start (suc clock) history none = absurd (none (omega arith))
+sees_the_start start (suc clock) history none = absurd (omega (arith, none))
 
 from_zero : (clock start seen : ℕ) → clock ≡ 0 → seen ≡ max clock start → seen ≡ start
 from_zero clock start seen none is = omega (arith, none, is)
