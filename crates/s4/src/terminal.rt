@@ -14,8 +14,8 @@ pub trait ProgramOutput: CommandOutput {
 
     /// Takes the times of which it says what they are, once a drive is open.
     fn asks(&mut self, times: AskedTimes)
-        ensures passed { passed self.new ≡ passed self.old }
-        ensures failures { failures self.new ≡ failures self.old };
+        ensures passed { Self.passed self.new ≡ Self.passed self.old }
+        ensures failures { Self.failures self.new ≡ Self.failures self.old };
 
     /// Whether its reader has gone, so that nobody waits for what isn't written.
     fn is_gone(&self) -> bool

@@ -29,8 +29,8 @@ pub trait CommandOutput: Sink {
     /// Hears that the drive is open, whose clock is there, and that the command begins. It writes
     /// none of the command's bytes.
     fn drive_opened(&mut self, clock: Moment)
-        ensures passed { passed self.new ≡ passed self.old }
-        ensures failures { failures self.new ≡ failures self.old };
+        ensures passed { Self.passed self.new ≡ Self.passed self.old }
+        ensures failures { Self.failures self.new ≡ Self.failures self.old };
 }
 
 /// What prints something of a drive.
