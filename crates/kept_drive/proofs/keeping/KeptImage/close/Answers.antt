@@ -1,6 +1,6 @@
 use Rattle.kept_drive.specs.Images.{IsClosed}
 use Rattle.kept_drive.proofs.KeepingLemmas.{before_or_holds, only_keeps}
-use Rattle.kept_drive.proofs.closing.KeptImage.close.Goals as goal
+use Rattle.kept_drive.proofs.keeping.KeptImage.close.Goals as goal
 
 pub returns-in-Ok-keep-clause-kept : goal.returns-in-Ok-keep-clause-kept
 returns-in-Ok-keep-clause-kept g c =
