@@ -1,5 +1,5 @@
 -- Whether any object of a drive is there, by what is listed.
-use Rattle.std.proofs.Common.{◌≡◌, ◌∙◌, ◌<◌, ◌||◌, ℕ, Bool, true, false, Option, None, Some, refl, sym, ap, subst}
+use Rattle.std.proofs.Common.{◌≡◌, ◌∙◌, ◌<◌, ◌||◌, ℕ, Bool, true, false, Option, None, Some, refl, sym, ap, subst, arith}
 use Rattle.std.specs.Prelude.{if◌then◌else◌}
 use Rattle.std.proofs.lemmas.Option.{none-some, same_Some}
 use Rattle.s4_types.specs.declared.versions.Version.{Version}
@@ -35,13 +35,13 @@ there_if Absent listed tells live = absurd (tells live)
 there_if (Live content attribute created changed) listed tells live = refl
 
 -- an object that is listed at the clock is there
-pub listed_is_there : (s : State) (store : StoreFields) (t : ℕ) (listed : Listed) → t ≡ s.clock → IsListedNext s store false t 0 listed → HasObject s
-listed_is_there s store t listed now next =
+pub listed_is_there : (s : State) (store : StoreFields) (t after : ℕ) (listed : Listed) → t ≡ s.clock → IsListedNext s store false t after listed → HasObject s
+listed_is_there s store t after listed now next =
     let o : ℕ = listed.object in
     let live : listed.is_live ≡ true = live_by o (inode_in store o t) listed (shown (is_visible s o t) (listed_by false o (inode_in store o t)) listed next.here.found) in
     (o, subst (λ k. is_absent (version_of s o k) ≡ false) now (there_if (version_of s o t) listed next.here.version live))
 
 -- where nothing is listed then none is there
-pub none_is_there : (s : State) (store : StoreFields) (t : ℕ) → t ≡ s.clock → IsSound s → ((o : ℕ) → 0 < o → IsPassed s store false t o) → HasNone s
-none_is_there s store t now sound passed o above =
-    subst (λ k. version_of s o k ≡ Absent) now ((passed o above).absent (subst (IsVisible s o) (sym now) (clock_is_visible s o sound)))
+pub none_is_there : (s : State) (store : StoreFields) (t after : ℕ) → t ≡ s.clock → after ≡ 0 → IsSound s → ((o : ℕ) → after < o → IsPassed s store false t o) → HasNone s
+none_is_there s store t after now first sound passed o above =
+    subst (λ k. version_of s o k ≡ Absent) now ((passed o (omega (arith, first, above))).absent (subst (IsVisible s o) (sym now) (clock_is_visible s o sound)))

@@ -12,17 +12,17 @@ clock_by_some clock now (suc n) some = omega arith
 
 -- by some and then by others
 pub clock_by_more : (n m clock now : ℕ) → clock_by (clock_by clock now n) now m ≡ clock_by clock now (n + m)
-clock_by_more n zero clock now = refl
+clock_by_more n zero clock now = let same : n ≡ n + 0 = omega arith in ap (clock_by clock now) same
 clock_by_more zero (suc m) clock now = omega (arith, clock_by_some clock now (zero + suc m) (omega arith))
-clock_by_more (suc n) (suc m) clock now = omega arith
+clock_by_more (suc n) (suc m) clock now = omega (arith, clock_by_some clock now (suc n + suc m) (omega arith))
 
 -- by one, and then by others
 pub stamped_more : (clock now stamped n : ℕ) → stamped ≡ max now (clock + 1) → clock_by stamped now n ≡ clock_by clock now (n + 1)
-stamped_more clock now stamped zero is = is
-stamped_more clock now stamped (suc n) is = omega (arith, is)
+stamped_more clock now stamped zero is = omega (arith, is, clock_by_some clock now (0 + 1) (omega arith))
+stamped_more clock now stamped (suc n) is = omega (arith, is, clock_by_some clock now (suc n + 1) (omega arith))
 
 -- as many as there may be are as good as one more than that
 pub window_saturated : (s : State) (now at n m : ℕ) → m ≡ min last_number (n + 1) → window_for s now at m ≡ window_for s now at (n + 1)
 window_saturated s now at n m is =
     let some : 0 < m = omega (arith, is) in
-    omega (arith, is, clock_by_some s.clock now m some)
+    omega (arith, is, clock_by_some s.clock now m some, clock_by_some s.clock now (n + 1) (omega arith))

@@ -123,5 +123,5 @@ moved_granted h after role request now reply by_took unread free step =
     let s : State = state_of h in
     let taken : IsTaken h request now after = granted_took h after role request now reply unread free step in
     let a : Accepted = accepted_record s taken.change now in
-    let moved : IsMovedBy s now 1 (took s a) = refl in
+    let moved : IsMovedBy s now 1 (took s a) = omega arith in
     subst (IsMovedBy s now 1) (sym (ap state_of taken.took ∙ by_took h a)) moved
