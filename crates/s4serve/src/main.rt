@@ -6,7 +6,8 @@
 //! What is proved of that: each reply that a session writes is a step of the shared drive at a
 //! history all of whose accepted changes a receipt covers, and its clock too; and a flush that
 //! makes a receipt leaves at the image's path, whatever a crash leaves there, the image of the drive
-//! with these changes at that clock.
+//! with these changes at that clock. At its end no session is given a receipt any more, and then a
+//! last flush leaves there the image of the drive at its own clock.
 //!
 //! An argument in writing, and no clause: that a thread goes on; that a crash falls between two
 //! calls, while threads run; that one lock orders what the receipts of several sessions say. The
