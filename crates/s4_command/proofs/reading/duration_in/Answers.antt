@@ -1,5 +1,5 @@
-use Rattle.std.proofs.Common.{◌≡◌, ◌∙◌, ℕ, Bool, true, List, Option, None, Some, sym, subst}
-use Rattle.std.specs.Prelude.{IfNone, is_none}
+use Rattle.std.proofs.Common.{◌≡◌, ◌∙◌, ℕ, Bool, true, not, List, Option, None, Some, sym, ap, subst}
+use Rattle.std.specs.Prelude.{IfNone, is_some}
 use Rattle.std.proofs.lemmas.Bool.{true≢false}
 use Rattle.std.proofs.lemmas.Option.{none-some}
 use Rattle.clap.specs.Walk.{Row, Text, first_of}
@@ -8,9 +8,9 @@ use Rattle.s4_command.specs.CommandLine.{IsDurationAsked, IsDurationAt}
 use Rattle.s4_command.proofs.reading.duration_in.Goals as goal
 
 -- what holds where there is none holds
-where_none : {X P : Type 0} (o : Option X) (b : Bool) → b ≡ is_none o → b ≡ true → IfNone o P → P
+where_none : {X P : Type 0} (o : Option X) (b : Bool) → is_some o ≡ not b → b ≡ true → IfNone o P → P
 where_none None b is none fact = fact
-where_none (Some x) b is none fact = absurd (true≢false (sym none ∙ is))
+where_none (Some x) b is none fact = absurd (true≢false (is ∙ ap not none))
 
 -- a text that is no age is no duration
 no_duration : (name text : Text) (rows : List Row) (micros : Option ℕ) → first_of name rows ≡ Some text → ((n : ℕ) → IsAge text n → ⊥) → IsDurationAsked name rows micros → ⊥
