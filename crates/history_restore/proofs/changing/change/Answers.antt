@@ -91,8 +91,8 @@ returns-clause-content g c =
     let second = present (state_in c.write.new.drive) o in
     let later = present (state_in c.set_attribute.new.drive) o in
     let written : content_of second ≡ content_of (written_by (bytes_of before) changes.written o 0 cut) =
-        subst (λ (b : List ℕ). content_of second ≡ content_of (written_by b changes.written o 0 first)) c.content_of-bytes.ensures c.in_ok-write.ensures.content
-        ∙ writes_alike (bytes_of before) changes.written o 0 0 first cut c.in_ok-cut.ensures.content in
+    subst (λ (b : List ℕ). content_of second ≡ content_of (written_by b changes.written o 0 first)) c.content_of-bytes.ensures c.in_ok-write.ensures.content
+    ∙ writes_alike (bytes_of before) changes.written o 0 0 first cut c.in_ok-cut.ensures.content in
     on_ok_weaker c.set_attribute.result
     (λ (set : content_of later ≡ content_of (attribute_by c.attribute_of-attribute.result.now changes.attribute o 0 second)).
     set
