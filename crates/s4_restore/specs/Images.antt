@@ -41,11 +41,15 @@ pub record ReplacesImage (known known' : Option (List ℕ)) (order : Order) (out
   pub busy : OverImage known (λ d. WouldChange d order true)
   pub changes : ChangesImage known known' (λ d later. RestoresBy d later order output output')
 
+-- The image of a drive is left or replaced, by whether anything is to be changed.
+abbrev pub PutsRestored : (known known' : Option (List ℕ)) → Order → (output output' : Option (List ℕ)) → Type 0
+PutsRestored known known' order output output' = LeavesImage known known' order output output' ⊎ ReplacesImage known known' order output output'
+
 -- The drive in an image is restored and saved, unless nothing of it is to be changed.
 pub record RestoresImage (known known' : Option (List ℕ)) (restore : RestoreAsked) (stand_ins : List StandIn) (output output' : Option (List ℕ)) : Type 0 where
   pub order : Order
   pub asks : IsOrderOf known restore stand_ins order
-  pub done : LeavesImage known known' order output output' ⊎ ReplacesImage known known' order output output'
+  pub done : PutsRestored known known' order output output'
 
 -- The output ends with the lines of that, and nothing is saved.
 pub record WouldRestoreImage (known : Option (List ℕ)) (restore : RestoreAsked) (stand_ins : List StandIn) (output output' : Option (List ℕ)) : Type 0 where

@@ -1,5 +1,5 @@
 -- What was found to be needed, by trials over the drive of an image.
-use Rattle.std.specs.Prelude.{◌≡◌, ◌⊎◌, ℕ, ◌+◌, ◌++◌, false, List, [], ◌∷◌, Option, None, Some, map, IsPermutation}
+use Rattle.std.specs.Prelude.{◌≡◌, ◌⊎◌, ℕ, ◌+◌, ◌++◌, false, List, [], ◌∷◌, Option, map, unwrap_or, IsPermutation}
 use Rattle.std.specs.List.{AllByRecursion}
 use Rattle.history_restore.specs.declared.aims.StandIn.{StandIn}
 use Rattle.s4_command.specs.declared.restoring.RestoreAsked.{RestoreAsked}
@@ -26,11 +26,6 @@ use Rattle.restore_search.specs.declared.surveys.Survey.{Survey}
 abbrev pub FailsInStyle : Option (List ℕ) → Failure → Type 0
 FailsInStyle known failure = FailsOver known (λ d. IsInStyle (style_of (state_in d).clock false)) failure
 
--- the leap that is asked for, and none where it isn't
-abbrev pub leap_of : Option ℕ → ℕ
-leap_of None = 0
-leap_of (Some leap) = leap
-
 -- An order has what is asked for, and these stand-ins.
 pub record IsAskedBy (restore : RestoreAsked) (stand_ins : List StandIn) (order : Order) : Type 0 where
   pub at : order.at ≡ restore.at
@@ -38,7 +33,7 @@ pub record IsAskedBy (restore : RestoreAsked) (stand_ins : List StandIn) (order 
   pub name : order.name ≡ restore.name
   pub stand_ins_are : order.stand_ins.now ≡ stand_ins
   pub time : order.time ≡ restore.now
-  pub leap : order.leap ≡ leap_of restore.leap
+  pub leap : order.leap ≡ unwrap_or restore.leap 0
   pub to_nothing : order.to_nothing ≡ restore.to_nothing
   pub newer : order.keep_newer ≡ restore.keep_newer
   pub json : order.json ≡ restore.json

@@ -4,14 +4,15 @@ ghost use Rattle.std.specs.Prelude.{OnOk};
 ghost use Rattle.std.specs.Io.KnownBytes.{Keeps};
 ghost use Rattle.image_commands.specs.declared.files.Placed.TheVariants.{Lasting};
 ghost use Rattle.s4_images.specs.declared.commands.Verdict.TheVariants.{Fine};
-ghost use Rattle.s4_restore.specs.Images.{PerformsRestore, RestoresImage, WouldRestoreImage};
+ghost use Rattle.s4_restore.specs.Images.{PerformsRestore, PutsRestored, RestoresImage};
+ghost use Rattle.s4_restore.specs.Images.{WouldRestoreImage};
 ghost use Rattle.s4_restore.specs.Searching.{FailsInStyle};
 
 use crate::maps::{MapFault, read_map};
 use crate::preparing::{order_of, prepare_image};
 use history_restore::StandIn;
 use image_commands::{Files, Placed};
-use restore_orders::Preview;
+use restore_orders::{Order, Preview};
 use s4_command::RestoreAsked;
 use s4_images::{CommandOutput, Failure, Verdict, change_image, over_image, use_image};
 use std::alloc::Global;
@@ -70,11 +71,33 @@ pub fn restore_image<T: Threads, F: Files, W: CommandOutput>(
 {
     let made = prepare_image(rt, alloc, files, asked, stand_ins)?;
     let order = order_of(files, asked, stand_ins, &made);
-    let preview = Preview { order: &order };
-    if use_image(rt, alloc, files, asked.image, &preview, &mut ())? {
-        return change_image(rt, alloc, files, asked.image, &order, writer);
+    put_restored(rt, alloc, files, asked.image, &order, writer)
+}
+
+// Restores the drive of an image by an order and saves it there, or leaves the file where nothing
+// is to be changed. Prints what was done.
+#[tactic(auto, using(s4_images::proofs::Kept::untouched))]
+fn put_restored<T: Threads, F: Files, W: CommandOutput>(
+    rt: &T,
+    alloc: Global,
+    files: &mut F,
+    image: &str,
+    order: &Order<'_>,
+    writer: &mut W,
+) -> Result<Placed, Failure>
+    requires writer { W.failures writer.old + 1 < 2 ^ 64 }
+    ensures put { OnOk result
+        (PutsRestored (F.contents files.old image.now) (F.contents files.new image.now) order.now
+        (W.passed writer.old) (W.passed writer.new)) }
+    ensures kept { OnErr result
+        ((path : List ℕ) → Keeps (F.contents files.old path) (F.contents files.new path)) }
+{
+    let preview = Preview { order };
+    let changes = use_image(rt, alloc, files, image, &preview, &mut ())?;
+    if changes {
+        return change_image(rt, alloc, files, image, order, writer);
     }
-    let _verdict = over_image(rt, alloc, files, asked.image, &order, writer)?;
+    let _verdict = over_image(rt, alloc, files, image, order, writer)?;
     Ok(Placed::Lasting)
 }
 
