@@ -1,5 +1,5 @@
 //! How an image is kept in files.
-ghost use Rattle.std.specs.Prelude.{IsTrue};
+ghost use Rattle.std.specs.Prelude.{◌&&◌, IsTrue, not};
 
 use image_commands::{Files, Obstacle};
 use image_keeping::{Keeper, WholeImage};
@@ -51,7 +51,9 @@ impl KeptFiles for HostRuntime {
         alloc: Global,
         claim: Self::Claim,
         left: Vec<Self::Leftover>,
-    ) -> WholeImage<FileFolder<HostRuntime>> {
+    ) -> WholeImage<FileFolder<HostRuntime>>
+        ensures { IsTrue (result.folder.is_usable && not result.has_failed) }
+    {
         WholeImage::new(FileFolder::new(alloc, self, claim).removing(left))
     }
 }
