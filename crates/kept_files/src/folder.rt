@@ -1,7 +1,7 @@
 //! The path of an image among files.
 ghost use Rattle.std.specs.Prelude.{◌≡◌, ◌↔◌, [], IfErr, IfOk, None, Some, true};
 ghost use Rattle.std.specs.Prelude.{is_ok};
-ghost use Rattle.image_commands.specs.Crashes.{IsShort, LeavesNoMore};
+ghost use Rattle.image_commands.specs.Crashes.{IsShort};
 ghost use Rattle.kept_files.specs.Causes.{cause_of_sync};
 
 use crate::obstacles::{KeepCause, KeepObstacle};
@@ -127,18 +127,6 @@ fn has_lasted(synced: Result<(), Obstacle>, noted: &mut Option<KeepCause>) -> bo
     }
 }
 
-/// Removes these files.
-fn remove_all<F: Files>(files: &mut F, left: &mut Vec<F::Leftover>)
-    ensures crash { (any : F.Claim)
-        → LeavesNoMore (F.may_leave files.old any) (F.may_leave files.new any) }
-{
-    for _ in 0..left.len() {
-        if let Some(leftover) = left.pop() {
-            files.remove_leftover(leftover);
-        }
-    }
-}
-
 /// What a sync is answered by that ended well, or didn't.
 fn answer_of(has_ended_well: bool) -> Result<(), FolderError>
     ensures { is_ok result ≡ has_ended_well }
@@ -228,8 +216,14 @@ impl<F: Files + Drop> Folder for FileFolder<F> {
 
     fn sync_folder(&mut self) -> Result<(), FolderError> {
         self.is_usable = has_lasted(self.files.sync_folder(&self.claim), &mut self.cause);
-        if self.is_usable {
-            remove_all(&mut self.files, &mut self.left);
+        let spent = match self.is_usable {
+            true => self.left.len(),
+            false => 0,
+        };
+        for _ in 0..spent {
+            if let Some(leftover) = self.left.pop() {
+                self.files.remove_leftover(leftover);
+            }
         }
         answer_of(self.is_usable)
     }
