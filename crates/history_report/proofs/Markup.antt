@@ -1,5 +1,5 @@
 -- Data has no markup, and stays where it is.
-use Rattle.std.proofs.Common.{◌≡◌, ◌∙◌, ◌+◌, ◌/◌, ◌%◌, ◌≤◌, ◌&&◌, ◌==◌, ℕ, true, false, not, List, [], ◌∷◌, codes, flat_map, nat_lt, zero, suc, refl, ap, arith}
+use Rattle.std.proofs.Common.{◌≡◌, ◌∙◌, ◌+◌, ◌/◌, ◌%◌, ◌≤◌, ◌++◌, ◌&&◌, ◌==◌, ℕ, true, false, not, List, [], ◌∷◌, codes, flat_map, nat_lt, zero, suc, refl, ap, arith}
 use Rattle.std.specs.Fmt.{digit_glyph, digits, digits_onto}
 use Rattle.std.specs.List.{list_all, AllByRecursion}
 use Rattle.std.specs.Str.{chars}
@@ -38,6 +38,9 @@ encoded c harmless =
     (λ _. all_high ((224 + c / 4096) ∷ (128 + c / 64 % 64) ∷ (128 + c % 64) ∷ []) (omega arith, (omega arith, (omega arith, tt))))
     (λ _. all_high ((240 + c / 262144) ∷ (128 + c / 4096 % 64) ∷ (128 + c / 64 % 64) ∷ (128 + c % 64) ∷ []) (omega arith, (omega arith, (omega arith, (omega arith, tt)))))))
 
+harmless-append : (xs ys : List ℕ) → list_all is_harmless xs ≡ true → list_all is_harmless ys ≡ true → list_all is_harmless (xs ++ ys) ≡ true
+harmless-append xs ys first second = list_all-append is_harmless xs ys ∙ and_from (list_all is_harmless xs) (list_all is_harmless ys) first second
+
 -- so is a number in hex
 glyph_harmless : (d : ℕ) → is_harmless (digit_glyph false d) ≡ true
 glyph_harmless d =
@@ -56,7 +59,8 @@ digits_harmless (suc k) n acc all =
 number_harmless : (c : ℕ) → list_all is_harmless (number_of c) ≡ true
 unfolding digits
 number_harmless c =
-    list_all-append is_harmless (digits 16 false c) (codes "}") ∙ and_from (list_all is_harmless (digits 16 false c)) true (digits_harmless 64 c [] refl) refl
+    harmless-append (codes "\\u{") (digits 16 false c ++ codes "}") refl
+    (harmless-append (digits 16 false c) (codes "}") (digits_harmless 64 c [] refl) refl)
 
 -- and each character as a page has it
 char_harmless : (c : ℕ) → list_all is_harmless (escaped_char c) ≡ true
