@@ -125,16 +125,17 @@ class Image:
         return self._s4("cat", [] if object is None else [str(object)], name=name, at=at)
 
     def restore(self, at: Moment, *, objects: Iterable[int] = (), name: Optional[str] = None, dry_run: bool = False,
-                flush: bool = False, skip: bool = False,
-                keep_newer: bool = False) -> List[Union[Restored, HiddenVersions, Widened]]:
+                flush: bool = False, skip: bool = False, keep_newer: bool = False,
+                to_nothing: bool = False) -> List[Union[Restored, HiddenVersions, Widened]]:
         """Makes objects what they were at a moment: these, or the one of an attribute, or all where none is named.
 
         All is done or nothing: where an object can't be restored ProgramFailed is raised, unless `skip` leaves it out.
         `flush` hides as few versions of full journals as serve, for good. `keep_newer` keeps objects that were made
-        since. A dry run gives what would be done, and does nothing.
+        since. `to_nothing` also restores a moment at which no object was there. A dry run gives what would be done, and
+        does nothing.
         """
         printed = self._s4("restore", [], at=at, object=tuple(objects), name=name, dry_run=dry_run, flush=flush,
-                           skip=skip, keep_newer=keep_newer, json=True)
+                           skip=skip, keep_newer=keep_newer, to_nothing=to_nothing, json=True)
         return rows.rows_of(printed, rows.restored)
 
     def info(self) -> Info:

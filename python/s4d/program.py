@@ -3,6 +3,7 @@ from __future__ import annotations
 
 import io
 import os
+import re
 import select
 import signal
 import subprocess
@@ -16,6 +17,7 @@ from .connection import Peer, Reader, Writer
 from .errors import Ended, ProgramFailed
 
 SECONDS_TO_END = 10  # that a program has to end by itself once its session is over
+NOTE = re.compile(r"s4: \S+ is \S+Z(, where the clock is)?")  # says as which moment a time is read
 
 
 class TimedReader(io.RawIOBase):
@@ -182,7 +184,7 @@ def killed(status: int, seconds: Optional[float]) -> Ended:
 def output_of(words: Sequence[str], timeout: Optional[float] = None, differs: Optional[int] = None) -> bytes:
     """What a command prints; ProgramFailed where its status isn't 0, or it takes longer than the timeout and is killed.
 
-    The status `differs` isn't a failure either, where the command has no line on standard error.
+    The status `differs` isn't a failure either, where the command has no line on standard error but such notes.
     """
     try:
         ran = subprocess.run(words, stdin=subprocess.DEVNULL, stdout=subprocess.PIPE, stderr=subprocess.PIPE,
@@ -190,6 +192,7 @@ def output_of(words: Sequence[str], timeout: Optional[float] = None, differs: Op
     except subprocess.TimeoutExpired:
         raise ProgramFailed(killed(-signal.SIGKILL, timeout)) from None
     ended = Ended(ran.returncode, text_of(ran.stderr))
-    if ended.status and ended != (differs, ""):
+    has_complaint = not all(NOTE.fullmatch(line) for line in ended.said.splitlines())
+    if ended.status and (ended.status != differs or has_complaint):
         raise ProgramFailed(ended)
     return ran.stdout

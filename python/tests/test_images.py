@@ -335,8 +335,10 @@ class Fakes(unittest.TestCase):
         self.assertEqual(image.check(), s4d.Checked(1, 2, "00"))
 
     def test_statuses(self):
-        self.assertEqual(self.image("exit 1").diff(1), [])
-        for line in ("exit 2", "echo wrong >&2; exit 1"):
+        note = "s4: FROM is 2026-11-27T13:18:02.000123Z"
+        for said in ("", f"echo '{note}' >&2;", f"echo '{note}' >&2; echo '{note.replace('FROM', 'TO')}, where the clock is' >&2;"):
+            self.assertEqual(self.image(f"{said} exit 1").diff(1), [])
+        for line in ("exit 2", "echo wrong >&2; exit 1", f"echo '{note}' >&2; echo wrong >&2; exit 1"):
             with self.assertRaises(s4d.ProgramFailed):
                 self.image(line).diff(1)
         with self.assertRaises(s4d.ProgramFailed) as caught:
