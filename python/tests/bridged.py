@@ -123,7 +123,7 @@ class Bridged(unittest.TestCase):
             text = (self.folder / name).read_text(encoding="utf-8")
         except FileNotFoundError:
             return []
-        found = [json.loads(line) for line in text.splitlines()]
+        found = [json.loads(line) for line in text.splitlines(True) if line.endswith("\n")]  # the last may still be written
         return [line for line in found if all(line.get(key) == value for key, value in wanted.items())]
 
     def wait_for_line(self, count=1, **wanted):
