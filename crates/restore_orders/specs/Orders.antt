@@ -1,5 +1,5 @@
 -- What restoring a drive by an order does.
-use Rattle.std.specs.Prelude.{◌≡◌, ⊥, ℕ, nat_lt, Bool, false, List, Option}
+use Rattle.std.specs.Prelude.{◌≡◌, ℕ, nat_lt, Bool, false, List, Option}
 use Rattle.std.specs.List.{flat_map}
 use Rattle.std.specs.Io.KnownBytes.{Appends}
 use Rattle.s4_model.specs.Visible.{IsVisible}

@@ -1,5 +1,5 @@
 //! At which moment the changes of a restore are asked for, and what they have to leave.
-ghost use Rattle.std.specs.Prelude.{◌≡◌, ⊥, true, false, IfErr, IfOk, OnOk};
+ghost use Rattle.std.specs.Prelude.{◌≡◌, true, false, IfErr, IfOk, OnOk};
 ghost use Rattle.drive.specs.Fields.{state_in, store_of};
 ghost use Rattle.service_time.specs.Starts.{IsTooFar};
 ghost use Rattle.history_restore.specs.Presence.{HasNone, HasObject};
