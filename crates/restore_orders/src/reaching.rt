@@ -37,8 +37,9 @@ pub(crate) fn restore_in_reach<J: Naming, W: Sink>(
     let changes = changes_ahead(chosen, order.full);
     reach(alloc, drive, session, moments, changes, order.json, writer)?;
     let aims = planned_aims(alloc, chosen)?;
+    let (at, now) = (moments.at, moments.now);
     let wanted = Wanted {
-        moments,
+        moments: Moments { at, now },
         aims: aims.as_slice(),
         json: order.json,
     };
