@@ -34,10 +34,10 @@ pub(crate) fn restore_in_reach<J: Naming, W: Sink>(
         (W.passed writer.new)) }
     ensures failures { OnOk result (W.failures writer.new ≡ W.failures writer.old) }
 {
+    let (at, now) = (moments.at, moments.now);
     let changes = changes_ahead(chosen, order.full);
     reach(alloc, drive, session, moments, changes, order.json, writer)?;
     let aims = planned_aims(alloc, chosen)?;
-    let (at, now) = (moments.at, moments.now);
     let wanted = Wanted {
         moments: Moments { at, now },
         aims: aims.as_slice(),

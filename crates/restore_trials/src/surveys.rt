@@ -114,7 +114,7 @@ fn survey_drive<J: Naming>(
     }
     let chosen = chosen.as_slice();
     let moments = Moments { at, now };
-    let found = survey_cleared(alloc, drive, &mut session, order, moments, chosen, hidden)?;
+    let found = survey_cleared(alloc, drive, &mut session, order, &moments, chosen, hidden)?;
     check_found(drive, order, chosen, &found)?;
     Ok(Some(found))
 }
@@ -142,17 +142,17 @@ fn survey_cleared<J: Naming>(
     drive: &mut Drive<J>,
     session: &mut Session<J>,
     order: &Order<'_>,
-    moments: Moments,
+    moments: &Moments,
     chosen: &[ObjectPlan],
     hidden: Vec<Lacking>,
 ) -> Result<Survey, Failure>
     ensures refused { IfOk result
-        (λ found. AllByRecursion (IsRefusedFrom drive.old order.now moments chosen.now)
+        (λ found. AllByRecursion (IsRefusedFrom drive.old order.now moments.now chosen.now)
         found.refused.items) }
     ensures hidden { IfOk result (λ found. found.hidden ≡ hidden) }
     ensures serves { IfOk result
         (λ found. found.refused.items ≡ [] → found.unmade.items ≡ []
-        → IsServedFrom drive.old order.now moments chosen.now) }
+        → IsServedFrom drive.old order.now moments.now chosen.now) }
 {
     let changes = changes_ahead(chosen, order.full);
     let _widened = widen_window(drive, session, moments.at, changes, moments.now)?;
@@ -257,11 +257,11 @@ fn make_rooms<J: Naming>(
     alloc: Global,
     drive: &mut Drive<J>,
     session: &mut Session<J>,
-    moments: Moments,
+    moments: &Moments,
     full: &[Room],
 ) -> Result<Vec<Lacking>, Failure>
     ensures made { IfOk result
-        (λ unmade. unmade.items ≡ [] → AreMade drive.old moments full.now drive.new) }
+        (λ unmade. unmade.items ≡ [] → AreMade drive.old moments.now full.now drive.new) }
 {
     let mut unmade = Vec::new(alloc);
     for room in full {
@@ -278,14 +278,14 @@ fn make_room<J: Naming>(
     alloc: Global,
     drive: &mut Drive<J>,
     session: &mut Session<J>,
-    moments: Moments,
+    moments: &Moments,
     room: &Room,
 ) -> Result<Option<Lack>, Failure>
     ensures made { IfOk result
         (λ lack. lack ≡ None
-        → (hidden : Option Span) × MakesRoom drive.old moments.now moments.at room.now hidden drive.new) }
+        → (hidden : Option Span) × MakesRoom drive.old moments.now.now moments.now.at room.now hidden drive.new) }
 {
-    match prepare(alloc, drive, session, moments, room) {
+    match prepare(alloc, drive, session, *moments, room) {
         Ok(Some(_hidden)) => Ok(None),
         Ok(None) => Ok(Some(Lack::Journal)),
         Err(Failure::TooManySpans { .. }) => Ok(Some(Lack::Runs)),

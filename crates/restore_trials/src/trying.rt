@@ -52,13 +52,13 @@ pub(crate) fn try_all<J: Naming>(
     alloc: Global,
     drive: &mut Drive<J>,
     session: &mut Session<J>,
-    moments: Moments,
+    moments: &Moments,
     chosen: &[ObjectPlan],
     lacking: &mut Vec<Lacking>,
 ) -> Result<(), Failure>
     ensures carries { OnOk result
-        (Carries moments drive.old lacking.old.items drive.new lacking.new.items) }
-    ensures fine { OnOk result (lacking.new.items ≡ [] → RestoresAll moments drive.old chosen.now) }
+        (Carries moments.now drive.old lacking.old.items drive.new lacking.new.items) }
+    ensures fine { OnOk result (lacking.new.items ≡ [] → RestoresAll moments.now drive.old chosen.now) }
 {
     let mut progress = Progress {
         deferred: Vec::new(alloc),
@@ -84,15 +84,15 @@ fn try_deferred<J: Naming>(
     alloc: Global,
     drive: &mut Drive<J>,
     session: &mut Session<J>,
-    moments: Moments,
+    moments: &Moments,
     deferred: &[ObjectPlan],
     lacking: &mut Vec<Lacking>,
 ) -> Result<(), Failure>
     ensures carries { OnOk result
-        (Carries moments drive.old lacking.old.items drive.new lacking.new.items) }
+        (Carries moments.now drive.old lacking.old.items drive.new lacking.new.items) }
     ensures fine { OnOk result
         (lacking.new.items ≡ []
-        → (lacking.old.items ≡ []) × RestoresAll moments drive.old deferred.now) }
+        → (lacking.old.items ≡ []) × RestoresAll moments.now drive.old deferred.now) }
 {
     for planned in deferred {
         let _is_restored = try_aim(alloc, drive, session, moments, &planned.aim, true, lacking)?;
@@ -106,15 +106,15 @@ fn try_planned<J: Naming>(
     alloc: Global,
     drive: &mut Drive<J>,
     session: &mut Session<J>,
-    moments: Moments,
+    moments: &Moments,
     planned: &ObjectPlan,
     progress: &mut Progress,
     lacking: &mut Vec<Lacking>,
 ) -> Result<(), Failure>
     ensures carries { OnOk result
-        (Carries moments drive.old lacking.old.items drive.new lacking.new.items) }
+        (Carries moments.now drive.old lacking.old.items drive.new lacking.new.items) }
     ensures fine { OnOk result (lacking.new.items ≡ []
-        → PassesFine drive.old moments planned.now lacking.old.items progress.old.deferred.items progress.new.deferred.items progress.old.wasted progress.new.wasted drive.new) }
+        → PassesFine drive.old moments.now planned.now lacking.old.items progress.old.deferred.items progress.new.deferred.items progress.old.wasted progress.new.wasted drive.new) }
 {
     let room = drive.room();
     if room.saturating_add(progress.wasted) < least_blocks(&planned.plan) {
@@ -143,16 +143,16 @@ fn try_aim<J: Naming>(
     alloc: Global,
     drive: &mut Drive<J>,
     session: &mut Session<J>,
-    moments: Moments,
+    moments: &Moments,
     aim: &Aim,
     is_sure: bool,
     lacking: &mut Vec<Lacking>,
 ) -> Result<bool, Failure>
     ensures carries { OnOk result
-        (Carries moments drive.old lacking.old.items drive.new lacking.new.items) }
+        (Carries moments.now drive.old lacking.old.items drive.new lacking.new.items) }
     ensures fine { IfOk result
         (λ is_restored. lacking.new.items ≡ []
-        → TriesFine drive.old moments aim.now lacking.old.items is_sure is_restored drive.new) }
+        → TriesFine drive.old moments.now aim.now lacking.old.items is_sure is_restored drive.new) }
 {
     let (at, now) = (moments.at, moments.now);
     let failure = match restore_object(alloc, drive, session, aim, at, now) {

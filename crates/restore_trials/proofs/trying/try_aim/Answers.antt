@@ -7,7 +7,7 @@ use Rattle.restore_trials.proofs.trying.try_aim.Goals as goal
 
 pub returns-in-Ok : goal.returns-in-Ok
 returns-in-Ok g c = record {
-  carries = carries_tried c.args.moments c.args.drive.now c.restore_object.new.drive c.args.aim.now c.args.lacking.now.items (inl (record { restored = c.in-Ok.field-0; restores = c.in-Ok.ensures.restored; moved = c.in-Ok.ensures.moved; dated = c.restore_object.ensures.dated }));
+  carries = carries_tried c.args.moments.now c.args.drive.now c.restore_object.new.drive c.args.aim.now c.args.lacking.now.items (inl (record { restored = c.in-Ok.field-0; restores = c.in-Ok.ensures.restored; moved = c.in-Ok.ensures.moved; dated = c.restore_object.ensures.dated }));
   fine = λ none. record { before = none; restored = λ _. (refl, record { restored = c.in-Ok.field-0; restores = c.in-Ok.ensures.restored; moved = c.in-Ok.ensures.moved; dated = c.restore_object.ensures.dated }) };
 }
 
@@ -15,7 +15,7 @@ pub returns-in-ChainFull : goal.returns-in-ChainFull
 returns-in-ChainFull g c = record {
   carries =
       on_ok_weaker c.leave.result
-      (carries_full c.args.moments c.args.drive.now c.restore_object.new.drive c.args.aim.now c.in-Err.failure c.args.lacking.now.items c.leave.new.lacking.items c.in-Err.ensures.stopped c.in-Err.ensures.full c.in-ChainFull.is)
+      (carries_full c.args.moments.now c.args.drive.now c.restore_object.new.drive c.args.aim.now c.in-Err.failure c.args.lacking.now.items c.leave.new.lacking.items c.in-Err.ensures.stopped c.in-Err.ensures.full c.in-ChainFull.is)
       c.leave.ensures;
   fine = never_fine c.leave.result c.args.lacking.now.items c.leave.new.lacking.items _ _ c.leave.ensures;
 }
@@ -24,13 +24,13 @@ pub returns-in-NoSpace : goal.returns-in-NoSpace
 returns-in-NoSpace g c = record {
   carries =
       on_ok_weaker c.leave-in-NoSpace.result
-      (carries_spaceless c.args.moments c.args.drive.now c.restore_object.new.drive c.args.aim.now c.in-Err.failure c.args.lacking.now.items c.leave-in-NoSpace.new.lacking.items c.in-Err.ensures.stopped c.in-NoSpace.is)
+      (carries_spaceless c.args.moments.now c.args.drive.now c.restore_object.new.drive c.args.aim.now c.in-Err.failure c.args.lacking.now.items c.leave-in-NoSpace.new.lacking.items c.in-Err.ensures.stopped c.in-NoSpace.is)
       c.leave-in-NoSpace.ensures;
   fine = never_fine c.leave-in-NoSpace.result c.args.lacking.now.items c.leave-in-NoSpace.new.lacking.items _ _ c.leave-in-NoSpace.ensures;
 }
 
 pub returns-in-NoSpace-2 : goal.returns-in-NoSpace-2
 returns-in-NoSpace-2 g c = record {
-  carries = carries_tried c.args.moments c.args.drive.now c.restore_object.new.drive c.args.aim.now c.args.lacking.now.items (inr (c.in-Err.failure, c.in-Err.ensures.stopped));
+  carries = carries_tried c.args.moments.now c.args.drive.now c.restore_object.new.drive c.args.aim.now c.args.lacking.now.items (inr (c.in-Err.failure, c.in-Err.ensures.stopped));
   fine = λ none. record { before = none; restored = λ sure. absurd (true≢false (sym sure ∙ c.if-is_sure.false)) };
 }

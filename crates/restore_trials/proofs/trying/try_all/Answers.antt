@@ -15,10 +15,10 @@ loop-planned-preserved g c =
     let plans = take now.planned-index c.args.chosen.now in
     let more = ap (λ (p : ObjectPlan). plans ++ p ∷ []) c.planned-item.is ∙ sym (take_more c.args.chosen.now now.planned-index c.planned-item.result c.loop-planned-test.true) in
     record {
-      carries = carries_on c.args.moments d now.drive c.try_planned.new.drive old now.lacking.items c.try_planned.new.lacking.items now.invariant.carries c.in_ok-try_planned.ensures.carries;
+      carries = carries_on c.args.moments.now d now.drive c.try_planned.new.drive old now.lacking.items c.try_planned.new.lacking.items now.invariant.carries c.in_ok-try_planned.ensures.carries;
       fine = λ none.
-          subst (λ (so_far : List ObjectPlan). AreDone d c.args.moments old c.try_planned.new.progress.wasted c.try_planned.new.progress.deferred.items so_far) more
-          (done_on d now.drive c.try_planned.new.drive c.args.moments old now.lacking.items c.try_planned.new.lacking.items now.progress.deferred.items c.try_planned.new.progress.deferred.items now.progress.wasted c.try_planned.new.progress.wasted plans c.planned-item.result
+          subst (λ (so_far : List ObjectPlan). AreDone d c.args.moments.now old c.try_planned.new.progress.wasted c.try_planned.new.progress.deferred.items so_far) more
+          (done_on d now.drive c.try_planned.new.drive c.args.moments.now old now.lacking.items c.try_planned.new.lacking.items now.progress.deferred.items c.try_planned.new.progress.deferred.items now.progress.wasted c.try_planned.new.progress.wasted plans c.planned-item.result
           now.invariant.carries now.invariant.fine c.in_ok-try_planned.ensures.fine none);
     }
 
@@ -29,12 +29,12 @@ returns g c =
     let now = c.loop-planned in
     let all = take_all now.planned-index c.args.chosen.now c.loop-planned-test.false in
     record {
-      carries = on_ok_weaker c.try_deferred.result (carries_on c.args.moments d now.drive c.try_deferred.new.drive old now.lacking.items c.try_deferred.new.lacking.items now.invariant.carries) c.try_deferred.ensures.carries;
+      carries = on_ok_weaker c.try_deferred.result (carries_on c.args.moments.now d now.drive c.try_deferred.new.drive old now.lacking.items c.try_deferred.new.lacking.items now.invariant.carries) c.try_deferred.ensures.carries;
       fine = on_ok_weaker c.try_deferred.result
           (λ fine none.
           let rest = fine none in
-          all_restored d now.drive c.args.moments old now.lacking.items now.progress.wasted now.progress.deferred.items c.args.chosen.now now.invariant.carries
-          (subst (λ (plans : List ObjectPlan). AreDone d c.args.moments old now.progress.wasted now.progress.deferred.items plans) all (now.invariant.fine rest.0))
-          (subst (λ (off : List ObjectPlan). RestoresAll c.args.moments now.drive off) c.as_slice-deferred.ensures.value rest.1))
+          all_restored d now.drive c.args.moments.now old now.lacking.items now.progress.wasted now.progress.deferred.items c.args.chosen.now now.invariant.carries
+          (subst (λ (plans : List ObjectPlan). AreDone d c.args.moments.now old now.progress.wasted now.progress.deferred.items plans) all (now.invariant.fine rest.0))
+          (subst (λ (off : List ObjectPlan). RestoresAll c.args.moments.now now.drive off) c.as_slice-deferred.ensures.value rest.1))
           c.try_deferred.ensures.fine;
     }

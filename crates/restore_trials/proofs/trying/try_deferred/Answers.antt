@@ -14,9 +14,9 @@ loop-planned-preserved g c =
     let plans = take now.planned-index c.args.deferred.now in
     let more = ap (λ (p : ObjectPlan). plans ++ p ∷ []) c.planned-item.is ∙ sym (take_more c.args.deferred.now now.planned-index c.planned-item.result c.loop-planned-test.true) in
     record {
-      carries = carries_on c.args.moments d now.drive c.try_aim.new.drive old now.lacking.items c.try_aim.new.lacking.items now.invariant.carries c.in_ok-_is_restored.ensures.carries;
+      carries = carries_on c.args.moments.now d now.drive c.try_aim.new.drive old now.lacking.items c.try_aim.new.lacking.items now.invariant.carries c.in_ok-_is_restored.ensures.carries;
       fine = λ none.
-          subst (λ (so_far : List ObjectPlan). (old ≡ []) × RestoresAll c.args.moments d so_far) more
-          (deferred_on d now.drive c.try_aim.new.drive c.args.moments old now.lacking.items c.try_aim.new.lacking.items plans c.planned-item.result c.in_ok-_is_restored._is_restored
+          subst (λ (so_far : List ObjectPlan). (old ≡ []) × RestoresAll c.args.moments.now d so_far) more
+          (deferred_on d now.drive c.try_aim.new.drive c.args.moments.now old now.lacking.items c.try_aim.new.lacking.items plans c.planned-item.result c.in_ok-_is_restored._is_restored
           now.invariant.carries now.invariant.fine c.in_ok-_is_restored.ensures.fine none);
     }
