@@ -20,7 +20,7 @@ pub struct Moments {
     /// The moment that is restored.
     pub at: Moment,
     /// The moment at which changes are asked for.
-    pub now: Moment,
+    pub asked: Moment,
 }
 
 /// The moment at which changes of a drive are asked for, where the machine's time is `time`, in

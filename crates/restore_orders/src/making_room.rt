@@ -31,7 +31,7 @@ pub(crate) fn restore_with_room<J: Naming, W: Sink>(
 ) -> Result<(), Failure>
     requires writer { W.failures writer.old + 1 < 2 ^ 64 }
     ensures restores { OnOk result
-        (RestoresWithRoom drive.old drive.new wanted.now.moments.now wanted.now.moments.at wanted.now.json
+        (RestoresWithRoom drive.old drive.new wanted.now.moments.asked wanted.now.moments.at wanted.now.json
         wanted.now.aims.now full.now (W.passed writer.old) (W.passed writer.new)) }
     ensures failures { OnOk result (W.failures writer.new ≡ W.failures writer.old) }
 {
@@ -50,7 +50,7 @@ fn hide_all<J: Naming, W: Sink>(
 ) -> Result<(), Failure>
     requires writer { W.failures writer.old + 1 < 2 ^ 64 }
     ensures hides { OnOk result
-        (HidesAll drive.old wanted.now.moments.now wanted.now.moments.at wanted.now.json wanted.now.aims.now full.now
+        (HidesAll drive.old wanted.now.moments.asked wanted.now.moments.at wanted.now.json wanted.now.aims.now full.now
         drive.new (W.passed writer.old) (W.passed writer.new)) }
     ensures failures { OnOk result (W.failures writer.new ≡ W.failures writer.old) }
 {
@@ -74,7 +74,7 @@ fn hide<J: Naming, W: Sink>(
 ) -> Result<(), Failure>
     requires writer { W.failures writer.old + 1 < 2 ^ 64 }
     ensures hides { OnOk result
-        (Hides drive.old wanted.now.moments.now wanted.now.moments.at wanted.now.json wanted.now.aims.now room.now
+        (Hides drive.old wanted.now.moments.asked wanted.now.moments.at wanted.now.json wanted.now.aims.now room.now
         drive.new (W.passed writer.old) (W.passed writer.new)) }
     ensures failures { OnOk result (W.failures writer.new ≡ W.failures writer.old) }
 {
@@ -105,7 +105,7 @@ fn full(object: ObjectId) -> Failure {
 }
 
 /// Cleans the journal of an object, hides that many of its newest versions by a change that is asked
-/// for at the moment `moments.now`, and cleans it again. Gives the moments that are hidden, if there
+/// for at the moment `moments.asked`, and cleans it again. Gives the moments that are hidden, if there
 /// are any; none at all where there are fewer versions after the moment, of which none is hidden
 /// then.
 pub fn prepare<J: Naming>(
@@ -116,7 +116,7 @@ pub fn prepare<J: Naming>(
     room: &Room,
 ) -> Result<Option<Option<Span>>, Failure>
     ensures made { IfOk result
-        (λ made. IfSome made (λ hidden. MakesRoom drive.old moments.now moments.at room.now hidden drive.new)) }
+        (λ made. IfSome made (λ hidden. MakesRoom drive.old moments.asked moments.at room.now hidden drive.new)) }
     ensures fewer { IfOk result (λ made. made ≡ None → HasFewer drive.old moments.at room.now drive.new) }
 {
     let object = room.object;
@@ -130,7 +130,7 @@ pub fn prepare<J: Naming>(
         return Ok(None);
     };
     let (first, last) = (span.first, span.last);
-    match make_room(alloc, drive, session, object, first, last, moments.now) {
+    match make_room(alloc, drive, session, object, first, last, moments.asked) {
         Ok(()) => Ok(Some(Some(span))),
         Err(refusal) => Err(unhidden(object, refusal)),
     }

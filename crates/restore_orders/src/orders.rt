@@ -137,7 +137,7 @@ fn restore_at<J: Naming, W: Sink>(
     let chosen = chosen_by(alloc, drive, session, order, at)?;
     let chosen = chosen.as_slice();
     compact_for(alloc, drive, session, order.means)?;
-    let moments = Moments { at, now };
+    let moments = Moments { at, asked: now };
     restore_in_reach(alloc, drive, session, order, moments, chosen, writer)?;
     let form = Form { json: order.json };
     write_lines(alloc, &form, order.skipped, writer)

@@ -30,16 +30,16 @@ pub(crate) fn restore_in_reach<J: Naming, W: Sink>(
 ) -> Result<(), Failure>
     requires writer { W.failures writer.old + 1 < 2 ^ 64 }
     ensures restores { OnOk result
-        (RestoresInReach drive.old drive.new order.now moments.now moments.at chosen.now (W.passed writer.old)
+        (RestoresInReach drive.old drive.new order.now moments.asked moments.at chosen.now (W.passed writer.old)
         (W.passed writer.new)) }
     ensures failures { OnOk result (W.failures writer.new ≡ W.failures writer.old) }
 {
-    let (at, now) = (moments.at, moments.now);
+    let (at, now) = (moments.at, moments.asked);
     let changes = changes_ahead(chosen, order.full);
     reach(alloc, drive, session, moments, changes, order.json, writer)?;
     let aims = planned_aims(alloc, chosen)?;
     let wanted = Wanted {
-        moments: Moments { at, now },
+        moments: Moments { at, asked: now },
         aims: aims.as_slice(),
         json: order.json,
     };
@@ -74,12 +74,12 @@ fn reach<J: Naming, W: Sink>(
 ) -> Result<(), Failure>
     requires writer { W.failures writer.old + 1 < 2 ^ 64 }
     ensures reaches { OnOk result
-        (Reaches (state_in drive.old) (store_of drive.old) moments.now moments.at changes json drive.new
+        (Reaches (state_in drive.old) (store_of drive.old) moments.asked moments.at changes json drive.new
         (W.passed writer.old) (W.passed writer.new)) }
     ensures failures { OnOk result (W.failures writer.new ≡ W.failures writer.old) }
 {
     let before = drive.window();
-    let widened = widen_window(drive, session, moments.at, changes, moments.now)?;
+    let widened = widen_window(drive, session, moments.at, changes, moments.asked)?;
     let line = window_text(alloc, json, before, widened)?;
     write_out(writer, line.as_bytes())?;
     Ok(())

@@ -33,7 +33,7 @@ pub(crate) fn restore<J: Naming, W: Sink>(
 ) -> Result<(), Failure>
     requires writer { W.failures writer.old + 1 < 2 ^ 64 }
     ensures restores { OnOk result
-        (RestoresDrive (state_in drive.old) (state_in drive.new) wanted.now.moments.now
+        (RestoresDrive (state_in drive.old) (state_in drive.new) wanted.now.moments.asked
         wanted.now.moments.at wanted.now.json wanted.now.aims.now (W.passed writer.old) (W.passed writer.new)) }
     ensures failures { OnOk result (W.failures writer.new ≡ W.failures writer.old) }
 {
@@ -50,10 +50,10 @@ fn restored<J: Naming>(
     wanted: &Wanted<'_>,
 ) -> Result<Vec<Restored>, Failure>
     ensures restored { IfOk result
-        (λ all. AreRestored (state_in drive.old) (state_in drive.new) wanted.now.moments.now
+        (λ all. AreRestored (state_in drive.old) (state_in drive.new) wanted.now.moments.asked
         wanted.now.moments.at wanted.now.aims.now all.items) }
 {
-    let (at, now) = (wanted.moments.at, wanted.moments.now);
+    let (at, now) = (wanted.moments.at, wanted.moments.asked);
     match restore_these(alloc, drive, session, wanted.aims, at, now) {
         Ok(all) => Ok(all),
         Err(failure) => Err(failure_of(drive, at, failure)),

@@ -23,7 +23,7 @@ pub widens_ahead : (s later : State) (now at : ℕ) (widened : Option ℕ) (coun
 widens_ahead s later now at widened count ahead is widens = subst (λ (n : ℕ). Widens s now at n widened later) is widens
 
 -- what was refused over a drive, once the moment is in reach and there is room in journals
-pub refused_from : (d : DriveFields) (order : Order) (moments : Moments) (chosen : List ObjectPlan) (widened : Option ℕ) (wide ready later : DriveFields) (refused : List Lacking) → Widens (state_in d) moments.now moments.at (changes_ahead chosen order.full.now) widened (state_in wide) → store_of wide ≡ store_of d
+pub refused_from : (d : DriveFields) (order : Order) (moments : Moments) (chosen : List ObjectPlan) (widened : Option ℕ) (wide ready later : DriveFields) (refused : List Lacking) → Widens (state_in d) moments.asked moments.at (changes_ahead chosen order.full.now) widened (state_in wide) → store_of wide ≡ store_of d
     → AreMade wide moments order.full.now ready → Carries moments ready [] later refused → AllByRecursion (IsRefusedFrom d order moments chosen) refused
 refused_from d order moments chosen widened wide ready later refused widens store made carries =
     all_weaker _ _ refused (λ one here. record { widened = widened; wide = wide; widens = widens; store_stays = store; ready = ready; made = made; refused = here }) (carries ready [] refl tt).0
@@ -33,9 +33,9 @@ abbrev IsLackingAt : DriveFields → Order → Moments → Lacking → Type 0
 IsLackingAt d order moments one = IsHiddenAlone (state_in d) moments.at one ⊎ IsRefusedBy d order moments one
 
 -- the moments of an order are passed on as others
-pub same_moments : (s : State) (order : Order) (at now : ℕ) (moments : Moments) → moments ≡ record { at = at; now = now } → at ≡ moment_said s order.at → now ≡ asked_at s order.time → moments ≡ moments_of s order
+pub same_moments : (s : State) (order : Order) (at now : ℕ) (moments : Moments) → moments ≡ record { at = at; asked = now } → at ≡ moment_said s order.at → now ≡ asked_at s order.time → moments ≡ moments_of s order
 same_moments s order at now moments made said asked =
-    made ∙ ap (λ (t : ℕ). record { at = t; now = now }) said ∙ ap (λ (n : ℕ). record { at = moment_said s order.at; now = n }) asked
+    made ∙ ap (λ (t : ℕ). record { at = t; asked = now }) said ∙ ap (λ (n : ℕ). record { at = moment_said s order.at; asked = n }) asked
 
 -- what is lacking, of a drive in which room was made
 pub finds_lacking : (d seen cleared : DriveFields) (order : Order) (moments : Moments) (chosen : List ObjectPlan) (survey : Survey) → moments ≡ moments_of (state_in d) order → IsSameDrive d seen → AllByRecursion (IsPlanned (state_in d) moments.at) chosen → IsCompactedBy order.means seen cleared

@@ -28,7 +28,7 @@ use Rattle.restore_trials.specs.Trying.{IsRefusedAfter, IsRestoredAfter}
 -- Room was made in these journals, one after the other.
 abbrev pub AreMade : DriveFields → Moments → List Room → DriveFields → Type 0
 AreMade d moments [] later = later ≡ d
-AreMade d moments (room ∷ full) later = (hidden : Option Span) × (middle : DriveFields) × MakesRoom d moments.now moments.at room hidden middle × AreMade middle moments full later
+AreMade d moments (room ∷ full) later = (hidden : Option Span) × (middle : DriveFields) × MakesRoom d moments.asked moments.at room hidden middle × AreMade middle moments full later
 
 -- A moment of an object can't be read.
 pub record IsHiddenAlone (s : State) (at : ℕ) (one : Lacking) : Type 0 where
@@ -42,7 +42,7 @@ pub record IsHiddenAlone (s : State) (at : ℕ) (one : Lacking) : Type 0 where
 pub record IsRefusedFrom (d : DriveFields) (order : Order) (moments : Moments) (chosen : List ObjectPlan) (one : Lacking) : Type 0 where
   pub widened : Option ℕ
   pub wide : DriveFields
-  pub widens : Widens (state_in d) moments.now moments.at (changes_ahead chosen order.full.now) widened (state_in wide)
+  pub widens : Widens (state_in d) moments.asked moments.at (changes_ahead chosen order.full.now) widened (state_in wide)
   pub store_stays : store_of wide ≡ store_of d
   pub ready : DriveFields
   pub made : AreMade wide moments order.full.now ready
@@ -60,7 +60,7 @@ pub record IsRefusedBy (d : DriveFields) (order : Order) (moments : Moments) (on
 
 -- the moment that an order restores of a drive, and the one at which it asks for changes
 abbrev pub moments_of : State → Order → Moments
-moments_of s order = record { at = moment_said s order.at; now = asked_at s order.time }
+moments_of s order = record { at = moment_said s order.at; asked = asked_at s order.time }
 
 -- An object can't be restored by an order, as a trial found: its moment is hidden, or it was refused.
 abbrev pub IsLackingBy : DriveFields → Order → Lacking → Type 0
@@ -82,7 +82,7 @@ Finds d order (Some survey) = AllByRecursion (IsLackingBy d order) survey.hidden
 pub record IsServedFrom (d : DriveFields) (order : Order) (moments : Moments) (chosen : List ObjectPlan) : Type 0 where
   pub widened : Option ℕ
   pub wide : DriveFields
-  pub widens : Widens (state_in d) moments.now moments.at (changes_ahead chosen order.full.now) widened (state_in wide)
+  pub widens : Widens (state_in d) moments.asked moments.at (changes_ahead chosen order.full.now) widened (state_in wide)
   pub store_stays : store_of wide ≡ store_of d
   pub ready : DriveFields
   pub made : AreMade wide moments order.full.now ready

@@ -27,8 +27,8 @@ lack_of _ = None
 pub record IsRestoredOver (d : DriveFields) (moments : Moments) (aim : Aim) (later : DriveFields) : Type 0 where
   pub restored : Restored
   pub restores : Restores (state_in d) (state_in later) aim moments.at restored
-  pub moved : IsMovedBy (state_in d) moments.now (change_count restored.plan) (state_in later)
-  pub dated : IsDatedFrom moments.now (state_in d) (state_in later)
+  pub moved : IsMovedBy (state_in d) moments.asked (change_count restored.plan) (state_in later)
+  pub dated : IsDatedFrom moments.asked (state_in d) (state_in later)
 
 -- An object was tried over a drive: it was restored, or refused.
 abbrev pub IsTried : DriveFields → Moments → Aim → DriveFields → Type 0

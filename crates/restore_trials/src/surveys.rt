@@ -113,7 +113,7 @@ fn survey_drive<J: Naming>(
         Err(refusal) => return Err(Failure::from(refusal)),
     }
     let chosen = chosen.as_slice();
-    let moments = Moments { at, now };
+    let moments = Moments { at, asked: now };
     let found = survey_cleared(alloc, drive, &mut session, order, &moments, chosen, hidden)?;
     check_found(drive, order, chosen, &found)?;
     Ok(Some(found))
@@ -155,7 +155,7 @@ fn survey_cleared<J: Naming>(
         → IsServedFrom drive.old order.now moments.now chosen.now) }
 {
     let changes = changes_ahead(chosen, order.full);
-    let _widened = widen_window(drive, session, moments.at, changes, moments.now)?;
+    let _widened = widen_window(drive, session, moments.at, changes, moments.asked)?;
     let mut refused = Vec::new(alloc);
     let unmade = make_rooms(alloc, drive, session, moments, order.full)?;
     if unmade.is_empty() {
@@ -283,7 +283,7 @@ fn make_room<J: Naming>(
 ) -> Result<Option<Lack>, Failure>
     ensures made { IfOk result
         (λ lack. lack ≡ None
-        → (hidden : Option Span) × MakesRoom drive.old moments.now.now moments.now.at room.now hidden drive.new) }
+        → (hidden : Option Span) × MakesRoom drive.old moments.now.asked moments.now.at room.now hidden drive.new) }
 {
     match prepare(alloc, drive, session, *moments, room) {
         Ok(Some(_hidden)) => Ok(None),

@@ -154,7 +154,7 @@ fn try_aim<J: Naming>(
         (λ is_restored. lacking.new.items ≡ []
         → TriesFine drive.old moments.now aim.now lacking.old.items is_sure is_restored drive.new) }
 {
-    let (at, now) = (moments.at, moments.now);
+    let (at, now) = (moments.at, moments.asked);
     let failure = match restore_object(alloc, drive, session, aim, at, now) {
         Ok(_) => return Ok(true),
         Err(failure) => failure,

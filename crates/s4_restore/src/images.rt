@@ -31,9 +31,9 @@ pub fn dry_run_image<T: Threads, F: Files, W: CommandOutput>(
     requires writer { W.failures writer.old + 1 < 2 ^ 64 }
     ensures verdict { IfOk result (λ verdict. verdict ≡ Fine) }
     ensures style { IfErr result
-        (FailsInStyle (F.contents files.now asked.now.image.now)) }
+        (FailsInStyle (F.contents files.now asked.entry.now.image.now)) }
     ensures would_restore { OnOk result
-        (WouldRestoreImage (F.contents files.now asked.now.image.now) asked.now stand_ins.now
+        (WouldRestoreImage (F.contents files.now asked.entry.now.image.now) asked.entry.now stand_ins.now
         (W.passed writer.old) (W.passed writer.new)) }
 {
     let made = prepare_image(rt, alloc, files, asked, stand_ins)?;
@@ -63,8 +63,8 @@ pub fn restore_image<T: Threads, F: Files, W: CommandOutput>(
 ) -> Result<Placed, Failure>
     requires writer { W.failures writer.old + 1 < 2 ^ 64 }
     ensures restores { OnOk result
-        (RestoresImage (F.contents files.old asked.now.image.now)
-        (F.contents files.new asked.now.image.now) asked.now stand_ins.now (W.passed writer.old)
+        (RestoresImage (F.contents files.old asked.entry.now.image.now)
+        (F.contents files.new asked.entry.now.image.now) asked.entry.now stand_ins.now (W.passed writer.old)
         (W.passed writer.new)) }
     ensures kept { OnErr result
         ((path : List ℕ) → Keeps (F.contents files.old path) (F.contents files.new path)) }
@@ -122,9 +122,9 @@ pub fn perform_restore<T: Threads, F: Files, W: CommandOutput>(
     writer: &mut W,
 ) -> Result<Placed, RestoreFailure>
     requires writer { W.failures writer.old + 1 < 2 ^ 64 }
-    ensures dry { IfOk result (λ placed. asked.now.dry_run ≡ true → placed ≡ Lasting) }
+    ensures dry { IfOk result (λ placed. asked.entry.now.dry_run ≡ true → placed ≡ Lasting) }
     ensures performs { OnOk result
-        (PerformsRestore (F.contents files.old) (F.contents files.new) asked.now
+        (PerformsRestore (F.contents files.old) (F.contents files.new) asked.entry.now
         (W.passed writer.old) (W.passed writer.new)) }
     ensures kept { OnErr result
         ((path : List ℕ) → Keeps (F.contents files.old path) (F.contents files.new path)) }

@@ -34,9 +34,9 @@ pub(crate) fn order_of<'a, F: Files>(
     stand_ins: &'a [StandIn],
     made: &'a Preparation,
 ) -> Order<'a>
-    ensures { IsPrepared (F.contents _files.now asked.now.image.now) asked.now stand_ins.now
+    ensures { IsPrepared (F.contents _files.now asked.entry.now.image.now) asked.entry.now stand_ins.now
         made.now.means made.now.full.items made.now.skipped.items
-        → IsOrderOf (F.contents _files.now asked.now.image.now) asked.now stand_ins.now result }
+        → IsOrderOf (F.contents _files.now asked.entry.now.image.now) asked.entry.now stand_ins.now result }
 {
     order_with(
         asked,
@@ -55,7 +55,7 @@ pub(crate) fn order_with<'a>(
     full: &'a [Room],
     skipped: &'a [ObjectId],
 ) -> Order<'a>
-    ensures asks { IsAskedBy asked.now stand_ins.now result }
+    ensures asks { IsAskedBy asked.entry.now stand_ins.now result }
     ensures means { result.means ≡ means }
     ensures full { result.full.now ≡ full.now }
     ensures skipped { result.skipped.now ≡ skipped.now }
@@ -86,10 +86,10 @@ pub(crate) fn prepare_image<T: Threads, F: Files>(
     stand_ins: &[StandIn],
 ) -> Result<Preparation, Failure>
     ensures prepared { IfOk result
-        (λ made. IsPrepared (F.contents files.now asked.now.image.now) asked.now stand_ins.now
+        (λ made. IsPrepared (F.contents files.now asked.entry.now.image.now) asked.entry.now stand_ins.now
         made.means made.full.items made.skipped.items) }
     ensures style { IfErr result
-        (FailsInStyle (F.contents files.now asked.now.image.now)) }
+        (FailsInStyle (F.contents files.now asked.entry.now.image.now)) }
 {
     let trials = Trials {
         rt,

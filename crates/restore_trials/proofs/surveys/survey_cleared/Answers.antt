@@ -15,7 +15,7 @@ pub returns-clause-refused : goal.returns-clause-refused
 returns-clause-refused g c =
     elim c.if-is_empty.branch [
       | then-is_empty+in_ok-try_all w ↦
-          let widens = widens_ahead (state_in c.args.drive.now) (state_in c.widen_window.new.drive) c.args.moments.now.now c.args.moments.now.at c.in_ok-_widened._widened c.changes_ahead-changes.result (changes_ahead c.args.chosen.now c.args.order.now.full.now) c.changes_ahead-changes.ensures c.in_ok-_widened.ensures.widened in
+          let widens = widens_ahead (state_in c.args.drive.now) (state_in c.widen_window.new.drive) c.args.moments.now.asked c.args.moments.now.at c.in_ok-_widened._widened c.changes_ahead-changes.result (changes_ahead c.args.chosen.now c.args.order.now.full.now) c.changes_ahead-changes.ensures c.in_ok-_widened.ensures.widened in
           let unmade = c.in_ok-unmade.unmade in
           let none : unmade.items ≡ [] = nil_from_length unmade.items (omega (arith, unmade.ok.0, eqb-true (vec_len unmade) 0 (sym c.is_empty.ensures ∙ w.if-is_empty.true))) in
           let carries = subst (λ (old : List Lacking). Carries c.args.moments.now c.make_rooms.new.drive old w.try_all.new.drive w.try_all.new.lacking.items) c.new-refused.ensures.items w.in_ok-try_all.ensures.carries in
@@ -32,7 +32,7 @@ returns-clause-serves g c =
       | then-is_empty+in_ok-try_all w ↦ λ none unmade. record {
         widened = c.in_ok-_widened._widened;
         wide = c.widen_window.new.drive;
-        widens = widens_ahead (state_in c.args.drive.now) (state_in c.widen_window.new.drive) c.args.moments.now.now c.args.moments.now.at c.in_ok-_widened._widened c.changes_ahead-changes.result (changes_ahead c.args.chosen.now c.args.order.now.full.now) c.changes_ahead-changes.ensures c.in_ok-_widened.ensures.widened;
+        widens = widens_ahead (state_in c.args.drive.now) (state_in c.widen_window.new.drive) c.args.moments.now.asked c.args.moments.now.at c.in_ok-_widened._widened c.changes_ahead-changes.result (changes_ahead c.args.chosen.now c.args.order.now.full.now) c.changes_ahead-changes.ensures c.in_ok-_widened.ensures.widened;
         store_stays = c.widen_window.ensures.store;
         ready = c.make_rooms.new.drive;
         made = c.in_ok-unmade.ensures.made unmade;

@@ -18,7 +18,7 @@ returns g c =
     let chosen = c.in_ok-chosen.chosen.items in
     let found = c.in_ok-found.found in
     let same : IsSameDrive d c.plans_found.new.drive = record { state = c.plans_found.ensures.state ∙ ap state_in c.session.ensures.same; store = c.plans_found.ensures.store ∙ ap store_of c.session.ensures.same } in
-    let moments : Moments = record { at = at; now = c.in_ok-now.now } in
+    let moments : Moments = record { at = at; asked = c.in_ok-now.now } in
     let said = subst (λ (e : DriveFields). moments ≡ moments_of (state_in e) order) c.session.ensures.same (same_moments (state_in c.session.new.self) order at c.in_ok-now.now moments refl c.in_ok-at.ensures.moment c.in_ok-now.ensures.at) in
     let planned = subst (λ (e : DriveFields). AllByRecursion (IsPlanned (state_in e) at) chosen) c.session.ensures.same c.in_ok-chosen.ensures.planned in
     let none = subst (AllByRecursion (IsHiddenAlone (state_in c.session.new.self) at)) (sym c.new-hidden.ensures.items) tt in
