@@ -29,7 +29,7 @@ restored_after base d middle later moments earlier old lacking aim tried carries
     record { earlier = went.1; before = middle; tried = went.2; later = later; restored = over }
 
 -- an object was put off, or restored
-abbrev IsDone : DriveFields → ℕ → List ObjectPlan → ObjectPlan → Type 0
+abbrev IsDone : DriveFields → Moments → List ObjectPlan → ObjectPlan → Type 0
 IsDone base moments put_off p = IsOneOf p put_off ⊎ IsRestoredAfter base moments p.aim
 
 -- so it is of these, whatever was tried before, and nothing is listed
