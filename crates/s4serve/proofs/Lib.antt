@@ -1,4 +1,3 @@
-pub mod Beginnings
 pub mod Collected
 pub mod Created
 pub mod Growing
