@@ -8,6 +8,7 @@ use Rattle.s4_model.specs.Visible.{IsVisible}
 use Rattle.version_store.specs.Store.{StoreFields}
 use Rattle.drive.specs.Fields.{DriveFields, state_in, store_of}
 use Rattle.history_restore.specs.declared.planning.ObjectPlan.{ObjectPlan}
+use Rattle.history_restore.specs.Planning.{aims_planned}
 use Rattle.history_restore.specs.Presence.{HasNone, HasObject}
 use Rattle.s4_images.specs.Moments.{moment_said}
 use Rattle.service_time.specs.Starts.{IsTooFar}
@@ -49,7 +50,7 @@ reached_on cleared middle later order now at chosen output output' same r = reco
     middle = r.restores.middle;
     between = r.restores.between;
     hides = r.restores.hides;
-    restores = subst (λ (s : State). RestoresDrive (state_in r.restores.middle) s now at order.json _ r.restores.between output') (sym same) r.restores.restores;
+    restores = subst (λ (s : State). RestoresDrive (state_in r.restores.middle) s now at order.json (aims_planned chosen) r.restores.between output') (sym same) r.restores.restores;
   };
 }
 

@@ -12,7 +12,7 @@ returns g c =
     let order = c.args.order.now in
     let begun = c.session.new.self in
     let chosen = c.in_ok-chosen.chosen.items in
-    subst (λ (d : DriveFields). WouldChange d order _) c.session.ensures.same (record {
+    subst (λ (d : DriveFields). WouldChange d order (nat_lt 0 c.changes_ahead-count.result)) c.session.ensures.same (record {
       chosen = chosen;
       choice = subst (λ (t : ℕ). AreChosen (state_in begun) (store_of begun) order t chosen) c.in_ok-at.ensures.moment c.in_ok-chosen.ensures.chosen;
       some = ap (nat_lt 0) (c.changes_ahead-count.ensures ∙ ap (λ (plans : List ObjectPlan). changes_ahead plans order.full.now) c.as_slice.ensures.value);
