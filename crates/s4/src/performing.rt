@@ -125,15 +125,9 @@ fn perform_command<T: Threads, F: Files, D: Folders + Screens, W: ProgramOutput,
         Command::Report(report) => show_over(rt, alloc, files, &Reporting(report), writer, errors),
         Command::Diff(diff) => compare_over(rt, alloc, files, diff, writer, errors),
         Command::Check(asked) => {
-            let checking = Checking {
-                asked,
-                meter: &folders.meter(),
-            };
-            shown(
-                show_image(rt, alloc, files, &checking, writer),
-                asked.image,
-                errors,
-            )
+            let meter = &folders.meter();
+            let found = show_image(rt, alloc, files, &Checking { asked, meter }, writer);
+            shown(found, asked.image, errors)
         }
         Command::Export(export) => exported(
             export_image(rt, alloc, files, folders, export, writer),
