@@ -126,8 +126,7 @@ fn perform_command<T: Threads, F: Files, D: Folders + Screens, W: ProgramOutput,
         Command::Diff(diff) => compare_over(rt, alloc, files, diff, writer, errors),
         Command::Check(asked) => {
             let meter = &folders.meter();
-            let found = show_image(rt, alloc, files, &Checking { asked, meter }, writer);
-            shown(found, asked.image, errors)
+            check_over(rt, alloc, files, &Checking { asked, meter }, writer, errors)
         }
         Command::Export(export) => exported(
             export_image(rt, alloc, files, folders, export, writer),
@@ -174,6 +173,25 @@ fn show_over<T: Threads, F: Files, C: DriveCommand + ImageCommand, W: ProgramOut
         writer,
         errors,
     )
+}
+
+// Performs a command whose status is its answer, also where nobody reads what it prints.
+fn check_over<T: Threads, F: Files, C: DriveCommand + ImageCommand, W: ProgramOutput, E: Write>(
+    rt: &T,
+    alloc: Global,
+    files: &F,
+    command: &C,
+    writer: &mut W,
+    errors: &mut E,
+) -> u8
+    requires writer { W.failures writer.old + 1 < 2 ^ 64 }
+    ensures status { result ≤ 1 }
+    ensures done { result ≡ 0
+        → OverImage (F.contents files.now (C.file command.now))
+        (λ d. C.shows command.now d Verdict.Fine (W.passed writer.old) (W.passed writer.new)) }
+{
+    let found = show_image(rt, alloc, files, command, writer);
+    shown(found, command.image(), errors)
 }
 
 // Compares two moments, and answers the status of that.
