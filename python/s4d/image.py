@@ -125,17 +125,20 @@ class Image:
         return self._s4("cat", [] if object is None else [str(object)], name=name, at=at)
 
     def restore(self, at: Moment, *, objects: Iterable[int] = (), name: Optional[str] = None, dry_run: bool = False,
-                flush: bool = False, skip: bool = False, keep_newer: bool = False,
-                to_nothing: bool = False) -> List[Union[Restored, HiddenVersions, Widened]]:
+                flush: bool = False, skip: bool = False, keep_newer: bool = False, to_nothing: bool = False,
+                leap: Optional[timedelta] = None) -> List[Union[Restored, HiddenVersions, Widened]]:
         """Makes objects what they were at a moment: these, or the one of an attribute, or all where none is named.
 
         All is done or nothing: where an object can't be restored ProgramFailed is raised, unless `skip` leaves it out.
         `flush` hides as few versions of full journals as serve, for good. `keep_newer` keeps objects that were made
         since. `to_nothing` also restores a moment at which no object was there. A dry run gives what would be done, and
         does nothing.
+
+        Where moments are times the changes are of the machine's time, and ProgramFailed is raised where too much of the
+        past would age by that, unless `leap`, in whole seconds, is as long as the drive had no change.
         """
         printed = self._s4("restore", [], at=at, object=tuple(objects), name=name, dry_run=dry_run, flush=flush,
-                           skip=skip, keep_newer=keep_newer, to_nothing=to_nothing, json=True)
+                           skip=skip, keep_newer=keep_newer, to_nothing=to_nothing, leap=word_of_leap(leap), json=True)
         return rows.rows_of(printed, rows.restored)
 
     def info(self) -> Info:
@@ -187,6 +190,11 @@ def word_of_age(age: timedelta) -> str:
     """The word for an age; where that isn't one of whole seconds, which `s4` counts in, for the time that it means."""
     seconds, rest = divmod(checked_age(age), timedelta(seconds=1))
     return f"{seconds}s" if not rest else word_of(EPOCH + moment_of(age) * MICROSECOND)
+
+
+def word_of_leap(leap: Optional[timedelta]) -> Optional[str]:
+    """The word for how far a clock may be set forward, in whole seconds: what is less than one is left out."""
+    return None if leap is None else f"{checked_age(leap) // timedelta(seconds=1)}s"
 
 
 def raise_refusal(failure: ProgramFailed, object: int, at: int) -> NoReturn:

@@ -12,6 +12,8 @@ import s4d
 from s4d import (AuditKind, AuditRow, Change, ChangeKind, Flush, Hidden, HiddenVersions, Listed, Range, Restored, Stat,
                  Widened, program)
 
+from s4d.moments import moment_of
+
 from .built import PROGRAM, S4, S4SERVE, needs_program, needs_s4, needs_s4serve
 
 
@@ -243,6 +245,25 @@ class DatedImages(unittest.TestCase):
         self.assertEqual(len(self.image.diff(self.START)), 1)
         with self.assertRaisesRegex(ValueError, "has no offset from UTC"):
             self.image.list(at=self.START.replace(tzinfo=None))
+
+
+    def test_a_restore_of_what_rested_for_long(self):
+        rested = s4d.Image(pathlib.Path(self.image.path).with_name("rested.image"), PROGRAM, S4)
+        rested.make(24, window=10**15)
+        began = datetime.now(timezone.utc) - timedelta(days=60)
+        with rested.session(tick=moment_of(began)) as it:
+            made = it.create(b"note")
+        with rested.session(tick=60_000_000) as it:
+            it.append(made.object, b"mill")
+        with self.assertRaisesRegex(s4d.ProgramFailed, "too much of its past would age"):
+            rested.restore(made.moment)
+        with self.assertRaisesRegex(s4d.ProgramFailed, "too much of its past would age"):
+            rested.restore(made.moment, leap=timedelta(days=59))
+        with self.assertRaises(ValueError):
+            rested.restore(made.moment, leap=timedelta(seconds=-1))
+        self.assertEqual(rested.restore(made.moment, leap=timedelta(days=61)), [Restored(1, "changed", None)])
+        self.assertEqual(rested.cat(1), b"")
+        self.assertGreater(rested.info().clock, moment_of(began + timedelta(days=59)))
 
 
 @needs_program
