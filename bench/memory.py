@@ -3,14 +3,19 @@
 below the floor leaves nothing in memory, its rows of the audit neither.
 
     memory.py [--count N]      N Writes in all, 200,000 where it isn't said; S4SERVE names the program
+    memory.py --peak           the most that a start and that flushes take, over full drives of 24 and of 1,024 frames
 
 Each Write is to one of 50 objects. A client has up to 500 on their way, and both figures are taken between two of these, once an
 administrator's Read was answered. It fails where the second one is more than 1 MB above the first.
+
+A full drive has had large Writes, or an object of its own for each small one, until the first change is refused for lack of room; then
+the service begins anew. The most of a start is what the kernel has noted when the service serves, that of flushes what it has noted anew
+after ten changes of the window, each of which is flushed.
 """
 import argparse
 import sys
 
-from service import Service
+from service import Service, s4d
 
 OBJECTS = 50
 TOGETHER = 500
@@ -18,10 +23,16 @@ WINDOW = 1_000  # microseconds
 MOST = 1_024  # KiB
 
 
-def resident(it):
-    """KiB of the service that are in memory."""
+def resident(it, field="VmRSS"):
+    """KiB of the service that are in memory, or were at most."""
     with open(f"/proc/{it.child.pid}/status", encoding="utf-8") as status:
-        return next(int(line.split()[1]) for line in status if line.startswith("VmRSS"))
+        return next(int(line.split()[1]) for line in status if line.startswith(field))
+
+
+def forget_peak(it):
+    """From now on the kernel notes anew how much is in memory at most."""
+    with open(f"/proc/{it.child.pid}/clear_refs", "w", encoding="utf-8") as peak:
+        peak.write("5")
 
 
 def write(drive, numbers, first, last):
@@ -52,10 +63,57 @@ def measure(count):
     return found
 
 
+def fill(drive, size):
+    """Makes objects with so many bytes each until there is no room for a change."""
+    together = max(1, min(TOGETHER, 100_000 // size))
+    piece = bytes(size)
+    try:
+        while True:
+            with drive.pipeline() as batch:
+                made = [batch.create() for _ in range(together)]
+            with drive.pipeline() as batch:
+                written = [batch.write(reply.result().object, 0, piece) for reply in made]
+            for reply in written:
+                reply.result()
+    except s4d.NoSpace:
+        pass
+
+
+def most_of(frames, size):
+    """KiB of a start, and of flushes after it, over a full drive."""
+    with Service(new=("--create", str(frames), "--keep", "30d")) as it:
+        it.begin()
+        with it.session() as drive:
+            fill(drive, size)
+        if it.stop() != 0:
+            sys.exit("memory.py: the service failed")
+        it.begin()
+        start = resident(it, "VmHWM")
+        with it.session("admin") as admin:
+            forget_peak(it)
+            for number in range(10):
+                admin.set_window(2_592_000_000_000 + number)
+            flushes = resident(it, "VmHWM")
+        it.stop()
+    return start, flushes
+
+
+def print_peaks():
+    for frames in (24, 1_024):
+        for size, what in ((24_500, "of 24,500 bytes"), (250, "of 250 bytes")):
+            start, flushes = most_of(frames, size)
+            print(f"{frames} frames full of objects {what}: a start {start} KiB, flushes {flushes} KiB")
+
+
 def main():
     words = argparse.ArgumentParser(description=__doc__, formatter_class=argparse.RawDescriptionHelpFormatter)
     words.add_argument("--count", type=int, default=200_000)
-    count = words.parse_args().count
+    words.add_argument("--peak", action="store_true")
+    given = words.parse_args()
+    if given.peak:
+        print_peaks()
+        return
+    count = given.count
     first, last = measure(count)
     print(f"after {count // 10} Writes: {first} KiB")
     print(f"after {count} Writes: {last} KiB")
