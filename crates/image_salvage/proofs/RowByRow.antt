@@ -14,7 +14,8 @@ use Rattle.image_salvage.specs.declared.rows.Salvaged.{Salvaged}
 use Rattle.image_salvage.specs.declared.giving.GivenOut.{GivenOut}
 use Rattle.image_salvage.specs.declared.giving.Fate.{Fate}
 use Rattle.image_salvage.specs.declared.unlisted.Unlisted.{Unlisted}
-use Rattle.image_salvage.specs.Giving.{fate_of, with_fate, with_row, with_rows, with_frames, with_unlisted, with_all_unlisted, counted, counted_all, none_given, GivesRows, GivesOut}
+use Rattle.image_salvage.specs.Giving.{fate_of, with_fate, with_row, with_rows, with_frames, with_unlisted, with_all_unlisted, with_gone, capped, counted, counted_all, none_given, GivesRows, GivesOut}
+use Rattle.image_salvage.specs.Contents.{blocks_gone}
 use Rattle.image_salvage.specs.Rows.{IsSalvagedBy}
 use Rattle.image_salvage.specs.Salvaging.{SalvageFields}
 
@@ -131,3 +132,13 @@ unlisted_on used unlisted n m u first files later inside is next before gives =
 pub unlisted_all : (used : Place → Option Stored) (unlisted : List Unlisted) (n : ℕ) (first files : Option (List NamedFile)) → length unlisted ≤ n → GivesLeft used unlisted n first files → files ≡ option_map (with_all_unlisted used unlisted) first
 unlisted_all used unlisted n first files end before =
     changes_none (with_all_unlisted used (drop n unlisted)) files (λ f. sym (ap (λ (l : List Unlisted). with_all_unlisted used l f) (drop_all n unlisted end))) ∙ before
+
+-- ---- the blocks of these that are gone
+
+pub gone_on : (used : Place → Option Stored) (unlisted : List Unlisted) (n : ℕ) (d : Unlisted) (gone more later all : ℕ) → n < length unlisted → with_gone used (drop n unlisted) gone ≡ all
+    → more ≡ blocks_gone used (get_or unlisted n d).object (get_or unlisted n d).inode → later ≡ capped (gone + more) → with_gone used (drop (n + 1) unlisted) later ≡ all
+gone_on used unlisted n d gone more later all inside before is counts =
+    ap (with_gone used (drop (n + 1) unlisted)) (counts ∙ ap (λ (k : ℕ). capped (gone + k)) is) ∙ ap (λ (l : List Unlisted). with_gone used l gone) (sym (drop_more unlisted n d inside)) ∙ before
+
+pub gone_all : (used : Place → Option Stored) (unlisted : List Unlisted) (n gone all : ℕ) → length unlisted ≤ n → with_gone used (drop n unlisted) gone ≡ all → gone ≡ all
+gone_all used unlisted n gone all end before = ap (λ (l : List Unlisted). with_gone used l gone) (sym (drop_all n unlisted end)) ∙ before

@@ -91,13 +91,18 @@ with_row used g row files = with_fate used row.object (fate_of g.last row) files
 abbrev pub left_out_of : List Unlisted → ℕ
 left_out_of unlisted = count_by (λ u. u.left_out) unlisted
 
--- Nothing is given out yet: rows may be missing and frames lost, objects may have no row, and have changes that are left out, and the image
--- may have a fault.
+-- a count of blocks with those more that are gone of these objects
+abbrev pub with_gone : (Place → Option Stored) → List Unlisted → ℕ → ℕ
+with_gone used [] gone = gone
+with_gone used (u ∷ unlisted) gone = with_gone used unlisted (capped (gone + blocks_gone used u.object u.inode))
+
+-- No row is given out yet: rows may be missing and frames lost, objects may have no row, have blocks that are gone and changes that are left
+-- out, and the image may have a fault.
 abbrev pub none_given : SalvageFields → GivenOut
 none_given s = record {
   last = 0;
   objects = 0;
-  blocks_gone = 0;
+  blocks_gone = with_gone (used_at s.table) s.unlisted 0;
   lost_objects = s.missing;
   lost_frames = length s.lost;
   unlisted = length s.unlisted;

@@ -10,6 +10,7 @@ use Rattle.image_parts.specs.Header.{number_in}
 use Rattle.image_parts.specs.Image.{image_in}
 use Rattle.image_parts.specs.declared.rows.RowPart.{RowPart}
 use Rattle.verifier.specs.Grammar.{SpellsDrive, FirstFault}
+use Rattle.earlier_images.specs.Grammar.{SpellsEarlier}
 use Rattle.image_salvage.specs.Frames.{Sees, AreLostOf}
 use Rattle.image_salvage.specs.Searching.{Finds}
 use Rattle.image_salvage.specs.RowSearch.{FindsRows}
@@ -72,6 +73,10 @@ pub record IsSalvageOf (bytes : List ℕ) (s : SalvageFields) : Type 0 where
   pub has : HasFault bytes s.fault
   pub sees : SeesBy bytes s.table s.fault
   pub of : IsSalvageOfParts bytes s ⊎ IsSalvageOfBytes bytes s
+
+-- The bytes encode the image of a drive of an earlier version.
+abbrev pub IsEarlier : List ℕ → Type 0
+IsEarlier bytes = SpellsEarlier bytes (image_in bytes)
 
 -- Neither a row is found in bytes, nor an object that no row gives, over the frames that are found in them.
 pub record HasNothing (bytes : List ℕ) : Type 0 where

@@ -9,8 +9,8 @@ ghost use Rattle.image_salvage.specs.Contents.{blocks_gone};
 ghost use Rattle.image_salvage.specs.Manifest.{lost_object_line};
 ghost use Rattle.image_salvage.specs.Giving.{GivesOut, GivesRows, counted, fate_of, is_whole};
 ghost use Rattle.image_salvage.specs.Giving.{left_out_of, none_given, with_frames, with_given};
-ghost use Rattle.image_salvage.specs.Giving.{with_lost, with_row, with_salvaged, with_unlisted};
-ghost use Rattle.image_salvage.specs.Giving.{with_all_unlisted};
+ghost use Rattle.image_salvage.specs.Giving.{with_gone, with_lost, with_row, with_salvaged};
+ghost use Rattle.image_salvage.specs.Giving.{with_all_unlisted, with_unlisted};
 ghost use Rattle.image_salvage.specs.Wholeness.{IsGivenWhole};
 
 use crate::manifest::{
@@ -33,15 +33,15 @@ pub struct GivenOut {
     pub last: ObjectId,
     /// How many objects were given out.
     pub objects: u64,
-    /// How many blocks of these are gone, for which zeros stand.
+    /// How many blocks are gone of all objects that were given out, also of those that no row gives.
+    /// Zeros are in their place.
     pub blocks_gone: u64,
     /// How many rows gave no object: they give none, or name one again or out of order, or an older
     /// block of it than there is, or aren't found though the header counts them.
     pub lost_objects: u64,
     /// How many frames are lost.
     pub lost_frames: u64,
-    /// How many objects were given out beside these that no row gives. Their blocks that are gone
-    /// aren't counted above.
+    /// How many objects were given out beside these that no row gives.
     pub unlisted: u64,
     /// Of how many of these a newer change was left out, since it may not be there whole.
     pub left_out: u64,
@@ -189,15 +189,28 @@ fn left_out_of(unlisted: &[Unlisted]) -> u64
     unlisted.iter().filter(|it| it.left_out).count() as u64
 }
 
-// Nothing is given out of an image yet: what is known are its missing rows, its lost frames, the
-// objects that no row gives, how many changes of these were left out, and whether it has a fault.
+// How many blocks are gone of the objects that no row gives.
+fn unlisted_gone(image: &SalvagedImage) -> u64
+    ensures { result ≡ with_gone (used_at image.now.table) image.now.unlisted 0 }
+{
+    let objects = image.unlisted();
+    let mut gone: u64 = 0;
+    for unlisted in objects {
+        gone = gone.saturating_add(image.gone(unlisted.object, &unlisted.inode) as u64);
+    }
+    gone
+}
+
+// No row of an image is given out yet: what is known are its missing rows, its lost frames, the
+// objects that no row gives, how many blocks of these are gone and changes left out, and whether it
+// has a fault.
 fn none_given(image: &SalvagedImage) -> GivenOut
     ensures { result ≡ none_given image.now }
 {
     GivenOut {
         last: ObjectId::new(0),
         objects: 0,
-        blocks_gone: 0,
+        blocks_gone: unlisted_gone(image),
         lost_objects: image.missing_rows(),
         lost_frames: image.lost_frames().len() as u64,
         unlisted: image.unlisted().len() as u64,

@@ -1,8 +1,9 @@
 //! The salvage of an image.
 ghost use Rattle.std.specs.Prelude.{◌≡◌, ◌⊎◌, ◌-◌, ◌<◌, max, length, slice_get, Option, Some, None};
-ghost use Rattle.std.specs.Prelude.{IfOk, IfErr};
+ghost use Rattle.std.specs.Prelude.{IfOk, IfErr, MatchBool, OnOk};
 ghost use Rattle.s4_types.specs.Sizes.{IsFrameCount};
 ghost use Rattle.s4_types.specs.declared.refusals.Cause.{Cause as Found};
+ghost use Rattle.s4_types.specs.declared.refusals.Cause.TheVariants.{Header};
 ghost use Rattle.s4_types.specs.declared.refusals.Refusal.TheVariants.{NoMemory, Damaged};
 ghost use Rattle.image_parts.specs.Causes.{FirstSplitCause};
 ghost use Rattle.image_parts.specs.Image.{image_in};
@@ -11,7 +12,8 @@ ghost use Rattle.segment_table.specs.Used.{used_at};
 ghost use Rattle.image_salvage.specs.Contents.{salvaged_bytes, blocks_gone};
 ghost use Rattle.image_salvage.specs.Frames.{Sees};
 ghost use Rattle.image_salvage.specs.Rows.{IsSalvagedBy};
-ghost use Rattle.image_salvage.specs.Salvaging.{HasFault, HasNothing, IsSalvageOf, SeesBy};
+ghost use Rattle.image_salvage.specs.Salvaging.{HasFault, HasNothing, IsEarlier, IsSalvageOf};
+ghost use Rattle.image_salvage.specs.Salvaging.{SeesBy};
 ghost use Rattle.image_salvage.specs.Salvaging.{rows_counted};
 ghost use Rattle.image_salvage.specs.Searching.{Finds};
 ghost use Rattle.image_salvage.specs.Unlisted.{FindsUnlisted, FindsUnlistedBy};
@@ -24,6 +26,8 @@ use crate::searching::{FoundFrames, find_frames};
 use crate::unlisted::{FoundObjects, Unlisted, find_unlisted};
 use byteorder::{BigEndian, ByteOrder};
 use codec::Inode;
+use earlier_images::laws::what_has_a_fault_spells_nothing;
+use earlier_images::read_earlier;
 use image_parts::{ImageParts, RowPart, split_parts};
 use s4_types::{Cause, ObjectId, Refusal};
 use segment_table::TableBuilder;
@@ -309,6 +313,20 @@ fn salvage_bytes(alloc: Global, bytes: &[u8], cause: Cause) -> Result<SalvagedIm
     })
 }
 
+/// Whether the bytes are a whole image of an earlier version. NoMemory alone.
+fn is_earlier(alloc: Global, bytes: &[u8]) -> Result<bool, Refusal>
+    ensures earlier { IfOk result
+        (λ is. MatchBool is (IsEarlier bytes.now) (IsEarlier bytes.now → ⊥)) }
+    ensures refusal { IfErr result (λ e. e ≡ NoMemory) }
+{
+    what_has_a_fault_spells_nothing();
+    match read_earlier(alloc, bytes) {
+        Ok(_) => Ok(true),
+        Err(Refusal::Damaged(_)) => Ok(false),
+        Err(refusal) => Err(refusal),
+    }
+}
+
 /// What the bytes of an image still have, whatever became of them, and the first fault that
 /// `verify` finds in them.
 ///
@@ -320,14 +338,20 @@ fn salvage_bytes(alloc: Global, bytes: &[u8], cause: Cause) -> Result<SalvagedIm
 /// than the newest block of its object. Then the objects are looked for that no row gives.
 ///
 /// Damaged where the header is none, or the parts don't fill the bytes, and neither a row is found
-/// nor an object without one. NoMemory where memory is refused.
+/// nor an object without one; and with the cause Header where the bytes are a whole image of an
+/// earlier version, which is no damage: it can be migrated. NoMemory where memory is refused.
 pub fn salvage<R: Threads>(rt: &R, alloc: Global, bytes: &[u8]) -> Result<SalvagedImage, Refusal>
     ensures salvaged { IfOk result (IsSalvageOf bytes.now) }
+    ensures earlier { OnOk result (IsEarlier bytes.now → ⊥) }
     ensures refusal { IfErr result
         (λ e. (e ≡ NoMemory)
+        ⊎ (((e ≡ Damaged Header) × IsEarlier bytes.now)
         ⊎ ((cause : Found) × (e ≡ Damaged cause)
-        × FirstSplitCause bytes.now (Some cause) × HasNothing bytes.now)) }
+        × FirstSplitCause bytes.now (Some cause) × HasNothing bytes.now))) }
 {
+    if is_earlier(alloc, bytes)? {
+        return Err(Refusal::Damaged(Cause::Header));
+    }
     let parts = match split_parts(bytes) {
         Ok(parts) => parts,
         Err(cause) => return salvage_bytes(alloc, bytes, cause),
