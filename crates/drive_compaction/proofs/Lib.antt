@@ -7,3 +7,4 @@ pub mod Turning
 pub mod Summing
 pub mod Taken
 pub mod Gained
+pub mod LeftAhead

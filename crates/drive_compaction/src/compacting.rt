@@ -6,6 +6,7 @@ ghost use Rattle.drive.specs.Keeping.{KeepsVersions};
 ghost use Rattle.drive_compaction.specs.Emptying.{FindsReader};
 ghost use Rattle.drive_compaction.specs.Compacting.{IsCompacted, LosesRoom};
 
+use crate::left::blocks_left;
 use crate::turns::{Ending, Work, take_turns};
 use drive::{Drive, Session};
 use s4_types::Refusal;
@@ -24,6 +25,10 @@ pub struct Compaction {
     pub room_before: usize,
     /// How many they can append after it, no fewer.
     pub room_after: usize,
+    /// How many blocks were left before it, the reserve among them.
+    pub left_before: usize,
+    /// How many are left after it, no fewer.
+    pub left_after: usize,
     /// How many turns were taken.
     pub turns: u32,
     /// What they did in all.
@@ -33,6 +38,7 @@ pub struct Compaction {
 }
 
 /// Compacts a drive, with or without the cleaner.
+#[tactic(auto, using(crate::proofs::LeftAhead::no_less))]
 fn compact_by<J: Naming>(
     alloc: Global,
     drive: &mut Drive<J>,
@@ -47,9 +53,11 @@ fn compact_by<J: Naming>(
 {
     let free_before = free_frames(drive);
     let room_before = drive.room();
+    let left_before = blocks_left(drive);
     let run = take_turns(alloc, drive, session, cleans)?;
     let room_after = drive.room();
-    if room_after < room_before {
+    let left_after = blocks_left(drive);
+    if left_after < left_before {
         return Err(Refusal::NoRoom);
     }
     Ok(Compaction {
@@ -57,6 +65,8 @@ fn compact_by<J: Naming>(
         free_after: free_frames(drive),
         room_before,
         room_after,
+        left_before,
+        left_after,
         turns: run.turns,
         work: run.work,
         ending: run.ending,
@@ -73,9 +83,10 @@ fn compact_by<J: Naming>(
 /// It ends also where a move finds too little room, or after [`MOST_TURNS`](crate::MOST_TURNS)
 /// turns; none of these is a failure.
 ///
-/// The session is that of whoever moves, and stays as it is. NoRoom exactly where the drive has
-/// less room in the end than it had, which comes where the cleaner wrote more than could be freed:
-/// then [`compact_by_moves`] may still make room, in the drive as it was before. NoMemory where
+/// The session is that of whoever moves, and stays as it is. NoRoom exactly where fewer blocks are
+/// left in the end than were, those of the reserve among them, which comes where the cleaner wrote
+/// more than could be freed: then [`compact_by_moves`] may still make room, in the drive as it was
+/// before. NoMemory where
 /// memory is refused, Busy where no pin is to be had, InUse where a frame that is being emptied has
 /// a reader, which comes only where another session reads. What was cleaned and moved stays so
 /// then. The history and every version that can be read stay, whatever is answered.

@@ -5,8 +5,8 @@
 //! nothing: all objects are cleaned, and then each frame is emptied whose moves write fewer blocks
 //! than the frames have that hold nothing then, and these are freed. So each leaves more places
 //! ahead than there were. Unlike the copier it needs no room beyond the reserve, and counts exactly
-//! what a move writes. Where it succeeds, a drive has no less room than before; where the cleaner
-//! wrote more than could be freed it is refused. [`compact_by_moves`] makes the room that moves
+//! what a move writes. Where it succeeds, a drive has no less room than before, and no fewer blocks
+//! left in its reserve; where the cleaner wrote more than could be freed it is refused. [`compact_by_moves`] makes the room that moves
 //! alone give, which may be more. The report has what all turns did, and how they ended.
 //! [`past_blocks`] says whether hiding moments would give more.
 #![tactic(auto)]
@@ -18,6 +18,7 @@ mod counts;
 mod emptying;
 mod frames;
 mod freeing;
+mod left;
 mod past;
 mod turns;
 

@@ -1,8 +1,8 @@
 -- What a trial found holds of what is made then.
 use Rattle.std.proofs.Common.{◌≡◌, ◌∙◌, ℕ, true, ap, sym, subst}
-use Rattle.version_store.specs.Costs.{room}
 use Rattle.version_store.specs.Store.{StoreFields}
 use Rattle.drive.specs.Fields.{DriveFields, store_of}
+use Rattle.drive_compaction.specs.Compacting.{blocks_left}
 use Rattle.drive_compaction.specs.declared.compacting.Compaction.{Compaction}
 use Rattle.s4_compact.specs.Trying.{is_enough}
 use Rattle.s4_compact.specs.Ways.{IsCompactedBy}
@@ -11,15 +11,15 @@ use Rattle.s4_compact.specs.declared.ways.Way.{Way}
 use Rattle.s4_compact.specs.declared.ways.Way.TheVariants.{Cleaning, Moves, MovesFirst}
 
 -- what is enough by the report is so in the end
-pub enough : (way : Way) (found : Found) (n : ℕ) (between later : StoreFields) → is_enough way found n ≡ true → n ≡ room between → later ≡ between → is_enough way found (room later) ≡ true
+pub enough : (way : Way) (found : Found) (n : ℕ) (between later : StoreFields) → is_enough way found n ≡ true → n ≡ blocks_left between → later ≡ between → is_enough way found (blocks_left later) ≡ true
 enough way found n between later is counted same =
-    subst (λ (s : StoreFields). is_enough way found (room s) ≡ true) (sym same) (subst (λ (m : ℕ). is_enough way found m ≡ true) counted is)
+    subst (λ (s : StoreFields). is_enough way found (blocks_left s) ≡ true) (sym same) (subst (λ (m : ℕ). is_enough way found m ≡ true) counted is)
 
--- the room of a report is that of the drive that is left
-pub room_left : (way : Way) (d later : DriveFields) (report : Compaction) → IsCompactedBy way d later report → report.room_after ≡ room (store_of later)
-room_left Cleaning d later report is = is.room_after
-room_left Moves d later report is = is.room_after
-room_left MovesFirst d later report is = ap (λ (c : Compaction). c.room_after) is.report_is ∙ is.cleaned.room_after
+-- the blocks of a report are those that the drive has left
+pub reported : (way : Way) (d later : DriveFields) (report : Compaction) → IsCompactedBy way d later report → report.left_after ≡ blocks_left (store_of later)
+reported Cleaning d later report is = is.left_after
+reported Moves d later report is = is.left_after
+reported MovesFirst d later report is = ap (λ (c : Compaction). c.left_after) is.report_is ∙ is.cleaned.left_after
 
 -- what holds of each way holds of all
 pub by_ways : (P : Way → Type 0) → P Cleaning → P Moves → P MovesFirst → (way : Way) → P way

@@ -35,6 +35,8 @@ joined first second = record {
   free_after = second.free_after;
   room_before = first.room_before;
   room_after = second.room_after;
+  left_before = first.left_before;
+  left_after = second.left_after;
   turns = sum_within 32 first.turns second.turns;
   work = works_joined first.work second.work;
   ending = second.ending;
@@ -55,7 +57,7 @@ IsCompactedBy Cleaning d later report = IsCompacted true d later report
 IsCompactedBy Moves d later report = IsCompacted false d later report
 IsCompactedBy MovesFirst d later report = CompactsTwice d later report
 
--- A drive would have less room than before, once it was compacted with the cleaner or without it.
+-- A drive would have fewer blocks left than before, once it was compacted with the cleaner or without it.
 pub record LosesBy (cleans : Bool) (d : DriveFields) : Type 0 where
   pub later : DriveFields
   pub loses : LosesRoom cleans d later NoRoom
@@ -67,7 +69,7 @@ pub record LosesThen (d : DriveFields) : Type 0 where
   pub moved : IsCompacted false d middle first
   pub loses : LosesBy true middle
 
--- A step of this way leaves less room than there was before it.
+-- A step of this way leaves fewer blocks than there were before it.
 abbrev pub Loses : Way → DriveFields → Type 0
 Loses Cleaning d = LosesBy true d
 Loses Moves d = LosesBy false d

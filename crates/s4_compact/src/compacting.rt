@@ -21,8 +21,9 @@ use std::thread::Threads;
 
 /// Compacts the drive of an image, saves it there, and prints what that came to. Three trials come
 /// first, of which nothing is kept: with the cleaner, by moves alone, and with the cleaner after
-/// moves alone. What leaves the most room is made, with the cleaner where that is the same. So no
-/// image has less room afterwards. Where anything fails all files are as they were.
+/// moves alone. What leaves the most blocks is made, with the cleaner where that is the same. So no
+/// image has less room afterwards, nor less of its reserve. Where anything fails all files are as
+/// they were.
 #[tactic(auto, using(s4_images::proofs::Kept::untouched))]
 pub fn compact_image<T: Threads, F: Files, W: CommandOutput>(
     rt: &T,
@@ -46,7 +47,7 @@ pub fn compact_image<T: Threads, F: Files, W: CommandOutput>(
 }
 
 // Compacts the drive of an image this way, saves it there, and prints what that came to. NoRoom
-// where another way's trial left more room.
+// where another way's trial left more blocks.
 fn compact_by<T: Threads, F: Files, W: CommandOutput>(
     rt: &T,
     alloc: Global,
@@ -94,7 +95,7 @@ impl DriveChange for Compacting<'_> {
         writer: &mut W,
     ) -> Result<(), Failure> {
         let compaction = compact_drive(alloc, drive, self.way)?;
-        if !is_enough(self.way, self.found, compaction.room_after) {
+        if !is_enough(self.way, self.found, compaction.left_after) {
             return Err(Failure::from(Refusal::NoRoom));
         }
         let report = Report {

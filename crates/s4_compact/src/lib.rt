@@ -1,10 +1,10 @@
 //! `compact`: room is made in the drive of an image.
 //!
 //! The layer above may rely on this: where `compact_image` succeeds, the file has what the
-//! compacted drive is saved as, with no less room than before, and no less than any of its three
-//! ways leaves: with the cleaner, by moves alone, or with the cleaner after moves alone. The output
-//! has the counts of the compaction, each after its name, or as one object of JSON. Where it fails
-//! all files are as they were.
+//! compacted drive is saved as, with no fewer blocks left than before, those of the reserve among
+//! them, and no fewer than any of its three ways leaves: with the cleaner, by moves alone, or with
+//! the cleaner after moves alone. The output has the counts of the compaction, each after its name,
+//! or as one object of JSON. Where it fails all files are as they were.
 #![tactic(auto)]
 
 mod compacting;

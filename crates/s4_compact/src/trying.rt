@@ -1,4 +1,4 @@
-//! How much room each way of compacting leaves, found by trials of which nothing is kept.
+//! How many blocks each way of compacting leaves, found by trials of which nothing is kept.
 ghost use Rattle.std.specs.Prelude.{◌≡◌, IfOk};
 ghost use Rattle.segment_table.specs.Room.{log_of};
 ghost use Rattle.version_store.specs.Store.{fields_of};
@@ -18,8 +18,9 @@ use std::marker::Brand;
 use std::thread::Threads;
 use verifier::open;
 
-/// How much room each way leaves, as its trial found; none where a step of it leaves less than
-/// there was before.
+/// How many blocks each way leaves to be appended, those of the reserve among them, as its trial
+/// found; none where a step of it leaves fewer than there were before. So of two drives without
+/// room the one with less of its reserve is the worse.
 #[derive(Clone, Copy)]
 pub struct Found {
     pub cleaned: Option<usize>,
@@ -27,47 +28,48 @@ pub struct Found {
     pub moved_first: Option<usize>,
 }
 
-/// Whether no other way is better, by what was found, than this one that leaves this much room. Of
-/// ways that leave the same the one with the cleaner is made, and else moves alone.
-pub(crate) fn is_enough(way: Way, found: &Found, room: usize) -> bool
-    ensures { result ≡ is_enough way found.now room }
+/// Whether no other way is better, by what was found, than this one that leaves this many blocks.
+/// Of ways that leave the same the one with the cleaner is made, and else moves alone.
+pub(crate) fn is_enough(way: Way, found: &Found, left: usize) -> bool
+    ensures { result ≡ is_enough way found.now left }
 {
     match way {
-        Way::Cleaning => is_no_more(found.moved, room) && is_no_more(found.moved_first, room),
-        Way::Moves => is_less(found.cleaned, room) && is_no_more(found.moved_first, room),
-        Way::MovesFirst => is_less(found.cleaned, room) && is_less(found.moved, room),
+        Way::Cleaning => is_no_more(found.moved, left) && is_no_more(found.moved_first, left),
+        Way::Moves => is_less(found.cleaned, left) && is_no_more(found.moved_first, left),
+        Way::MovesFirst => is_less(found.cleaned, left) && is_less(found.moved, left),
     }
 }
 
-fn is_no_more(other: Option<usize>, room: usize) -> bool
-    ensures { result ≡ is_no_more other room }
+fn is_no_more(other: Option<usize>, left: usize) -> bool
+    ensures { result ≡ is_no_more other left }
 {
     match other {
         None => true,
-        Some(other) => other <= room,
+        Some(other) => other <= left,
     }
 }
 
-fn is_less(other: Option<usize>, room: usize) -> bool
-    ensures { result ≡ is_less other room }
+fn is_less(other: Option<usize>, left: usize) -> bool
+    ensures { result ≡ is_less other left }
 {
     match other {
         None => true,
-        Some(other) => other < room,
+        Some(other) => other < left,
     }
 }
 
 // Whether this way, whose trial found this, serves best.
-fn serves(way: Way, found: &Found, room: Option<usize>) -> bool
-    ensures { result ≡ serves_by way found.now room }
+fn serves(way: Way, found: &Found, left: Option<usize>) -> bool
+    ensures { result ≡ serves_by way found.now left }
 {
-    match room {
+    match left {
         None => false,
-        Some(room) => is_enough(way, found, room),
+        Some(left) => is_enough(way, found, left),
     }
 }
 
-/// The way that serves best; the one with the cleaner where none leaves room.
+/// The way that serves best; the one with the cleaner where each leaves fewer blocks than there
+/// were.
 pub(crate) fn best_way(found: &Found) -> Way
     ensures { result ≡ best_way found.now }
 {
@@ -80,7 +82,7 @@ pub(crate) fn best_way(found: &Found) -> Way
     Way::Cleaning
 }
 
-/// How much room each way leaves of the drive of an image.
+/// How many blocks each way leaves of the drive of an image.
 pub(crate) fn try_ways<T: Threads, F: Files>(
     rt: &T,
     alloc: Global,
@@ -99,8 +101,8 @@ pub(crate) fn try_ways<T: Threads, F: Files>(
     })
 }
 
-// How much room the drive of an image has once it is compacted this way; none where a step of that
-// leaves less than there was before.
+// How many blocks the drive of an image has left once it is compacted this way; none where a step of
+// that leaves fewer than there were before.
 fn try_image<T: Threads, F: Files>(
     rt: &T,
     alloc: Global,
@@ -108,8 +110,8 @@ fn try_image<T: Threads, F: Files>(
     image: &str,
     way: Way,
 ) -> Result<Option<usize>, Failure>
-    ensures leaves { IfOk result (λ room. OverImage (F.contents files.now image.now)
-        (λ drive. Leaves way drive room)) }
+    ensures leaves { IfOk result (λ left. OverImage (F.contents files.now image.now)
+        (λ drive. Leaves way drive left)) }
 {
     let image = read_image(rt, alloc, files, image)?;
     let opened = open(alloc, image)?;
@@ -126,7 +128,7 @@ fn try_opened<J: Naming>(
     requires frames { opened.store.table.seat.table ≡ J.frames }
     requires base { base_of (fields_of log_of opened.store) opened.timeline opened.next
         opened.audit ≡ J.base }
-    ensures leaves { IfOk result (λ room. OverOpened opened (λ drive. Leaves way drive room)) }
+    ensures leaves { IfOk result (λ left. OverOpened opened (λ drive. Leaves way drive left)) }
 {
     let mut drive = opened.named::<J>();
     try_drive(alloc, &mut drive, way)
@@ -141,7 +143,7 @@ fn try_drive<J: Naming>(
     ensures leaves { IfOk result (Leaves way drive.old) }
 {
     match compact_drive(alloc, drive, way) {
-        Ok(compaction) => Ok(Some(compaction.room_after)),
+        Ok(compaction) => Ok(Some(compaction.left_after)),
         Err(Refusal::NoRoom) => Ok(None),
         Err(refusal) => Err(Failure::from(refusal)),
     }

@@ -57,13 +57,16 @@ fn joined(first: Compaction, second: Compaction) -> Compaction
         free_after: second.free_after,
         room_before: first.room_before,
         room_after: second.room_after,
+        left_before: first.left_before,
+        left_after: second.left_after,
         turns: first.turns.saturating_add(second.turns),
         work: works_joined(first.work, second.work),
         ending: second.ending,
     }
 }
 
-/// Compacts a drive this way. NoRoom where a step of it leaves less room than there was before it.
+/// Compacts a drive this way. NoRoom where a step of it leaves fewer blocks than there were before
+/// it.
 pub(crate) fn compact_drive<J: Naming>(
     alloc: Global,
     drive: &mut Drive<J>,
