@@ -125,6 +125,7 @@ def of_drive(info: Optional[Info]) -> List[Family]:
         ("room_blocks", "Blocks of 512 bytes that changes may append.", info.room),
         ("frames", "Frames of the drive.", info.frames),
         ("free_frames", "Frames that are free.", info.free),
+        ("retired_frames", "Frames that hold nothing and are written no more.", info.retired),
     )
     return families + [of_image(*number) for number in numbers]
 

@@ -160,12 +160,14 @@ class HiddenCounts:
 class Info:
     """The numbers of a drive: its frames, those that are free, and the blocks of 512 bytes that changes may append.
 
+    Retired frames hold nothing and are written no more; they aren't among the free ones.
     Then objects that are live and deleted, the next object's number, clock and window in moments, and the earliest
     moment that can be read.
     """
 
     frames: int
     free: int
+    retired: int
     room: int
     live: int
     deleted: int
@@ -302,8 +304,8 @@ def restored(row: Json) -> Union[Restored, HiddenVersions, Widened]:
 def info(row: Json) -> Info:
     time = row["time"]
     times = None if time is None else Times(time_of(time["clock"]), time_of(time["floor"]))
-    return Info(row["frames"], row["free"], row["room"], row["live"], row["deleted"], row["next"], row["clock"],
-                row["window"], row["floor"], times, HiddenCounts(**named(row["hidden"], HiddenCounts)))
+    return Info(row["frames"], row["free"], row["retired"], row["room"], row["live"], row["deleted"], row["next"],
+                row["clock"], row["window"], row["floor"], times, HiddenCounts(**named(row["hidden"], HiddenCounts)))
 
 
 def checked(row: Json) -> Checked:

@@ -857,8 +857,8 @@ class Logs(Bridged):
 
 
 class Pages(Bridged):
-    INFO = ('{"clock":13,"deleted":1,"floor":3,"frames":24,"free":23,"hidden":{"objects":1,"runs":1},"live":2,"next":4,"room":165,'
-            '"time":null,"window":100}')
+    INFO = ('{"clock":13,"deleted":1,"floor":3,"frames":24,"free":21,"hidden":{"objects":1,"runs":1},"live":2,"next":4,"retired":2,'
+            '"room":165,"time":null,"window":100}')
 
     def s4(self, line, status=0):
         """A program in the place of `s4`, which notes its words."""
@@ -889,6 +889,7 @@ class Pages(Bridged):
                 (3, "s4_bridge_reply_seconds_bucket", {"role": "client", "le": "+Inf"}),
                 (0, "s4_bridge_reply_seconds_count", {"role": "admin"}),
                 (1, "s4_drive_readable", {}), (13, "s4_drive_clock", {}), (3, "s4_drive_floor", {}), (24, "s4_drive_frames", {}),
+                (21, "s4_drive_free_frames", {}), (2, "s4_drive_retired_frames", {}),
                 (165, "s4_drive_room_blocks", {}), (0, "s4_bridge_log_lines_lost_total", {})):
             with self.subTest(name, **labels):
                 self.assertEqual(value_of(text, name, **labels), wanted)

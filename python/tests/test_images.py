@@ -116,8 +116,8 @@ class Images(unittest.TestCase):
 
     def test_numbers(self):
         info = self.image.info()
-        self.assertEqual((info.frames, info.live, info.deleted, info.next, info.clock, info.window, info.floor),
-                         (24, 2, 1, 4, 9, 100, 0))
+        self.assertEqual((info.frames, info.retired, info.live, info.deleted, info.next, info.clock, info.window,
+                          info.floor), (24, 0, 2, 1, 4, 9, 100, 0))
         self.assertIsNone(info.time)
         self.assertEqual(info.hidden, s4d.HiddenCounts(runs=0, objects=1))
         checked = self.image.check()

@@ -147,6 +147,7 @@ numbers_data style n =
     (member (codes "hidden") (counts_data n)
     (member (codes "live") (number (unsigned n.live))
     (member (codes "next") (number (unsigned n.next))
+    (member (codes "retired") (number (unsigned n.retired))
     (member (codes "room") (number (unsigned n.room))
     (member (codes "time") (times_data style n)
-    (member (codes "window") (number (unsigned n.window)) no_members)))))))))))
+    (member (codes "window") (number (unsigned n.window)) no_members))))))))))))

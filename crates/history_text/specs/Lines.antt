@@ -142,11 +142,13 @@ abbrev pub stat_line : MomentStyle → ObjectStat → List ℕ
 stat_line style stat =
     column 10 stat.object ++ (codes "  " ++ (column 10 stat.changes ++ (codes "  " ++ (moment_column style stat.first ++ (codes "  " ++ (moment_column style stat.last ++ (kinds_text stat.kinds ++ codes "\n")))))))
 
--- what a drive has, each number after its name
+-- how many frames there are, are free, and are retired, each after its name
+abbrev pub frames_text : DriveNumbers → List ℕ
+frames_text n = codes "frames " ++ (decimal n.frames ++ (codes "\nfree " ++ (decimal n.free ++ (codes "\nretired " ++ (decimal n.retired ++ codes "\n")))))
+
+-- the room, and how many objects are live and deleted, each after its name
 abbrev pub counts_text : DriveNumbers → List ℕ
-counts_text n =
-    codes "frames " ++ (decimal n.frames ++ (codes "\nfree " ++ (decimal n.free ++ (codes "\nroom " ++ (decimal n.room ++ (codes "\nlive " ++ (decimal n.live
-    ++ (codes "\ndeleted " ++ (decimal n.deleted ++ codes "\n")))))))))
+counts_text n = codes "room " ++ (decimal n.room ++ (codes "\nlive " ++ (decimal n.live ++ (codes "\ndeleted " ++ (decimal n.deleted ++ codes "\n")))))
 
 -- the next number, and how far history reaches back, each after its name
 abbrev pub moments_text : MomentStyle → DriveNumbers → List ℕ
@@ -159,4 +161,4 @@ hidden_text n = codes "hidden " ++ (decimal n.hidden ++ (codes "\nhidden_objects
 
 -- the lines of a drive's numbers
 abbrev pub numbers_lines : MomentStyle → DriveNumbers → List ℕ
-numbers_lines style n = counts_text n ++ (moments_text style n ++ hidden_text n)
+numbers_lines style n = frames_text n ++ (counts_text n ++ (moments_text style n ++ hidden_text n))

@@ -254,6 +254,7 @@ fn numbers_value(
     let made = with_member(alloc, made, "time", time);
     let made = with_number(alloc, made, "frames", numbers.frames);
     let made = with_number(alloc, made, "free", numbers.free);
+    let made = with_number(alloc, made, "retired", numbers.retired);
     let made = with_number(alloc, made, "room", numbers.room);
     let made = with_number(alloc, made, "live", numbers.live);
     let made = with_number(alloc, made, "deleted", numbers.deleted);

@@ -6,8 +6,8 @@ ghost use Rattle.history_text.specs.Lines.{state_text, kind_text, added_text, bl
 ghost use Rattle.history_text.specs.Lines.{attributes_text, pair_text, detail_text, log_head};
 ghost use Rattle.history_text.specs.Lines.{change_line, hidden_of, hidden_line, log_line};
 ghost use Rattle.history_text.specs.Lines.{stat_head, kind_count, between_text, kinds_text};
-ghost use Rattle.history_text.specs.Lines.{stat_line, counts_text, moments_text, hidden_text};
-ghost use Rattle.history_text.specs.Lines.{numbers_lines};
+ghost use Rattle.history_text.specs.Lines.{stat_line, frames_text, counts_text, moments_text};
+ghost use Rattle.history_text.specs.Lines.{hidden_text, numbers_lines};
 
 use crate::attributes::printed_attribute;
 use crate::json::kind_word;
@@ -249,12 +249,18 @@ pub fn stat_line(alloc: Global, stat: &ObjectStat, style: MomentStyle) -> Result
     format!(in alloc; "{object:10}  {changes:10}  {first}  {last}{kinds}\n")
 }
 
+fn frames_text(alloc: Global, numbers: &DriveNumbers) -> Result<String, AllocError>
+    ensures { IfOk result (λ text. string_bytes text ≡ frames_text numbers.now) }
+{
+    let (frames, free, retired) = (numbers.frames, numbers.free, numbers.retired);
+    format!(in alloc; "frames {frames}\nfree {free}\nretired {retired}\n")
+}
+
 fn counts_text(alloc: Global, numbers: &DriveNumbers) -> Result<String, AllocError>
     ensures { IfOk result (λ text. string_bytes text ≡ counts_text numbers.now) }
 {
-    let (frames, free, room) = (numbers.frames, numbers.free, numbers.room);
-    let (live, deleted) = (numbers.live, numbers.deleted);
-    format!(in alloc; "frames {frames}\nfree {free}\nroom {room}\nlive {live}\ndeleted {deleted}\n")
+    let (room, live, deleted) = (numbers.room, numbers.live, numbers.deleted);
+    format!(in alloc; "room {room}\nlive {live}\ndeleted {deleted}\n")
 }
 
 fn moments_text(
@@ -285,8 +291,9 @@ pub fn numbers_lines(
 ) -> Result<String, AllocError>
     ensures { IfOk result (λ lines. string_bytes lines ≡ numbers_lines style numbers.now) }
 {
+    let frames = frames_text(alloc, numbers)?;
     let counts = counts_text(alloc, numbers)?;
     let moments = moments_text(alloc, numbers, style)?;
     let hidden = hidden_text(alloc, numbers)?;
-    format!(in alloc; "{counts}{moments}{hidden}")
+    format!(in alloc; "{frames}{counts}{moments}{hidden}")
 }

@@ -5,8 +5,10 @@
 pub struct DriveNumbers {
     /// How many frames it has.
     pub frames: u64,
-    /// How many of them are free.
+    /// How many of them are free, the retired ones not among them.
     pub free: u64,
+    /// How many are retired: free for the last time, so that nothing is written there again.
+    pub retired: u64,
     /// How many objects are live.
     pub live: u64,
     /// How many were deleted, of those that something is kept of.

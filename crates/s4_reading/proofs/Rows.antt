@@ -1,21 +1,21 @@
 -- What is printed of a drive, line by line.
-use Rattle.std.proofs.Common.{◌≡◌, ◌+◌, ◌-◌, ◌<◌, ◌≤◌, ◌++◌, ◌∙◌, ◌==◌, ◌*◌, ◌%◌, ◌^◌, ℕ, Bool, true, List, [], ◌∷◌, length, count_by, cond, Option, get_or, drop, ap, ap₂, sym, subst, refl, arith}
+use Rattle.std.proofs.Common.{◌≡◌, ◌+◌, ◌-◌, ◌<◌, ◌≤◌, ◌++◌, ◌∙◌, ◌==◌, ◌*◌, ◌%◌, ◌^◌, ℕ, Bool, true, false, List, [], ◌∷◌, length, count_by, cond, Option, get_or, take, drop, ap, ap₂, sym, subst, refl, arith}
 use Rattle.std.proofs.lemmas.List.{length-append, drop_more, drop_all}
-use Rattle.std.proofs.lemmas.List.Sums.{count_by-le-length, sum_by_push}
+use Rattle.std.proofs.lemmas.List.Sums.{count_by-le-length, sum_by_more, sum_by_push}
 use Rattle.std.specs.List.{flat_map}
 use Rattle.std.specs.Io.KnownBytes.{Appends}
 use Rattle.std.proofs.KnownBytes.{Appends-trans, Appends-nil}
 use Rattle.s4_types.specs.declared.spans.Span.{Span}
 use Rattle.s4_model.specs.State.{State}
-use Rattle.segment_word.specs.Frames.{Frame, code_of}
-use Rattle.segment_word.specs.Layout.{word_of}
+use Rattle.segment_word.specs.Frames.{Frame, Phase, Free, Open, Sealed, Draining, code_of, is_free, no_frame}
+use Rattle.segment_word.specs.Layout.{word_of, frame_at}
 use Rattle.version_store.specs.Store.{StoreFields}
 use Rattle.history_view.specs.declared.listing.Listed.{Listed}
 use Rattle.history_view.specs.Listing.{AreListedFrom, IsListedNext, IsPassed}
 use Rattle.moment_words.specs.declared.printing.MomentStyle.{MomentStyle}
 use Rattle.segment_word.proofs.Words.{code_below_four}
 use Rattle.s4_reading.specs.Listing.{ListsRows, line_of_listed}
-use Rattle.s4_reading.specs.Telling.{CountsObjects, is_free_frame, objects_hidden}
+use Rattle.s4_reading.specs.Telling.{CountsObjects, objects_hidden}
 use Rattle.history_view.proofs.Fronts.{IsFront, front_begun, front_more, front_whole, flat_more}
 
 -- ---- lists
@@ -93,9 +93,25 @@ live_among_all s store last live all before = omega (arith, before.are_live, bef
 low_bits : (code g : ℕ) → code < 4 → (code + 4 * 0 + 2 ^ 32 * g) % 4 ≡ code
 low_bits code g few = omega (arith, few)
 
+free_by_code : (phase : Phase) → (code_of phase == 0) ≡ is_free phase
+free_by_code Free = refl
+free_by_code Open = refl
+free_by_code Sealed = refl
+free_by_code Draining = refl
+
 -- the two low bits of a frame's word say whether it is free
-pub free_by_word : (k : Frame) (word : ℕ) → word ≡ word_of k 0 → (word % 4 == 0) ≡ is_free_frame k
-free_by_word k word is = ap (λ n. n == 0) (ap (λ n. n % 4) is ∙ low_bits (code_of k.phase) k.generation (code_below_four k.phase))
+pub free_by_word : (k : Frame) (word : ℕ) → word ≡ word_of k 0 → (word % 4 == 0) ≡ is_free k.phase
+free_by_word k word is = ap (λ n. n == 0) (ap (λ n. n % 4) is ∙ low_bits (code_of k.phase) k.generation (code_below_four k.phase)) ∙ free_by_code k.phase
+
+pub at_most_one : (test : Bool) (n : ℕ) → n ≡ cond test 1 0 → n ≤ 1
+at_most_one true n is = omega (arith, is)
+at_most_one false n is = omega (arith, is)
+
+-- one frame more is counted by a test
+pub frame_counted : (test : Frame → Bool) (frames : List Frame) (f n : ℕ) (passes : Bool) (more : ℕ) → f < length frames → n ≡ count_by test (take f frames) → passes ≡ test (frame_at frames f) → more ≡ cond passes 1 0
+    → n + more ≡ count_by test (take (f + 1) frames)
+frame_counted test frames f n passes more inside so_far tested is =
+    ap₂ (λ a b. a + b) so_far (is ∙ ap (λ (b : Bool). cond b 1 0) tested) ∙ sym (sum_by_more (λ k. cond (test k) 1 0) frames f no_frame inside)
 
 -- ---- hidden moments
 

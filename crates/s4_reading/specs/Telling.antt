@@ -1,9 +1,10 @@
 -- What `info` prints.
-use Rattle.std.specs.Prelude.{◌≡◌, ℕ, ◌+◌, ◌==◌, if◌then◌else◌, Bool, true, List, [], ◌∷◌, length, Option, count_by}
+use Rattle.std.specs.Prelude.{◌≡◌, ℕ, ◌+◌, ◌-◌, ◌^◌, ◌==◌, ◌&&◌, if◌then◌else◌, Bool, true, List, [], ◌∷◌, length, Option, count_by}
 use Rattle.std.specs.Io.KnownBytes.{Appends}
 use Rattle.s4_types.specs.declared.spans.Span.{Span}
 use Rattle.s4_model.specs.State.{State}
-use Rattle.segment_word.specs.Frames.{Frame, code_of}
+use Rattle.segment_word.specs.Frames.{Frame, is_free}
+use Rattle.segment_table.specs.Room.{can_open}
 use Rattle.version_store.specs.Store.{StoreFields}
 use Rattle.version_store.specs.Costs.{room}
 use Rattle.drive.specs.Fields.{DriveFields, state_in, store_of}
@@ -26,9 +27,9 @@ pub record CountsObjects (s : State) (store : StoreFields) (live deleted : ℕ) 
   pub are_live : live ≡ count_by (λ row. row.is_live) rows
   pub are_all : live + deleted ≡ length rows
 
--- whether a frame is free
-abbrev pub is_free_frame : Frame → Bool
-is_free_frame k = code_of k.phase == 0
+-- whether a frame is retired: free at the last generation, so that it is opened no more
+abbrev pub is_retired : Frame → Bool
+is_retired k = is_free k.phase && (k.generation == 2 ^ 32 - 1)
 
 -- whether a run hides moments of all objects
 abbrev pub is_of_all : Span → Bool
@@ -49,7 +50,8 @@ pub record CountsHidden (s : State) (hidden objects : ℕ) : Type 0 where
 -- These are the numbers of a drive of these frames.
 pub record IsNumbersOf (s : State) (store : StoreFields) (frames : List Frame) (n : DriveNumbers) : Type 0 where
   pub frame_count : n.frames ≡ length frames
-  pub free : n.free ≡ count_by is_free_frame frames
+  pub free : n.free ≡ count_by can_open frames
+  pub retired : n.retired ≡ count_by is_retired frames
   pub counted : CountsObjects s store n.live n.deleted
   pub next : n.next ≡ s.next
   pub clock : n.clock ≡ s.clock

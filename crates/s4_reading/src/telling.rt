@@ -1,8 +1,11 @@
 //! `info`: the numbers of an image.
 ghost use Rattle.std.specs.Prelude.{◌≡◌, ◌+◌, ◌^◌, ◌<◌, if◌then◌else◌, IfOk, length, count_by};
+ghost use Rattle.segment_word.specs.Frames.{is_free};
+ghost use Rattle.segment_word.specs.Layout.{frame_at};
+ghost use Rattle.segment_table.specs.Room.{can_open};
 ghost use Rattle.drive.specs.Fields.{state_in, store_of};
 ghost use Rattle.s4_reading.specs.Telling.{CountsHidden, CountsObjects, Informs, IsNumbersOf};
-ghost use Rattle.s4_reading.specs.Telling.{is_free_frame, is_of_all, objects_hidden};
+ghost use Rattle.s4_reading.specs.Telling.{is_of_all, is_retired, objects_hidden};
 ghost use Rattle.s4_reading.specs.Telling.{text_of_numbers};
 
 use crate::forms::Form;
@@ -41,7 +44,7 @@ fn numbers_of<J: Naming>(drive: &mut Drive<J>) -> Result<DriveNumbers, Failure>
         (IsNumbersOf (state_in drive.old) (store_of drive.old) drive.old.store.table.seat.frames) }
 {
     let frames = drive.frame_count();
-    let free = count_free(drive, frames);
+    let (free, retired) = count_free(drive, frames);
     let (hidden, hidden_objects) = hidden_of(drive)?;
     let at = drive.clock();
     let (next, window) = (drive.next().number(), drive.window());
@@ -51,6 +54,7 @@ fn numbers_of<J: Naming>(drive: &mut Drive<J>) -> Result<DriveNumbers, Failure>
     Ok(DriveNumbers {
         frames: u64::from(frames),
         free,
+        retired,
         live,
         deleted,
         next,
@@ -63,19 +67,58 @@ fn numbers_of<J: Naming>(drive: &mut Drive<J>) -> Result<DriveNumbers, Failure>
     })
 }
 
-// How many frames are free: their words have no phase in the two low bits.
-fn count_free<J: Naming>(drive: &mut Drive<J>, frames: u16) -> u64
-    requires all { frames ≡ length drive.old.store.table.seat.frames }
-    ensures free { result ≡ count_by is_free_frame drive.old.store.table.seat.frames }
+// Whether a frame is free, a retired one too: its word has no phase in the two low bits.
+fn is_free_now<J: Naming>(drive: &mut Drive<J>, frame: u16) -> bool
+    requires { frame < length drive.old.store.table.seat.frames }
+    ensures free { result ≡ is_free (frame_at drive.old.store.table.seat.frames frame).phase }
     ensures same { drive.new ≡ drive.old }
 {
-    let mut free = 0;
-    for frame in 0..frames {
-        if drive.saved_word(frame) % 4 == 0 {
-            free += 1;
-        }
+    drive.saved_word(frame) % 4 == 0
+}
+
+// Whether a frame is free and can be opened again.
+fn can_open_now<J: Naming>(drive: &mut Drive<J>, frame: u16) -> bool
+    requires { frame < length drive.old.store.table.seat.frames }
+    ensures can { result ≡ can_open (frame_at drive.old.store.table.seat.frames frame) }
+    ensures same { drive.new ≡ drive.old }
+{
+    if !is_free_now(drive, frame) {
+        return false;
     }
-    free
+    match drive.generation(frame) {
+        Some(generation) => generation < u32::MAX,
+        None => false,
+    }
+}
+
+// Whether a frame is free, at the last generation.
+fn is_retired_now<J: Naming>(drive: &mut Drive<J>, frame: u16) -> bool
+    requires { frame < length drive.old.store.table.seat.frames }
+    ensures retired { result ≡ is_retired (frame_at drive.old.store.table.seat.frames frame) }
+    ensures same { drive.new ≡ drive.old }
+{
+    if !is_free_now(drive, frame) {
+        return false;
+    }
+    match drive.generation(frame) {
+        Some(generation) => generation == u32::MAX,
+        None => false,
+    }
+}
+
+// How many frames are free and can be opened, and how many are retired.
+fn count_free<J: Naming>(drive: &mut Drive<J>, frames: u16) -> (u64, u64)
+    requires all { frames ≡ length drive.old.store.table.seat.frames }
+    ensures free { result.0 ≡ count_by can_open drive.old.store.table.seat.frames }
+    ensures retired { result.1 ≡ count_by is_retired drive.old.store.table.seat.frames }
+    ensures same { drive.new ≡ drive.old }
+{
+    let (mut free, mut retired) = (0, 0);
+    for frame in 0..frames {
+        free += one_if(can_open_now(drive, frame));
+        retired += one_if(is_retired_now(drive, frame));
+    }
+    (free, retired)
 }
 
 // How many runs of moments are hidden of all objects, and of how many objects some are alone.
