@@ -1,3 +1,4 @@
+pub mod Counting
 pub mod Dry
 pub mod Finding
 pub mod Learning

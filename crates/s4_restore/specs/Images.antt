@@ -8,7 +8,8 @@ use Rattle.verifier.specs.Saved.{SpellsSaved}
 use Rattle.image_commands.specs.Files.{AreKnown}
 use Rattle.s4_images.specs.Commands.{ChangesImage, IsToldDrive, OverImage}
 use Rattle.s4_restore.specs.Maps.{IsMapIn}
-use Rattle.restore_orders.specs.Orders.{RestoresBy, WouldChange, WouldRestoreBy}
+use Rattle.restore_orders.specs.Orders.{WouldChange}
+use Rattle.s4_restore.specs.Counting.{RestoresCounted, WouldRestoreCounted}
 use Rattle.s4_restore.specs.Searching.{AreFewest, AreLeft, DoNotServe, HidesNothing, IsAskedBy, IsServed, means_tried}
 use Rattle.restore_search.specs.declared.rooms.Room.{Room}
 use Rattle.restore_orders.specs.declared.means.Means.{Means}
@@ -34,12 +35,12 @@ pub record IsOrderOf (known : Option (List ℕ)) (restore : RestoreAsked) (stand
 pub record LeavesImage (known known' : Option (List ℕ)) (order : Order) (output output' : Option (List ℕ)) : Type 0 where
   pub idle : OverImage known (λ d. WouldChange d order false)
   pub kept : Keeps known known'
-  pub shows : OverImage known (λ d. WouldRestoreBy d order output output')
+  pub shows : OverImage known (λ d. WouldRestoreCounted d order output output')
 
 -- Something is, and it is restored and saved.
 pub record ReplacesImage (known known' : Option (List ℕ)) (order : Order) (output output' : Option (List ℕ)) : Type 0 where
   pub busy : OverImage known (λ d. WouldChange d order true)
-  pub changes : ChangesImage known known' (λ d later. RestoresBy d later order output output')
+  pub changes : ChangesImage known known' (λ d later. RestoresCounted d later order output output')
 
 -- The image of a drive is left or replaced, by whether anything is to be changed.
 abbrev pub PutsRestored : (known known' : Option (List ℕ)) → Order → (output output' : Option (List ℕ)) → Type 0
@@ -55,7 +56,7 @@ pub record RestoresImage (known known' : Option (List ℕ)) (restore : RestoreAs
 pub record WouldRestoreImage (known : Option (List ℕ)) (restore : RestoreAsked) (stand_ins : List StandIn) (output output' : Option (List ℕ)) : Type 0 where
   pub order : Order
   pub asks : IsOrderOf known restore stand_ins order
-  pub shows : OverImage known (λ d. WouldRestoreBy d order output output')
+  pub shows : OverImage known (λ d. WouldRestoreCounted d order output output')
 
 -- A restore is done, by the stand-ins that its map has: the drive is restored and saved, or where nothing is to be changed it is printed what
 -- would be.

@@ -8,6 +8,7 @@ ghost use Rattle.s4_restore.specs.Images.{PerformsRestore, PutsRestored, Restore
 ghost use Rattle.s4_restore.specs.Images.{WouldRestoreImage};
 ghost use Rattle.s4_restore.specs.Searching.{FailsInStyle};
 
+use crate::counting::Counted;
 use crate::maps::{MapFault, read_map};
 use crate::preparing::{order_of, prepare_image};
 use history_restore::StandIn;
@@ -38,7 +39,8 @@ pub fn dry_run_image<T: Threads, F: Files, W: CommandOutput>(
 {
     let made = prepare_image(rt, alloc, files, asked, stand_ins)?;
     let order = order_of(files, asked, stand_ins, &made);
-    over_image(rt, alloc, files, asked.image, &order, writer)
+    let counted = Counted { order: &order };
+    over_image(rt, alloc, files, asked.image, &counted, writer)
 }
 
 /// Restores the drive of an image, saves it there, and prints what was done to each object. What an
@@ -94,10 +96,11 @@ fn put_restored<T: Threads, F: Files, W: CommandOutput>(
 {
     let preview = Preview { order };
     let changes = use_image(rt, alloc, files, image, &preview, &mut ())?;
+    let counted = Counted { order };
     if changes {
-        return change_image(rt, alloc, files, image, order, writer);
+        return change_image(rt, alloc, files, image, &counted, writer);
     }
-    let _verdict = over_image(rt, alloc, files, image, order, writer)?;
+    let _verdict = over_image(rt, alloc, files, image, &counted, writer)?;
     Ok(Placed::Lasting)
 }
 

@@ -8,11 +8,13 @@
 //! alone, each only where a trial without it found something lacking; with `--flush` the fewest
 //! versions are hidden that serve, the newest first, and with `--skip` what a trial found lacking
 //! is left out. With all that a last trial was made, in which everything was restored that is to
-//! be. `dry_run_image` prints the same of a drive that isn't saved, or is refused as that is.
+//! be. The last line says how many versions age by it, where any do. `dry_run_image` prints the
+//! same of a drive that isn't saved, or is refused as that is.
 //! `read_map` reads what an earlier restore printed of objects that it made anew: with that they
 //! are restored under the numbers that they got.
 #![tactic(auto)]
 
+mod counting;
 mod images;
 pub mod laws;
 mod maps;
