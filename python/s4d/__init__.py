@@ -32,8 +32,8 @@ from .image import Facts, Image, Moment
 from .moments import When
 from .pipeline import Pipeline, Reply
 from .retry import NEVER, Retry
-from .rows import (Change, ChangeKind, Checked, Compacted, Difference, Flush, Hidden, HiddenCounts, HiddenVersions, Info,
-                   Listed, Range, Restored, Stat, Times, Widened)
+from .rows import (Aged, Change, ChangeKind, Checked, Compacted, Difference, Flush, Hidden, HiddenCounts,
+                   HiddenVersions, Info, Listed, Range, Restored, Stat, Times, Widened)
 from .tls import Tls
 from .wire import ATTRIBUTE_BYTES, AUDIT_ROWS, BODY_BYTES, LAST, OBJECT_BYTES, READ_BYTES, WRITE_BYTES
 from .wire import Attributes, AuditKind, AuditRow, Created
@@ -41,8 +41,9 @@ from .wire import Attributes, AuditKind, AuditRow, Created
 __version__ = "0.1.0"
 
 __all__ = [
-    "ATTRIBUTE_BYTES", "AUDIT_ROWS", "AsyncDrive", "AsyncPast", "Attributes", "AuditKind", "AuditRow", "BODY_BYTES",
-    "BadAttr", "BadFrame", "BadReply", "BadSpan", "Busy", "ChainFull", "Change", "ChangeKind", "Checked", "ClockEnd",
+    "ATTRIBUTE_BYTES", "AUDIT_ROWS", "Aged", "AsyncDrive", "AsyncPast", "Attributes", "AuditKind", "AuditRow",
+    "BODY_BYTES", "BadAttr", "BadFrame", "BadReply", "BadSpan", "Busy", "ChainFull", "Change", "ChangeKind", "Checked",
+    "ClockEnd",
     "Compacted", "Created", "Difference", "Disconnected", "Drive", "Ended", "Error", "Expired", "Facts", "Flush",
     "Flushed", "Future", "Hidden", "HiddenCounts", "HiddenVersions", "Image", "ImageServed", "InUse", "Info", "Kind", "LAST",
     "Listed", "Moment", "NEVER", "NoMemory", "NoObject", "NoRoom", "NoSpace", "NotAdmin", "NotAsked", "OBJECT_BYTES",

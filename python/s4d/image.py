@@ -11,8 +11,8 @@ from .errors import REFUSALS, ProgramFailed
 from .moments import EPOCH, MICROSECOND, When, checked_age, moment_of, with_offset
 from .program import output_of
 from .retry import NEVER, Retry
-from .rows import (Change, ChangeKind, Checked, Compacted, Difference, Flush, Hidden, HiddenVersions, Info, Listed,
-                   Restored, Stat, Widened)
+from .rows import (Aged, Change, ChangeKind, Checked, Compacted, Difference, Flush, Hidden, HiddenVersions, Info,
+                   Listed, Restored, Stat, Widened)
 from .wire import AuditKind, AuditRow
 
 DIFFERS = 1  # the status of `diff` where anything differs
@@ -126,7 +126,7 @@ class Image:
 
     def restore(self, at: Moment, *, objects: Iterable[int] = (), name: Optional[str] = None, dry_run: bool = False,
                 flush: bool = False, skip: bool = False, keep_newer: bool = False, to_nothing: bool = False,
-                leap: Optional[timedelta] = None) -> List[Union[Restored, HiddenVersions, Widened]]:
+                leap: Optional[timedelta] = None) -> List[Union[Restored, HiddenVersions, Widened, Aged]]:
         """Makes objects what they were at a moment: these, or the one of an attribute, or all where none is named.
 
         All is done or nothing: where an object can't be restored ProgramFailed is raised, unless `skip` leaves it out.

@@ -206,6 +206,13 @@ class Widened:
 
 
 @dataclass(frozen=True)
+class Aged:
+    """How many versions that could be read before a restore ended by the drive's floor after it, where any did."""
+
+    versions: int
+
+
+@dataclass(frozen=True)
 class Checked:
     """How many versions can be read, their bytes in all, and the SHA-256 of these in hex."""
 
@@ -293,9 +300,11 @@ def difference(row: Json) -> Difference:
                       bytes_of(row["attribute_after"]), tuple(map(range_of, row["ranges"])), row.get("text"))
 
 
-def restored(row: Json) -> Union[Restored, HiddenVersions, Widened]:
+def restored(row: Json) -> Union[Restored, HiddenVersions, Widened, Aged]:
     if row["done"] == "hidden":
         return HiddenVersions(**named(row, HiddenVersions))
+    if row["done"] == "aged":
+        return Aged(row["versions"])
     if row["done"] == "widened":
         return Widened(row["from"], row["to"])
     return Restored(row["object"], row["done"], row.get("number"))

@@ -9,8 +9,8 @@ from datetime import datetime, timedelta, timezone
 from unittest import mock
 
 import s4d
-from s4d import (AuditKind, AuditRow, Change, ChangeKind, Flush, Hidden, HiddenVersions, Listed, Range, Restored, Stat,
-                 Widened, program)
+from s4d import (Aged, AuditKind, AuditRow, Change, ChangeKind, Flush, Hidden, HiddenVersions, Listed, Range, Restored,
+                 Stat, Widened, program)
 
 from s4d.moments import moment_of
 
@@ -151,6 +151,16 @@ class Images(unittest.TestCase):
             it.set_window(5)
         self.assertEqual(self.image.restore(5, objects=[1, 3])[0], Widened(before=5, after=9))
         self.assertEqual(self.image.info().window, 9)
+
+    def test_versions_that_age(self):
+        image = s4d.Image(f"{self.image.path}.narrow", PROGRAM, S4)
+        image.make(24, window=2)
+        with image.session(upkeep=False) as it:
+            note = it.create().object
+            for text in (b"one", b"two", b"six"):
+                it.write(note, 0, text)
+        for dry_run in (True, False):
+            self.assertEqual(image.restore(3, dry_run=dry_run), [Restored(note, "changed", None), Aged(versions=1)])
 
     def test_a_full_journal(self):
         image = s4d.Image(f"{self.image.path}.flooded", PROGRAM, S4)
