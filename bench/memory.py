@@ -8,18 +8,19 @@ below the floor leaves nothing in memory, its rows of the audit neither.
 Each Write is to one of 50 objects. A client has up to 500 on their way, and both figures are taken between two of these, once an
 administrator's Read was answered. It fails where the second one is more than 1 MB above the first.
 
-A full drive has had large Writes, or an object of its own for each small one, until the first change is refused for lack of room; then
-the service begins anew. The most of a start is what the kernel has noted when the service serves, that of flushes what it has noted anew
-after ten changes of the window, each of which is flushed.
+A full drive has as many objects of a size as it takes. The most of a start is what the kernel has noted when the service serves, that of
+flushes what it has noted anew after ten changes of the window, each of which is flushed.
 """
 import argparse
 import sys
+import time
 
-from service import Service, s4d
+from service import Service, program, s4d
 
 OBJECTS = 50
 TOGETHER = 500
 WINDOW = 1_000  # microseconds
+WEEK = 604_800_000_000  # microseconds
 MOST = 1_024  # KiB
 
 
@@ -79,22 +80,29 @@ def fill(drive, size):
         pass
 
 
+def full_image(path, frames, size):
+    """Makes an image whose clock is a minute ago, full of such objects."""
+    image = s4d.Image(path, program("s4d"), program("s4"))
+    image.make(frames, window=WEEK)
+    with image.session(tick=time.time_ns() // 1_000 - 60_000_000) as drive:
+        drive.create()
+    with image.session(tick=1, upkeep=False) as drive:
+        fill(drive, size)
+
+
 def most_of(frames, size):
     """KiB of a start, and of flushes after it, over a full drive."""
-    with Service(new=("--create", str(frames), "--keep", "30d")) as it:
-        it.begin()
-        with it.session() as drive:
-            fill(drive, size)
-        if it.stop() != 0:
-            sys.exit("memory.py: the service failed")
+    with Service() as it:
+        full_image(it.image, frames, size)
         it.begin()
         start = resident(it, "VmHWM")
+        forget_peak(it)
         with it.session("admin") as admin:
-            forget_peak(it)
-            for number in range(10):
-                admin.set_window(2_592_000_000_000 + number)
+            for number in range(1, 11):
+                admin.set_window(WEEK + number)
             flushes = resident(it, "VmHWM")
-        it.stop()
+        if it.stop() != 0:
+            sys.exit("memory.py: the service failed")
     return start, flushes
 
 

@@ -1,5 +1,6 @@
 //! The clocks of the machine.
-ghost use Rattle.std.specs.Prelude.{◌≡◌};
+ghost use Rattle.std.specs.Prelude.{◌≡◌, ◌≤◌, ◌^◌, ◌/◌, IfNone, IfSome};
+ghost use Rattle.std.specs.Duration.{as_nanos};
 
 use crate::clock::Readings;
 use std::time;
@@ -41,6 +42,9 @@ pub fn system_time(machine: &impl time::Clock) -> Option<u64> {
 }
 
 // The microseconds of a time, where 64 bits hold them.
-fn micros_of(time: Duration) -> Option<u64> {
+fn micros_of(time: Duration) -> Option<u64>
+    ensures micros { IfSome result (λ micros. micros ≡ as_nanos time / 1000) }
+    ensures none { IfNone result (2 ^ 64 ≤ as_nanos time / 1000) }
+{
     u64::try_from(time.as_micros()).ok()
 }
