@@ -1,11 +1,11 @@
 -- Whether a moment can be read among some, and what is added object by object.
-use Rattle.std.proofs.Common.{◌≡◌, ◌∙◌, ◌+◌, ◌-◌, ◌<◌, ◌≤◌, ◌++◌, ◌&&◌, ◌||◌, ℕ, zero, suc, Bool, true, false, List, length, get_or, take, inl, inr, refl, ap, sym, subst, arith}
+use Rattle.std.proofs.Common.{◌≡◌, ◌∙◌, ◌+◌, ◌-◌, ◌<◌, ◌≤◌, ◌++◌, ◌||◌, ℕ, zero, suc, Bool, true, false, List, length, get_or, take, inl, inr, ap, sym, subst, arith}
 use Rattle.std.specs.Prelude.{MatchBool}
 use Rattle.std.specs.List.{flat_map}
 use Rattle.std.proofs.lemmas.Bool.{true≢false, false_from_ne_true, or_left, or_right, and_parts, cases_Bool, cases_eq}
 use Rattle.lemmas.proofs.List.{flat_map_take_next}
 use Rattle.s4_model.specs.State.{State, state_of}
-use Rattle.s4_model.specs.Visible.{IsVisible, IsSeenBetween}
+use Rattle.s4_model.specs.Visible.{IsSeenBetween}
 use Rattle.segment_word.specs.AcceptViews.{Ledger}
 use Rattle.version_store.specs.Store.{StoreFields}
 use Rattle.drive.specs.Fields.{DriveFields, state_in, store_of}
@@ -63,12 +63,6 @@ ages s later o e is over = record {
   seen = test_seen s o e.before.changed e.moment (and_parts e.before.alive (any_from (is_visible s o) e.before.changed (e.moment - e.before.changed)) is).1;
   gone = λ seen. absurd (omega (arith, seen.visible.kept, seen.before, over));
 }
-
--- none can where the other isn't later
-pub none_before : (s : State) (o first end : ℕ) → end ≤ first → false ≡ any_from (is_visible s o) first (end - first)
-none_before s o first end over =
-    let none : end - first ≡ 0 = omega (arith, over) in
-    sym (ap (any_from (is_visible s o) first) none)
 
 -- ---- object by object
 

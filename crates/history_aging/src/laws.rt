@@ -4,7 +4,6 @@ ghost use Rattle.history_aging.specs.Ends.{WhatAgesIsLost};
 
 /// A version that is counted could be read, and where it ended by a floor it can't be read from
 /// that floor on.
-#[tactic(auto, using(crate::proofs::Sees::ages))]
 pub fn what_ages_is_lost()
     ensures { WhatAgesIsLost }
 {}
