@@ -9,7 +9,7 @@ Each Write is to one of 50 objects. A client has up to 500 on their way, and bot
 administrator's Read was answered. It fails where the second one is more than 1 MB above the first.
 
 A full drive has as many objects of a size as it takes. The most of a start is what the kernel has noted when the service serves, that of
-flushes what it has noted anew after ten changes of the window, each of which is flushed.
+flushes what it has noted anew after three changes of the window, each of which is flushed.
 """
 import argparse
 import sys
@@ -98,7 +98,7 @@ def most_of(frames, size):
         start = resident(it, "VmHWM")
         forget_peak(it)
         with it.session("admin") as admin:
-            for number in range(1, 11):
+            for number in range(1, 4):
                 admin.set_window(WEEK + number)
             flushes = resident(it, "VmHWM")
         if it.stop() != 0:
