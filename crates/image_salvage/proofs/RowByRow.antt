@@ -135,10 +135,11 @@ unlisted_all used unlisted n first files end before =
 
 -- ---- the blocks of these that are gone
 
-pub gone_on : (used : Place → Option Stored) (unlisted : List Unlisted) (n : ℕ) (d : Unlisted) (gone more later all : ℕ) → n < length unlisted → with_gone used (drop n unlisted) gone ≡ all
-    → more ≡ blocks_gone used (get_or unlisted n d).object (get_or unlisted n d).inode → later ≡ capped (gone + more) → with_gone used (drop (n + 1) unlisted) later ≡ all
-gone_on used unlisted n d gone more later all inside before is counts =
-    ap (with_gone used (drop (n + 1) unlisted)) (counts ∙ ap (λ (k : ℕ). capped (gone + k)) is) ∙ ap (λ (l : List Unlisted). with_gone used l gone) (sym (drop_more unlisted n d inside)) ∙ before
+pub gone_on : (used : Place → Option Stored) (unlisted : List Unlisted) (n : ℕ) (u : Unlisted) (gone more later all : ℕ) → n < length unlisted → u ≡ get_or unlisted n u → with_gone used (drop n unlisted) gone ≡ all
+    → more ≡ blocks_gone used u.object u.inode → later ≡ capped (gone + more) → with_gone used (drop (n + 1) unlisted) later ≡ all
+gone_on used unlisted n u gone more later all inside is before counted counts =
+    let front : drop n unlisted ≡ u ∷ drop (n + 1) unlisted = drop_more unlisted n u inside ∙ ap (λ (v : Unlisted). v ∷ drop (n + 1) unlisted) (sym is) in
+    ap (with_gone used (drop (n + 1) unlisted)) (counts ∙ ap (λ (k : ℕ). capped (gone + k)) counted) ∙ ap (λ (l : List Unlisted). with_gone used l gone) (sym front) ∙ before
 
 pub gone_all : (used : Place → Option Stored) (unlisted : List Unlisted) (n gone all : ℕ) → length unlisted ≤ n → with_gone used (drop n unlisted) gone ≡ all → gone ≡ all
 gone_all used unlisted n gone all end before = ap (λ (l : List Unlisted). with_gone used l gone) (sym (drop_all n unlisted end)) ∙ before

@@ -321,7 +321,7 @@ fn is_earlier(alloc: Global, bytes: &[u8]) -> Result<bool, Refusal>
 {
     what_has_a_fault_spells_nothing();
     match read_earlier(alloc, bytes) {
-        Ok(_) => Ok(true),
+        Ok(_image) => Ok(true),
         Err(Refusal::Damaged(_)) => Ok(false),
         Err(refusal) => Err(refusal),
     }

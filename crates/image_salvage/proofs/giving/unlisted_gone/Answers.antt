@@ -9,8 +9,8 @@ pub loop-unlisted-preserved : goal.loop-unlisted-preserved
 loop-unlisted-preserved c =
     let used = used_at c.args.image.now.table in
     let objects = c.unlisted-objects.result.now in
-    gone_on used objects c.loop-unlisted.unlisted-index _ c.loop-unlisted.gone c.gone.result c.saturating_add-gone.result (with_gone used objects 0) c.loop-unlisted-test.true c.loop-unlisted.invariant c.gone.ensures
-    c.saturating_add-gone.ensures
+    gone_on used objects c.loop-unlisted.unlisted-index c.unlisted-item.result c.loop-unlisted.gone c.gone.result c.saturating_add-gone.result (with_gone used objects 0) c.loop-unlisted-test.true c.unlisted-item.is
+    c.loop-unlisted.invariant c.gone.ensures c.saturating_add-gone.ensures
 
 pub returns : goal.returns
 returns c =
