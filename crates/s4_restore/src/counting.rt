@@ -1,8 +1,6 @@
 //! A restore says how many versions age by it.
-ghost use Rattle.std.specs.Prelude.{◌≡◌, ◌+◌, ◌^◌, ◌<◌, [], Some, false, IfErr, IfOk, OnOk};
-ghost use Rattle.std.specs.Prelude.{string_bytes};
+ghost use Rattle.std.specs.Prelude.{◌≡◌, ◌+◌, ◌^◌, ◌<◌, [], Some, false, IfOk, OnOk, string_bytes};
 ghost use Rattle.serde_json.specs.View.{view};
-ghost use Rattle.history_text.specs.Json.{json_line};
 ghost use Rattle.drive.specs.Fields.{state_in};
 ghost use Rattle.moment_words.specs.Texts as styles;
 ghost use Rattle.s4_images.specs.Failures.{IsInStyle};
