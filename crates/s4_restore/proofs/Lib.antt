@@ -1,4 +1,4 @@
-pub mod Counting
+pub mod Aging
 pub mod Dry
 pub mod Finding
 pub mod Learning

@@ -2,7 +2,7 @@ use Rattle.std.proofs.Common.{◌≡◌, ◌∙◌, ap}
 use Rattle.drive.specs.Fields.{state_in}
 use Rattle.history_aging.specs.Ends.{aged_count}
 use Rattle.s4_restore.specs.Counting.{aged_text}
-use Rattle.s4_restore.proofs.Counting.{counted}
+use Rattle.s4_restore.proofs.Aging.{counted}
 use Rattle.s4_restore.proofs.counting.restore_counted.Goals as goal
 
 pub returns : goal.returns
