@@ -22,7 +22,7 @@
    BATCH         requests that may be done before one wait; one where it isn't given
    FALLS_SILENT  a client may ask no more though its input is open, or not read its reply: nothing
                  may wait for it then, but `main` for a moment
-   FAULT         1 .. 16, a fault: see there */
+   FAULT         1 .. 15, a fault: see there */
 #ifndef SESSIONS
 #define SESSIONS 2
 #endif
@@ -218,9 +218,7 @@ inline put_off() {
     fi;
     gives_up = was_given_up;
     UNLOCK(monitor) }
-#if FAULT != 16
-  if :: gives_up -> notify_all() :: else fi
-#endif
+  if :: gives_up -> notify_all() :: else fi                   /* as the end of its own replies does */
 }
 
 #define MAY_GO_ON (!is_stopping && !has_failed)
