@@ -28,3 +28,7 @@ mod OneFrames
 mod OneImage
 mod SavedTold
 mod Encoded
+pub mod SeenParts
+pub mod SeenWhole
+pub mod SeenImage
+pub mod SeenBase

@@ -29,7 +29,7 @@ use Rattle.verifier.proofs.Verified.{AreHeldAsUsed}
 use Rattle.verifier.proofs.OpenedRows.{OnePointerASpelling, rows_same, version_kept}
 
 -- the rows that bytes encode are over whatever table the frames tell
-rows_stand : OneSummaryASpelling → OnePointerASpelling → (parts : Image) (t : Table) (rows : List ImageRow) → IsTableOf parts.frames t → SpellRows parts.rows rows → ChainsStand parts → RowsStand (used_at t) rows parts.clock
+pub rows_stand : OneSummaryASpelling → OnePointerASpelling → (parts : Image) (t : Table) (rows : List ImageRow) → IsTableOf parts.frames t → SpellRows parts.rows rows → ChainsStand parts → RowsStand (used_at t) rows parts.clock
 rows_stand summary pointer parts t rows is spelled stand =
     let U : (Place → Option Stored) → Type 0 = λ used. RowsStand used rows parts.clock in
     let R : List ImageRow → Type 0 = λ l. RowsStand (used_at stand.table) l parts.clock in

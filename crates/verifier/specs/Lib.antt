@@ -8,4 +8,5 @@ pub mod SavedFrame
 pub mod Saved
 pub mod SavedRows
 pub mod Opened
+pub mod Seen
 pub mod private

@@ -1,13 +1,20 @@
 -- The parts of an image that a drive is saved as.
-use Rattle.std.specs.Prelude.{◌≡◌, ℕ, List, ◌++◌, map}
+use Rattle.std.specs.Prelude.{◌≡◌, ◌≤◌, ℕ, List, ◌++◌, map, length}
 use Rattle.std.specs.List.{flat_map, AllByRecursion}
+use Rattle.sha2.specs.Sha256.{sha256}
+use Rattle.s4_types.specs.declared.spans.Span.{Span}
+use Rattle.s4_types.specs.declared.limits.TheConstants.{RUNS_IN_ALL}
 use Rattle.object_map.specs.declared.map.Row.{Row}
 use Rattle.object_map.specs.Rows.{row_of}
 use Rattle.image_parts.specs.Frames.{FrameFields, IsFrame, KeepFrameRules, frame_bytes}
 use Rattle.image_parts.specs.Image.{Image}
 use Rattle.image_objects.specs.Saved.{ObjectsAscend, saved_rows}
 use Rattle.segment_table.specs.Table.{Table}
+use Rattle.segment_word.specs.AcceptViews.{with_moment}
+use Rattle.window.specs.Runs.{Ascend, AllBeginFrom, AllEndBefore, AreFewInEachList}
 use Rattle.window.specs.Timeline.{CoverAlike}
+use Rattle.s4_model.specs.Sound.{IsOfGiven}
+use Rattle.s4_model.specs.State.{State}
 use Rattle.s4_model.specs.Audit.{audit_of}
 use Rattle.s4_model.specs.Visible.{spans_of}
 use Rattle.drive.specs.Fields.{DriveFields, state_in}
@@ -45,3 +52,21 @@ pub record SpellsSaved (d : DriveFields) (bytes : List ℕ) : Type 0 where
   pub image : Image
   pub spelled : SpellsDrive bytes image
   pub saved : IsSavedOf d image
+
+-- the bytes of the image whose front these are: they and their SHA-256
+abbrev pub with_digest : List ℕ → List ℕ
+with_digest front = front ++ sha256 front
+
+-- a drive once it has seen a moment, and nothing else has come to it
+abbrev pub as_seen : DriveFields → ℕ → DriveFields
+as_seen d moment = record d { ledger = with_moment d.ledger moment }
+
+-- Spans are those of a state, as an image has them: from its floor on they hide what its own do.
+pub record AreSpansOf (s : State) (spans : List Span) : Type 0 where
+  pub alike : CoverAlike s.floor spans (spans_of s)
+  pub ordered : Ascend spans
+  pub from_floor : AllBeginFrom s.floor spans
+  pub past : AllEndBefore s.clock spans
+  pub given : AllByRecursion (IsOfGiven s.next) spans
+  pub few : length spans ≤ RUNS_IN_ALL
+  pub few_in_each_list : AreFewInEachList spans

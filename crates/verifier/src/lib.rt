@@ -5,7 +5,8 @@
 //! the whole image before the next one does. `open` gives a drive whose frames, rows, spans,
 //! numbers and audit rows are the image's, and whose history begins with what they represent.
 //! `save` gives bytes that encode an image with the numbers, frames, rows and audit of the drive,
-//! which stays as it is, and with spans that hide from its floor on what its own do.
+//! which stays as it is, and with spans that hide from its floor on what its own do. `save_front`
+//! gives the same but for the digest, as it is once the drive has seen a moment, which it doesn't.
 #![tactic(auto)]
 
 mod audit;
@@ -21,6 +22,8 @@ mod rows;
 mod saved_frames;
 mod saved_rows;
 mod saving;
+pub mod seen_laws;
+mod seen_parts;
 mod tables;
 mod verifying;
 
@@ -32,5 +35,5 @@ pub use round_trips::round_trip;
 pub use rows::row_of;
 pub use saved_frames::push_frames;
 pub use saved_rows::{part_of, push_rows, push_spans};
-pub use saving::save;
+pub use saving::{save, save_front};
 pub use verifying::{spans_of, verify};
