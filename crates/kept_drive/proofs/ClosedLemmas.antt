@@ -18,16 +18,6 @@ not_below : (start clock : ℕ) → clock ≤ last_clock start clock
 not_below start zero = omega arith
 not_below start (suc clock) = omega arith
 
--- a drive that has seen something is kept as it is
-pub as_it_is : (start clock : ℕ) (history : History) → 0 < clock → history ≡ last_history start clock history
-as_it_is start zero history some = absurd (omega (arith, some))
-as_it_is start (suc clock) history some = refl
-
--- one that has seen nothing sees the start
-pub sees_the_start : (start clock : ℕ) (history : History) → clock ≡ 0 → grown history (Seen start) ≡ last_history start clock history
-sees_the_start start zero history none = refl
-sees_the_start start (suc clock) history none = absurd (omega (arith, none))
-
 from_zero : (clock start seen : ℕ) → clock ≡ 0 → seen ≡ max clock start → seen ≡ start
 from_zero clock start seen none is = omega (arith, none, is)
 

@@ -1,8 +1,10 @@
 pub mod ClosedLemmas
+pub mod CollectedLemmas
 pub mod Counting
 pub mod FlushedLemmas
 pub mod Fronts
 pub mod ImageReading
+pub mod ImageSeen
 pub mod KeepingLemmas
 pub mod RefusalLemmas
 pub mod Results

@@ -3,12 +3,7 @@ use Rattle.std.proofs.Common.{◌≡◌, ◌≤◌, ◌==◌, ◌&&◌, ◌||◌
 use Rattle.std.specs.List.{list_any}
 use Rattle.std.specs.Prelude.{nat_le}
 use Rattle.std.proofs.lemmas.Bool.{le-leb, lt-leb, cases_lt}
-use Rattle.std.proofs.lemmas.Option.{none-some}
-use Rattle.s4_types.specs.History.{Base, History, Record, Seen}
-use Rattle.s4_types.specs.declared.requests.Question.{Question}
-use Rattle.s4_types.specs.declared.requests.Request.TheVariants.{Query}
-use Rattle.s4_types.specs.declared.requests.Role.{Role}
-use Rattle.s4_types.specs.declared.replies.Reply.{Reply}
+use Rattle.s4_types.specs.History.{Base, History, Seen}
 use Rattle.s4_types.specs.declared.spans.Span.{Span}
 use Rattle.s4_model.specs.Audit.{audit_of, rows_from}
 use Rattle.s4_model.specs.Numbers.{clock_of, floor_of, next_of, window_of}
@@ -16,7 +11,6 @@ use Rattle.s4_model.specs.Promise.{GoesOn, beginning}
 use Rattle.s4_model.specs.Runs.{is_covered}
 use Rattle.s4_model.specs.Sound.{IsSound}
 use Rattle.s4_model.specs.State.{State, grown, seen, state_of}
-use Rattle.s4_model.specs.Step.{Step, Refuses, Serves, Accepts, Alters, Reads}
 use Rattle.s4_model.specs.VersionAt.{version_of}
 use Rattle.s4_model.specs.Visible.{IsVisible, hides, is_hidden, is_within, spans_of}
 use Rattle.s4_model.proofs.AuditLaws.{moment_cuts}
@@ -24,17 +18,6 @@ use Rattle.s4_model.proofs.ClockLaws.{clock_is_visible}
 use Rattle.s4_model.proofs.ListLaws.{lists_hide_alike}
 use Rattle.s4_model.proofs.StateLemmas.{state_of-seen}
 use Rattle.s4_model.proofs.VersionLemmas.{version_of-settled}
-
--- ---- a question
-
-read_sees : (h : History) (q : Question) (now : ℕ) (reply : Reply) (r : Record) → Accepts h (Query q) now reply r → r ≡ Seen now
-read_sees h q now reply r (Alters change asked told is) = absurd (none-some change asked)
-read_sees h q now reply r (Reads told is) = is
-
--- whatever a question is answered, its moment is seen and nothing else comes
-pub question_sees : (h after : History) (role : Role) (q : Question) (now : ℕ) (reply : Reply) → Step h role (Query q) now reply after → after ≡ grown h (Seen now)
-question_sees h after role q now reply (Refuses refusal is may grows) = grows
-question_sees h after role q now reply (Serves r free accepts grows) = grows ∙ ap (grown h) (read_sees h q now reply r accepts)
 
 -- ---- numbers after a moment was seen
 

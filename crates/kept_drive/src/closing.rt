@@ -12,7 +12,6 @@ use group_commit::FlushError;
 use image_keeping::{KeepError, Keeper};
 use segment_word::Naming;
 use std::alloc::Global;
-use std::thread::Threads;
 
 impl<J: Naming, K: Keeper> KeptImage<J, K> {
     /// Keeps the drive as it is when this session meets it, at its own clock, which may be below the
@@ -24,12 +23,7 @@ impl<J: Naming, K: Keeper> KeptImage<J, K> {
     ///
     /// `Short` where memory or space is short: it may be tried again. `Failed` where the keeper has
     /// failed, now or before, or was asked for the last time.
-    pub fn close<R: Threads, L: DriveLock<J>>(
-        &mut self,
-        rt: &R,
-        alloc: Global,
-        lock: &L,
-    ) -> Result<(), FlushError>
+    pub fn close<L: DriveLock<J>>(&mut self, alloc: Global, lock: &L) -> Result<(), FlushError>
         // Whatever a crash leaves is the drive as it was collected, at its own clock.
         ensures kept { OnOk result
             (IsKept (K.may_leave self.new.keeper)
@@ -53,7 +47,7 @@ impl<J: Naming, K: Keeper> KeptImage<J, K> {
         if self.has_failed {
             return Err(FlushError::Failed);
         }
-        let Ok(image) = prepare_last(rt, alloc, lock, &mut self.session, self.start) else {
+        let Ok(image) = prepare_last(alloc, lock, &mut self.session, self.start) else {
             return Err(FlushError::Short);
         };
         match self.keeper.keep(image.as_slice()) {

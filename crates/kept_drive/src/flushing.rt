@@ -7,7 +7,6 @@ use image_keeping::Keeper;
 use segment_word::Naming;
 use std::alloc::Global;
 use std::sync::{Mutex, Wait};
-use std::thread::Threads;
 
 /// By whom the administrator hears that memory or space is short.
 pub trait Announce {
@@ -27,13 +26,10 @@ pub struct Flushing<'a, J: Naming, K: Keeper, L, R, A> {
     pub announcing: A,
 }
 
-impl<J: Naming, K: Keeper + Drop, L: DriveLock<J>, R: Wait + Threads, A: Announce> Flush<
-    KeptReceipt<J>,
-> for Flushing<'_, J, K, L, R, A> {
+impl<J: Naming, K: Keeper + Drop, L: DriveLock<J>, R: Wait, A: Announce> Flush<KeptReceipt<J>>
+    for Flushing<'_, J, K, L, R, A> {
     fn flush(&mut self) -> Result<KeptReceipt<J>, FlushError> {
-        self.kept
-            .lock(self.rt)
-            .flush(self.rt, self.alloc, &self.drive)
+        self.kept.lock(self.rt).flush(self.alloc, &self.drive)
     }
 
     fn announce_shortage(&mut self, left: Option<u64>) {

@@ -15,7 +15,6 @@ use s4_types::Moment;
 use segment_word::Naming;
 use std::alloc::Global;
 use std::marker::PhantomData;
-use std::thread::Threads;
 
 /// The image of a drive that is kept. Those that flush have it one after the other.
 pub struct KeptImage<J: Naming, K: Keeper> {
@@ -75,9 +74,8 @@ impl<J: Naming, K: Keeper> KeptImage<J, K> {
     /// drive itself never sees. The drive's lock is held while it is collected alone.
     ///
     /// `Short` where memory or space is short, `Failed` where the keeper has failed, now or before.
-    pub fn flush<R: Threads, L: DriveLock<J>>(
+    pub fn flush<L: DriveLock<J>>(
         &mut self,
-        rt: &R,
         alloc: Global,
         lock: &L,
     ) -> Result<KeptReceipt<J>, FlushError>
@@ -108,7 +106,7 @@ impl<J: Naming, K: Keeper> KeptImage<J, K> {
         if self.has_failed {
             return Err(FlushError::Failed);
         }
-        let Ok(prepared) = prepare(rt, alloc, lock, &mut self.session, self.reach) else {
+        let Ok(prepared) = prepare(alloc, lock, &mut self.session, self.reach) else {
             return Err(FlushError::Short);
         };
         self.reach = prepared.reach;

@@ -3,21 +3,23 @@ ghost use Rattle.std.specs.Prelude.{◌≡◌, ◌<◌, ◌≤◌, ◌-◌, ◌^
 ghost use mathlib.Core.List.{IsPrefix};
 ghost use mathlib.Core.Option.{some};
 ghost use lib.ListN.{get_elem?};
-ghost use Rattle.s4_types.specs.History.{Base, History, accepted};
+ghost use Rattle.s4_types.specs.History.{Base, History, Seen, accepted};
 ghost use Rattle.s4_types.specs.declared.changes.Accepted.{Accepted};
 ghost use Rattle.s4_model.specs.Numbers.{clock_of};
 ghost use Rattle.s4_model.specs.Sound.{IsSound};
-ghost use Rattle.s4_model.specs.State.{state_of};
+ghost use Rattle.s4_model.specs.State.{grown, state_of};
 ghost use Rattle.drive.specs.Fields.{history_of};
-ghost use Rattle.image_parts.specs.Image.{image_in};
+ghost use Rattle.image_parts.specs.Image.{image_bytes, image_in};
 ghost use Rattle.verifier.specs.Grammar.{SpellsDrive};
 ghost use Rattle.verifier.specs.Opened.{TellsBase};
+ghost use Rattle.verifier.specs.Seen.{parts_seen};
 ghost use Rattle.kept_drive.specs.Collecting.{HasSeenMore};
-ghost use Rattle.kept_drive.specs.Images.{GoesOnFrom, IsClosedOf, IsFlushedOf, Keeps, KeepsFrom};
-ghost use Rattle.kept_drive.specs.Images.{last_clock};
+ghost use Rattle.kept_drive.specs.Images.{GoesOnFrom, IsClosedOf, IsFlushedOf, IsImageOf};
+ghost use Rattle.kept_drive.specs.Images.{Keeps, KeepsFrom, last_clock};
 
 use drive::{Drive, Session};
 use segment_word::Naming;
+use verifier::seen_laws::an_image_sees_a_moment;
 
 /// What two sessions of one drive have seen are beginnings of one list: of what was accepted. Both
 /// have met the drive afterwards.
@@ -107,3 +109,14 @@ pub fn what_is_kept_is_recovered()
         (begun : Base) → Keeps base changes clock bytes → TellsBase bytes begun
         → GoesOnFrom base changes clock begun }
 {}
+
+/// An image sees a moment by its clock, floor, spans and audit rows alone: with these it is the
+/// image of the history that has seen the moment, and no drive has to be opened.
+pub fn an_image_alone_sees_a_moment()
+    ensures { (ended : History) (bytes : List ℕ) (moment : ℕ) → moment < 2 ^ 64
+        → IsSound (state_of ended) → IsImageOf ended bytes
+        → IsImageOf (grown ended (Seen moment))
+        (image_bytes (parts_seen (image_in bytes) moment)) }
+{
+    an_image_sees_a_moment();
+}

@@ -21,6 +21,7 @@
 
 mod closing;
 mod collecting;
+mod collecting_last;
 mod flushing;
 mod keeping;
 pub mod laws;
@@ -28,12 +29,11 @@ mod preparing;
 mod reach;
 mod receipts;
 mod recovering;
-mod seeing;
 
 pub use collecting::{Collected, DriveLock, collect};
+pub use collecting_last::collect_last;
 pub use flushing::{Announce, Flushing};
 pub use keeping::KeptImage;
 pub use reach::{MOST_AHEAD, reach_after};
 pub use receipts::KeptReceipt;
 pub use recovering::recover;
-pub use seeing::seen_image;

@@ -1,17 +1,15 @@
 //! What a flush gives to the keeper.
-ghost use Rattle.std.specs.Prelude.{◌≡◌, ◌≤◌, ◌⊎◌, IfErr, IfOk, length};
-ghost use Rattle.s4_types.specs.declared.refusals.Refusal.TheVariants.{Busy, NoMemory};
+ghost use Rattle.std.specs.Prelude.{◌≡◌, ◌≤◌, IfErr, IfOk, length};
+ghost use Rattle.s4_types.specs.declared.refusals.Refusal.TheVariants.{NoMemory};
 ghost use Rattle.kept_drive.specs.Collecting.{HasSeenMore};
 ghost use Rattle.kept_drive.specs.Images.{IsClosed, IsFlushed};
 
 use crate::collecting::{Collected, DriveLock};
-use crate::reach::reach_after;
-use crate::seeing::seen_image;
 use drive::Session;
+use image_parts::push_digest;
 use s4_types::{Moment, Refusal};
 use segment_word::Naming;
 use std::alloc::Global;
-use std::thread::Threads;
 
 /// What is to be kept.
 #[derive(Drop)]
@@ -23,10 +21,10 @@ pub(crate) struct Prepared {
     pub image: Vec<u8>,
 }
 
-/// Collects a drive, and makes the image that it has after it has seen the reach. `last` is the
-/// reach of the image before. NoMemory or Busy alone, where memory is refused.
-pub(crate) fn prepare<J: Naming, R: Threads, L: DriveLock<J>>(
-    rt: &R,
+/// Collects a drive, and makes the image that it has after it has seen the reach: its digest is
+/// taken without the drive's lock. `last` is the reach of the image before. NoMemory alone, where
+/// memory is refused.
+pub(crate) fn prepare<J: Naming, L: DriveLock<J>>(
     alloc: Global,
     lock: &L,
     session: &mut Session<J>,
@@ -37,19 +35,17 @@ pub(crate) fn prepare<J: Naming, R: Threads, L: DriveLock<J>>(
         last p.reach p.image.items) }
     ensures number { IfOk result (λ p. p.number ≡ length session.new.told.seen) }
     ensures later { IfOk result (λ p. last ≤ p.reach) }
-    ensures refusal { IfErr result (λ e. (e ≡ NoMemory) ⊎ (e ≡ Busy)) }
+    ensures refusal { IfErr result (λ e. e ≡ NoMemory) }
     ensures grows { HasSeenMore session.old session.new }
 {
-    let collected = lock.collect(alloc, session)?;
+    let collected = lock.collect(alloc, session, last)?;
     let Collected {
         number,
-        clock,
-        window,
-        image: collected_image,
+        reach,
+        front,
     } = collected;
-    let reach = reach_after(last, clock, window);
-    let moment = Moment::new(reach);
-    let image = seen_image(rt, alloc, collected_image, moment)?;
+    let mut image = front;
+    push_digest(&mut image)?;
     Ok(Prepared {
         number,
         reach,
@@ -59,9 +55,8 @@ pub(crate) fn prepare<J: Naming, R: Threads, L: DriveLock<J>>(
 
 /// Collects a drive at the end of its service that began at `start`, and answers its image at its
 /// own clock; of a drive that has seen nothing, the image that it has after it has seen the start.
-/// NoMemory or Busy alone, where memory is refused.
-pub(crate) fn prepare_last<J: Naming, R: Threads, L: DriveLock<J>>(
-    rt: &R,
+/// NoMemory alone, where memory is refused.
+pub(crate) fn prepare_last<J: Naming, L: DriveLock<J>>(
     alloc: Global,
     lock: &L,
     session: &mut Session<J>,
@@ -70,18 +65,10 @@ pub(crate) fn prepare_last<J: Naming, R: Threads, L: DriveLock<J>>(
     ensures closed { IfOk result
         (λ image. IsClosed (L.has_had lock.now) J.base session.new.told.seen
         start image.items) }
-    ensures refusal { IfErr result (λ e. (e ≡ NoMemory) ⊎ (e ≡ Busy)) }
+    ensures refusal { IfErr result (λ e. e ≡ NoMemory) }
     ensures grows { HasSeenMore session.old session.new }
 {
-    let collected = lock.collect(alloc, session)?;
-    let Collected {
-        number: _,
-        clock,
-        window: _,
-        image,
-    } = collected;
-    if clock > 0 {
-        return Ok(image);
-    }
-    seen_image(rt, alloc, image, start)
+    let mut last = lock.collect_last(alloc, session, start)?;
+    push_digest(&mut last)?;
+    Ok(last)
 }

@@ -1,6 +1,6 @@
 //! How a flush collects the drive of a service, and what it says where it can't.
 ghost use Rattle.std.specs.Prelude.{◌≡◌};
-ghost use Rattle.s4serve.specs.Collecting.{Collects, HasHad};
+ghost use Rattle.s4serve.specs.Collecting.{Collects, CollectsLast, HasHad};
 
 use crate::keeping::Explaining;
 use crate::service::Service;
@@ -8,25 +8,26 @@ use crate::telling::{News, Telling};
 use drive::{Drive, Session};
 use group_commit::{Flush, FlushError};
 use image_keeping::Keeper;
-use kept_drive::{Announce, Collected, DriveLock, Flushing, collect};
-use s4_types::Refusal;
+use kept_drive::{Announce, Collected, DriveLock, Flushing, collect, collect_last};
+use s4_types::{Moment, Refusal};
 use segment_word::Naming;
 use server::{Pace, Running, SharedDrive, Visit, show};
 use serving::Clock;
 use std::alloc::Global;
 use std::sync::{Mutex, Wait};
-use std::thread::Threads;
 
 /// Collects the drive that it is shown.
 #[derive(Drop)]
 struct Collecting {
     alloc: Global,
+    /// The reach of what was kept before.
+    last: u64,
 }
 
 impl<J: Naming> Visit<J> for Collecting {
     type Given = Result<Collected, Refusal>;
 
-    ghost gives = { λ _ drive old new given. Collects J.base drive old new given };
+    ghost gives = { λ visit drive old new given. Collects J.base visit.last drive old new given };
 
     fn visit(
         &self,
@@ -35,7 +36,32 @@ impl<J: Naming> Visit<J> for Collecting {
         number: u64,
     ) -> Result<Collected, Refusal> {
         drive.rules();
-        collect(self.alloc, drive, session, number)
+        collect(self.alloc, drive, session, number, self.last)
+    }
+}
+
+/// Collects the drive that it is shown a last time.
+#[derive(Drop)]
+struct CollectingLast {
+    alloc: Global,
+    /// Where the service began.
+    start: Moment,
+}
+
+impl<J: Naming> Visit<J> for CollectingLast {
+    type Given = Result<Vec<u8>, Refusal>;
+
+    ghost gives = { λ visit drive old new given.
+        CollectsLast J.base visit.start drive old new given };
+
+    fn visit(
+        &self,
+        drive: &mut Drive<J>,
+        session: &mut Session<J>,
+        _: u64,
+    ) -> Result<Vec<u8>, Refusal> {
+        drive.rules();
+        collect_last(self.alloc, drive, session, self.start)
     }
 }
 
@@ -50,12 +76,32 @@ pub struct UnderLock<'a, J: Running, C: Clock, R: Wait> {
 impl<J: Running, C: Clock, R: Wait> DriveLock<J> for UnderLock<'_, J, C, R> {
     ghost has_had = { λ _ history. HasHad J.base history };
 
-    fn collect(&self, alloc: Global, session: &mut Session<J>) -> Result<Collected, Refusal> {
+    fn collect(
+        &self,
+        alloc: Global,
+        session: &mut Session<J>,
+        last: u64,
+    ) -> Result<Collected, Refusal> {
         show(
             self.rt,
             self.drive,
             self.pace,
-            &Collecting { alloc },
+            &Collecting { alloc, last },
+            session,
+        )
+    }
+
+    fn collect_last(
+        &self,
+        alloc: Global,
+        session: &mut Session<J>,
+        start: Moment,
+    ) -> Result<Vec<u8>, Refusal> {
+        show(
+            self.rt,
+            self.drive,
+            self.pace,
+            &CollectingLast { alloc, start },
             session,
         )
     }
@@ -118,7 +164,7 @@ pub struct Closing<'a, J: Running, C: Clock, K: Keeper, R: Wait, D: Telling> {
     pub flushing: ServiceFlush<'a, J, C, K, R, D>,
 }
 
-impl<J: Running, C: Clock, K: Keeper + Explaining + Drop, R: Threads + Wait, D: Telling> Flush<()>
+impl<J: Running, C: Clock, K: Keeper + Explaining + Drop, R: Wait, D: Telling> Flush<()>
     for Closing<'_, J, C, K, R, D> {
     /// Where the image was removed or replaced since it was kept, all is left in a file beside it.
     /// That is at the reach, so that it is the later one of the two.
@@ -126,9 +172,9 @@ impl<J: Running, C: Clock, K: Keeper + Explaining + Drop, R: Threads + Wait, D: 
         let flushing = &self.flushing;
         let mut kept = flushing.kept.lock(flushing.rt);
         if kept.keeper().is_in_place() {
-            return kept.close(flushing.rt, flushing.alloc, &flushing.drive);
+            return kept.close(flushing.alloc, &flushing.drive);
         }
-        match kept.flush(flushing.rt, flushing.alloc, &flushing.drive) {
+        match kept.flush(flushing.alloc, &flushing.drive) {
             Ok(_) => Ok(()),
             Err(error) => Err(error),
         }

@@ -102,13 +102,13 @@ impl<
 }
 
 /// Does what a duty says, for as long as that goes on.
-fn perform<
-    J: Running,
-    C: Clock,
-    K: Keeper + Drop,
-    R: Threads + Wait + time::Clock,
-    D: Fifos + Telling,
->(rt: &R, alloc: Global, service: &Service<J, C, K>, outside: &D, duty: Duty<D::Input>)
+fn perform<J: Running, C: Clock, K: Keeper + Drop, R: Wait + time::Clock, D: Fifos + Telling>(
+    rt: &R,
+    alloc: Global,
+    service: &Service<J, C, K>,
+    outside: &D,
+    duty: Duty<D::Input>,
+)
     requires upkeep { J.has_upkeep ≡ true }
 {
     match duty {

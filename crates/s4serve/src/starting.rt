@@ -177,7 +177,7 @@ fn serve_ready<
 }
 
 /// Has a session that meets the drive at each flush, and keeps the drive a first time.
-fn keep_first<'a, J: Running, C: serving::Clock, K: Keeper + Explaining + Drop, R: Threads + Wait>(
+fn keep_first<'a, J: Running, C: serving::Clock, K: Keeper + Explaining + Drop, R: Wait>(
     rt: &R,
     alloc: Global,
     drive: &Mutex<SharedDrive<J, C>>,
@@ -203,7 +203,7 @@ fn keep_first<'a, J: Running, C: serving::Clock, K: Keeper + Explaining + Drop, 
 }
 
 /// Keeps a drive a first time. Gives the receipt, no lines, and the image's path.
-fn flush_first<'a, 'b, J: Running, C: serving::Clock, K: Keeper + Explaining, R: Threads + Wait>(
+fn flush_first<'a, 'b, J: Running, C: serving::Clock, K: Keeper + Explaining, R: Wait>(
     rt: &'b R,
     alloc: Global,
     drive: &'b Mutex<SharedDrive<J, C>>,
@@ -215,7 +215,7 @@ fn flush_first<'a, 'b, J: Running, C: serving::Clock, K: Keeper + Explaining, R:
         drive,
         pace: None,
     };
-    let receipt = match kept.flush(rt, alloc, &lock) {
+    let receipt = match kept.flush(alloc, &lock) {
         Ok(receipt) => receipt,
         Err(_) => return Err(ServeFault::Unkept(image, kept.keeper().obstacle())),
     };
@@ -230,7 +230,7 @@ fn await_end<
     J: Running,
     C: serving::Clock,
     K: Keeper + Explaining + Drop,
-    R: Threads + Wait + Clock,
+    R: Wait + Clock,
     D: Telling,
 >(
     rt: &R,

@@ -17,17 +17,16 @@ use server::{Locked, Open, Running};
 use serving::{Clock, ReadSource, Sink, Source, WriteSink};
 use std::alloc::Global;
 use std::sync::Wait;
-use std::thread::Threads;
 use std::time;
 
 /// Serves sessions of a role, one after another, whatever becomes of each.
-pub fn work<
-    J: Running,
-    C: Clock,
-    K: Keeper + Drop,
-    R: Threads + Wait + time::Clock,
-    D: Fifos + Telling,
->(rt: &R, alloc: Global, service: &Service<J, C, K>, outside: &D, role: Role) {
+pub fn work<J: Running, C: Clock, K: Keeper + Drop, R: Wait + time::Clock, D: Fifos + Telling>(
+    rt: &R,
+    alloc: Global,
+    service: &Service<J, C, K>,
+    outside: &D,
+    role: Role,
+) {
     for _ in rt.forever() {
         let line = service.lines.take(rt, role);
         attend(rt, alloc, service, outside, &line);
@@ -35,13 +34,13 @@ pub fn work<
 }
 
 /// Serves the session that a line asks for, where its streams are there.
-fn attend<
-    J: Running,
-    C: Clock,
-    K: Keeper + Drop,
-    R: Threads + Wait + time::Clock,
-    D: Fifos + Telling,
->(rt: &R, alloc: Global, service: &Service<J, C, K>, outside: &D, line: &Line) {
+fn attend<J: Running, C: Clock, K: Keeper + Drop, R: Wait + time::Clock, D: Fifos + Telling>(
+    rt: &R,
+    alloc: Global,
+    service: &Service<J, C, K>,
+    outside: &D,
+    line: &Line,
+) {
     let Some(door) = service.doors.as_slice().get(line.door) else {
         return;
     };
@@ -58,7 +57,7 @@ fn serve_one<
     J: Running,
     C: Clock,
     K: Keeper + Drop,
-    R: Threads + Wait + time::Clock,
+    R: Wait + time::Clock,
     D: Telling,
     S: Source + Drop,
     W: Sink,

@@ -1,19 +1,13 @@
-use Rattle.std.proofs.Common.{ℕ, length, ap, subst, ◌∙◌}
+use Rattle.std.proofs.Common.{ℕ, List, length, ap, subst, sym, ◌∙◌}
 use Rattle.s4_types.specs.History.{Seen}
-use Rattle.s4_model.specs.Numbers.{clock_of}
 use Rattle.s4_model.specs.State.{grown}
 use Rattle.kept_drive.specs.Images.{IsImageOf}
-use Rattle.kept_drive.specs.Reach.{reach_after}
 use Rattle.kept_drive.proofs.FlushedLemmas.{flushed_later}
 use Rattle.kept_drive.proofs.preparing.prepare.Goals as goal
-
-pub seen_image-requires : goal.seen_image-requires
-seen_image-requires g c = let of = c.in_ok-collected.ensures.collected in of.is.image.whole
 
 pub returns-clause-flushed : goal.returns-clause-flushed
 returns-clause-flushed g c =
     let of = c.in_ok-collected.ensures.collected in
-    let collected = c.in_ok-collected.collected in
     record {
       history = of.history;
       had = of.had;
@@ -22,11 +16,8 @@ returns-clause-flushed g c =
         met = of.met;
         sound = of.is.sound;
         fits = of.is.fits;
-        ahead_of =
-            c.reach_after-reach.ensures
-            ∙ ap (λ (clock : ℕ). reach_after c.args.last clock collected.window) of.is.clock
-            ∙ ap (λ (window : ℕ). reach_after c.args.last (clock_of of.history) window) of.is.window;
-        image = subst (λ (m : ℕ). IsImageOf (grown of.history (Seen m)) c.in_ok-image.image.items) c.new-moment.ensures (c.in_ok-image.ensures.seen of.history of.is.sound of.is.image);
+        ahead_of = of.is.ahead_of;
+        image = subst (λ (bytes : List ℕ). IsImageOf (grown of.history (Seen c.in_ok-collected.collected.reach)) bytes) (sym {A = List ℕ} c.in_ok-push_digest.ensures.items) of.is.image;
       };
     }
 
