@@ -4,7 +4,9 @@ use Rattle.std.proofs.lemmas.Bool.Decides.{nat_tests}
 use Rattle.std.specs.Io.KnownBytes.{Keeps}
 use Rattle.std.proofs.KnownBytes.{Keeps-refl, Keeps-trans}
 use Rattle.verifier.specs.Grammar.{FirstFault}
-use Rattle.image_commands.specs.Leaving.{HasClock, IsNoImage, IsKeptWhereWhole, IsWholeFrom, is_spent}
+use Rattle.image_commands.specs.Leaving.{HasClock, IsNoImage, IsKeptWhereWhole, IsUnread, IsWholeFrom, NamesWhole, is_spent}
+use Rattle.image_commands.specs.declared.leftovers.LeftFault.{LeftFault}
+use Rattle.image_commands.specs.declared.leftovers.LeftFault.TheVariants.{NoMemory, Unread, Whole}
 
 -- of a file that wasn't touched
 pub whole_untouched : (known : Option (List ℕ)) → IsKeptWhereWhole known known
@@ -36,3 +38,9 @@ later_named None is found clock spent has which = tt
 later_named (Some bytes) is None clock spent has which = absurd cc
 later_named (Some bytes) is (Some later) clock spent has (inl left) = (later, has left, grind (arith, nat_tests))
 later_named (Some bytes) is (Some later) clock spent has (inr none) = absurd cc
+
+-- a fault of what isn't known names no whole file
+pub unread_names_none : (least : ℕ) (files : List ℕ → Option (List ℕ)) (fault : LeftFault) → IsUnread fault → NamesWhole least files fault
+unread_names_none least files (Whole path) unread = absurd unread
+unread_names_none least files (Unread path obstacle) unread = tt
+unread_names_none least files NoMemory unread = tt

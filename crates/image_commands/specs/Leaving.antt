@@ -52,3 +52,9 @@ IsWholeFrom least (Some bytes) = (clock : ℕ) × HasClock (Some bytes) (Some cl
 abbrev pub NamesWhole : (least : ℕ) → (List ℕ → Option (List ℕ)) → LeftFault → Type 0
 NamesWhole least files (Whole path) = IsWholeFrom least (files (string_bytes path))
 NamesWhole least files _ = ⊤
+
+-- a fault says that what a file has isn't known, or that memory was short
+abbrev pub IsUnread : LeftFault → Type 0
+IsUnread (Whole path) = ⊥
+IsUnread (Unread path obstacle) = ⊤
+IsUnread NoMemory = ⊤

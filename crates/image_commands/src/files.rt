@@ -4,8 +4,10 @@ ghost use Rattle.std.specs.Prelude.{IfSome, IsFalse, IsTrue, OnErr, OnOk, string
 ghost use Rattle.std.specs.Io.KnownBytes.{Keeps};
 ghost use Rattle.image_commands.specs.Crashes.{IsShort, LeavesMore, LeavesNoMore, LeavesOnly};
 ghost use Rattle.image_commands.specs.Files.{AreKnown, HasSome};
+ghost use Rattle.image_commands.specs.Leaving.{IsUnread};
 ghost use Rattle.image_commands.specs.declared.beside.TheConstants.{MOST_BESIDE};
 
+use crate::leftovers::LeftFault;
 use crate::obstacles::Obstacle;
 use std::alloc::Global;
 use std::io::{self, Read, Write};
@@ -149,13 +151,21 @@ pub trait Files {
         ensures others { (path : List ℕ) → is_beside beside path ≡ false → Keeps (contents self.old path) (contents self.new path) }
         ensures crash { (any : Self.Claim) → LeavesNoMore (may_leave self.old any) (may_leave self.new any) };
 
-    /// The file of this number that was left beside a claimed image, where there is one that no
-    /// program has: of a service's by a number from `MOST_BESIDE` on one that need not be whole.
-    fn leftover(&self, alloc: Global, claim: &Self::Claim, number: u32) -> Option<Self::Leftover>
-        ensures reserved { IfSome result (λ left. (path : List ℕ) → is_left left path ≡ true → reserves claim.now path ≡ true) }
-        ensures part { IfSome result
-            (λ left. MOST_BESIDE ≤ number → (path : List ℕ) → is_left left path ≡ true
-            → is_part claim.now path ≡ true) };
+    /// The file of this number that was left beside a claimed image: of a service's by a number
+    /// from `MOST_BESIDE` on one that need not be whole. None only where nothing is at its path, or
+    /// another program has it. A fault where what is there can't be opened, or is no regular file;
+    /// all files are as before.
+    fn leftover(
+        &self,
+        alloc: Global,
+        claim: &Self::Claim,
+        number: u32,
+    ) -> Result<Option<Self::Leftover>, LeftFault>
+        ensures reserved { IfOk result (λ opened. IfSome opened (λ left. (path : List ℕ) → is_left left path ≡ true → reserves claim.now path ≡ true)) }
+        ensures part { IfOk result
+            (λ opened. IfSome opened (λ left. MOST_BESIDE ≤ number → (path : List ℕ)
+            → is_left left path ≡ true → is_part claim.now path ≡ true)) }
+        ensures unread { IfErr result IsUnread };
 
     /// The path of a leftover.
     fn leftover_path(&self, leftover: Self::Leftover) -> String

@@ -1,8 +1,10 @@
 //! The files of this system.
-ghost use Rattle.std.specs.Prelude.{false, None, ⊤};
+ghost use Rattle.std.specs.Prelude.{false, None, IfErr, ⊤};
+ghost use Rattle.image_commands.specs.Leaving.{IsUnread};
 
 use crate::beside::{MOST_BESIDE, Names, beside_path, is_beside_name, left_path, whole_path};
 use crate::files::{Files, NotExchanged, NotReplaced, Placed};
+use crate::leftovers::LeftFault;
 use crate::obstacles::Obstacle;
 use crate::paths::{
     are_in_one_folder, are_one_file, are_one_path, end_of_path, folder_of, found, real_path,
@@ -268,10 +270,16 @@ impl Files for HostRuntime {
         let _ = fs::remove_file(self, beside.path.as_str());
     }
 
-    fn leftover(&self, alloc: Global, claim: &ImageClaim, number: u32) -> Option<LeftFile> {
+    fn leftover(
+        &self,
+        alloc: Global,
+        claim: &ImageClaim,
+        number: u32,
+    ) -> Result<Option<LeftFile>, LeftFault> {
         match left_path(alloc, claim.path.as_str(), claim.names, number) {
             Ok(Some(path)) => left_at(self, path),
-            _ => None,
+            Ok(None) => Ok(None),
+            Err(_) => Err(LeftFault::NoMemory),
         }
     }
 
@@ -558,24 +566,47 @@ fn lock_made(rt: &HostRuntime, file: File, path: &str) -> Result<Option<File>, O
     }
 }
 
-// The file at a path without links, locked, where it is a regular one that no program has.
-fn left_at(rt: &HostRuntime, path: String) -> Option<LeftFile> {
+// The file at a path without links, locked. None where nothing is there, or another program has it.
+fn left_at(rt: &HostRuntime, path: String) -> Result<Option<LeftFile>, LeftFault>
+    ensures unread { IfErr result IsUnread }
+{
     match locked_at(rt, path.as_str()) {
-        Ok(Some(file)) => Some(LeftFile { path, file }),
-        _ => None,
+        Ok(Some(file)) => Ok(Some(LeftFile { path, file })),
+        Ok(None) => Ok(None),
+        Err(obstacle) => Err(LeftFault::Unread(path, obstacle)),
     }
 }
 
 // The same file, without its path.
-fn locked_at(rt: &HostRuntime, path: &str) -> io::Result<Option<File>> {
-    // What is no file isn't opened.
-    if !is_file_at(rt, path)? {
-        return Ok(None);
+fn locked_at(rt: &HostRuntime, path: &str) -> Result<Option<File>, Obstacle> {
+    match regular_at(rt, path)? {
+        Some(file) => match lock(rt, &file, path)? {
+            true => Ok(Some(file)),
+            false => Ok(None),
+        },
+        None => Ok(None),
     }
-    let file = open_to_change(rt, path)?;
-    match lock(rt, &file, path)? {
-        true => Ok(Some(file)),
-        false => Ok(None),
+}
+
+// The regular file at a path without links. None where nothing is there.
+fn regular_at(rt: &HostRuntime, path: &str) -> Result<Option<File>, Obstacle> {
+    // What is no file isn't opened.
+    match is_file_at(rt, path) {
+        Ok(true) => {}
+        Ok(false) => return Err(Obstacle::NoFile),
+        Err(error) => return none_there(error),
+    }
+    match open_to_change(rt, path) {
+        Ok(file) => Ok(Some(file)),
+        Err(error) => none_there(error),
+    }
+}
+
+// None where an error says that nothing is at a path.
+fn none_there(error: io::Error) -> Result<Option<File>, Obstacle> {
+    match error.kind() {
+        io::ErrorKind::NotFound => Ok(None),
+        _ => Err(Obstacle::from(error)),
     }
 }
 

@@ -1,11 +1,11 @@
 //! Files that a program which was killed left beside an image, or a service that couldn't put one
 //! in its place.
 ghost use Rattle.std.specs.Prelude.{◌≡◌, ◌+◌, ◌++◌, ◌∷◌, ℕ, true, false, List, [], IfErr, IfOk};
-ghost use Rattle.std.specs.Prelude.{IfSome, IsTrue, OnOk};
+ghost use Rattle.std.specs.Prelude.{Err, IfSome, IsTrue, OnOk};
 ghost use Rattle.std.specs.List.{All};
 ghost use Rattle.std.specs.Io.KnownBytes.{Keeps};
 ghost use Rattle.image_commands.specs.Leaving.{HasClock, IsKeptWhereWhole, IsLeftFor, IsNoImage};
-ghost use Rattle.image_commands.specs.Leaving.{IsSpent, NamesWhole, is_spent};
+ghost use Rattle.image_commands.specs.Leaving.{IsSpent, IsUnread, NamesWhole, is_spent};
 
 use crate::beside::{MOST_BESIDE, MOST_LEFT};
 use crate::files::Files;
@@ -62,7 +62,8 @@ fn remove_leftover<T: Threads, F: Files>(
     ensures whole { (path : List ℕ)
         → IsKeptWhereWhole (F.contents files.old path) (F.contents files.new path) }
 {
-    let Some(leftover) = files.leftover(alloc, claim, number) else {
+    // What can't be opened may be an image, and stays.
+    let Ok(Some(leftover)) = files.leftover(alloc, claim, number) else {
         return;
     };
     if is_no_image(rt, alloc, files, &leftover) {
@@ -102,7 +103,7 @@ pub fn is_spent(left: Option<Moment>, image: Moment) -> bool
 /// are kept.
 ///
 /// A fault where a whole one has a later clock: what it has may have been acknowledged, and the
-/// image doesn't have it. Another one where what is there can't be read.
+/// image doesn't have it. Another one where what is there can't be opened or read.
 pub fn spent_leftovers<T: Threads, F: Files>(
     rt: &T,
     alloc: Global,
@@ -172,12 +173,13 @@ fn numbered_spent<T: Threads, F: Files>(
 {
     match files.leftover(alloc, claim, number) {
         // A service that was killed while it wrote it had acknowledged nothing of it.
-        Some(leftover) if number >= MOST_BESIDE => Ok(Some(leftover)),
-        Some(leftover) => match spent_leftover(rt, alloc, files, leftover, clock) {
+        Ok(Some(leftover)) if number >= MOST_BESIDE => Ok(Some(leftover)),
+        Ok(Some(leftover)) => match spent_leftover(rt, alloc, files, leftover, clock) {
             Ok(leftover) => Ok(Some(leftover)),
             Err(fault) => Err(fault),
         },
-        None => Ok(None),
+        Ok(None) => Ok(None),
+        Err(fault) => Err(fault),
     }
 }
 
@@ -221,7 +223,8 @@ fn clock_of_left<T: Threads, F: Files>(
 }
 
 /// A fault where a whole image that a service left, and that no program has, lies beside a claimed
-/// path: an image that was made there would hide it. Another one where what is there can't be read.
+/// path: an image that was made there would hide it. Another one where what is there can't be
+/// opened or read.
 pub fn refuse_whole<T: Threads, F: Files>(
     rt: &T,
     alloc: Global,
@@ -231,11 +234,28 @@ pub fn refuse_whole<T: Threads, F: Files>(
     ensures whole { IfErr result (NamesWhole 0 (F.contents files.now)) }
 {
     for number in 0..MOST_LEFT {
-        if let Some(leftover) = files.leftover(alloc, claim, number) {
-            refuse_leftover(rt, alloc, files, leftover)?;
-        }
+        let opened = files.leftover(alloc, claim, number);
+        refuse_opened(rt, alloc, files, opened)?;
     }
     Ok(())
+}
+
+// A fault where a leftover is whole, or can't be opened or read.
+fn refuse_opened<T: Threads, F: Files>(
+    rt: &T,
+    alloc: Global,
+    files: &F,
+    opened: Result<Option<F::Leftover>, LeftFault>,
+) -> Result<(), LeftFault>
+    requires unread { IfErr opened IsUnread }
+    ensures failed { IfErr opened (λ fault. result ≡ Err fault) }
+    ensures whole { IfErr result (NamesWhole 0 (F.contents files.now)) }
+{
+    match opened {
+        Ok(Some(leftover)) => refuse_leftover(rt, alloc, files, leftover),
+        Ok(None) => Ok(()),
+        Err(unread) => Err(unread),
+    }
 }
 
 // A fault where a leftover is whole, or can't be read.

@@ -50,6 +50,9 @@ pub enum ServeFault<'a> {
     /// A service left an image beside this one, which has changes that this one doesn't have.
     #[error("cannot serve {0}: {1}, and is later; move it to {0}, or remove it")]
     Later(&'a str, LeftFault),
+    /// What a file that a service left beside this image has isn't known: it may be a later image.
+    #[error("cannot serve {0}: {1}")]
+    LeftUnread(&'a str, LeftFault),
     /// No service begins over an image with this clock.
     #[error("cannot serve {0}: {1}")]
     Start(&'a str, StartFault),

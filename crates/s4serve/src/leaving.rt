@@ -13,7 +13,8 @@ use std::alloc::Global;
 use std::thread::Threads;
 
 /// A fault where no image is at a path, or one without bytes, and a whole one that a service left
-/// lies beside it: a new one would hide that. Else whoever makes the image says what is in the way.
+/// lies beside it, or one that can't be opened or read: a new one would hide that. Else whoever
+/// makes the image says what is in the way.
 pub fn refuse_making<'a, T: Threads, F: Files>(
     rt: &T,
     alloc: Global,
@@ -25,12 +26,20 @@ pub fn refuse_making<'a, T: Threads, F: Files>(
     match refuse_left(rt, alloc, files, image) {
         Ok(()) => Ok(()),
         Err(LeftFault::NoMemory) => Err(ServeFault::NoMemory),
+        Err(LeftFault::Unread(path, obstacle)) => Err(unread_left(image, path, obstacle)),
         Err(fault) => Err(ServeFault::LeftBeside(image, fault)),
     }
 }
 
+// The fault of a service beside whose image a file lies that can't be opened or read.
+fn unread_left<'a>(image: &'a str, path: String, obstacle: Obstacle) -> ServeFault<'a>
+    ensures { result ≡ ServeFault.LeftUnread image.entry (LeftFault.Unread path obstacle) }
+{
+    ServeFault::LeftUnread(image, LeftFault::Unread(path, obstacle))
+}
+
 /// Why an image isn't read: where it isn't there, and a whole one that a service left lies beside
-/// its path, that is named.
+/// its path, or one that can't be opened or read, that is named.
 pub fn unread_beside<'a, T: Threads, F: Files>(
     rt: &T,
     alloc: Global,
@@ -43,13 +52,15 @@ pub fn unread_beside<'a, T: Threads, F: Files>(
     match fault {
         Fault::CannotRead(_, Obstacle::NotThere) => match refuse_left(rt, alloc, files, image) {
             Err(LeftFault::Whole(path)) => ServeFault::Gone(image, LeftFault::Whole(path)),
+            Err(LeftFault::Unread(path, obstacle)) => unread_left(image, path, obstacle),
             _ => ServeFault::Image(fault),
         },
         fault => ServeFault::Image(fault),
     }
 }
 
-// A fault where a path has no image with bytes, and a whole one that a service left lies beside it.
+// A fault where a path has no image with bytes, and a whole one that a service left lies beside it,
+// or one that can't be opened or read.
 fn refuse_left<T: Threads, F: Files>(
     rt: &T,
     alloc: Global,
@@ -77,7 +88,7 @@ fn refuse_left<T: Threads, F: Files>(
 
 /// Removes what commands left beside a claimed image and is none. Gives the claim of a service, and
 /// what others left: it can be removed once the drive is kept. A fault where an image with a later
-/// clock than the claimed one's lies beside it.
+/// clock than the claimed one's lies beside it, or a file that can't be opened or read.
 pub fn claim_left<'a, T: Threads, F: Files>(
     rt: &T,
     alloc: Global,
@@ -104,13 +115,14 @@ pub fn claim_left<'a, T: Threads, F: Files>(
     }
 }
 
-// The fault of a service over an image beside which a later one lies.
+// The fault of a service over an image beside which a later one lies, or one that isn't known.
 fn later<'a>(image: &'a str, fault: LeftFault) -> ServeFault<'a>
     ensures { (clock : ℕ) (files : List ℕ → Option (List ℕ)) → NamesWhole (clock + 1) files fault
         → NamesLater clock files result }
 {
     match fault {
         LeftFault::NoMemory => ServeFault::NoMemory,
+        LeftFault::Unread(path, obstacle) => unread_left(image, path, obstacle),
         fault => ServeFault::Later(image, fault),
     }
 }
