@@ -1,5 +1,5 @@
 //! What services left beside an image, and where no service begins for that.
-ghost use Rattle.std.specs.Prelude.{◌+◌, ℕ, List, Option, IfErr, IfOk};
+ghost use Rattle.std.specs.Prelude.{◌≡◌, ◌+◌, ℕ, List, Option, IfErr, IfOk};
 ghost use Rattle.std.specs.List.{All};
 ghost use Rattle.image_commands.specs.Leaving.{IsLeftFor, NamesWhole};
 ghost use Rattle.s4serve.specs.Leaving.{NamesLater, NamesLeft};
