@@ -1,10 +1,14 @@
 -- What is left of files, step by step.
-use Rattle.std.proofs.Common.{◌≡◌, ◌≤◌, ◌+◌, ◌⊎◌, ℕ, Bool, true, false, List, Option, Some, None, inl, inr, subst, arith}
+use Rattle.std.proofs.Common.{◌≡◌, ◌<◌, ◌≤◌, ◌+◌, ◌++◌, ◌∙◌, ◌⊎◌, ℕ, Bool, true, false, List, [], ◌∷◌, Option, Some, None, length-append, inl, inr, subst, arith}
+use Rattle.std.proofs.lemmas.Bool.{cases_lt}
 use Rattle.std.proofs.lemmas.Bool.Decides.{nat_tests}
+use Rattle.std.proofs.lemmas.List.{get_or_append_left}
+use Rattle.std.proofs.lemmas.List.Quantifiers.{Any-push}
 use Rattle.std.specs.Io.KnownBytes.{Keeps}
 use Rattle.std.proofs.KnownBytes.{Keeps-refl, Keeps-trans}
 use Rattle.verifier.specs.Grammar.{FirstFault}
-use Rattle.image_commands.specs.Leaving.{HasClock, IsNoImage, IsKeptWhereWhole, IsUnread, IsWholeFrom, NamesWhole, is_spent}
+use Rattle.image_commands.specs.declared.beside.TheConstants.{MOST_BESIDE}
+use Rattle.image_commands.specs.Leaving.{AreAllSpent, AreNoImages, HasClock, IsAmong, IsNoImage, IsKeptWhereWhole, IsSpent, IsUnread, IsWholeFrom, NamesWhole, is_spent}
 use Rattle.image_commands.specs.declared.leftovers.LeftFault.{LeftFault}
 use Rattle.image_commands.specs.declared.leftovers.LeftFault.TheVariants.{NoMemory, Unread, Whole}
 
@@ -44,3 +48,45 @@ pub unread_names_none : (least : ℕ) (files : List ℕ → Option (List ℕ)) (
 unread_names_none least files (Whole path) unread = absurd unread
 unread_names_none least files (Unread path obstacle) unread = tt
 unread_names_none least files NoMemory unread = tt
+
+-- ---- what lies beside an image, number by number
+
+-- a number of those below one more is that one, or below it
+cases_next : (k n : ℕ) → k < n + 1 → (k < n) ⊎ (k ≡ n)
+cases_next k n below = elim (cases_lt k n) [
+  | inl less ↦ inl less
+  | inr more ↦ inr (omega arith)
+]
+
+-- one more number is that of no image
+pub no_images_on : (n : ℕ) (lies : ℕ → List ℕ → Type 0) (files : List ℕ → Option (List ℕ)) → AreNoImages n lies files
+    → ((path : List ℕ) → lies n path → IsNoImage (files path)) → AreNoImages (n + 1) lies files
+no_images_on n lies files so_far here k below path there = elim (cases_next k n below) [
+  | inl less ↦ so_far k less path there
+  | inr same ↦ here path (subst (λ (m : ℕ). lies m path) same there)
+]
+
+module _ {Left : Type 0} (is_left : Left → List ℕ → Bool) (files : List ℕ → Option (List ℕ)) (clock : ℕ) where
+  -- one of them is still one where there is one more
+  among_more : (k : ℕ) (path : List ℕ) (all : List Left) (one : Left) → IsAmong is_left files clock k path all → IsAmong is_left files clock k path (all ++ one ∷ [])
+  among_more k path all one ((i, left, below, is, at), spent) =
+      ((i, left, omega (arith, below, length-append all (one ∷ [])), get_or_append_left all (one ∷ []) left i below ∙ is, at), spent)
+
+  -- one more number, by which nothing lies there
+  pub all_spent_none : (n : ℕ) (lies : ℕ → List ℕ → Type 0) (all : List Left) → AreAllSpent n lies is_left files clock all
+      → ((path : List ℕ) → lies n path → ⊥) → AreAllSpent (n + 1) lies is_left files clock all
+  all_spent_none n lies all so_far none k below path there = elim (cases_next k n below) [
+    | inl less ↦ so_far k less path there
+    | inr same ↦ absurd (none path (subst (λ (m : ℕ). lies m path) same there))
+  ]
+
+  -- one more number, by which this one lies there
+  pub all_spent_more : (n : ℕ) (lies : ℕ → List ℕ → Type 0) (all : List Left) (one : Left) → AreAllSpent n lies is_left files clock all
+      → ((path : List ℕ) → lies n path → is_left one path ≡ true) → (n < MOST_BESIDE → (path : List ℕ) → is_left one path ≡ true → IsSpent clock (files path))
+      → AreAllSpent (n + 1) lies is_left files clock (all ++ one ∷ [])
+  all_spent_more n lies all one so_far this spent k below path there = elim (cases_next k n below) [
+    | inl less ↦ among_more k path all one (so_far k less path there)
+    | inr same ↦
+        let is : is_left one path ≡ true = this path (subst (λ (m : ℕ). lies m path) same there) in
+        (Any-push (λ left. is_left left path ≡ true) all one is, λ whole. spent (subst (λ (m : ℕ). m < MOST_BESIDE) same whole) path is)
+  ]

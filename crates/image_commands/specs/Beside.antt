@@ -1,9 +1,27 @@
--- The names of files that a service writes beside an image.
-use Rattle.std.specs.Prelude.{ℕ, ◌==◌, ◌++◌, if◌then◌else◌, List, [], codes, decimal}
+-- The names of files beside an image.
+use Rattle.std.specs.Prelude.{ℕ, ◌-◌, ◌==◌, ◌++◌, nat_lt, if◌then◌else◌, List, [], ◌∷◌, Option, None, Some, codes, decimal}
+use Rattle.std.specs.Path.{path_join, path_parent}
+use Rattle.image_commands.specs.declared.beside.TheConstants.{MOST_BESIDE}
+use Rattle.image_commands.specs.declared.beside.Names.{Names}
+use Rattle.image_commands.specs.declared.beside.Names.TheVariants.{OfCommands, OfServices}
 
 -- what a number adds to a name: nothing where it is 0
 abbrev pub numbered : ℕ → List ℕ
 numbered number = if number == 0 then [] else (codes "." ++ decimal number)
+
+-- the folder that a path is in, by its parent
+abbrev pub folder_by : (path : List ℕ) (parent : Option (List ℕ)) → List ℕ
+folder_by path None = path
+folder_by path (Some []) = codes "."
+folder_by path (Some (byte ∷ bytes)) = byte ∷ bytes
+
+-- the path of this name in the folder that a path is in
+abbrev pub path_in_folder : (path name : List ℕ) → List ℕ
+path_in_folder path name = path_join (folder_by path (path_parent path)) name
+
+-- the path of a number for one that a command writes
+abbrev pub command_path : (image : List ℕ) (number : ℕ) → List ℕ
+command_path image number = path_in_folder image (codes "s4d.new" ++ numbered number)
 
 -- the path of a number for a whole one beside the image at this path
 abbrev pub whole_path : (image : List ℕ) (number : ℕ) → List ℕ
@@ -12,3 +30,13 @@ whole_path image number = image ++ (codes ".s4serve.new" ++ numbered number)
 -- the path of a number for one that isn't whole yet
 abbrev pub part_path : (image : List ℕ) (number : ℕ) → List ℕ
 part_path image number = image ++ (codes ".s4serve.new.part" ++ numbered number)
+
+-- the path of a number at which one is made
+abbrev pub made_path : Names → (image : List ℕ) (number : ℕ) → List ℕ
+made_path OfCommands image number = command_path image number
+made_path OfServices image number = part_path image number
+
+-- that at which one may have been left, if there is such a number: by those from `MOST_BESIDE` on a part
+abbrev pub path_left : Names → (image : List ℕ) (number : ℕ) → Option (List ℕ)
+path_left OfCommands image number = if nat_lt number MOST_BESIDE then Some (command_path image number) else None
+path_left OfServices image number = if nat_lt number MOST_BESIDE then Some (whole_path image number) else Some (part_path image (number - MOST_BESIDE))

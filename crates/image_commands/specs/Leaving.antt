@@ -1,9 +1,11 @@
 -- What is left in the place of files that were left beside an image.
-use Rattle.std.specs.Prelude.{◌≡◌, ◌≤◌, ◌⊎◌, ℕ, nat_le, Bool, true, List, ⊤, Option, None, Some, string_bytes}
+use Rattle.std.specs.Prelude.{◌≡◌, ◌<◌, ◌≤◌, ◌⊎◌, ℕ, nat_le, Bool, true, List, ⊤, Option, None, Some, IsSomeAnd, string_bytes}
+use Rattle.std.specs.List.{Any}
 use Rattle.std.specs.Io.KnownBytes.{Keeps}
 use Rattle.s4_types.specs.declared.refusals.Cause.{Cause}
 use Rattle.verifier.specs.Images.{ImageFields}
 use Rattle.image_commands.specs.Verifying.{IsDamaged, IsVerified}
+use Rattle.image_commands.specs.declared.beside.TheConstants.{MOST_BESIDE}
 use Rattle.image_commands.specs.declared.leftovers.LeftFault.{LeftFault}
 use Rattle.image_commands.specs.declared.leftovers.LeftFault.TheVariants.{NoMemory, Unread, Whole}
 
@@ -42,6 +44,23 @@ IsSpent image known = (left : Option ℕ) × HasClock known left × (is_spent le
 abbrev pub IsLeftFor : {Claim Left : Type 0} → (is_left : Left → List ℕ → Bool) → (is_part : Claim → List ℕ → Bool) → (files : List ℕ → Option (List ℕ))
     → Claim → (clock : ℕ) → Left → Type 0
 IsLeftFor is_left is_part files claim clock left = (path : List ℕ) → is_left left path ≡ true → (is_part claim path ≡ true) ⊎ IsSpent clock (files path)
+
+-- what was opened is all that lies there
+abbrev pub IsAllThere : {Left : Type 0} → (is_left : Left → List ℕ → Bool) → (lies : List ℕ → Type 0) → Option Left → Type 0
+IsAllThere is_left lies opened = (path : List ℕ) → lies path → IsSomeAnd opened (λ left. is_left left path ≡ true)
+
+-- each file that lies beside an image by a number below this one is no image
+abbrev pub AreNoImages : (most : ℕ) → (lies : ℕ → List ℕ → Type 0) → (files : List ℕ → Option (List ℕ)) → Type 0
+AreNoImages most lies files = (number : ℕ) → number < most → (path : List ℕ) → lies number path → IsNoImage (files path)
+
+-- A file that lies beside an image with this clock, by this number, is one of these. It is spent, unless its number is that of a part.
+abbrev pub IsAmong : {Left : Type 0} → (is_left : Left → List ℕ → Bool) → (files : List ℕ → Option (List ℕ)) → (clock number : ℕ) → (path : List ℕ) → List Left → Type 0
+IsAmong is_left files clock number path all = Any (λ left. is_left left path ≡ true) all × (number < MOST_BESIDE → IsSpent clock (files path))
+
+-- so is each that lies there by a number below this one
+abbrev pub AreAllSpent : {Left : Type 0} → (most : ℕ) → (lies : ℕ → List ℕ → Type 0) → (is_left : Left → List ℕ → Bool) → (files : List ℕ → Option (List ℕ))
+    → (clock : ℕ) → List Left → Type 0
+AreAllSpent most lies is_left files clock all = (number : ℕ) → number < most → (path : List ℕ) → lies number path → IsAmong is_left files clock number path all
 
 -- what is known of a file encodes a drive whose clock isn't below this one
 abbrev pub IsWholeFrom : (least : ℕ) → Option (List ℕ) → Type 0

@@ -1,6 +1,7 @@
 //! The names of files beside an image.
-ghost use Rattle.std.specs.Prelude.{◌≡◌, IfOk, string_bytes};
-ghost use Rattle.image_commands.specs.Beside.{part_path, whole_path};
+ghost use Rattle.std.specs.Prelude.{◌≡◌, IfOk, option_map, string_bytes};
+ghost use Rattle.image_commands.specs.Beside.{command_path, made_path, part_path, path_left};
+ghost use Rattle.image_commands.specs.Beside.{whole_path};
 
 use crate::paths::path_beside;
 use std::alloc::{AllocError, Global};
@@ -64,7 +65,9 @@ pub fn beside_path(
     image: &str,
     names: Names,
     number: u32,
-) -> Result<String, AllocError> {
+) -> Result<String, AllocError>
+    ensures { IfOk result (λ path. string_bytes path ≡ made_path names image.now number) }
+{
     match names {
         Names::OfCommands => command_path(alloc, image, number),
         Names::OfServices => part_path(alloc, image, number),
@@ -77,7 +80,10 @@ pub fn left_path(
     image: &str,
     names: Names,
     number: u32,
-) -> Result<Option<String>, AllocError> {
+) -> Result<Option<String>, AllocError>
+    ensures { IfOk result
+        (λ path. option_map string_bytes path ≡ path_left names image.now number) }
+{
     let path = match names {
         Names::OfCommands if number >= MOST_BESIDE => return Ok(None),
         Names::OfCommands => command_path(alloc, image, number)?,
@@ -90,7 +96,9 @@ pub fn left_path(
 }
 
 // The path of that number for the file that a command writes.
-fn command_path(alloc: Global, image: &str, number: u32) -> Result<String, AllocError> {
+fn command_path(alloc: Global, image: &str, number: u32) -> Result<String, AllocError>
+    ensures { IfOk result (λ path. string_bytes path ≡ command_path image.now number) }
+{
     match number {
         0 => path_beside(alloc, image, OF_COMMANDS),
         _ => {

@@ -4,7 +4,7 @@ ghost use Rattle.std.specs.Prelude.{IfSome, IsFalse, IsTrue, OnErr, OnOk, string
 ghost use Rattle.std.specs.Io.KnownBytes.{Keeps};
 ghost use Rattle.image_commands.specs.Crashes.{IsShort, LeavesMore, LeavesNoMore, LeavesOnly};
 ghost use Rattle.image_commands.specs.Files.{AreKnown, HasSome};
-ghost use Rattle.image_commands.specs.Leaving.{IsUnread};
+ghost use Rattle.image_commands.specs.Leaving.{IsAllThere, IsUnread};
 ghost use Rattle.image_commands.specs.declared.beside.TheConstants.{MOST_BESIDE};
 
 use crate::leftovers::LeftFault;
@@ -32,6 +32,13 @@ pub trait Files {
 
     // Whether a path names where a service makes a file beside an image, before that is whole.
     ghost is_part: { Self.Claim → List ℕ → Bool };
+
+    // Whether what was claimed is the image at a path, which a service replaces again and again.
+    ghost serves: { Self.Claim → List ℕ → Type 0 };
+
+    // Whether a service left a file by this number beside the image at the first path, which lies at
+    // the second one, and which no other program has.
+    ghost lies: { Self → List ℕ → ℕ → List ℕ → Type 0 };
 
     // Whether two paths never lead to one file: what is written to the one is never what the other
     // has.
@@ -114,6 +121,7 @@ pub trait Files {
     /// have names of their own, which begin as the image's.
     fn keep_on(&self, claim: Self::Claim) -> Self::Claim
         ensures claimed { (path : List ℕ) → leads claim path → leads result path }
+        ensures serves { (path : List ℕ) → leads claim path → serves result path }
         ensures reserved { (path : List ℕ) → reserves result path ≡ reserves claim path };
 
     /// Whether a claimed image is still where it was claimed: neither removed nor replaced by
@@ -165,6 +173,9 @@ pub trait Files {
         ensures part { IfOk result
             (λ opened. IfSome opened (λ left. MOST_BESIDE ≤ number → (path : List ℕ)
             → is_left left path ≡ true → is_part claim.now path ≡ true)) }
+        ensures all { IfOk result
+            (λ opened. (image : List ℕ) → serves claim.now image
+            → IsAllThere is_left (lies self.now image number) opened) }
         ensures unread { IfErr result IsUnread };
 
     /// The path of a leftover.

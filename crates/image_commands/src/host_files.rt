@@ -147,6 +147,11 @@ impl Files for HostRuntime {
 
     ghost is_part = { λ _ _. false };
 
+    ghost serves = { λ _ _. ⊤ };
+
+    // Nor what lies where in its folders.
+    ghost lies = { λ _ _ _ _. ⊥ };
+
     ghost apart = { λ _ _. ⊤ };
 
     ghost opens = { λ _ _. ⊤ };

@@ -1,11 +1,13 @@
 //! Files that a program which was killed left beside an image, or a service that couldn't put one
 //! in its place.
-ghost use Rattle.std.specs.Prelude.{◌≡◌, ◌+◌, ◌++◌, ◌∷◌, ℕ, true, false, List, [], IfErr, IfOk};
-ghost use Rattle.std.specs.Prelude.{Err, IfSome, IsTrue, OnOk};
+ghost use Rattle.std.specs.Prelude.{◌≡◌, ◌+◌, ◌<◌, ◌++◌, ◌∷◌, ℕ, true, false, List, [], IfErr};
+ghost use Rattle.std.specs.Prelude.{IfOk, IfSome, IsTrue, OnOk};
 ghost use Rattle.std.specs.List.{All};
 ghost use Rattle.std.specs.Io.KnownBytes.{Keeps};
-ghost use Rattle.image_commands.specs.Leaving.{HasClock, IsKeptWhereWhole, IsLeftFor, IsNoImage};
-ghost use Rattle.image_commands.specs.Leaving.{IsSpent, IsUnread, NamesWhole, is_spent};
+ghost use Rattle.image_commands.specs.Leaving.{AreAllSpent, AreNoImages, HasClock, IsAllThere};
+ghost use Rattle.image_commands.specs.Leaving.{IsKeptWhereWhole, IsLeftFor, IsNoImage, IsSpent};
+ghost use Rattle.image_commands.specs.Leaving.{NamesWhole, is_spent};
+ghost use Rattle.image_commands.specs.declared.beside.TheConstants.{MOST_BESIDE, MOST_LEFT};
 
 use crate::beside::{MOST_BESIDE, MOST_LEFT};
 use crate::files::Files;
@@ -114,6 +116,11 @@ pub fn spent_leftovers<T: Threads, F: Files>(
     ensures spent { IfOk result
         (λ spent. All (IsLeftFor F.is_left F.is_part (F.contents files.now) claim.now clock)
         spent.items) }
+    // What is none of them doesn't lie there.
+    ensures all { IfOk result
+        (λ spent. (image : List ℕ) → F.serves claim.now image
+        → AreAllSpent MOST_LEFT (F.lies files.now image) F.is_left (F.contents files.now) clock
+        spent.items) }
     ensures later { IfErr result (NamesWhole (clock + 1) (F.contents files.now)) }
 {
     let mut spent = Vec::new(alloc);
@@ -136,14 +143,46 @@ fn add_spent<T: Threads, F: Files>(
     ensures spent { OnOk result
         (All (IsLeftFor F.is_left F.is_part (F.contents files.now) claim.now clock)
         spent.new.items) }
+    ensures all { OnOk result
+        ((image : List ℕ) → F.serves claim.now image
+        → AreAllSpent MOST_LEFT (F.lies files.now image) F.is_left (F.contents files.now) clock
+        spent.new.items) }
     ensures later { IfErr result (NamesWhole (clock + 1) (F.contents files.now)) }
 {
     for number in 0..MOST_LEFT {
-        if let Some(leftover) = numbered_spent(rt, alloc, files, claim, clock, number)? {
-            push_left(spent, leftover)?;
-        }
+        add_numbered(rt, alloc, files, claim, clock, number, spent)?;
     }
     Ok(())
+}
+
+// Adds the one of this number.
+fn add_numbered<T: Threads, F: Files>(
+    rt: &T,
+    alloc: Global,
+    files: &F,
+    claim: &F::Claim,
+    clock: Moment,
+    number: u32,
+    spent: &mut Vec<F::Leftover>,
+) -> Result<(), LeftFault>
+    ensures spent { OnOk result
+        (All (IsLeftFor F.is_left F.is_part (F.contents files.now) claim.now clock)
+        spent.old.items
+        → All (IsLeftFor F.is_left F.is_part (F.contents files.now) claim.now clock)
+        spent.new.items) }
+    ensures all { OnOk result
+        ((image : List ℕ) → F.serves claim.now image
+        → AreAllSpent number (F.lies files.now image) F.is_left (F.contents files.now) clock
+        spent.old.items
+        → AreAllSpent (number + 1) (F.lies files.now image) F.is_left (F.contents files.now) clock
+        spent.new.items) }
+    ensures later { IfErr result (NamesWhole (clock + 1) (F.contents files.now)) }
+{
+    match numbered_spent(rt, alloc, files, claim, clock, number) {
+        Ok(Some(leftover)) => push_left(spent, leftover),
+        Ok(None) => Ok(()),
+        Err(fault) => Err(fault),
+    }
 }
 
 // Adds one.
@@ -169,6 +208,12 @@ fn numbered_spent<T: Threads, F: Files>(
     ensures spent { IfOk result
         (λ spent. IfSome spent
         (IsLeftFor F.is_left F.is_part (F.contents files.now) claim.now clock)) }
+    ensures all { IfOk result
+        (λ spent. (image : List ℕ) → F.serves claim.now image
+        → IsAllThere F.is_left (F.lies files.now image number) spent) }
+    ensures whole { number < MOST_BESIDE → IfOk result
+        (λ spent. IfSome spent (λ left. (path : List ℕ) → F.is_left left path ≡ true
+        → IsSpent clock (F.contents files.now path))) }
     ensures later { IfErr result (NamesWhole (clock + 1) (F.contents files.now)) }
 {
     match files.leftover(alloc, claim, number) {
@@ -179,7 +224,7 @@ fn numbered_spent<T: Threads, F: Files>(
             Err(fault) => Err(fault),
         },
         Ok(None) => Ok(None),
-        Err(fault) => Err(fault),
+        Err(unopened) => Err(unopened),
     }
 }
 
@@ -191,6 +236,7 @@ fn spent_leftover<T: Threads, F: Files>(
     leftover: F::Leftover,
     clock: Moment,
 ) -> Result<F::Leftover, LeftFault>
+    ensures same { IfOk result (λ left. left ≡ leftover) }
     ensures spent { IfOk result
         (λ left. (path : List ℕ) → F.is_left left path ≡ true
         → IsSpent clock (F.contents files.now path)) }
@@ -231,27 +277,31 @@ pub fn refuse_whole<T: Threads, F: Files>(
     files: &F,
     claim: &F::Claim,
 ) -> Result<(), LeftFault>
+    ensures none { OnOk result
+        ((image : List ℕ) → F.serves claim.now image
+        → AreNoImages MOST_LEFT (F.lies files.now image) (F.contents files.now)) }
     ensures whole { IfErr result (NamesWhole 0 (F.contents files.now)) }
 {
     for number in 0..MOST_LEFT {
-        let opened = files.leftover(alloc, claim, number);
-        refuse_opened(rt, alloc, files, opened)?;
+        refuse_numbered(rt, alloc, files, claim, number)?;
     }
     Ok(())
 }
 
-// A fault where a leftover is whole, or can't be opened or read.
-fn refuse_opened<T: Threads, F: Files>(
+// A fault where the one of this number is whole, or can't be opened or read.
+fn refuse_numbered<T: Threads, F: Files>(
     rt: &T,
     alloc: Global,
     files: &F,
-    opened: Result<Option<F::Leftover>, LeftFault>,
+    claim: &F::Claim,
+    number: u32,
 ) -> Result<(), LeftFault>
-    requires unread { IfErr opened IsUnread }
-    ensures failed { IfErr opened (λ fault. result ≡ Err fault) }
+    ensures none { OnOk result
+        ((image path : List ℕ) → F.serves claim.now image → F.lies files.now image number path
+        → IsNoImage (F.contents files.now path)) }
     ensures whole { IfErr result (NamesWhole 0 (F.contents files.now)) }
 {
-    match opened {
+    match files.leftover(alloc, claim, number) {
         Ok(Some(leftover)) => refuse_leftover(rt, alloc, files, leftover),
         Ok(None) => Ok(()),
         Err(unread) => Err(unread),

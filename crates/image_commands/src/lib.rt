@@ -6,11 +6,12 @@
 //! whatever they are. `verify_file` writes its line, `write_object` the bytes of an object at a
 //! moment in the drive that begins with it, and `make_file` leaves the image of a new drive in a
 //! file that had no bytes; what was written has been passed on where they succeed.
-//! `remove_leftovers` removes nothing that `verify` takes. `spent_leftovers` gives of the files that
-//! services left none that has an image with a later clock, and refuses where one is there;
-//! `refuse_whole` where any is whole. That is proved over any `Files` that say what files hold. The system's files say nothing of it, since no clause of the standard library
-//! does: that they read and write as the trait says is tested through the program, and so is the
-//! line that a `Fault` prints.
+//! `remove_leftovers` removes nothing that `verify` takes. `spent_leftovers` gives each file that
+//! services left, of which none has an image with a later clock, and refuses where one has;
+//! `refuse_whole` where any is whole. That is proved over any `Files` that say what files hold. The
+//! system's files say nothing of it, since no clause of the standard library does: that they read
+//! and write as the trait says is tested through the program, and so is the line that a `Fault`
+//! prints.
 #![tactic(auto)]
 
 mod beside;

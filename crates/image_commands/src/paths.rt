@@ -1,4 +1,8 @@
 //! Where paths of this system lead.
+ghost use Rattle.std.specs.Prelude.{◌≡◌, IfOk, string_bytes};
+ghost use Rattle.std.specs.Path.{path_bytes, path_parent};
+ghost use Rattle.image_commands.specs.Beside.{folder_by, path_in_folder};
+
 use crate::obstacles::Obstacle;
 use std::alloc::{AllocError, Global};
 use std::fs::{self, Metadata};
@@ -39,7 +43,9 @@ pub fn are_in_one_folder(rt: &HostRuntime, first: Path<'_>, second: Path<'_>) ->
 }
 
 /// The folder that a path is in.
-pub fn folder_of<'a>(path: Path<'a>) -> &'a str {
+pub fn folder_of<'a>(path: Path<'a>) -> &'a str
+    ensures { result.now ≡ folder_by (path_bytes path.entry) (path_parent (path_bytes path.entry)) }
+{
     match path.parent() {
         Some(folder) if !folder.as_str().is_empty() => folder.as_str(),
         Some(_) => ".",
@@ -48,7 +54,9 @@ pub fn folder_of<'a>(path: Path<'a>) -> &'a str {
 }
 
 /// The path of this name in the folder that another path is in.
-pub fn path_beside(alloc: Global, path: &str, name: &str) -> Result<String, AllocError> {
+pub fn path_beside(alloc: Global, path: &str, name: &str) -> Result<String, AllocError>
+    ensures { IfOk result (λ beside. string_bytes beside ≡ path_in_folder path.now name.now) }
+{
     let folder = Path::new(folder_of(Path::new(path)));
     Ok(folder.join(alloc, name)?.into_string())
 }

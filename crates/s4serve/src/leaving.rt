@@ -1,29 +1,39 @@
 //! What services left beside an image, and where no service begins for that.
-ghost use Rattle.std.specs.Prelude.{◌≡◌, ◌+◌, ℕ, List, Option, IfErr, IfOk};
+ghost use Rattle.std.specs.Prelude.{◌≡◌, ◌+◌, ℕ, List, [], Option, IfErr, IfOk, OnOk};
 ghost use Rattle.std.specs.List.{All};
+ghost use Rattle.image_commands.specs.Files.{AreKnown};
+ghost use Rattle.image_commands.specs.Leaving.{AreAllSpent, AreNoImages, IsKeptWhereWhole};
 ghost use Rattle.image_commands.specs.Leaving.{IsLeftFor, NamesWhole};
+ghost use Rattle.image_commands.specs.declared.beside.TheConstants.{MOST_LEFT};
 ghost use Rattle.s4serve.specs.Leaving.{NamesLater, NamesLeft};
 
 use crate::faults::ServeFault;
 use image_commands::{
-    Fault, Files, LeftFault, Obstacle, refuse_whole, remove_leftovers, spent_leftovers,
+    Fault, Files, LeftFault, Obstacle, claim_empty, refuse_whole, remove_leftovers, spent_leftovers,
 };
 use s4_types::Moment;
 use std::alloc::Global;
 use std::thread::Threads;
 
-/// A fault where no image is at a path, or one without bytes, and a whole one that a service left
-/// lies beside it, or one that can't be opened or read: a new one would hide that. Else whoever
-/// makes the image says what is in the way.
+/// A fault where no image can be made at a path: what is there has bytes, or can't be claimed; or a
+/// whole one that a service left lies beside it, or one that can't be opened or read. A new one
+/// would hide that.
 pub fn refuse_making<'a, T: Threads, F: Files>(
     rt: &T,
     alloc: Global,
     files: &F,
     image: &'a str,
 ) -> Result<(), ServeFault<'a>>
+    ensures empty { OnOk result (AreKnown (F.contents files.now image.entry.now) []) }
+    ensures none { OnOk result
+        (AreNoImages MOST_LEFT (F.lies files.now image.entry.now) (F.contents files.now)) }
     ensures left { IfErr result (NamesLeft (F.contents files.now)) }
 {
-    match refuse_left(rt, alloc, files, image) {
+    let claim = match claim_empty(alloc, files, image) {
+        Ok(claim) => claim,
+        Err(fault) => return Err(ServeFault::Image(fault)),
+    };
+    match refuse_beside(rt, alloc, files, claim) {
         Ok(()) => Ok(()),
         Err(LeftFault::NoMemory) => Err(ServeFault::NoMemory),
         Err(LeftFault::Unread(path, obstacle)) => Err(unread_left(image, path, obstacle)),
@@ -69,21 +79,32 @@ fn refuse_left<T: Threads, F: Files>(
 ) -> Result<(), LeftFault>
     ensures left { IfErr result (NamesWhole 0 (F.contents files.now)) }
 {
-    let Ok(claim) = files.claim(alloc, path) else {
-        return Ok(());
-    };
-    match files.has_bytes(&claim) {
-        Ok(false) => {
-            let claim = files.keep_on(claim);
-            let refused = refuse_whole(rt, alloc, files, &claim);
-            drop(claim);
-            refused
-        }
-        _ => {
-            drop(claim);
+    match claim_empty(alloc, files, path) {
+        Ok(claim) => refuse_beside(rt, alloc, files, claim),
+        Err(fault) => {
+            drop(fault);
             Ok(())
         }
     }
+}
+
+// A fault where a whole image that a service left lies beside a claimed path, or one that can't be
+// opened or read.
+fn refuse_beside<T: Threads, F: Files>(
+    rt: &T,
+    alloc: Global,
+    files: &F,
+    claim: F::Claim,
+) -> Result<(), LeftFault>
+    ensures none { OnOk result
+        ((path : List ℕ) → F.leads claim path
+        → AreNoImages MOST_LEFT (F.lies files.now path) (F.contents files.now)) }
+    ensures left { IfErr result (NamesWhole 0 (F.contents files.now)) }
+{
+    let of_service = files.keep_on(claim);
+    let refused = refuse_whole(rt, alloc, files, &of_service);
+    drop(of_service);
+    refused
 }
 
 /// Removes what commands left beside a claimed image and is none. Gives the claim of a service, and
@@ -102,6 +123,13 @@ pub fn claim_left<'a, T: Threads, F: Files>(
     ensures left { IfOk result
         (λ had. All (IsLeftFor F.is_left F.is_part (F.contents files.new) had.0 clock)
         had.1.items) }
+    // What is none of them doesn't lie there.
+    ensures all { IfOk result
+        (λ had. (path : List ℕ) → F.leads claim path
+        → AreAllSpent MOST_LEFT (F.lies files.new path) F.is_left (F.contents files.new) clock
+        had.1.items) }
+    ensures kept { (path : List ℕ)
+        → IsKeptWhereWhole (F.contents files.old path) (F.contents files.new path) }
     ensures later { IfErr result (NamesLater clock (F.contents files.new)) }
 {
     remove_leftovers(rt, alloc, files, &claim);

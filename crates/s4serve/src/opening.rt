@@ -1,9 +1,12 @@
 //! The drive that a service serves: the one in its image, which is made before where that is asked.
 ghost use Rattle.std.specs.Prelude.{◌≡◌, [], IfOk, IfSome, OnOk};
+ghost use Rattle.std.specs.List.{All};
 ghost use Rattle.s4_types.specs.Sizes.{IsFrameCount};
 ghost use Rattle.image_commands.specs.Files.{AreKnown};
+ghost use Rattle.image_commands.specs.Leaving.{AreAllSpent, AreNoImages, IsLeftFor};
 ghost use Rattle.image_commands.specs.Making.{HasNew};
 ghost use Rattle.image_commands.specs.Verifying.{IsVerified};
+ghost use Rattle.image_commands.specs.declared.beside.TheConstants.{MOST_LEFT};
 ghost use Rattle.s4serve.specs.Starts.{IsStart};
 
 use crate::faults::ServeFault;
@@ -61,6 +64,18 @@ pub fn open_image<'a, T: Threads + Wait + Clock + Copy + Drop, F: Files, D: Tell
 ) -> Result<Opened<T, F>, ServeFault<'a>>
     requires { IfSome asked.now.create (λ creation. IsFrameCount creation.frames) }
     ensures claimed { IfOk result (λ opened. F.leads opened.claim asked.now.image.now) }
+    // Nothing is lost with what may be removed.
+    ensures left { IfOk result
+        (λ opened. All (IsLeftFor F.is_left F.is_part (F.contents files.new) opened.claim
+        opened.drive.timeline.clock) opened.left.items) }
+    // No later image lies beside it.
+    ensures all { IfOk result
+        (λ opened. AreAllSpent MOST_LEFT (F.lies files.new asked.now.image.now) F.is_left
+        (F.contents files.new) opened.drive.timeline.clock opened.left.items) }
+    // Before one was made, no whole one lay there.
+    ensures made { OnOk result
+        (IfSome asked.now.create (λ creation. AreNoImages MOST_LEFT
+        (F.lies files.old asked.now.image.now) (F.contents files.old))) }
     // By the machine's time that was read, over the drive that was opened.
     ensures start { IfOk result
         (λ opened. IsStart opened.drive.timeline.clock opened.drive.timeline.window
@@ -68,10 +83,7 @@ pub fn open_image<'a, T: Threads + Wait + Clock + Copy + Drop, F: Files, D: Tell
     ensures began { IfOk result (λ opened. opened.begun.clock.began ≡ opened.begun.start) }
     ensures last { IfOk result (λ opened. opened.begun.clock.last ≡ opened.begun.start) }
 {
-    if let Some(creation) = asked.create {
-        refuse_making(rt, alloc, files, asked.image)?;
-        create(alloc, files, asked.image, creation)?;
-    }
+    make_asked(rt, alloc, files, asked)?;
     let (claim, image) = claim_image(rt, alloc, files, asked.image)?;
     let (clock, window) = (image.clock(), image.window());
     let (claim, left) = claim_left(rt, alloc, files, asked.image, claim, clock)?;
@@ -87,6 +99,27 @@ pub fn open_image<'a, T: Threads + Wait + Clock + Copy + Drop, F: Files, D: Tell
         drive,
         begun,
     })
+}
+
+/// Makes an image where that is asked.
+fn make_asked<'a, T: Threads, F: Files>(
+    rt: &T,
+    alloc: Global,
+    files: &mut F,
+    asked: &ServiceAsked<'a>,
+) -> Result<(), ServeFault<'a>>
+    requires { IfSome asked.now.create (λ creation. IsFrameCount creation.frames) }
+    ensures made { OnOk result
+        (IfSome asked.now.create (λ creation. AreNoImages MOST_LEFT
+        (F.lies files.old asked.now.image.now) (F.contents files.old))) }
+{
+    match asked.create {
+        Some(creation) => {
+            refuse_making(rt, alloc, files, asked.image)?;
+            create(alloc, files, asked.image, creation)
+        }
+        None => Ok(()),
+    }
 }
 
 /// Waits until the machine's time isn't below the clock of an image any more, at most as long as a

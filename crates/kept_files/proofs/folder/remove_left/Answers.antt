@@ -1,0 +1,23 @@
+use Rattle.std.proofs.Common.{◌≡◌, ◌∙◌, ◌×◌, List, ℕ, Some, false, IfSome, subst}
+use Rattle.std.proofs.lemmas.List.Elements.{All-pop}
+use Rattle.std.proofs.KnownBytes.{Keeps-refl, Keeps-trans}
+use Rattle.std.specs.List.{All}
+use Rattle.kept_files.proofs.folder.remove_left.Goals as goal
+
+pub loop-leftover-init : goal.loop-leftover-init
+loop-leftover-init g c = record {
+  others = λ path none. Keeps-refl _;
+  rest = λ path none. none;
+  crash = λ any outcome is. is;
+}
+
+pub loop-leftover-preserved : goal.loop-leftover-preserved
+loop-leftover-preserved g c =
+    let parts = λ (path : List ℕ) (none : All (λ one. g.F.Files.is_left one path ≡ false) c.args.left.now.items).
+        All-pop (λ one. g.F.Files.is_left one path ≡ false) c.loop-leftover.left.items c.pop.new.self.items c.pop.result c.pop.ensures.items (c.loop-leftover.invariant.rest path none) in
+    record {
+      others = λ path none. Keeps-trans _ _ _ (c.loop-leftover.invariant.others path none)
+          (c.remove_leftover.ensures.others path (rw c.in-Some.is at (parts path none).1));
+      rest = λ path none. (parts path none).0;
+      crash = λ any outcome is. c.loop-leftover.invariant.crash any outcome (c.remove_leftover.ensures.crash any outcome is);
+    }
