@@ -1,9 +1,10 @@
 -- What was restored needn't be restored again.
-use Rattle.std.proofs.Common.{◌≡◌, ◌≢◌, ◌∙◌, ◌<◌, ◌≤◌, ℕ, Bool, true, false, List, [], ◌∷◌, length, take, Option, None, Some, refl, sym, ap, subst, arith}
+use Rattle.std.proofs.Common.{◌≡◌, ◌≢◌, ◌∙◌, ◌==◌, inl, inr, eq-eqb, ◌<◌, ℕ, Bool, true, false, List, [], ◌∷◌, length, Option, None, Some, refl, sym, ap, subst, arith}
 use Rattle.std.specs.Prelude.{MatchBool, ◌&&◌, not, is_none}
 use Rattle.std.specs.List.{AllByRecursion}
-use Rattle.std.proofs.lemmas.Bool.{true≢false}
-use Rattle.std.proofs.lemmas.List.{take_all}
+use Rattle.std.proofs.lemmas.Bool.{eqb-true, true≢false}
+use Rattle.std.proofs.lemmas.List.{nil_from_length}
+use Rattle.std.proofs.lemmas.Bool.Decides.{nat_tests}
 use Rattle.s4_types.specs.declared.versions.Version.{Version}
 use Rattle.s4_types.specs.declared.versions.Version.TheVariants.{Absent, Live}
 use Rattle.lemmas.proofs.List.{all_weaker}
@@ -11,30 +12,33 @@ use Rattle.s4_model.specs.State.{State}
 use Rattle.s4_model.specs.VersionAt.{version_of}
 use Rattle.s4_model.specs.Refusals.{present}
 use Rattle.history_restore.specs.declared.plans.Changes.{Changes}
-use Rattle.history_restore.specs.declared.plans.Patch.{Patch}
+use Rattle.block_runs.specs.declared.running.Run.{Run}
+use Rattle.block_runs.specs.Runs.{AreRuns, IsSized, differs, runs_of, written_over}
+use Rattle.block_runs.proofs.Whole.{runs_are_whole}
+use Rattle.block_runs.proofs.Exact.{runs_are_exact}
 use Rattle.history_restore.specs.declared.plans.Plan.{Plan}
 use Rattle.history_restore.specs.declared.plans.Plan.TheVariants.{Keep, Delete, Remake, Change}
 use Rattle.history_restore.specs.declared.restoring.Restored.{Restored}
 use Rattle.history_restore.specs.Content.{Content, content_of, holding}
 use Rattle.history_restore.specs.Keeping.{LeavesPast}
-use Rattle.history_restore.specs.Plans.{IsChangesOf, IsCut, IsPatch, IsPlan, IsPlanBetween, IsWritten, is_idle}
+use Rattle.history_restore.specs.Plans.{IsChangesOf, IsPlan, IsPlanBetween, is_idle}
 use Rattle.history_restore.specs.Whole.{IsRestored}
 
 -- nothing is cut of bytes that are the same
-no_cut : (bytes : List ℕ) (cut : Option ℕ) → IsCut bytes bytes cut → is_none cut ≡ true
+no_cut : (bytes : List ℕ) (cut : Option ℕ) → IsSized bytes bytes cut → is_none cut ≡ true
 no_cut bytes None is = refl
-no_cut bytes (Some size) is = let less : length bytes < length bytes = is.1 in absurd (omega (arith, less))
+no_cut bytes (Some size) is = elim is.1 [ inl less ↦ absurd (omega arith) | inr less ↦ let more : length bytes < length bytes = less.0 in absurd (omega arith) ]
 
 -- nor is anything written
-no_patch : (bytes : List ℕ) (patch : Patch) → IsPatch bytes bytes patch → ⊥
-no_patch bytes patch is =
-    let some : 0 < patch.length = is.some in
-    let within = is.within in
-    is.first (omega (arith, some, within)) refl
+same_there : (bytes : List ℕ) (i : ℕ) → differs bytes bytes i ≡ false
+same_there bytes i = grind (arith, nat_tests)
 
-no_write : (bytes now : List ℕ) (written : Option Patch) → now ≡ bytes → IsWritten bytes now written → is_none written ≡ true
-no_write bytes now None same is = refl
-no_write bytes now (Some patch) same is = absurd (no_patch bytes patch (subst (λ (b : List ℕ). IsPatch bytes b patch) same is))
+no_runs : (bytes : List ℕ) (rs : List Run) → AreRuns (differs bytes bytes) (length bytes) 0 0 rs → length rs ≡ 0
+no_runs bytes [] are = refl
+no_runs bytes (r ∷ rs) are = absurd (true≢false (sym are.0.first ∙ same_there bytes r.offset))
+
+no_write : (bytes : List ℕ) (writes : ℕ) → writes ≡ length (runs_of bytes bytes) → (writes == 0) ≡ true
+no_write bytes writes is = let none : writes ≡ 0 = is ∙ no_runs bytes (runs_of bytes bytes) (runs_are_exact bytes bytes) in eq-eqb writes 0 none
 
 -- nor the attribute replaced
 no_attribute : (attribute : List ℕ) (wanted : Bool) → MatchBool wanted (attribute ≢ attribute) (attribute ≡ attribute) → not wanted ≡ true
@@ -50,8 +54,29 @@ all_three true true false x y z = absurd (true≢false (sym z))
 -- so changes of what is the same are none
 idle_same : (bytes attribute : List ℕ) (changes : Changes) → IsChangesOf bytes attribute bytes attribute changes → is_idle changes ≡ true
 idle_same bytes attribute changes is =
-    all_three (is_none changes.cut) (is_none changes.written) (not changes.attribute)
-    (no_cut bytes changes.cut is.shorter) (no_write bytes (take (length bytes) bytes) changes.written (take_all (length bytes) bytes (omega arith)) is.rewritten) (no_attribute attribute changes.attribute is.replaced)
+    all_three (is_none changes.cut) (changes.writes == 0) (not changes.attribute) (no_cut bytes changes.cut is.shorter) (no_write bytes changes.writes is.rewritten) (no_attribute attribute changes.attribute is.replaced)
+
+-- and where there are none, all is what it was
+both : (a b : Bool) → (a && b) ≡ true → (a ≡ true) × (b ≡ true)
+both true b is = (refl, is)
+both false b is = absurd (true≢false (sym is))
+
+idle_bytes : (bytes now : List ℕ) (cut : Option ℕ) (writes : ℕ) → IsSized bytes now cut → writes ≡ length (runs_of bytes now) → is_none cut ≡ true → (writes == 0) ≡ true → bytes ≡ now
+idle_bytes bytes now (Some size) writes is written uncut idle = absurd (true≢false (sym uncut))
+idle_bytes bytes now None writes is written uncut idle =
+    let zeros : writes ≡ 0 = eqb-true writes 0 idle in
+    let none : runs_of bytes now ≡ [] = nil_from_length (runs_of bytes now) (sym written ∙ zeros) in
+    sym (runs_are_whole bytes now None is) ∙ ap (λ (rs : List Run). written_over bytes rs now) none
+
+idle_attribute : (attribute now : List ℕ) (wanted : Bool) → MatchBool wanted (attribute ≢ now) (attribute ≡ now) → not wanted ≡ true → attribute ≡ now
+idle_attribute attribute now true is idle = absurd (true≢false (sym idle))
+idle_attribute attribute now false is idle = is
+
+pub idle_is_same : (bytes attribute now attribute_now : List ℕ) (changes : Changes) → IsChangesOf bytes attribute now attribute_now changes → is_idle changes ≡ true → (bytes ≡ now) × (attribute ≡ attribute_now)
+idle_is_same bytes attribute now attribute_now changes is idle =
+    let one = both (is_none changes.cut) ((changes.writes == 0) && not changes.attribute) idle in
+    let two = both (changes.writes == 0) (not changes.attribute) one.1 in
+    (idle_bytes bytes now changes.cut changes.writes is.shorter is.rewritten one.0 two.0, idle_attribute attribute attribute_now changes.attribute is.replaced two.1)
 
 keeps_between : (bytes attribute : List ℕ) (plan : Plan) → IsPlanBetween bytes attribute bytes attribute plan → plan ≡ Keep
 keeps_between bytes attribute Keep is = refl

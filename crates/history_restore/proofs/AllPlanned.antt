@@ -1,6 +1,5 @@
 -- Plans that are made, and plans that were done.
 use Rattle.std.proofs.Common.{◌≡◌, ◌∙◌, ◌+◌, ◌++◌, ℕ, List, [], ◌∷◌, refl, sym, ap, subst, arith}
-use Rattle.std.specs.List.{AllByRecursion}
 use Rattle.std.proofs.lemmas.List.{map_push}
 use Rattle.std.proofs.SliceLists.{all_by_recursion_push}
 use Rattle.lemmas.proofs.List.{all_weaker}

@@ -1,5 +1,6 @@
 -- What changes make of contents, whatever the moments.
-use Rattle.std.proofs.Common.{◌≡◌, ◌∙◌, ℕ, List, [], Option, None, Some, refl, sym, ap}
+use Rattle.std.proofs.Common.{◌≡◌, ◌∙◌, ◌+◌, ◌-◌, ◌<◌, ◌≤◌, ℕ, zero, suc, Bool, true, false, List, [], ◌∷◌, ◌++◌, length, take, drop, get_or, Option, None, Some, refl, sym, ap, arith}
+use Rattle.std.proofs.lemmas.List.{drop_more, take-append-drop, take_more}
 use Rattle.s4_types.specs.declared.changes.Change.{Change}
 use Rattle.s4_types.specs.declared.changes.Change.TheVariants.{Create, Delete, Write, Truncate, SetAttr, SetWindow, Flush, FlushO}
 use Rattle.s4_types.specs.declared.versions.Version.{Version}
@@ -7,8 +8,9 @@ use Rattle.s4_types.specs.declared.versions.Version.TheVariants.{Absent, Live}
 use Rattle.s4_model.specs.Effect.{effect, resized, written}
 use Rattle.s4_model.specs.Step.{part}
 use Rattle.history_restore.specs.declared.plans.Patch.{Patch}
+use Rattle.block_runs.specs.declared.running.Run.{Run}
 use Rattle.history_restore.specs.Content.{Content, content_of, holding}
-use Rattle.history_restore.specs.Plans.{IsWritten, written_by}
+use Rattle.history_restore.specs.Plans.{AreWithin, IsWritten, attribute_by, cut_by, runs_by, runs_changes, written_by}
 use Rattle.history_restore.proofs.Patching.{written_bytes, written_is_whole}
 
 -- what a change makes of a content
@@ -47,6 +49,33 @@ pub writes_alike : (bytes : List ℕ) (patch : Option Patch) (o m n : ℕ) (v w 
 writes_alike bytes None o m n v w same = same
 writes_alike bytes (Some patch) o m n v w same = effects_alike (Write o patch.offset (part bytes patch.offset patch.length)) m n v w same
 
+pub runs_alike : (bytes : List ℕ) (rs : List Run) (o m n : ℕ) (v w : Version) → content_of v ≡ content_of w → content_of (runs_by bytes rs o m v) ≡ content_of (runs_by bytes rs o n w)
+runs_alike bytes [] o m n v w same = same
+runs_alike bytes (r ∷ rs) o m n v w same =
+    let put : Change = Write o r.offset (part bytes r.offset (r.end - r.offset)) in
+    runs_alike bytes rs o m n (effect put m v) (effect put n w) (effects_alike put m n v w same)
+
+attributes_alike : (attribute : List ℕ) (wanted : Bool) (o m n : ℕ) (v w : Version) → content_of v ≡ content_of w → content_of (attribute_by attribute wanted o m v) ≡ content_of (attribute_by attribute wanted o n w)
+attributes_alike attribute true o m n v w same = effects_alike (SetAttr o attribute) m n v w same
+attributes_alike attribute false o m n v w same = same
+
+-- one run more
+runs_by_more : (bytes : List ℕ) (rs : List Run) (r : Run) (o m : ℕ) (v : Version) → runs_by bytes (rs ++ r ∷ []) o m v ≡ effect (Write o r.offset (part bytes r.offset (r.end - r.offset))) m (runs_by bytes rs o m v)
+runs_by_more bytes [] r o m v = refl
+runs_by_more bytes (q ∷ rs) r o m v = runs_by_more bytes rs r o m (effect (Write o q.offset (part bytes q.offset (q.end - q.offset))) m v)
+
+pub run_more : (bytes : List ℕ) (rs : List Run) (r : Run) (o : ℕ) (v middle later : Version) → content_of middle ≡ content_of (runs_by bytes rs o 0 v) → content_of later ≡ content_of (effect (Write o r.offset (part bytes r.offset (r.end - r.offset))) 0 middle)
+    → content_of later ≡ content_of (runs_by bytes (rs ++ r ∷ []) o 0 v)
+run_more bytes rs r o v middle later first second =
+    let put : Change = Write o r.offset (part bytes r.offset (r.end - r.offset)) in
+    second ∙ effects_alike put 0 0 middle (runs_by bytes rs o 0 v) first ∙ sym (ap content_of (runs_by_more bytes rs r o 0 v))
+
+-- a version that is cut and gets bytes and its attribute, one after the other
+pub changed_whole : (bytes attribute : List ℕ) (cut : Option ℕ) (rs : List Run) (wanted : Bool) (o : ℕ) (v middle later : Version) → content_of middle ≡ content_of (cut_by cut o 0 v) → content_of later ≡ content_of (runs_by bytes rs o 0 middle)
+    → content_of (attribute_by attribute wanted o 0 later) ≡ content_of (attribute_by attribute wanted o 0 (runs_by bytes rs o 0 (cut_by cut o 0 v)))
+changed_whole bytes attribute cut rs wanted o v middle later first second =
+    attributes_alike attribute wanted o 0 0 later (runs_by bytes rs o 0 (cut_by cut o 0 v)) (second ∙ runs_alike bytes rs o 0 0 middle (cut_by cut o 0 v) first)
+
 -- bytes written over none
 writes_of_new : (bytes attribute : List ℕ) (patch : Option Patch) (o : ℕ) → content_of (written_by bytes patch o 0 (Live [] attribute 0 0)) ≡ holding (written_bytes bytes patch []) attribute
 writes_of_new bytes attribute None o = refl
@@ -56,3 +85,25 @@ writes_of_new bytes attribute (Some patch) o = refl
 pub made_whole : (bytes attribute : List ℕ) (patch : Option Patch) (o : ℕ) (v w : Version) → IsWritten bytes [] patch → content_of v ≡ holding [] attribute → content_of w ≡ content_of (written_by bytes patch o 0 v) → content_of w ≡ holding bytes attribute
 made_whole bytes attribute patch o v w is made write =
     write ∙ writes_alike bytes patch o 0 0 v (Live [] attribute 0 0) made ∙ writes_of_new bytes attribute patch o ∙ ap (λ (b : List ℕ). holding b attribute) (written_is_whole bytes [] patch is)
+
+-- ---- the changes of runs
+
+runs_changes_append : (o : ℕ) (bytes : List ℕ) (rs qs : List Run) → runs_changes o bytes (rs ++ qs) ≡ runs_changes o bytes rs ++ runs_changes o bytes qs
+runs_changes_append o bytes [] qs = refl
+runs_changes_append o bytes (r ∷ rs) qs = ap (λ (cs : List Change). Write o r.offset (part bytes r.offset (r.end - r.offset)) ∷ cs) (runs_changes_append o bytes rs qs)
+
+pub runs_changes_more : (o : ℕ) (bytes : List ℕ) (rs : List Run) (i : ℕ) (d : Run) → i < length rs → runs_changes o bytes (take (i + 1) rs) ≡ runs_changes o bytes (take i rs) ++ runs_changes o bytes (get_or rs i d ∷ [])
+runs_changes_more o bytes rs i d less = ap (runs_changes o bytes) (take_more rs i d less) ∙ runs_changes_append o bytes (take i rs) (get_or rs i d ∷ [])
+
+-- those in front of a run, its own and the rest
+pub runs_changes_split : (o : ℕ) (bytes : List ℕ) (rs : List Run) (i : ℕ) (d : Run) → i < length rs
+    → runs_changes o bytes (take i rs) ++ (runs_changes o bytes (get_or rs i d ∷ []) ++ runs_changes o bytes (drop (i + 1) rs)) ≡ runs_changes o bytes rs
+runs_changes_split o bytes rs i d less =
+    ap (λ (cs : List Change). runs_changes o bytes (take i rs) ++ cs) (sym (runs_changes_append o bytes (get_or rs i d ∷ []) (drop (i + 1) rs)) ∙ ap (runs_changes o bytes) (sym (drop_more rs i d less)))
+    ∙ sym (runs_changes_append o bytes (take i rs) (drop i rs)) ∙ ap (runs_changes o bytes) (take-append-drop i rs)
+
+-- each is among the bytes
+pub run_within : (bytes : List ℕ) (rs : List Run) (i : ℕ) (d : Run) → AreWithin bytes rs → i < length rs → ((get_or rs i d).offset < (get_or rs i d).end) × ((get_or rs i d).end ≤ length bytes)
+run_within bytes [] i d are less = absurd (omega arith)
+run_within bytes (r ∷ rs) zero d are less = (are.0, are.1)
+run_within bytes (r ∷ rs) (suc i) d are less = run_within bytes rs i d are.2 (omega arith)

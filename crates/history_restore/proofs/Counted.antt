@@ -1,21 +1,23 @@
 -- How many changes a plan has, and plans one after the other.
-use Rattle.std.proofs.Common.{◌≡◌, ◌∙◌, ◌+◌, ℕ, min, Bool, true, false, List, [], ◌∷◌, ◌++◌, length, Option, None, Some, cond, inl, inr, refl, sym, ap, subst, arith}
+use Rattle.std.proofs.Common.{◌≡◌, ◌∙◌, ◌+◌, ℕ, suc, min, Bool, true, false, List, [], ◌∷◌, ◌++◌, length, Option, None, Some, cond, inl, inr, refl, sym, ap, subst, arith}
 use Rattle.std.specs.Prelude.{if◌then◌else◌, nat_lt}
 use Rattle.std.proofs.lemmas.Option.{none-some}
+use Rattle.std.proofs.lemmas.List.{length-append}
 use Rattle.s4_types.specs.declared.refusals.Refusal.{Refusal}
 use Rattle.s4_types.specs.declared.refusals.Refusal.TheVariants.{ChainFull, Future, Expired, Flushed}
 use Rattle.s4_types.specs.declared.versions.Version.{Version}
 use Rattle.s4_types.specs.declared.versions.Version.TheVariants.{Absent, Live}
 use Rattle.s4_model.specs.State.{State}
 use Rattle.s4_model.specs.Visible.{is_hidden}
-use Rattle.history_restore.specs.declared.plans.Patch.{Patch}
+use Rattle.block_runs.specs.declared.running.Run.{Run}
+use Rattle.block_runs.specs.Runs.{runs_of}
 use Rattle.history_restore.specs.declared.plans.Plan.{Plan}
 use Rattle.history_restore.specs.declared.plans.Plan.TheVariants.{Keep, Delete, Remake, Change}
 use Rattle.history_restore.specs.declared.restoring.Restored.{Restored}
 use Rattle.history_restore.specs.Asking.{IsMovedBy, clock_by}
 use Rattle.history_restore.proofs.Moving.{clock_by_more}
 use Rattle.history_restore.specs.Keeping.{IsDatedFrom}
-use Rattle.history_restore.specs.Plans.{IsPlan, attribute_changes, change_count, changes_by, count_of, cut_changes, made_changes, next_by_plan, written_changes}
+use Rattle.history_restore.specs.Plans.{IsPlan, attribute_changes, change_count, changes_by, count_of, cut_changes, made_changes, next_by_plan, runs_between, runs_changes}
 use Rattle.history_restore.specs.Restoring.{IsUnread}
 use Rattle.history_restore.specs.Whole.{IsCounted, changes_of_all, made_anew}
 
@@ -25,27 +27,36 @@ count_made : (o : ℕ) (bytes : List ℕ) → length (made_changes o bytes) ≡ 
 count_made o [] = refl
 count_made o (b ∷ bs) = omega arith
 
-count_changed : (o : ℕ) (bytes attribute : List ℕ) (cut : Option ℕ) (patch : Option Patch) (wanted : Bool)
-    → length (cut_changes o cut ++ (written_changes o bytes patch ++ attribute_changes o attribute wanted)) ≡ count_of cut + (count_of patch + (if wanted then 1 else 0))
-count_changed o bytes attribute None None true = refl
-count_changed o bytes attribute None None false = refl
-count_changed o bytes attribute None (Some p) true = refl
-count_changed o bytes attribute None (Some p) false = refl
-count_changed o bytes attribute (Some n) None true = refl
-count_changed o bytes attribute (Some n) None false = refl
-count_changed o bytes attribute (Some n) (Some p) true = refl
-count_changed o bytes attribute (Some n) (Some p) false = refl
+count_runs : (o : ℕ) (bytes : List ℕ) (rs : List Run) → length (runs_changes o bytes rs) ≡ length rs
+count_runs o bytes [] = refl
+count_runs o bytes (r ∷ rs) = ap suc (count_runs o bytes rs)
 
-pub counts_changes : (before now : Version) (plan : Plan) (next o : ℕ) → IsPlan before now plan → length (changes_by before plan next o) ≡ change_count plan
-counts_changes Absent Absent plan next o is = subst (λ (p : Plan). length (changes_by Absent p next o) ≡ change_count p) (sym is) refl
-counts_changes Absent (Live now attribute_now created changed) plan next o is = subst (λ (p : Plan). length (changes_by Absent p next o) ≡ change_count p) (sym is) refl
+count_cut : (o : ℕ) (cut : Option ℕ) → length (cut_changes o cut) ≡ count_of cut
+count_cut o None = refl
+count_cut o (Some n) = refl
+
+count_attribute : (o : ℕ) (attribute : List ℕ) (wanted : Bool) → length (attribute_changes o attribute wanted) ≡ (if wanted then 1 else 0)
+count_attribute o attribute true = refl
+count_attribute o attribute false = refl
+
+count_changed : (o : ℕ) (bytes attribute : List ℕ) (cut : Option ℕ) (rs : List Run) (writes : ℕ) (wanted : Bool) → writes ≡ length rs
+    → length (cut_changes o cut ++ (runs_changes o bytes rs ++ attribute_changes o attribute wanted)) ≡ count_of cut + (writes + (if wanted then 1 else 0))
+count_changed o bytes attribute cut rs writes wanted is =
+    let cuts = cut_changes o cut in
+    let written = runs_changes o bytes rs in
+    let named = attribute_changes o attribute wanted in
+    omega (arith, length-append cuts (written ++ named), length-append written named, count_cut o cut, count_runs o bytes rs, count_attribute o attribute wanted)
+
+pub counts_changes : (before now : Version) (plan : Plan) (next o : ℕ) → IsPlan before now plan → length (changes_by before (runs_between before now) plan next o) ≡ change_count plan
+counts_changes Absent Absent plan next o is = subst (λ (p : Plan). length (changes_by Absent [] p next o) ≡ change_count p) (sym is) refl
+counts_changes Absent (Live now attribute_now created changed) plan next o is = subst (λ (p : Plan). length (changes_by Absent [] p next o) ≡ change_count p) (sym is) refl
 counts_changes (Live bytes attribute created changed) Absent plan next o is =
     let made : 1 + length (made_changes next bytes) ≡ 1 + min 1 (length bytes) = ap (λ n. 1 + n) (count_made next bytes) in
-    subst (λ (p : Plan). length (changes_by (Live bytes attribute created changed) p next o) ≡ change_count p) (sym is) (omega (arith, made))
+    subst (λ (p : Plan). length (changes_by (Live bytes attribute created changed) (runs_of bytes []) p next o) ≡ change_count p) (sym is) (omega (arith, made))
 counts_changes (Live bytes attribute created changed) (Live now attribute_now created_now changed_now) Keep next o is = refl
 counts_changes (Live bytes attribute created changed) (Live now attribute_now created_now changed_now) Delete next o is = absurd is
 counts_changes (Live bytes attribute created changed) (Live now attribute_now created_now changed_now) (Remake size) next o is = absurd is
-counts_changes (Live bytes attribute created changed) (Live now attribute_now created_now changed_now) (Change changes) next o is = count_changed o bytes attribute changes.cut changes.written changes.attribute
+counts_changes (Live bytes attribute created changed) (Live now attribute_now created_now changed_now) (Change changes) next o is = count_changed o bytes attribute changes.cut (runs_of bytes now) changes.writes changes.attribute is.0.rewritten
 
 -- ---- what isn't read isn't for a full journal
 

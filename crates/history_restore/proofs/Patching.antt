@@ -1,11 +1,11 @@
 -- Bytes that are cut and written over.
 use Rattle.std.proofs.Common.{◌≡◌, ◌∙◌, ◌+◌, ◌-◌, ◌<◌, ◌≤◌, ℕ, min, List, [], ◌∷◌, ◌++◌, length, take, drop, replicate, Option, None, Some, refl, sym, ap, arith}
 use Rattle.std.proofs.Math.Seq.{drop-nil}
-use Rattle.std.proofs.lemmas.List.{append-nil, append_assoc, take-append-drop, take_all, drop-drop, length-take, length-take-le, length-drop}
+use Rattle.std.proofs.lemmas.List.{append-nil, append_assoc, take-append-drop, drop-drop, length-take, length-take-le, length-drop}
 use Rattle.s4_model.specs.Effect.{resized, written}
 use Rattle.s4_model.specs.Step.{part}
 use Rattle.history_restore.specs.declared.plans.Patch.{Patch}
-use Rattle.history_restore.specs.Plans.{IsCut, IsPatch, IsWritten}
+use Rattle.history_restore.specs.Plans.{IsPatch, IsWritten}
 
 -- ---- cut
 
@@ -14,18 +14,6 @@ pub resized_within : (size : ℕ) (bytes : List ℕ) → size ≤ length bytes �
 resized_within size bytes within =
     let none : size - length bytes ≡ 0 = omega arith in
     ap (λ n. take size bytes ++ replicate n 0) none ∙ append-nil (take size bytes)
-
--- bytes after a cut, if one is planned
-abbrev pub cut_bytes : Option ℕ → List ℕ → List ℕ
-cut_bytes None now = now
-cut_bytes (Some size) now = resized size now
-
--- they are the first of what was there, as many as there are to be
-pub cut_is_front : (bytes now : List ℕ) (cut : Option ℕ) → IsCut bytes now cut → cut_bytes cut now ≡ take (length bytes) now
-cut_is_front bytes now None is = sym (take_all (length bytes) now is)
-cut_is_front bytes now (Some size) is =
-    let less : length bytes ≤ length now = omega (arith, is.1) in
-    ap (λ n. resized n now) is.0 ∙ resized_within (length bytes) now less
 
 -- ---- written
 
@@ -71,10 +59,6 @@ written_bytes bytes (Some patch) now = written patch.offset (part bytes patch.of
 pub written_is_whole : (bytes now : List ℕ) (patch : Option Patch) → IsWritten bytes now patch → written_bytes bytes patch now ≡ bytes
 written_is_whole bytes now None is = sym is
 written_is_whole bytes now (Some patch) is = patched bytes now patch is
-
--- after both the bytes are what they were
-pub rewritten_bytes : (bytes now : List ℕ) (cut : Option ℕ) (patch : Option Patch) → IsCut bytes now cut → IsWritten bytes (take (length bytes) now) patch → written_bytes bytes patch (cut_bytes cut now) ≡ bytes
-rewritten_bytes bytes now cut patch is_cut is_written = ap (written_bytes bytes patch) (cut_is_front bytes now cut is_cut) ∙ written_is_whole bytes (take (length bytes) now) patch is_written
 
 -- whole bytes written over none
 pub written_over_none : (bytes : List ℕ) → written 0 bytes [] ≡ bytes

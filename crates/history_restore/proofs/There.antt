@@ -1,5 +1,5 @@
 -- Objects that stay there, within the limits.
-use Rattle.std.proofs.Common.{◌≡◌, ◌∙◌, ◌≤◌, ℕ, false, List, length, Option, None, Some, refl, ap, arith}
+use Rattle.std.proofs.Common.{◌≡◌, ◌∙◌, ◌-◌, ◌≤◌, ℕ, false, List, [], ◌∷◌, length, Option, None, Some, refl, ap, arith}
 use Rattle.std.specs.Prelude.{is_none}
 use Rattle.std.proofs.lemmas.Bool.{true≢false}
 use Rattle.s4_types.specs.declared.limits.TheConstants.{OBJECT_BYTES, ATTRIBUTE_BYTES}
@@ -9,8 +9,11 @@ use Rattle.s4_model.specs.Limits.{IsWithinLimits}
 use Rattle.s4_model.specs.Refusals.{is_absent}
 use Rattle.history_view.specs.Contents.{attribute_of, content_of as bytes_of}
 use Rattle.history_restore.specs.declared.plans.Patch.{Patch}
+use Rattle.block_runs.specs.declared.running.Run.{Run}
+use Rattle.s4_model.specs.Effect.{written}
+use Rattle.s4_model.specs.Step.{part}
 use Rattle.history_restore.specs.Content.{content_of}
-use Rattle.history_restore.specs.Plans.{cut_by, written_by}
+use Rattle.history_restore.specs.Plans.{cut_by, runs_by, written_by}
 
 -- an object is there where it has a content
 absent_by_content : (v : Version) → is_absent v ≡ is_none (content_of v)
@@ -34,6 +37,15 @@ written_there bytes (Some patch) o moment (Live content attribute created change
 
 pub there_after_write : (bytes : List ℕ) (patch : Option Patch) (o moment : ℕ) (v w : Version) → content_of w ≡ content_of (written_by bytes patch o moment v) → is_absent v ≡ false → is_absent w ≡ false
 there_after_write bytes patch o moment v w same there = absent_by_content w ∙ ap is_none same ∙ written_there bytes patch o moment v there
+
+-- and one that runs are written to
+runs_there : (bytes : List ℕ) (rs : List Run) (o moment : ℕ) (v : Version) → is_absent v ≡ false → is_none (content_of (runs_by bytes rs o moment v)) ≡ false
+runs_there bytes rs o moment Absent there = absurd (true≢false there)
+runs_there bytes [] o moment (Live content attribute created changed) there = refl
+runs_there bytes (r ∷ rs) o moment (Live content attribute created changed) there = runs_there bytes rs o moment (Live (written r.offset (part bytes r.offset (r.end - r.offset)) content) attribute created moment) refl
+
+pub there_after_runs : (bytes : List ℕ) (rs : List Run) (o moment : ℕ) (v w : Version) → content_of w ≡ content_of (runs_by bytes rs o moment v) → is_absent v ≡ false → is_absent w ≡ false
+there_after_runs bytes rs o moment v w same there = absent_by_content w ∙ ap is_none same ∙ runs_there bytes rs o moment v there
 
 -- the bytes and the attribute of a version within the limits
 pub bytes_fit : (v : Version) → IsWithinLimits v → length (bytes_of v) ≤ OBJECT_BYTES

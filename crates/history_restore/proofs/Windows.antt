@@ -1,5 +1,5 @@
 -- What setting the window leaves.
-use Rattle.std.proofs.Common.{◌≡◌, ◌∙◌, ◌+◌, ◌-◌, ◌<◌, ◌≤◌, ℕ, max, Bool, true, false, Option, None, Some, refl, ap, sym, subst, arith}
+use Rattle.std.proofs.Common.{◌≡◌, ◌∙◌, ◌+◌, ◌-◌, ◌<◌, ◌≤◌, ℕ, max, Bool, true, false, None, Some, refl, ap, sym, subst, arith}
 use Rattle.std.specs.List.{list_any}
 use Rattle.std.specs.Prelude.{MatchBool}
 use Rattle.std.proofs.lemmas.Option.{none-some, same_Some}
@@ -25,7 +25,7 @@ use Rattle.s4_model.specs.Laws.{ActsAtItsMoment, AChangeActsAtItsMoment}
 use Rattle.version_store.specs.Store.{StoreFields}
 use Rattle.drive.specs.Answering.{StoresChange}
 use Rattle.history_restore.specs.Keeping.{LeavesPast}
-use Rattle.history_restore.specs.Widening.{Widens, IsWidened, AWidenedWindowKeepsItsMoment, window_for}
+use Rattle.history_restore.specs.Widening.{IsWidened, AWidenedWindowKeepsItsMoment, window_for}
 use Rattle.history_restore.specs.Asking.{IsGiven, IsWithinChanges, clock_by}
 use Rattle.history_restore.proofs.Moving.{stamped_more}
 use Rattle.history_restore.proofs.Denying.{given_as_was}

@@ -17,7 +17,7 @@ use Rattle.history_restore.specs.declared.restoring.Restored.{Restored}
 use Rattle.history_restore.specs.declared.failures.Failure.{Failure}
 use Rattle.history_restore.specs.Asking.{FindsFull, is_left}
 use Rattle.history_restore.specs.Content.{content_of, changed_in}
-use Rattle.history_restore.specs.Plans.{IsPlan, changes_by, next_by_plan}
+use Rattle.history_restore.specs.Plans.{IsPlan, changes_by, next_by_plan, runs_between}
 
 -- the number that an object has after it was restored under one, by what it was and what is there: the next one where nothing is
 abbrev pub number_from : Version → Version → ℕ → ℕ → ℕ
@@ -65,4 +65,4 @@ pub record IsStopped (s later : State) (aim : Aim) (at : ℕ) (failure : Failure
 pub record IsTooFull (s : State) (store : StoreFields) (aim : Aim) (at : ℕ) : Type 0 where
   pub plan : Plan
   pub planned : IsPlan (version_of s aim.object at) (present s aim.target) plan
-  pub full : FindsFull store (changes_by (version_of s aim.object at) plan s.next aim.target)
+  pub full : FindsFull store (changes_by (version_of s aim.object at) (runs_between (version_of s aim.object at) (present s aim.target)) plan s.next aim.target)

@@ -9,16 +9,19 @@ ghost use Rattle.s4_model.specs.Step.{part};
 ghost use Rattle.drive.specs.Fields.{state_in, store_of};
 ghost use Rattle.history_view.specs.Contents.{attribute_of, content_of as bytes_of};
 ghost use Rattle.history_restore.specs.Content.{content_of, holding};
-ghost use Rattle.history_restore.specs.Plans.{cut_by, written_by, attribute_by, turned, number_by};
+ghost use Rattle.history_restore.specs.Plans.{cut_by, written_by, runs_by, attribute_by, turned};
+ghost use Rattle.history_restore.specs.Plans.{number_by};
 ghost use Rattle.history_restore.specs.Plans.{next_by_plan, FitsCut, IsWithinBytes, IsWithinPlan};
 ghost use Rattle.history_restore.specs.Plans.{IsThereFor};
 ghost use Rattle.history_restore.specs.Plans.{cut_changes, written_changes, attribute_changes};
-ghost use Rattle.history_restore.specs.Plans.{made_changes, changes_by};
+ghost use Rattle.history_restore.specs.Plans.{made_changes, runs_changes, changes_by};
+ghost use Rattle.history_restore.specs.Plans.{AreWithin};
 ghost use Rattle.history_restore.specs.Asking.{is_left, AsksFor};
 ghost use Rattle.history_restore.specs.Keeping.{LeavesPast, LeavesOthers};
 
 use crate::asking::ask;
 use crate::plans::{Changes, Patch, Plan, patch_between};
+use block_runs::Run;
 use drive::{Drive, Session};
 use history_view::{attribute_of, content_of};
 use s4_types::{Bytes, Moment, ObjectId, ObjectRequest, Refusal, Version};
@@ -132,6 +135,40 @@ fn write<J: Naming>(
     }
 }
 
+/// Bytes are written, run by run.
+fn write_runs<J: Naming>(
+    alloc: Global,
+    drive: &mut Drive<J>,
+    session: &mut Session<J>,
+    object: ObjectId,
+    bytes: &[u8],
+    runs: &[Run],
+    now: Moment,
+) -> Result<(), Refusal>
+    requires { AreWithin bytes.now runs.now }
+    ensures content { OnOk result
+        (content_of (present (state_in drive.new) object)
+        ≡ content_of
+        (runs_by bytes.now runs.now object 0 (present (state_in drive.old) object))) }
+    ensures next { OnOk result ((state_in drive.new).next ≡ (state_in drive.old).next) }
+    ensures refused { IfErr result
+        (λ e. is_absent (present (state_in drive.old) object) ≡ false
+        → length bytes.now ≤ OBJECT_BYTES → is_left e ≡ true) }
+    ensures asked { AsksFor drive.old now (runs_changes object bytes.now runs.now) result
+        drive.new }
+    ensures others { LeavesOthers object (state_in drive.old) (state_in drive.new) }
+    ensures past { LeavesPast (state_in drive.old) (state_in drive.new) }
+{
+    for run in runs {
+        let patch = Patch {
+            offset: run.offset,
+            length: run.end - run.offset,
+        };
+        write_patch(alloc, drive, session, object, bytes, patch, now)?;
+    }
+    Ok(())
+}
+
 /// The attribute is replaced, where that is wanted.
 fn set_attribute<J: Naming>(
     alloc: Global,
@@ -177,28 +214,29 @@ fn change<J: Naming>(
     session: &mut Session<J>,
     object: ObjectId,
     before: &Version,
+    runs: &[Run],
     changes: Changes,
     now: Moment,
 ) -> Result<(), Refusal>
-    requires { IsWithinPlan (bytes_of before.now) (Plan.Change changes) }
+    requires { IsWithinPlan (bytes_of before.now) runs.now (Plan.Change changes) }
     ensures content { OnOk result
         (content_of (present (state_in drive.new) object)
         ≡ content_of
-        (turned before.now (Plan.Change changes) object 0
+        (turned before.now runs.now (Plan.Change changes) object 0
         (present (state_in drive.old) object))) }
     ensures next { OnOk result ((state_in drive.new).next ≡ (state_in drive.old).next) }
     ensures refused { IfErr result
         (λ e. IsWithinLimits before.now
         → is_absent (present (state_in drive.old) object) ≡ false → is_left e ≡ true) }
-    ensures asked { AsksFor drive.old now (changes_by before.now (Plan.Change changes) 0 object)
-        result drive.new }
+    ensures asked { AsksFor drive.old now (changes_by before.now runs.now (Plan.Change changes) 0
+        object) result drive.new }
     ensures others { LeavesOthers object (state_in drive.old) (state_in drive.new) }
     ensures past { LeavesPast (state_in drive.old) (state_in drive.new) }
 {
     let bytes = content_of(before);
     let attribute = attribute_of(before);
     cut(drive, session, object, changes.cut, now)?;
-    write(alloc, drive, session, object, bytes, changes.written, now)?;
+    write_runs(alloc, drive, session, object, bytes, runs, now)?;
     set_attribute(
         alloc,
         drive,
@@ -267,29 +305,32 @@ fn remake<J: Naming>(
     Ok(number)
 }
 
-/// Does what a plan asks for, and answers the object's number. What the object was is `before`.
+/// Does what a plan asks for, and answers the object's number. What the object was is `before`, and
+/// it differs from what it is in these runs.
 pub(crate) fn perform<J: Naming>(
     alloc: Global,
     drive: &mut Drive<J>,
     session: &mut Session<J>,
     object: ObjectId,
     before: &Version,
+    runs: &[Run],
     plan: Plan,
     now: Moment,
 ) -> Result<ObjectId, Refusal>
-    requires { IsWithinPlan (bytes_of before.now) plan }
+    requires { IsWithinPlan (bytes_of before.now) runs.now plan }
     ensures number { IfOk result
         (λ number. number ≡ number_by plan (state_in drive.old).next object) }
     ensures content { OnOk result
         (content_of (present (state_in drive.new) (number_by plan (state_in drive.old).next object))
-        ≡ content_of (turned before.now plan object 0 (present (state_in drive.old) object))) }
+        ≡ content_of
+        (turned before.now runs.now plan object 0 (present (state_in drive.old) object))) }
     ensures next { OnOk result
         ((state_in drive.new).next ≡ next_by_plan plan (state_in drive.old).next) }
     ensures refused { IfErr result
         (λ e. IsWithinLimits before.now
         → IsThereFor plan (present (state_in drive.old) object) → is_left e ≡ true) }
     ensures asked { AsksFor drive.old now
-        (changes_by before.now plan (state_in drive.old).next object) result drive.new }
+        (changes_by before.now runs.now plan (state_in drive.old).next object) result drive.new }
     ensures others { LeavesOthers (number_by plan (state_in drive.old).next object)
         (state_in drive.old) (state_in drive.new) }
     ensures past { LeavesPast (state_in drive.old) (state_in drive.new) }
@@ -302,7 +343,7 @@ pub(crate) fn perform<J: Naming>(
         }
         Plan::Remake(_) => remake(alloc, drive, session, before, now),
         Plan::Change(changes) => {
-            change(alloc, drive, session, object, before, changes, now)?;
+            change(alloc, drive, session, object, before, runs, changes, now)?;
             Ok(object)
         }
     }

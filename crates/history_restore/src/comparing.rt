@@ -5,11 +5,13 @@ ghost use Rattle.s4_model.specs.Refusals.{present};
 ghost use Rattle.s4_model.specs.VersionAt.{version_of};
 ghost use Rattle.s4_model.specs.Visible.{IsVisible};
 ghost use Rattle.drive.specs.Fields.{state_in, store_of};
+ghost use Rattle.history_restore.specs.Plans.{runs_between};
 ghost use Rattle.history_restore.specs.Restoring.{IsUnread};
 
 use crate::aims::Aim;
+use block_runs::{Run, runs_between};
 use drive::{Drive, Session};
-use history_view::version_at;
+use history_view::{content_of, version_at};
 use s4_types::{Moment, Refusal, Version};
 use segment_word::Naming;
 use std::alloc::Global;
@@ -21,6 +23,8 @@ pub(crate) struct Compared {
     pub(crate) earlier: Version,
     /// What is there now.
     pub(crate) latest: Version,
+    /// Where their bytes differ.
+    pub(crate) runs: Vec<Run>,
 }
 
 /// What an object was at a moment that can be read, and what is there now under its number or that
@@ -35,6 +39,7 @@ pub(crate) fn compare<J: Naming>(
     ensures earlier { IfOk result
         (λ c. c.earlier ≡ version_of (state_in drive.old) aim.now.object at) }
     ensures latest { IfOk result (λ c. c.latest ≡ present (state_in drive.old) aim.now.target) }
+    ensures runs { IfOk result (λ c. c.runs.items ≡ runs_between c.earlier c.latest) }
     ensures visible { OnOk result (IsVisible (state_in drive.old) aim.now.object at) }
     ensures refused { IfErr result (IsUnread (state_in drive.old) aim.now.object at) }
     ensures state { state_in drive.new ≡ state_in drive.old }
@@ -44,5 +49,12 @@ pub(crate) fn compare<J: Naming>(
     let clock = drive.clock();
     let earlier = version_at(alloc, drive, session, aim.object, at)?;
     let latest = version_at(alloc, drive, session, aim.target, clock)?;
-    Ok(Compared { earlier, latest })
+    let Ok(runs) = runs_between(alloc, content_of(&earlier), content_of(&latest)) else {
+        return Err(Refusal::NoMemory);
+    };
+    Ok(Compared {
+        earlier,
+        latest,
+        runs,
+    })
 }

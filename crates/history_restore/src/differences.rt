@@ -41,10 +41,3 @@ pub(crate) fn end_of_difference(bytes: &[u8], others: &[u8]) -> usize
     }
     0
 }
-
-/// The bytes in front of an index, or all where there are no more.
-pub(crate) fn front(bytes: &[u8], size: usize) -> &[u8]
-    ensures { result.now ≡ take size bytes.now }
-{
-    &bytes[..size.min(bytes.len())]
-}

@@ -134,15 +134,18 @@ fn count_if(wanted: bool) -> u64
 
 fn count_of_changes(changes: &Changes) -> u64
     ensures { result
-        ≡ count_of changes.now.cut
-        + (count_of changes.now.written + (if changes.now.attribute then 1 else 0)) }
+        ≡ min last_number
+        (count_of changes.now.cut
+        + (changes.now.writes + (if changes.now.attribute then 1 else 0))) }
 {
-    count_of(changes.cut) + (count_of(changes.written) + count_if(changes.attribute))
+    let others = count_of(changes.cut) + count_if(changes.attribute);
+    changes.writes.saturating_add(others)
 }
 
-/// How many changes a plan has: each is one request, and one moment.
+/// How many changes a plan has: each is one request, and one moment. The greatest number where
+/// there are more.
 fn change_count(plan: &Plan) -> u64
-    ensures { result ≡ change_count plan.now }
+    ensures { result ≡ min last_number (change_count plan.now) }
 {
     match plan {
         Plan::Keep => 0,

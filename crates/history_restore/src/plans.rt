@@ -1,9 +1,11 @@
 //! What has to be done to an object, so that it is what it was.
 ghost use Rattle.std.specs.Prelude.{◌≡◌, ◌≢◌, ◌≤◌, length, MatchBool};
-ghost use Rattle.history_restore.specs.Plans.{IsCut, IsWritten, IsChangesOf, IsPlanBetween, IsPlan};
-ghost use Rattle.history_restore.specs.Plans.{is_idle};
+ghost use Rattle.history_restore.specs.Plans.{IsWritten, IsChangesOf, IsPlanBetween, IsPlan};
+ghost use Rattle.history_restore.specs.Plans.{is_idle, runs_between};
+ghost use Rattle.block_runs.specs.Runs.{IsSized, runs_of};
 
-use crate::differences::{end_of_difference, first_difference, front};
+use crate::differences::{end_of_difference, first_difference};
+use block_runs::Run;
 use s4_types::Version;
 
 /// Bytes that are written in one request, by their place in the object as it was, in bytes.
@@ -13,13 +15,14 @@ pub struct Patch {
     pub length: u64,
 }
 
-/// What is done to an object that was there and is there, in this order and in one request each.
+/// What is done to an object that was there and is there, in this order.
 #[derive(Clone, Copy)]
 pub struct Changes {
-    /// It is cut to this size, in bytes.
+    /// It is cut to this size, in bytes, or gets zeros up to it.
     pub cut: Option<u64>,
-    /// These bytes are written.
-    pub written: Option<Patch>,
+    /// Bytes are written by this many requests: one for each run of neighbouring blocks that
+    /// differ, ascending.
+    pub writes: u64,
     /// Its attribute is replaced.
     pub attribute: bool,
 }
@@ -38,15 +41,18 @@ pub enum Plan {
     Change(Changes),
 }
 
-/// Where an object is cut, by the bytes that it had and has.
+/// Where an object is cut, by the bytes that it had and has, or up to where it gets zeros.
 fn cut_between(bytes: &[u8], now: &[u8]) -> Option<u64>
-    ensures { IsCut bytes.now now.now result }
+    ensures { IsSized bytes.now now.now result }
 {
-    if bytes.len() < now.len() {
-        Some(bytes.len() as u64)
-    } else {
-        None
+    let size = bytes.len();
+    if size < now.len() {
+        return Some(size as u64);
     }
+    if now.len() < size && bytes[size - 1] == 0 {
+        return Some(size as u64);
+    }
+    None
 }
 
 /// What is written over bytes of which there are no more than there were.
@@ -72,13 +78,19 @@ fn is_other(attribute: &[u8], now: &[u8]) -> bool
     attribute != now
 }
 
-fn changes_between(bytes: &[u8], attribute: &[u8], now: &[u8], attribute_now: &[u8]) -> Changes
+fn changes_between(
+    bytes: &[u8],
+    attribute: &[u8],
+    now: &[u8],
+    attribute_now: &[u8],
+    runs: &[Run],
+) -> Changes
+    requires { runs.now ≡ runs_of bytes.now now.now }
     ensures { IsChangesOf bytes.now attribute.now now.now attribute_now.now result }
 {
-    let kept = front(now, bytes.len());
     Changes {
         cut: cut_between(bytes, now),
-        written: patch_between(bytes, kept),
+        writes: runs.len() as u64,
         attribute: is_other(attribute, attribute_now),
     }
 }
@@ -87,13 +99,20 @@ fn changes_between(bytes: &[u8], attribute: &[u8], now: &[u8], attribute_now: &[
 fn is_idle(changes: &Changes) -> bool
     ensures { result ≡ is_idle changes.now }
 {
-    changes.cut.is_none() && changes.written.is_none() && !changes.attribute
+    changes.cut.is_none() && changes.writes == 0 && !changes.attribute
 }
 
-fn plan_between(bytes: &[u8], attribute: &[u8], now: &[u8], attribute_now: &[u8]) -> Plan
+fn plan_between(
+    bytes: &[u8],
+    attribute: &[u8],
+    now: &[u8],
+    attribute_now: &[u8],
+    runs: &[Run],
+) -> Plan
+    requires { runs.now ≡ runs_of bytes.now now.now }
     ensures { IsPlanBetween bytes.now attribute.now now.now attribute_now.now result }
 {
-    let changes = changes_between(bytes, attribute, now, attribute_now);
+    let changes = changes_between(bytes, attribute, now, attribute_now, runs);
     if is_idle(&changes) {
         Plan::Keep
     } else {
@@ -101,10 +120,11 @@ fn plan_between(bytes: &[u8], attribute: &[u8], now: &[u8], attribute_now: &[u8]
     }
 }
 
-/// What has to be done to an object, by what it was and what it is now. The plan is the only one:
-/// each request is there exactly where it is needed, and a write has no byte at either end that is
-/// what it was.
-pub fn plan_of(before: &Version, now: &Version) -> Plan
+/// What has to be done to an object, by what it was and what it is now, and by the runs of blocks
+/// in which these differ. The plan is the only one: each request is there exactly where it is
+/// needed, and a write has no byte at either end, nor a block, that is what it was.
+pub fn plan_of(before: &Version, now: &Version, runs: &[Run]) -> Plan
+    requires { runs.now ≡ runs_between before.now now.now }
     ensures { IsPlan before.now now.now result }
 {
     match before {
@@ -127,6 +147,7 @@ pub fn plan_of(before: &Version, now: &Version) -> Plan
                 attribute.as_slice(),
                 bytes_now.as_slice(),
                 attribute_now.as_slice(),
+                runs,
             ),
         },
     }

@@ -53,7 +53,8 @@ pub fn plan_object<J: Naming>(
     ensures store { store_of drive.new ≡ store_of drive.old }
 {
     let compared = compare(alloc, drive, session, aim, at)?;
-    Ok(plan_of(&compared.earlier, &compared.latest))
+    let runs = compared.runs.as_slice();
+    Ok(plan_of(&compared.earlier, &compared.latest, runs))
 }
 
 /// Makes an object what it was at a moment, by requests at the moment `now` of the server's clock:
@@ -90,9 +91,11 @@ pub fn restore_object<J: Naming>(
         Ok(compared) => compared,
         Err(refusal) => return Err(unread(aim, refusal)),
     };
-    let plan = plan_of(&compared.earlier, &compared.latest);
+    let before = &compared.earlier;
+    let runs = compared.runs.as_slice();
+    let plan = plan_of(before, &compared.latest, runs);
     let target = aim.target;
-    match perform(alloc, drive, session, target, &compared.earlier, plan, now) {
+    match perform(alloc, drive, session, target, before, runs, plan, now) {
         Ok(number) => Ok(Restored {
             aim: *aim,
             number,

@@ -189,10 +189,7 @@ fn least_blocks(plan: &Plan) -> usize {
             blocks_of(SHORTEST_ENTRY_BYTES, patch).saturating_add(1)
         }
         Plan::Change(changes) => {
-            let written = match changes.written {
-                None => 0,
-                Some(patch) => blocks_of(0, patch),
-            };
+            let written = (changes.writes as usize).saturating_mul(2);
             let others = usize::from(changes.cut.is_some()) + usize::from(changes.attribute);
             written.saturating_add(others)
         }

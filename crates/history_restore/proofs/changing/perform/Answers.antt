@@ -19,7 +19,7 @@ returns-in_ok-ask-in-Delete-clause-content g c =
     let s = state_in c.args.drive.now in
     let later = state_in c.ask.new.drive in
     let o = c.args.object in
-    subst (λ (p : Plan). content_of (present later (number_by p s.next o)) ≡ content_of (turned c.args.before.now p o 0 (present s o))) (sym c.in-Delete.is) (c.in_ok-ask-in-Delete.ensures.granted (change.Delete o) refl).content
+    subst (λ (p : Plan). content_of (present later (number_by p s.next o)) ≡ content_of (turned c.args.before.now c.args.runs.now p o 0 (present s o))) (sym c.in-Delete.is) (c.in_ok-ask-in-Delete.ensures.granted (change.Delete o) refl).content
 
 pub returns-in_ok-ask-in-Delete-clause-next : goal.returns-in_ok-ask-in-Delete-clause-next
 returns-in_ok-ask-in-Delete-clause-next g c =
@@ -33,7 +33,7 @@ returns-in-Remake-clause-content g c =
     let later = state_in c.remake.new.drive in
     let o = c.args.object in
     let before = c.args.before.now in
-    subst (λ (p : Plan). OnOk c.remake.result (content_of (present later (number_by p s.next o)) ≡ content_of (turned before p o 0 (present s o)))) (sym c.in-Remake.is)
+    subst (λ (p : Plan). OnOk c.remake.result (content_of (present later (number_by p s.next o)) ≡ content_of (turned before c.args.runs.now p o 0 (present s o)))) (sym c.in-Remake.is)
     (on_ok_weaker c.remake.result (λ (done : content_of (present later s.next) ≡ holding (bytes_of before) (attribute_of before)). done ∙ ap (λ (b : List ℕ). holding b (attribute_of before)) (sym (written_over_none (bytes_of before)))) c.remake.ensures.content)
 
 pub returns-in_ok-ask-in-Delete-clause-asked : goal.returns-in_ok-ask-in-Delete-clause-asked
@@ -41,7 +41,7 @@ returns-in_ok-ask-in-Delete-clause-asked g c =
     let d = c.args.drive.now in
     let d' = c.ask.new.drive in
     let o = c.args.object in
-    subst (λ (p : Plan). AsksFor d c.args.now (changes_by c.args.before.now p (state_in d).next o) (Ok o) d') (sym c.in-Delete.is)
+    subst (λ (p : Plan). AsksFor d c.args.now (changes_by c.args.before.now c.args.runs.now p (state_in d).next o) (Ok o) d') (sym c.in-Delete.is)
     (asked_one (Ok o) d d' c.args.now (request.Update (object_request.Delete o)) (change.Delete o) refl c.in_ok-ask-in-Delete.ensures.stored tt c.in_ok-ask-in-Delete.ensures.moved c.ask.ensures.dated)
 
 pub returns-in_err-ask-in-Delete-clause-asked : goal.returns-in_err-ask-in-Delete-clause-asked
@@ -51,5 +51,5 @@ returns-in_err-ask-in-Delete-clause-asked g c =
     let d' = c.ask.new.drive in
     let o = c.args.object in
     let e = c.in_err-ask-in-Delete.field-0.0 in
-    rw (p.1, p.2) (subst (λ (q : Plan). AsksFor {T = ℕ} d c.args.now (changes_by c.args.before.now q (state_in d).next o) (Err e) d') (sym c.in-Delete.is)
+    rw (p.1, p.2) (subst (λ (q : Plan). AsksFor {T = ℕ} d c.args.now (changes_by c.args.before.now c.args.runs.now q (state_in d).next o) (Err e) d') (sym c.in-Delete.is)
     (asked_one (Err e) d d' c.args.now (request.Update (object_request.Delete o)) (change.Delete o) refl tt c.in_err-ask-in-Delete.ensures.full tt c.ask.ensures.dated))

@@ -1,18 +1,30 @@
-use Rattle.std.proofs.Common.{◌∙◌, length, ap}
+use Rattle.std.proofs.Common.{◌≡◌, ◌∙◌, List, length, sym, ap, subst}
 use Rattle.s4_model.specs.State.{State}
 use Rattle.drive.specs.Fields.{state_in}
+use Rattle.history_view.specs.Contents.{content_of as bytes_of}
+use Rattle.block_runs.specs.declared.running.Run.{Run}
 use Rattle.history_restore.specs.Asking.{clock_by}
-use Rattle.history_restore.specs.Plans.{changes_by}
+use Rattle.history_restore.specs.Plans.{IsWithinPlan, changes_by, runs_between}
 use Rattle.history_restore.proofs.Counted.{counts_changes}
+use Rattle.history_restore.proofs.Turning.{within_plan}
 use Rattle.history_restore.proofs.restoring.restore_object.Goals as goal
+
+pub perform-requires : goal.perform-requires
+perform-requires g c =
+    let before = c.in-Ok.compared.earlier in
+    let now = c.in-Ok.compared.latest in
+    let runs : c.as_slice-runs.result.now ≡ runs_between before now = c.as_slice-runs.ensures.value ∙ c.in-Ok.ensures.runs in
+    subst (λ (rs : List Run). IsWithinPlan (bytes_of before) rs c.plan_of-plan.result) (sym runs) (within_plan before now c.plan_of-plan.result c.plan_of-plan.ensures)
 
 pub returns-in-Ok-perform-clause-moved : goal.returns-in-Ok-perform-clause-moved
 returns-in-Ok-perform-clause-moved g c =
-    let s = state_in c.args.drive.now in
     let now = c.args.now in
-    let compared = c.in-Ok.compared in
+    let before = c.in-Ok.compared.earlier in
+    let latest = c.in-Ok.compared.latest in
     let plan = c.plan_of-plan.result in
-    let target = c.args.aim.now.target in
+    let o = c.args.aim.now.target in
+    let runs : c.as_slice-runs.result.now ≡ runs_between before latest = c.as_slice-runs.ensures.value ∙ c.in-Ok.ensures.runs in
     c.in-Ok-perform.ensures.asked.moved
-    ∙ ap (λ (k : State). clock_by k.clock now (length (changes_by compared.earlier plan k.next target))) c.compare.ensures.state
-    ∙ ap (clock_by s.clock now) (counts_changes compared.earlier compared.latest plan s.next target c.plan_of-plan.ensures)
+    ∙ ap (λ (rs : List Run). clock_by (state_in c.compare.new.drive).clock now (length (changes_by before rs plan (state_in c.compare.new.drive).next o))) runs
+    ∙ ap (λ (s : State). clock_by s.clock now (length (changes_by before (runs_between before latest) plan s.next o))) c.compare.ensures.state
+    ∙ ap (clock_by (state_in c.args.drive.now).clock now) (counts_changes before latest plan (state_in c.args.drive.now).next o c.plan_of-plan.ensures)

@@ -1,0 +1,18 @@
+-- Which blocks runs write.
+use Rattle.std.specs.Prelude.{◌≡◌, ◌≢◌, ℕ, ◌+◌, ◌-◌, ◌/◌, ◌<◌, nat_le, ◌&&◌, if◌then◌else◌, List, [], ◌∷◌, length, slice_index}
+use Rattle.s4_types.specs.declared.limits.TheConstants.{BLOCK_BYTES}
+use Rattle.block_runs.specs.declared.running.Run.{Run}
+use Rattle.block_runs.specs.Runs.{runs_of}
+
+-- A block differs: one of its bytes does. What is past the end of a list that is too short is a zero.
+abbrev pub DiffersIn : List ℕ → List ℕ → ℕ → Type 0
+DiffersIn bytes now k = (j : ℕ) × (j / BLOCK_BYTES ≡ k) × (j < length bytes) × (slice_index bytes j ≢ slice_index now j)
+
+-- how many of these runs write a block
+abbrev pub times_written : ℕ → List Run → ℕ
+times_written k [] = 0
+times_written k (r ∷ rs) = (if nat_le (r.offset / BLOCK_BYTES) k && nat_le k ((r.end - 1) / BLOCK_BYTES) then 1 else 0) + times_written k rs
+
+-- Each block that differs is written once, and no other is.
+abbrev pub RunsWriteEachOnce : Type 0
+RunsWriteEachOnce = (bytes now : List ℕ) (k : ℕ) → (DiffersIn bytes now k → times_written k (runs_of bytes now) ≡ 1) × ((DiffersIn bytes now k → ⊥) → times_written k (runs_of bytes now) ≡ 0)

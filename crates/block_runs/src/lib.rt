@@ -1,0 +1,11 @@
+//! Where two lists of bytes differ, as runs of neighbouring blocks: the least that has to be
+//! written over the one, so that it becomes the other.
+//!
+//! The layers above may rely on this: `runs_between` is a function of both lists alone, and `laws`
+//! says what its runs are, and that the bytes are had by writing them one after the other.
+#![tactic(auto)]
+
+pub mod laws;
+mod running;
+
+pub use running::{Run, runs_between};
