@@ -1,10 +1,10 @@
 -- Runs write each block that differs once, and no other.
-use Rattle.std.proofs.Common.{◌≡◌, ◌≢◌, ◌∙◌, inl, inr, ◌+◌, ◌-◌, ◌/◌, ◌<◌, ◌≤◌, nat_le, ◌&&◌, ℕ, Bool, true, false, cond, List, [], ◌∷◌, length, get_or, refl, sym, ap, subst, arith}
+use Rattle.std.proofs.Common.{◌≡◌, ◌≢◌, ◌∙◌, inl, inr, ◌+◌, ◌-◌, ◌/◌, ◌<◌, ◌≤◌, nat_le, ◌&&◌, ℕ, Bool, true, false, cond, List, [], ◌∷◌, ◌++◌, length, get_or, refl, sym, ap, subst, arith}
 use Rattle.std.proofs.lemmas.Bool.{cases_lt, true≢false}
 use Rattle.std.proofs.lemmas.Bool.Decides.{nat_tests}
 use Rattle.s4_types.specs.declared.limits.TheConstants.{BLOCK_BYTES}
 use Rattle.block_runs.specs.declared.running.Run.{Run}
-use Rattle.block_runs.specs.Blocks.{DiffersIn, RunsWriteEachOnce, times_written}
+use Rattle.block_runs.specs.Blocks.{DiffersIn, RunsWriteEachOnce, blocks_in, blocks_in_all, times_written}
 use Rattle.block_runs.specs.Runs.{AreRuns, IsRun, differs, runs_of}
 use Rattle.block_runs.proofs.Exact.{runs_are_exact}
 
@@ -97,3 +97,8 @@ runs_write_each_once bytes now k =
       λ (other : DiffersIn bytes now k). subst (λ m. times_written m rs ≡ 1) other.1 (once d n 0 0 rs other.0 (runs_are_exact bytes now) (omega arith) other.2 (is_other bytes now other.0 other.3)),
       λ (same : DiffersIn bytes now k → ⊥). never d n 0 0 rs k (runs_are_exact bytes now) (λ found. same (found.0, found.1, found.2, other_is bytes now found.0 found.3)),
     )
+
+-- one run more
+pub blocks_more : (rs : List Run) (r : Run) → blocks_in_all (rs ++ r ∷ []) ≡ blocks_in_all rs + blocks_in r
+blocks_more [] r = omega arith
+blocks_more (q ∷ rs) r = omega (arith, blocks_more rs r)

@@ -13,6 +13,15 @@ abbrev pub times_written : ℕ → List Run → ℕ
 times_written k [] = 0
 times_written k (r ∷ rs) = (if nat_le (r.offset / BLOCK_BYTES) k && nat_le k ((r.end - 1) / BLOCK_BYTES) then 1 else 0) + times_written k rs
 
+-- how many blocks a run has bytes of
+abbrev pub blocks_in : Run → ℕ
+blocks_in r = (r.end - 1) / BLOCK_BYTES - r.offset / BLOCK_BYTES + 1
+
+-- how many are written, run by run
+abbrev pub blocks_in_all : List Run → ℕ
+blocks_in_all [] = 0
+blocks_in_all (r ∷ rs) = blocks_in r + blocks_in_all rs
+
 -- Each block that differs is written once, and no other is.
 abbrev pub RunsWriteEachOnce : Type 0
 RunsWriteEachOnce = (bytes now : List ℕ) (k : ℕ) → (DiffersIn bytes now k → times_written k (runs_of bytes now) ≡ 1) × ((DiffersIn bytes now k → ⊥) → times_written k (runs_of bytes now) ≡ 0)

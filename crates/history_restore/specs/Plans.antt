@@ -6,7 +6,7 @@ use Rattle.s4_types.specs.declared.limits.TheConstants.{OBJECT_BYTES}
 use Rattle.s4_types.specs.declared.versions.Version.{Version}
 use Rattle.s4_types.specs.declared.versions.Version.TheVariants.{Absent, Live}
 use Rattle.s4_model.specs.Effect.{effect}
-use Rattle.s4_model.specs.Refusals.{is_absent}
+use Rattle.s4_model.specs.Refusals.{is_absent, last_number}
 use Rattle.s4_model.specs.Step.{part}
 use Rattle.history_view.specs.Contents.{attribute_of, content_of as bytes_of}
 use Rattle.history_restore.specs.declared.plans.Patch.{Patch}
@@ -15,6 +15,7 @@ use Rattle.history_restore.specs.declared.plans.Plan.{Plan}
 use Rattle.history_restore.specs.declared.plans.Plan.TheVariants.{Keep, Delete, Remake, Change}
 use Rattle.history_restore.specs.Content.{content_of}
 use Rattle.block_runs.specs.declared.running.Run.{Run}
+use Rattle.block_runs.specs.Blocks.{blocks_in_all}
 use Rattle.block_runs.specs.Runs.{IsSized, runs_of}
 
 -- where the bytes of what an object was differ from those that it has
@@ -41,6 +42,7 @@ IsWritten bytes now (Some patch) = IsPatch bytes now patch
 pub record IsChangesOf (bytes attribute now attribute_now : List ℕ) (changes : Changes) : Type 0 where
   pub shorter : IsSized bytes now changes.cut
   pub rewritten : changes.writes ≡ length (runs_of bytes now)
+  pub blocks : changes.blocks ≡ min last_number (blocks_in_all (runs_of bytes now))
   pub replaced : MatchBool changes.attribute (attribute ≢ attribute_now) (attribute ≡ attribute_now)
 
 -- whether no change is among them

@@ -1,5 +1,6 @@
 -- What restoring an object comes to.
-use Rattle.std.specs.Prelude.{◌≡◌, ◌⊎◌, ℕ, ◌+◌, ◌-◌, nat_le, min, if◌then◌else◌, true, Option, None, Some}
+use Rattle.std.specs.Prelude.{◌≡◌, ◌⊎◌, ℕ, ◌+◌, ◌-◌, nat_le, min, if◌then◌else◌, true, List, Option, None, Some}
+use Rattle.s4_types.specs.declared.changes.Change.{Change}
 use Rattle.s4_types.specs.declared.refusals.Refusal.{Refusal}
 use Rattle.s4_types.specs.declared.refusals.Refusal.TheVariants.{ChainFull, NoMemory, Busy}
 use Rattle.s4_types.specs.declared.spans.Span.{Span}
@@ -15,7 +16,7 @@ use Rattle.history_restore.specs.declared.aims.Aim.{Aim}
 use Rattle.history_restore.specs.declared.plans.Plan.{Plan}
 use Rattle.history_restore.specs.declared.restoring.Restored.{Restored}
 use Rattle.history_restore.specs.declared.failures.Failure.{Failure}
-use Rattle.history_restore.specs.Asking.{FindsFull, is_left}
+use Rattle.history_restore.specs.Asking.{AreStored, FindsFull, is_left}
 use Rattle.history_restore.specs.Content.{content_of, changed_in}
 use Rattle.history_restore.specs.Plans.{IsPlan, changes_by, next_by_plan, runs_between}
 
@@ -60,9 +61,17 @@ pub record IsStopped (s later : State) (aim : Aim) (at : ℕ) (failure : Failure
   pub why : (IsUnread s aim.object at failure.refusal × (later ≡ s)) ⊎ (IsVisible s aim.object at × (IsWithinLimits (version_of s aim.object at) → is_left failure.refusal ≡ true))
   pub flush : failure.flush ≡ flush_for aim.target at (present s aim.target) failure.refusal
 
+-- The changes that make an object what it was at a moment, by a plan: its writes are those of the runs of blocks that differ.
+abbrev pub changes_for : State → Aim → ℕ → Plan → List Change
+changes_for s aim at plan = changes_by (version_of s aim.object at) (runs_between (version_of s aim.object at) (present s aim.target)) plan s.next aim.target
+
+-- An object was restored by these changes, one after the other, and nothing else was stored.
+abbrev pub StoresPlan : State → Aim → ℕ → StoreFields → StoreFields → Restored → Type 0
+StoresPlan s aim at store after restored = AreStored store (changes_for s aim at restored.plan) after
+
 -- What restoring an object asks for finds its journal too full: one of the changes of its plan would make the journal too long, once those
 -- in front of it are stored.
 pub record IsTooFull (s : State) (store : StoreFields) (aim : Aim) (at : ℕ) : Type 0 where
   pub plan : Plan
   pub planned : IsPlan (version_of s aim.object at) (present s aim.target) plan
-  pub full : FindsFull store (changes_by (version_of s aim.object at) (runs_between (version_of s aim.object at) (present s aim.target)) plan s.next aim.target)
+  pub full : FindsFull store (changes_for s aim at plan)

@@ -1,15 +1,15 @@
 //! What objects were at a moment, made their present again by requests of a session.
 //!
-//! The layers above may rely on this: `plan_of` says what has to be done to an object, by what it
-//! was and what it is, with as few requests as serve, and `laws` that this turns it back.
-//! `restore_object` does what `plan_object` plans: afterwards the object has exactly the bytes and
-//! the attribute that it had, under its own number, or under the next one where it was deleted
-//! since. `restore_all` does so with every object that has a row, `restore_objects` with those of
-//! them that are asked for. Whatever these answer, every other object is what it was, every version
-//! up to the clock stays, and no moment is hidden. `make_room` alone hides moments, of the one
-//! object that it is asked for, and then cleans that object's chain; `newest_versions` says which
-//! moments are those of its newest versions. A refusal for a full journal comes only where one of
-//! the plan's changes would make it too long.
+//! The layers above may rely on this: a plan says what has to be done to an object, by what it was
+//! and what it is. It writes each run of neighbouring blocks that differ, and no other block, and
+//! `laws` says that it turns the object back. `restore_object` does what `plan_object` plans:
+//! afterwards the object has exactly the bytes and the attribute that it had, under its own number,
+//! or under the next one where it was deleted since. `restore_all` does so with every object that
+//! has a row, `restore_objects` with those of them that are asked for. Whatever these answer, every
+//! other object is what it was, every version up to the clock stays, and no moment is hidden.
+//! `make_room` alone hides moments, of the one object that it is asked for, and then cleans that
+//! object's chain; `newest_versions` says which moments are those of its newest versions. A refusal
+//! for a full journal comes only where one of the plan's changes would make it too long.
 //!
 //! An object that an earlier restore made anew may be restored under the number that it got: then
 //! that is what is compared with what the object was, and turned back. `laws` says that a second
@@ -46,7 +46,7 @@ pub use failures::{Failure, between};
 pub use planning::{
     ObjectPlan, chosen_plans, count_changes, plan_all, plan_each, plan_objects, planned_aims,
 };
-pub use plans::{Changes, Patch, Plan, plan_of};
+pub use plans::{Changes, Plan};
 pub use presence::has_object;
 pub use restoring::{Restored, plan_object, restore_object};
 pub use room::{make_room, newest_versions};

@@ -5,7 +5,7 @@ ghost use Rattle.history_restore.specs.Plans.{is_idle, runs_between};
 ghost use Rattle.block_runs.specs.Runs.{IsSized, runs_of};
 
 use crate::differences::{end_of_difference, first_difference};
-use block_runs::Run;
+use block_runs::{Run, count_blocks};
 use s4_types::Version;
 
 /// Bytes that are written in one request, by their place in the object as it was, in bytes.
@@ -23,6 +23,8 @@ pub struct Changes {
     /// Bytes are written by this many requests: one for each run of neighbouring blocks that
     /// differ, ascending.
     pub writes: u64,
+    /// They write this many blocks together.
+    pub blocks: u64,
     /// Its attribute is replaced.
     pub attribute: bool,
 }
@@ -91,6 +93,7 @@ fn changes_between(
     Changes {
         cut: cut_between(bytes, now),
         writes: runs.len() as u64,
+        blocks: count_blocks(runs),
         attribute: is_other(attribute, attribute_now),
     }
 }
@@ -123,7 +126,7 @@ fn plan_between(
 /// What has to be done to an object, by what it was and what it is now, and by the runs of blocks
 /// in which these differ. The plan is the only one: each request is there exactly where it is
 /// needed, and a write has no byte at either end, nor a block, that is what it was.
-pub fn plan_of(before: &Version, now: &Version, runs: &[Run]) -> Plan
+pub(crate) fn plan_of(before: &Version, now: &Version, runs: &[Run]) -> Plan
     requires { runs.now ≡ runs_between before.now now.now }
     ensures { IsPlan before.now now.now result }
 {

@@ -9,7 +9,7 @@ ghost use Rattle.history_restore.specs.Asking.{IsMovedBy};
 ghost use Rattle.history_restore.specs.Plans.{IsPlan, change_count};
 ghost use Rattle.history_restore.specs.Keeping.{IsDatedFrom, LeavesPast, LeavesOthers};
 ghost use Rattle.history_restore.specs.Restoring.{IsUnread, Restores, IsStopped, IsTooFull};
-ghost use Rattle.history_restore.specs.Restoring.{number_after};
+ghost use Rattle.history_restore.specs.Restoring.{StoresPlan, number_after};
 
 use crate::aims::Aim;
 use crate::changing::perform;
@@ -75,6 +75,8 @@ pub fn restore_object<J: Naming>(
     ensures restored { IfOk result (Restores (state_in drive.old) (state_in drive.new) aim.now at) }
     ensures stopped { IfErr result
         (IsStopped (state_in drive.old) (state_in drive.new) aim.now at) }
+    ensures stored { IfOk result
+        (StoresPlan (state_in drive.old) aim.now at (store_of drive.old) (store_of drive.new)) }
     ensures full { IfErr result
         (λ failure. failure.refusal ≡ ChainFull
         → IsTooFull (state_in drive.old) (store_of drive.old) aim.now at) }

@@ -4,7 +4,7 @@ ghost use Rattle.s4_images.specs.Failures.{HasNoMoments};
 ghost use Rattle.restore_trials.specs.Trying.{Carries, PassesFine, RestoresAll, TriesFine};
 
 use drive::{Drive, Session};
-use history_restore::{Aim, ObjectPlan, Patch, Plan, restore_object};
+use history_restore::{Aim, ObjectPlan, Plan, restore_object};
 use journal_chain::packing::blocks_needed;
 use restore_orders::{Moments, failure_of};
 use restore_search::{Lack, Lacking};
@@ -175,34 +175,33 @@ fn leave(lacking: &mut Vec<Lacking>, aim: &Aim, lack: Lack) -> Result<bool, Fail
     Ok(false)
 }
 
-// How many blocks a plan appends at least; of what is made anew, with an attribute of few bytes,
-// exactly.
+// How many blocks a plan appends at least: its data, and a journal block for each change, of a
+// single write as many as it takes. Of what is made anew, with an attribute of few bytes, exactly.
 fn least_blocks(plan: &Plan) -> usize {
     match plan {
         Plan::Keep => 0,
         Plan::Delete => 1,
         Plan::Remake(size) => {
-            let patch = Patch {
-                offset: 0,
-                length: *size,
-            };
-            blocks_of(SHORTEST_ENTRY_BYTES, patch).saturating_add(1)
+            let data = (*size as usize).div_ceil(BLOCK_BYTES);
+            blocks_of(SHORTEST_ENTRY_BYTES, data).saturating_add(1)
         }
         Plan::Change(changes) => {
-            let written = (changes.writes as usize).saturating_mul(2);
+            let written = match changes.writes {
+                1 => blocks_of(0, changes.blocks as usize),
+                writes => changes.blocks.saturating_add(writes) as usize,
+            };
             let others = usize::from(changes.cut.is_some()) + usize::from(changes.attribute);
             written.saturating_add(others)
         }
     }
 }
 
-// How many blocks a write appends by how many bytes of entries the newest journal block has.
-fn blocks_of(filled: usize, patch: Patch) -> usize {
-    if patch.length == 0 {
+// How many blocks a write of this many appends by how many bytes of entries the newest journal
+// block has.
+fn blocks_of(filled: usize, data: usize) -> usize {
+    if data == 0 {
         return 0;
     }
-    let block = BLOCK_BYTES as u64;
-    let last = patch.offset.saturating_add(patch.length - 1) / block;
-    let data = (last.saturating_sub(patch.offset / block) as usize).min(OBJECT_BLOCKS - 1) + 1;
+    let data = data.min(OBJECT_BLOCKS);
     data.saturating_add(blocks_needed(filled, entry_sizes(data, 0).as_slice()))
 }

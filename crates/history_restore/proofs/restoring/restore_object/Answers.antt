@@ -1,10 +1,15 @@
 use Rattle.std.proofs.Common.{◌≡◌, ◌∙◌, List, length, sym, ap, subst}
+use Rattle.s4_types.specs.declared.changes.Change.{Change}
+use Rattle.s4_types.specs.declared.versions.Version.{Version}
 use Rattle.s4_model.specs.State.{State}
-use Rattle.drive.specs.Fields.{state_in}
+use Rattle.s4_model.specs.VersionAt.{version_of}
+use Rattle.version_store.specs.Store.{StoreFields}
+use Rattle.drive.specs.Fields.{state_in, store_of}
 use Rattle.history_view.specs.Contents.{content_of as bytes_of}
 use Rattle.block_runs.specs.declared.running.Run.{Run}
-use Rattle.history_restore.specs.Asking.{clock_by}
+use Rattle.history_restore.specs.Asking.{AreStored, clock_by}
 use Rattle.history_restore.specs.Plans.{IsWithinPlan, changes_by, runs_between}
+use Rattle.history_restore.specs.Restoring.{changes_for}
 use Rattle.history_restore.proofs.Counted.{counts_changes}
 use Rattle.history_restore.proofs.Turning.{within_plan}
 use Rattle.history_restore.proofs.restoring.restore_object.Goals as goal
@@ -28,3 +33,23 @@ returns-in-Ok-perform-clause-moved g c =
     ∙ ap (λ (rs : List Run). clock_by (state_in c.compare.new.drive).clock now (length (changes_by before rs plan (state_in c.compare.new.drive).next o))) runs
     ∙ ap (λ (s : State). clock_by s.clock now (length (changes_by before (runs_between before latest) plan s.next o))) c.compare.ensures.state
     ∙ ap (clock_by (state_in c.args.drive.now).clock now) (counts_changes before latest plan (state_in c.args.drive.now).next o c.plan_of-plan.ensures)
+
+pub returns-in-Ok-perform-clause-stored : goal.returns-in-Ok-perform-clause-stored
+returns-in-Ok-perform-clause-stored g c =
+    let s = state_in c.args.drive.now in
+    let aim = c.args.aim.now in
+    let before = c.in-Ok.compared.earlier in
+    let latest = c.in-Ok.compared.latest in
+    let plan = c.plan_of-plan.result in
+    let middle = c.compare.new.drive in
+    let later = store_of c.perform.new.drive in
+    let was : Version = version_of s aim.object c.args.at in
+    let runs : c.as_slice-runs.result.now ≡ runs_between before latest = c.as_slice-runs.ensures.value ∙ c.in-Ok.ensures.runs in
+    let asked : List Change = changes_by before c.as_slice-runs.result.now plan (state_in middle).next aim.target in
+    let is : asked ≡ changes_for s aim c.args.at plan =
+    ap (λ (rs : List Run). changes_by before rs plan (state_in middle).next aim.target) runs
+    ∙ ap (λ (k : State). changes_by before (runs_between before latest) plan k.next aim.target) c.compare.ensures.state
+    ∙ ap (λ (v : Version). changes_by v (runs_between v latest) plan s.next aim.target) c.in-Ok.ensures.earlier
+    ∙ ap (λ (v : Version). changes_by was (runs_between was v) plan s.next aim.target) c.in-Ok.ensures.latest in
+    subst (λ (cs : List Change). AreStored (store_of c.args.drive.now) cs later) is
+    (subst (λ (store : StoreFields). AreStored store asked later) c.compare.ensures.store c.in-Ok-perform.ensures.asked.stored)
