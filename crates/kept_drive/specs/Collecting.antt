@@ -1,16 +1,35 @@
 -- What is collected of a drive under its lock.
-use Rattle.std.specs.Prelude.{◌≡◌, ◌<◌, ◌^◌, ℕ, List, length}
+use Rattle.std.specs.Prelude.{◌≡◌, ◌≤◌, ◌<◌, ◌^◌, ℕ, List, length}
 use mathlib.Core.List.{IsPrefix}
+use Rattle.atomic_table.specs.Seated.{TableId}
 use Rattle.s4_types.specs.History.{Base, History, Seen, accepted}
 use Rattle.s4_types.specs.declared.changes.Accepted.{Accepted}
 use Rattle.s4_model.specs.Numbers.{clock_of, window_of}
 use Rattle.s4_model.specs.Sound.{IsSound}
 use Rattle.s4_model.specs.State.{grown, state_of}
-use Rattle.drive.specs.Fields.{SessionFields}
+use Rattle.segment_table.specs.Rules.{HasFramesInOrder}
+use Rattle.version_store.specs.Store.{IsStore}
+use Rattle.drive.specs.Fields.{DriveFields, SessionFields, history_of, state_in, store_of}
+use Rattle.drive.specs.Keeping.{DecodesWhereVisible}
+use Rattle.drive.specs.Opened.{NoneFrom}
 use Rattle.verifier.specs.Saved.{with_digest}
 use Rattle.kept_drive.specs.Images.{IsImageOf}
 use Rattle.kept_drive.specs.Reach.{reach_after}
 use Rattle.kept_drive.specs.declared.collecting.Collected.{Collected}
+
+-- A drive with these frames and this base, of which all holds that always does.
+pub record IsDriveOf (frames : TableId) (base : Base) (drive : DriveFields) : Type 0 where
+  pub decodes : DecodesWhereVisible (store_of drive) (state_in drive)
+  pub begins : (history_of drive).base ≡ base
+  pub frames_of : HasFramesInOrder frames drive.store.table
+  pub sound : IsSound (state_in drive)
+  pub store : IsStore (store_of drive)
+  pub past : (store_of drive).latest ≤ (state_in drive).clock
+  pub unborn : NoneFrom (state_in drive).next (store_of drive)
+
+-- such a drive had this history
+abbrev pub WasHad : TableId → Base → History → Type 0
+WasHad frames base history = (drive : DriveFields) × IsDriveOf frames base drive × (history_of drive ≡ history)
 
 -- This was collected of a drive with this history: how many changes were accepted, the reach that comes after the last one, and the image
 -- of the drive once it has seen the reach, without its digest.

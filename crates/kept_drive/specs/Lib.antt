@@ -1,3 +1,4 @@
 pub mod Reach
 pub mod Images
 pub mod Collecting
+pub mod Receipts

@@ -2,7 +2,7 @@
 ghost use Rattle.std.specs.Prelude.{◌≡◌, ◌⊎◌, ℕ, List, false, true};
 ghost use Rattle.std.specs.Prelude.{IsErrOf, OnOk};
 ghost use Rattle.image_keeping.specs.Leaving.{AddsNothing, IsKept};
-ghost use Rattle.kept_drive.specs.Collecting.{HasSeenMore};
+ghost use Rattle.kept_drive.specs.Collecting.{HasSeenMore, WasHad};
 ghost use Rattle.kept_drive.specs.Images.{IsClosed};
 
 use crate::collecting::DriveLock;
@@ -27,11 +27,11 @@ impl<J: Naming, K: Keeper> KeptImage<J, K> {
         // Whatever a crash leaves is the drive as it was collected, at its own clock.
         ensures kept { OnOk result
             (IsKept (K.may_leave self.new.keeper)
-            (IsClosed (L.has_had lock.now) J.base self.new.session.told.seen self.old.start)) }
+            (IsClosed (WasHad J.frames J.base) J.base self.new.session.told.seen self.old.start)) }
         // Whatever it answers, a crash leaves what it might have left before, or that.
         ensures crash { (c : List ℕ) → K.may_leave self.new.keeper c
             → K.may_leave self.old.keeper c
-            ⊎ IsClosed (L.has_had lock.now) J.base self.new.session.told.seen self.old.start c }
+            ⊎ IsClosed (WasHad J.frames J.base) J.base self.new.session.told.seen self.old.start c }
         ensures short { IsErrOf result FlushError.Short
             → AddsNothing (K.may_leave self.old.keeper) (K.may_leave self.new.keeper) }
         ensures again { IsErrOf result FlushError.Short → self.new.has_failed ≡ false }

@@ -1,12 +1,11 @@
 //! What is collected of a drive while its lock is held.
 ghost use Rattle.std.specs.Prelude.{◌≡◌, ◌-◌, ◌^◌, IfErr, IfOk, min};
-ghost use Rattle.s4_types.specs.History.{History};
 ghost use Rattle.s4_types.specs.declared.refusals.Refusal.TheVariants.{NoMemory};
 ghost use Rattle.segment_word.specs.AcceptViews.{caught_up, count_of};
 ghost use Rattle.segment_word.specs.AcceptRule.{FitsLedger};
 ghost use Rattle.drive.specs.Fields.{history_of};
 ghost use Rattle.verifier.specs.Saved.{with_digest};
-ghost use Rattle.kept_drive.specs.Collecting.{HasSeenMore, IsCollected, IsCollectedOf};
+ghost use Rattle.kept_drive.specs.Collecting.{HasSeenMore, IsCollected, IsCollectedOf, WasHad};
 ghost use Rattle.kept_drive.specs.Images.{IsClosed};
 
 use crate::reach::reach_after;
@@ -27,11 +26,8 @@ pub struct Collected {
     pub front: Vec<u8>,
 }
 
-/// A drive that sessions share, under its lock.
+/// The drive that `J` names, under the lock at which sessions share it.
 pub trait DriveLock<J: Naming> {
-    // The drive had this history at a time when its lock was held.
-    ghost has_had: { Self → History → Type 0 };
-
     /// Has the session meet the drive, and collects what is to be kept of it, all of it under the
     /// lock. `last` is the reach of what was kept before.
     fn collect(
@@ -41,7 +37,7 @@ pub trait DriveLock<J: Naming> {
         last: u64,
     ) -> Result<Collected, Refusal>
         ensures collected { IfOk result
-            (IsCollected (has_had self.now) J.base session.new.told.seen last) }
+            (IsCollected (WasHad J.frames J.base) J.base session.new.told.seen last) }
         ensures refusal { IfErr result (λ e. e ≡ NoMemory) }
         ensures grows { HasSeenMore session.old session.new };
 
@@ -53,7 +49,7 @@ pub trait DriveLock<J: Naming> {
         start: Moment,
     ) -> Result<Vec<u8>, Refusal>
         ensures closed { IfOk result
-            (λ front. IsClosed (has_had self.now) J.base session.new.told.seen start
+            (λ front. IsClosed (WasHad J.frames J.base) J.base session.new.told.seen start
             (with_digest front.items)) }
         ensures refusal { IfErr result (λ e. e ≡ NoMemory) }
         ensures grows { HasSeenMore session.old session.new };

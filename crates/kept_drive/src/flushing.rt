@@ -26,9 +26,9 @@ pub struct Flushing<'a, J: Naming, K: Keeper, L, R, A> {
     pub announcing: A,
 }
 
-impl<J: Naming, K: Keeper + Drop, L: DriveLock<J>, R: Wait, A: Announce> Flush<KeptReceipt<J>>
+impl<J: Naming, K: Keeper + Drop, L: DriveLock<J>, R: Wait, A: Announce> Flush<KeptReceipt<J, K>>
     for Flushing<'_, J, K, L, R, A> {
-    fn flush(&mut self) -> Result<KeptReceipt<J>, FlushError> {
+    fn flush(&mut self) -> Result<KeptReceipt<J, K>, FlushError> {
         self.kept.lock(self.rt).flush(self.alloc, &self.drive)
     }
 

@@ -2,7 +2,7 @@
 ghost use Rattle.std.specs.Prelude.{◌≡◌, ◌≤◌, ◌⊎◌, ◌||◌, ℕ, List, false, length, true};
 ghost use Rattle.std.specs.Prelude.{IfOk, IsErrOf, IsTrue, OnOk};
 ghost use Rattle.image_keeping.specs.Leaving.{AddsNothing, IsKept};
-ghost use Rattle.kept_drive.specs.Collecting.{HasSeenMore};
+ghost use Rattle.kept_drive.specs.Collecting.{HasSeenMore, WasHad};
 ghost use Rattle.kept_drive.specs.Images.{IsFlushed};
 
 use crate::collecting::DriveLock;
@@ -78,11 +78,11 @@ impl<J: Naming, K: Keeper> KeptImage<J, K> {
         &mut self,
         alloc: Global,
         lock: &L,
-    ) -> Result<KeptReceipt<J>, FlushError>
+    ) -> Result<KeptReceipt<J, K>, FlushError>
         // Whatever a crash leaves is the drive as it was collected.
         ensures kept { OnOk result
             (IsKept (K.may_leave self.new.keeper)
-            (IsFlushed (L.has_had lock.now) J.base self.new.session.told.seen
+            (IsFlushed (WasHad J.frames J.base) J.base self.new.session.told.seen
             self.old.reach self.new.reach)) }
         ensures number { IfOk result (λ r. r.number ≡ length self.new.session.told.seen) }
         ensures reach { IfOk result (λ r. r.reach ≡ self.new.reach) }
@@ -90,7 +90,7 @@ impl<J: Naming, K: Keeper> KeptImage<J, K> {
         // Whatever it answers, a crash leaves what it might have left before, or that.
         ensures crash { (c : List ℕ) → K.may_leave self.new.keeper c
             → K.may_leave self.old.keeper c
-            ⊎ IsFlushed (L.has_had lock.now) J.base self.new.session.told.seen
+            ⊎ IsFlushed (WasHad J.frames J.base) J.base self.new.session.told.seen
             self.old.reach self.new.reach c }
         ensures short { IsErrOf result FlushError.Short
             → AddsNothing (K.may_leave self.old.keeper) (K.may_leave self.new.keeper) }

@@ -1,7 +1,7 @@
 //! What a flush gives to the keeper.
 ghost use Rattle.std.specs.Prelude.{◌≡◌, ◌≤◌, IfErr, IfOk, length};
 ghost use Rattle.s4_types.specs.declared.refusals.Refusal.TheVariants.{NoMemory};
-ghost use Rattle.kept_drive.specs.Collecting.{HasSeenMore};
+ghost use Rattle.kept_drive.specs.Collecting.{HasSeenMore, WasHad};
 ghost use Rattle.kept_drive.specs.Images.{IsClosed, IsFlushed};
 
 use crate::collecting::{Collected, DriveLock};
@@ -31,7 +31,7 @@ pub(crate) fn prepare<J: Naming, L: DriveLock<J>>(
     last: u64,
 ) -> Result<Prepared, Refusal>
     ensures flushed { IfOk result
-        (λ p. IsFlushed (L.has_had lock.now) J.base session.new.told.seen
+        (λ p. IsFlushed (WasHad J.frames J.base) J.base session.new.told.seen
         last p.reach p.image.items) }
     ensures number { IfOk result (λ p. p.number ≡ length session.new.told.seen) }
     ensures later { IfOk result (λ p. last ≤ p.reach) }
@@ -63,7 +63,7 @@ pub(crate) fn prepare_last<J: Naming, L: DriveLock<J>>(
     start: Moment,
 ) -> Result<Vec<u8>, Refusal>
     ensures closed { IfOk result
-        (λ image. IsClosed (L.has_had lock.now) J.base session.new.told.seen
+        (λ image. IsClosed (WasHad J.frames J.base) J.base session.new.told.seen
         start image.items) }
     ensures refusal { IfErr result (λ e. e ≡ NoMemory) }
     ensures grows { HasSeenMore session.old session.new }

@@ -1,6 +1,6 @@
 //! How a flush collects the drive of a service, and what it says where it can't.
 ghost use Rattle.std.specs.Prelude.{◌≡◌};
-ghost use Rattle.s4serve.specs.Collecting.{Collects, CollectsLast, HasHad};
+ghost use Rattle.s4serve.specs.Collecting.{Collects, CollectsLast};
 
 use crate::keeping::Explaining;
 use crate::service::Service;
@@ -27,7 +27,8 @@ struct Collecting {
 impl<J: Naming> Visit<J> for Collecting {
     type Given = Result<Collected, Refusal>;
 
-    ghost gives = { λ visit drive old new given. Collects J.base visit.last drive old new given };
+    ghost gives = { λ visit drive old new given.
+        Collects J.frames J.base visit.last drive old new given };
 
     fn visit(
         &self,
@@ -52,7 +53,7 @@ impl<J: Naming> Visit<J> for CollectingLast {
     type Given = Result<Vec<u8>, Refusal>;
 
     ghost gives = { λ visit drive old new given.
-        CollectsLast J.base visit.start drive old new given };
+        CollectsLast J.frames J.base visit.start drive old new given };
 
     fn visit(
         &self,
@@ -74,8 +75,6 @@ pub struct UnderLock<'a, J: Running, C: Clock, R: Wait> {
 }
 
 impl<J: Running, C: Clock, R: Wait> DriveLock<J> for UnderLock<'_, J, C, R> {
-    ghost has_had = { λ _ history. HasHad J.base history };
-
     fn collect(
         &self,
         alloc: Global,

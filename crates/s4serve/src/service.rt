@@ -27,7 +27,7 @@ pub struct Service<J: Running, C: Clock, K: Keeper> {
     /// How the cleaner and the copier get on.
     pub pace: Pace,
     /// What sessions wait for that want their changes kept.
-    pub monitor: Monitor<KeptReceipt<J>>,
+    pub monitor: Monitor<KeptReceipt<J, K>>,
     pub kept: Mutex<KeptImage<J, K>>,
     /// The parts of the books that no session has had.
     pub parts: Mutex<Parts<J>>,

@@ -60,7 +60,7 @@ struct Ready<'a, K, C> {
 #[derive(Drop)]
 struct FirstKept<J: Running, K: Keeper> {
     kept: KeptImage<J, K>,
-    receipt: KeptReceipt<J>,
+    receipt: KeptReceipt<J, K>,
     lines: Lines,
     /// The image's path.
     path: String,
@@ -209,7 +209,7 @@ fn flush_first<'a, 'b, J: Running, C: serving::Clock, K: Keeper + Explaining, R:
     drive: &'b Mutex<SharedDrive<J, C>>,
     kept: &mut KeptImage<J, K>,
     image: &'a str,
-) -> Result<(KeptReceipt<J>, Lines, String), ServeFault<'a>> {
+) -> Result<(KeptReceipt<J, K>, Lines, String), ServeFault<'a>> {
     let lock = UnderLock {
         rt,
         drive,

@@ -117,7 +117,7 @@ fn keeping<'a, J: Running, C: Clock, K: Keeper, R: Wait, D: Telling>(
     service: &'a Service<J, C, K>,
     outside: &'a D,
     steps: &'a AnyStep,
-) -> AtMonitor<'a, KeptReceipt<J>, R, ServiceFlush<'a, J, C, K, R, D>, AnyStep> {
+) -> AtMonitor<'a, KeptReceipt<J, K>, R, ServiceFlush<'a, J, C, K, R, D>, AnyStep> {
     AtMonitor {
         rt,
         monitor: &service.monitor,

@@ -3,4 +3,4 @@ use Rattle.s4serve.proofs.collecting.UnderLockDriveLock.collect_last.Goals as go
 
 -- it was collected of the drive that was shown
 pub returns-clause-closed : goal.returns-clause-closed
-returns-clause-closed g c = closed_in g.J.Naming.base c.args.start c.show.ensures.0 _ _ _ c.show.ensures.1
+returns-clause-closed g c = closed_in g.J.Naming.frames g.J.Naming.base c.args.start c.show.ensures.0 _ _ _ c.show.ensures.1
