@@ -1,5 +1,6 @@
 pub mod Leaving
 pub mod Lines
+pub mod Doors
 pub mod Seats
 pub mod Traces
 pub mod Collecting

@@ -1,11 +1,19 @@
 //! How a service begins, and how it ends.
-ghost use Rattle.std.specs.Prelude.{◌≡◌, ℕ, List, IfSome, IsTrue, true};
+ghost use Rattle.std.specs.Prelude.{◌≡◌, ◌++◌, ℕ, List, [], ◌∷◌, false, length, map, true};
+ghost use Rattle.std.specs.Prelude.{IfOk, IfSome, IsTrue, OnErr, OnOk, string_bytes};
+ghost use Rattle.std.specs.List.{AllZip};
+ghost use Rattle.image_keeping.specs.Leaving.{IsKept};
 ghost use Rattle.s4_types.specs.Sizes.{IsFrameCount};
 ghost use Rattle.segment_table.specs.Room.{log_of};
 ghost use Rattle.version_store.specs.Store.{fields_of};
 ghost use Rattle.drive.specs.Fields.{DriveFields};
 ghost use Rattle.drive.specs.Opened.{base_of};
 ghost use Rattle.serving.specs.Drawing.{Drawn};
+ghost use Rattle.door_files.specs.Paths.{door_path};
+ghost use Rattle.kept_drive.specs.Collecting.{WasHad};
+ghost use Rattle.kept_drive.specs.Images.{IsFlushed};
+ghost use Rattle.s4serve.specs.Doors.{ReadsDoor, asked_door, opened_door};
+ghost use Rattle.s4serve.specs.Starts.{IsStart};
 
 use crate::collecting::{Closing, UnderLock, flusher};
 use crate::faults::{DoorObstacle, ServeFault};
@@ -43,17 +51,16 @@ const SECOND: u64 = 1_000_000;
 
 /// A service that is about to begin: its drive, just opened, and what is had before.
 #[derive(Drop)]
-struct Ready<'a, K, C> {
-    image: &'a str,
+struct Ready<K, C> {
     keeper: K,
     drive: OpenedDrive,
+    /// The machine's time, in microseconds since 1970.
+    system: u64,
     /// When it begins, and the clock that draws moments from then on.
     start: Moment,
     clock: C,
     blanks: Blanks,
     doors: Vec<Door>,
-    /// How long it tries to keep its drive once it is stopped, in seconds.
-    patience: u64,
 }
 
 /// What a service has besides once its drive was kept a first time.
@@ -83,7 +90,7 @@ pub fn serve_image<
 {
     let mut own = files;
     let opened = open_image(rt, alloc, &mut own, &outside, asked)?;
-    let (doors, inputs) = open_doors(alloc, &outside, asked)?;
+    let (doors, inputs) = open_doors(alloc, &outside, asked.doors.as_slice())?;
     let Opened {
         claim,
         left,
@@ -91,22 +98,21 @@ pub fn serve_image<
         begun,
     } = opened;
     let Begun {
-        system: _,
+        system,
         start,
         clock,
     } = begun;
     let ready = Ready {
-        image: asked.image,
         keeper: own.keeper(alloc, claim, left),
         drive,
+        system,
         start,
         clock,
         blanks: Blanks::new(ALL_PARTS),
         doors,
-        patience: asked.patience.unwrap_or(PATIENCE) / SECOND,
     };
     serve_ready::<Brand, H, F::Kept, ServiceClock<Monotonic<H>>, D>(
-        rt, alloc, outside, ready, inputs,
+        rt, alloc, outside, asked, ready, inputs,
     )
 }
 
@@ -122,7 +128,8 @@ fn serve_ready<
     rt: &H,
     alloc: Global,
     outside: D,
-    ready: Ready<'a, K, C>,
+    asked: &ServiceAsked<'a>,
+    ready: Ready<K, C>,
     inputs: Vec<D::Input>,
 ) -> Result<(), ServeFault<'a>>
     requires accepts { ready.drive.accepts ≡ J.accepts }
@@ -136,17 +143,22 @@ fn serve_ready<
     requires ledgers { (ready.blanks.requests ≡ J.asked) × (ready.blanks.changes ≡ J.name) }
     requires parts { (ready.blanks.parts ≡ J.parts) × (J.parts ≡ ALL_PARTS) }
     requires usable { IsTrue (K.is_usable ready.keeper) }
+    // It begins where a service may begin over this drive, and has the doors that were asked for.
+    requires start { IsStart ready.drive.timeline.clock ready.drive.timeline.window asked.now.leap
+        ready.system ready.start }
+    requires doors { map opened_door ready.doors.items ≡ map asked_door asked.now.doors.items }
 {
     let Ready {
-        image,
         keeper,
         drive,
+        system: _,
         start,
         clock,
         blanks,
         doors,
-        patience,
     } = ready;
+    let image = asked.image;
+    let patience = asked.patience.unwrap_or(PATIENCE) / SECOND;
     let (shared, rest) = SharedDrive::new(drive.named::<J>(), clock, blanks);
     let drive = Mutex::new(shared);
     let first = keep_first(rt, alloc, &drive, keeper, start, image)?;
@@ -186,6 +198,16 @@ fn keep_first<'a, J: Running, C: serving::Clock, K: Keeper + Explaining + Drop, 
     image: &'a str,
 ) -> Result<FirstKept<J, K>, ServeFault<'a>>
     requires usable { IsTrue (K.is_usable keeper) }
+    ensures start { IfOk result (λ first. first.kept.start ≡ start) }
+    // Whatever a crash leaves is the drive, once it has seen what comes after the start.
+    ensures kept { IfOk result (λ first. IsKept (K.may_leave first.kept.keeper)
+        (IsFlushed (WasHad J.frames J.base) J.base first.kept.session.told.seen
+        start first.kept.reach)) }
+    ensures number { IfOk result
+        (λ first. first.receipt.number ≡ length first.kept.session.told.seen) }
+    ensures reach { IfOk result (λ first. first.receipt.reach ≡ first.kept.reach) }
+    ensures usable { IfOk result (λ first. first.kept.has_failed ≡ false) }
+    ensures path { IfOk result (λ first. string_bytes first.path ≡ image.entry.now) }
 {
     let session = match enter(rt, drive, None, Role::Client) {
         Ok(session) => session,
@@ -209,7 +231,16 @@ fn flush_first<'a, 'b, J: Running, C: serving::Clock, K: Keeper + Explaining, R:
     drive: &'b Mutex<SharedDrive<J, C>>,
     kept: &mut KeptImage<J, K>,
     image: &'a str,
-) -> Result<(KeptReceipt<J, K>, Lines, String), ServeFault<'a>> {
+) -> Result<(KeptReceipt<J, K>, Lines, String), ServeFault<'a>>
+    ensures kept { OnOk result (IsKept (K.may_leave kept.new.keeper)
+        (IsFlushed (WasHad J.frames J.base) J.base kept.new.session.told.seen
+        kept.old.reach kept.new.reach)) }
+    ensures number { IfOk result (λ had. had.0.number ≡ length kept.new.session.told.seen) }
+    ensures reach { IfOk result (λ had. had.0.reach ≡ kept.new.reach) }
+    ensures usable { OnOk result (kept.new.has_failed ≡ false) }
+    ensures start { kept.new.start ≡ kept.old.start }
+    ensures path { IfOk result (λ had. string_bytes had.2 ≡ image.entry.now) }
+{
     let lock = UnderLock {
         rt,
         drive,
@@ -260,15 +291,22 @@ fn obstacle_of<J: Running, C: serving::Clock, K: Keeper + Explaining>(
 fn open_doors<'a, D: Fifos>(
     alloc: Global,
     outside: &D,
-    asked: &ServiceAsked<'a>,
-) -> Result<(Vec<Door>, Vec<D::Input>), ServeFault<'a>> {
+    asked: &[s4serve_command::Door<'a>],
+) -> Result<(Vec<Door>, Vec<D::Input>), ServeFault<'a>>
+    // As many as were asked for, each with its role and its folder, in their order.
+    ensures doors { IfOk result
+        (λ opened. map opened_door opened.0.items ≡ map asked_door asked.now) }
+    ensures inputs { IfOk result
+        (λ opened. AllZip (ReadsDoor D.reads) asked.now opened.1.items) }
+{
     let mut doors = Vec::new(alloc);
     let mut inputs = Vec::new(alloc);
-    for door in asked.doors.as_slice() {
+    for door in asked {
         let input = input_of(alloc, outside, door.folder)?;
-        if inputs.push(input).is_err() || add_door(alloc, &mut doors, *door).is_err() {
+        if inputs.push(input).is_err() {
             return Err(ServeFault::NoMemory);
         }
+        add_door(alloc, &mut doors, *door)?;
     }
     Ok((doors, inputs))
 }
@@ -278,7 +316,11 @@ fn add_door(
     alloc: Global,
     doors: &mut Vec<Door>,
     asked: s4serve_command::Door<'_>,
-) -> Result<(), AllocError> {
+) -> Result<(), AllocError>
+    ensures added { OnOk result (map opened_door doors.new.items
+        ≡ map opened_door doors.old.items ++ asked_door asked.entry ∷ []) }
+    ensures same { OnErr result (doors.new.items ≡ doors.old.items) }
+{
     let folder = String::from_str(alloc, asked.folder)?;
     let role = asked.role;
     doors.push(Door { role, folder })?;
@@ -290,7 +332,9 @@ fn input_of<'a, D: Fifos>(
     alloc: Global,
     outside: &D,
     folder: &'a str,
-) -> Result<D::Input, ServeFault<'a>> {
+) -> Result<D::Input, ServeFault<'a>>
+    ensures { IfOk result (λ input. D.reads input (door_path folder.entry.now)) }
+{
     match open_door(outside, alloc, folder) {
         Ok(input) => Ok(input),
         Err(error) => match error.kind() {
