@@ -1,15 +1,20 @@
 //! Who serves sessions.
-ghost use Rattle.std.specs.Prelude.{◌+◌, ◌^◌, ◌<◌, IfSome};
+ghost use Rattle.std.specs.Prelude.{◌≡◌, ◌+◌, ◌^◌, ◌<◌, [], IfNone, IfSome, List};
+ghost use Rattle.batch_serving.specs.Batches.{Serves};
 ghost use Rattle.server.specs.Attending.{IsSeated};
+ghost use Rattle.server.specs.Drawing.{DrawsNothing};
+ghost use Rattle.server.specs.declared.clocks.Undrawn.{Undrawn as Nothing};
+ghost use Rattle.s4serve.specs.Seats.{ServedFields};
+ghost use Rattle.s4serve.specs.Traces.{HasWaitedForAll, TracedSteps, untraced};
 
 use crate::collecting::{ServiceFlush, flusher};
-use crate::service::Service;
+use crate::service::{Door, Service};
 use crate::sessions::{Seat, serve_seat};
 use crate::telling::Telling;
 use crate::waiting::Line;
-use batch_serving::{AtMonitor, DueSource};
+use batch_serving::{AtMonitor, BatchEnd, DueSource};
 use door_files::{Fifos, open_session};
-use group_commit::Open as AnyStep;
+use group_commit::{Flush, Open as AnyStep, Receipt, Steps};
 use image_keeping::Keeper;
 use kept_drive::KeptReceipt;
 use s4_types::Role;
@@ -49,10 +54,10 @@ fn attend<J: Running, C: Clock, K: Keeper + Drop, R: Wait + time::Clock, D: Fifo
     };
     let mut writer = WriteSink::new(output);
     let reader = ReadSource::new(input);
-    serve_one(rt, alloc, service, outside, door.role, reader, &mut writer);
+    serve_one(rt, alloc, service, outside, door, reader, &mut writer);
 }
 
-/// Serves one session of a role, with its part of the books, once the drive has a seat for it.
+/// Serves one session that was asked for at a door. Its replies are due until it has ended.
 fn serve_one<
     J: Running,
     C: Clock,
@@ -66,32 +71,68 @@ fn serve_one<
     alloc: Global,
     service: &Service<J, C, K>,
     outside: &D,
-    role: Role,
+    door: &Door,
     source: S,
     writer: &mut W,
 )
     requires reader { S.failures source + 1 < 2 ^ 64 }
     requires writer { W.failures writer.old + 1 < 2 ^ 64 }
 {
-    let gate = Open;
-    let Some(mut seat) = seat_for(rt, alloc, service, &gate, role) else {
-        return;
-    };
     let mut at_monitor = keeping(rt, alloc, service, outside, &AnyStep);
     let mut reader = DueSource::new(source, rt, &service.monitor);
-    let _ = serve_seat(alloc, &mut reader, writer, &mut seat, &mut at_monitor);
+    let _ = serve_line(rt, alloc, service, door, &mut reader, writer, &mut at_monitor);
     reader.end_replies();
 }
 
-/// A seat of a role, with a part of the books. None where the drive has no more of them.
+/// Serves a session of the door's role that was just had, with its part of the books, and says how
+/// it ended. None where the drive has no seat for it: nothing is read or written then.
+///
+/// What it writes are the replies of that session's steps, each of which a receipt covers first.
+fn serve_line<
+    J: Running,
+    C: Clock,
+    K: Keeper + Drop,
+    R: Wait + time::Clock,
+    T: Receipt + Drop,
+    F: Flush<T>,
+    P: Steps,
+    S: Source,
+    W: Sink,
+>(
+    rt: &R,
+    alloc: Global,
+    service: &Service<J, C, K>,
+    door: &Door,
+    reader: &mut S,
+    writer: &mut W,
+    keeping: &mut AtMonitor<'_, T, R, F, P>,
+) -> Option<BatchEnd>
+    requires reader { S.failures reader.old + 1 < 2 ^ 64 }
+    requires writer { W.failures writer.old + 1 < 2 ^ 64 }
+    ensures unread { IfNone result (reader.new ≡ reader.old) }
+    ensures unwritten { IfNone result (writer.new ≡ writer.old) }
+    ensures covered { IfSome result (λ end. (seat now : ServedFields)
+        × IsSeated J.base door.now.role seat.seat
+        × (before after : Nothing) × (steps : List ServedFields)
+        × Serves (TracedSteps J.base J.moments) DrawsNothing
+        (λ from seat is_kept to. HasWaitedForAll T.number T.reach is_kept seat from.receipt to.receipt) [] end
+        (untraced seat) before keeping.old (S.remaining reader.old) (W.passed writer.old)
+        (record { now = now; steps = steps }) after keeping.new (S.remaining reader.new) (W.passed writer.new)) }
+{
+    let gate = Open;
+    let mut seat = seat_for(rt, alloc, service, &gate, door)?;
+    Some(serve_seat(alloc, reader, writer, &mut seat, keeping))
+}
+
+/// A seat of the door's role, with a part of the books. None where the drive has no more of them.
 fn seat_for<'a, J: Running, C: Clock, K: Keeper, R: Wait>(
     rt: &'a R,
     alloc: Global,
     service: &'a Service<J, C, K>,
     gate: &'a Open,
-    role: Role,
+    door: &Door,
 ) -> Option<Seat<'a, J, C, R, Open>>
-    ensures { IfSome result (λ s. IsSeated J.base role s.seat) }
+    ensures { IfSome result (λ s. IsSeated J.base door.now.role s.seat) }
 {
     let part = service.parts.lock(rt).one()?;
     let had = Locked::beside(
@@ -99,7 +140,7 @@ fn seat_for<'a, J: Running, C: Clock, K: Keeper, R: Wait>(
         alloc,
         &service.drive,
         &service.pace,
-        role,
+        door.role,
         part,
         gate,
         1,
