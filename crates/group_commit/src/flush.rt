@@ -38,6 +38,12 @@ pub trait Flush<T> {
     fn announce_shortage(&mut self, left: Option<u64>);
 }
 
+/// Who asks that a service is to stop.
+pub trait Stopping {
+    // Whether it may.
+    ghost may_stop: { Self → Type 0 };
+}
+
 /// Nothing is kept any more, since a flush has failed or the service has ended.
 #[derive(Clone, Copy)]
 pub struct NotKept;

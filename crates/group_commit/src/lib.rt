@@ -15,5 +15,5 @@ mod flush;
 mod monitor;
 mod progress;
 
-pub use flush::{CommitStep, Flush, FlushError, NotKept, Open, Receipt, Steps};
+pub use flush::{CommitStep, Flush, FlushError, NotKept, Open, Receipt, Steps, Stopping};
 pub use monitor::Monitor;

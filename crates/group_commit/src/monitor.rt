@@ -4,7 +4,7 @@ ghost use Rattle.std.specs.Prelude.{IfOk};
 ghost use Rattle.group_commit.specs.Commit.{Covers};
 ghost use Rattle.group_commit.specs.private.Given.{IsGiven};
 
-use crate::flush::{CommitStep, Flush, FlushError, NotKept, Receipt, Steps};
+use crate::flush::{CommitStep, Flush, FlushError, NotKept, Receipt, Steps, Stopping};
 use crate::progress::{Progress, Shortage, Turn};
 use std::sync::{Condvar, CondvarTimeouts, Mutex, MutexGuard, Wait};
 use std::thread::sleep;
@@ -208,8 +208,12 @@ impl<T: Receipt + Drop> Monitor<T> {
         self.news.notify_all();
     }
 
-    /// No request is to be taken up from now on. One that was may still be answered.
-    pub fn stop(&self, rt: &impl Wait) {
+    /// No request is to be taken up from now on, as one asks who may. One that was may still be
+    /// answered.
+    pub fn stop<S: Stopping>(&self, rt: &impl Wait, by: &S)
+        requires { S.may_stop by.now }
+    {
+        let _ = by;
         self.progress.lock(rt).stop();
         self.news.notify_all();
     }

@@ -76,7 +76,7 @@ fn heed<J: Running, C: Clock, K: Keeper, R: Wait, D: Fifos>(
         }
         DoorLine::Stop => {
             if may_stop(door.role) {
-                service.monitor.stop(rt);
+                service.monitor.stop(rt, door);
             }
         }
         DoorLine::Nothing => {}

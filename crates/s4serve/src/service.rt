@@ -1,7 +1,10 @@
 //! What all threads of a service share.
+ghost use Rattle.std.specs.Prelude.{◌≡◌};
+ghost use Rattle.s4_types.specs.declared.requests.Role.TheVariants.{Admin};
+
 use crate::parts::Parts;
 use crate::waiting::Lines;
-use group_commit::Monitor;
+use group_commit::{Monitor, Stopping};
 use image_keeping::Keeper;
 use kept_drive::{KeptImage, KeptReceipt};
 use s4_types::Role;
@@ -15,6 +18,11 @@ pub struct Door {
     /// What whoever comes by it may do.
     pub role: Role,
     pub folder: String,
+}
+
+// Administrators may stop the service.
+impl Stopping for Door {
+    ghost may_stop = { λ door. door.role ≡ Admin };
 }
 
 /// What all threads of a service share.

@@ -1,13 +1,13 @@
 //! Sessions that wait until their changes are kept, on threads that are held at steps: a store of
 //! numbers that is flushed, and receipts of it.
-ghost use Rattle.std.specs.Prelude.{◌≡◌};
+ghost use Rattle.std.specs.Prelude.{◌≡◌, ⊤};
 
 mod batches;
 mod gathered;
 mod ordered;
 mod stopping;
 
-use group_commit::{Flush, FlushError, Monitor, NotKept, Receipt, Steps};
+use group_commit::{Flush, FlushError, Monitor, NotKept, Receipt, Steps, Stopping};
 use std::sync::{Mutex, Wait};
 use std::time::Clock;
 
@@ -26,6 +26,16 @@ const NOTHING: Kept = Kept {
     number: 0,
     reach: 0,
 };
+
+/// Who may stop a service here.
+#[derive(Clone, Copy)]
+struct Anyone;
+
+const ANYONE: Anyone = Anyone;
+
+impl Stopping for Anyone {
+    ghost may_stop = { λ _. ⊤ };
+}
 
 impl Receipt for Kept {
     ghost number = { λ k. k.number };

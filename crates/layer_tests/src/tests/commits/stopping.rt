@@ -1,6 +1,6 @@
 //! How a session's source ends, how long a service that is to stop waits for its replies, and what
 //! becomes of those that wait then.
-use crate::tests::commits::{Flusher, Kept, Last, NOTHING, PATIENCE, Store, is_kept};
+use crate::tests::commits::{ANYONE, Flusher, Kept, Last, NOTHING, PATIENCE, Store, is_kept};
 use batch_serving::DueSource;
 use group_commit::{FlushError, Monitor, Open};
 use serving::{MemorySource, Source};
@@ -41,7 +41,7 @@ fn read_and_stop<R: Wait + Clock>(
     let mut source = DueSource::new(MemorySource::new(b"requests", 4), rt, monitor);
     let mut piece = [0; 8];
     let before = source.read(&mut piece).ok();
-    monitor.stop(rt);
+    monitor.stop(rt, &ANYONE);
     let milliseconds = milliseconds_to_the_end(rt, monitor);
     let after = source.read(&mut piece).ok();
     drop(source);
@@ -61,7 +61,7 @@ fn nothing_is_read_after_stop(rt: HostRuntime) {
 fn a_reply_that_nobody_reads_does_not_hold_back_the_end(rt: HostRuntime) {
     let monitor = Monitor::new(NOTHING, PATIENCE);
     monitor.begin_replies(&rt);
-    monitor.stop(&rt);
+    monitor.stop(&rt, &ANYONE);
     let milliseconds = milliseconds_to_the_end(&rt, &monitor);
     drop(monitor);
     assert!(rt; milliseconds >= SOON_MILLISECONDS, "a reply is due");
@@ -71,7 +71,7 @@ fn a_reply_that_nobody_reads_does_not_hold_back_the_end(rt: HostRuntime) {
 fn ask_and_end<R: Wait + Clock>(rt: &R, store: &Mutex<Store>) -> (bool, bool) {
     let monitor = Monitor::new(NOTHING, PATIENCE);
     let before = is_kept(rt, &monitor, store, &Open);
-    monitor.stop(rt);
+    monitor.stop(rt, &ANYONE);
     let ended = end(rt, &monitor, store).is_ok();
     let mut last = Flusher { rt, store };
     let after = monitor.await_kept(rt, &mut last, &Open, 0, 0).is_ok();
@@ -92,11 +92,11 @@ fn no_receipt_is_given_after_the_end(rt: HostRuntime) {
 /// each lacks room.
 fn give_up<R: Wait + Clock>(rt: &R, store: &Mutex<Store>) -> (bool, bool) {
     let asked = Monitor::new(NOTHING, PATIENCE);
-    asked.stop(rt);
+    asked.stop(rt, &ANYONE);
     let is_kept = is_kept(rt, &asked, store, &Open);
     drop(asked);
     let unasked = Monitor::new(NOTHING, PATIENCE);
-    unasked.stop(rt);
+    unasked.stop(rt, &ANYONE);
     let is_short = matches!(end(rt, &unasked, store), Err(FlushError::Short));
     drop(unasked);
     (!is_kept, is_short)
