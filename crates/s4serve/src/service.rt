@@ -2,7 +2,6 @@
 ghost use Rattle.std.specs.Prelude.{◌≡◌};
 ghost use Rattle.s4_types.specs.declared.requests.Role.TheVariants.{Admin};
 
-use crate::parts::Parts;
 use crate::waiting::Lines;
 use group_commit::{Monitor, Stopping};
 use image_keeping::Keeper;
@@ -37,10 +36,8 @@ pub struct Service<J: Running, C: Clock, K: Keeper> {
     /// What sessions wait for that want their changes kept.
     pub monitor: Monitor<KeptReceipt<J, K>>,
     pub kept: Mutex<KeptImage<J, K>>,
-    /// The parts of the books that no session has had.
-    pub parts: Mutex<Parts<J>>,
-    /// The lines that no worker has taken.
-    pub lines: Lines,
+    /// The lines that no worker has taken, and the parts of the books that no session has had.
+    pub lines: Lines<J>,
     pub doors: Vec<Door>,
     /// The image's path.
     pub image: String,
@@ -54,7 +51,6 @@ impl<J: Running, C: Clock + Drop, K: Keeper + Drop> Drop for Service<J, C, K> {
             pace: _,
             monitor: _,
             kept: _,
-            parts: _,
             lines: _,
             doors: _,
             image: _,

@@ -19,7 +19,7 @@ use crate::collecting::{Closing, UnderLock, flusher};
 use crate::faults::{DoorObstacle, ServeFault};
 use crate::keeping::{Explaining, KeptFiles};
 use crate::opening::{Begun, Opened, open_image};
-use crate::parts::{ALL_PARTS, Parts};
+use crate::parts::ALL_PARTS;
 use crate::service::{Door, Service};
 use crate::spawning::Starting;
 use crate::telling::{News, Telling};
@@ -68,7 +68,6 @@ struct Ready<K, C> {
 struct FirstKept<J: Running, K: Keeper> {
     kept: KeptImage<J, K>,
     receipt: KeptReceipt<J, K>,
-    lines: Lines,
     /// The image's path.
     path: String,
 }
@@ -162,13 +161,13 @@ fn serve_ready<
     let (shared, rest) = SharedDrive::new(drive.named::<J>(), clock, blanks);
     let drive = Mutex::new(shared);
     let first = keep_first(rt, alloc, &drive, keeper, start, image)?;
+    let lines = Lines::new(alloc, rest)?;
     let service = Service {
         pace: Pace::new(rt, alloc, &drive),
         drive,
         monitor: Monitor::new(first.receipt, patience),
         kept: Mutex::new(first.kept),
-        parts: Mutex::new(Parts::new(rest)),
-        lines: first.lines,
+        lines,
         doors,
         image: first.path,
     };
@@ -215,23 +214,22 @@ fn keep_first<'a, J: Running, C: serving::Clock, K: Keeper + Explaining + Drop, 
     };
     // What is kept has seen the start: moments below are no times, as those of a new drive.
     let mut kept = KeptImage::new(keeper, session, start);
-    let (receipt, lines, path) = flush_first(rt, alloc, drive, &mut kept, image)?;
+    let (receipt, path) = flush_first(rt, alloc, drive, &mut kept, image)?;
     Ok(FirstKept {
         kept,
         receipt,
-        lines,
         path,
     })
 }
 
-/// Keeps a drive a first time. Gives the receipt, no lines, and the image's path.
+/// Keeps a drive a first time. Gives the receipt, and the image's path.
 fn flush_first<'a, 'b, J: Running, C: serving::Clock, K: Keeper + Explaining, R: Wait>(
     rt: &'b R,
     alloc: Global,
     drive: &'b Mutex<SharedDrive<J, C>>,
     kept: &mut KeptImage<J, K>,
     image: &'a str,
-) -> Result<(KeptReceipt<J, K>, Lines, String), ServeFault<'a>>
+) -> Result<(KeptReceipt<J, K>, String), ServeFault<'a>>
     ensures kept { OnOk result (IsKept (K.may_leave kept.new.keeper)
         (IsFlushed (WasHad J.frames J.base) J.base kept.new.session.told.seen
         kept.old.reach kept.new.reach)) }
@@ -239,7 +237,7 @@ fn flush_first<'a, 'b, J: Running, C: serving::Clock, K: Keeper + Explaining, R:
     ensures reach { IfOk result (λ had. had.0.reach ≡ kept.new.reach) }
     ensures usable { OnOk result (kept.new.has_failed ≡ false) }
     ensures start { kept.new.start ≡ kept.old.start }
-    ensures path { IfOk result (λ had. string_bytes had.2 ≡ image.entry.now) }
+    ensures path { IfOk result (λ had. string_bytes had.1 ≡ image.entry.now) }
 {
     let lock = UnderLock {
         rt,
@@ -251,8 +249,7 @@ fn flush_first<'a, 'b, J: Running, C: serving::Clock, K: Keeper + Explaining, R:
         Err(_) => return Err(ServeFault::Unkept(image, kept.keeper().obstacle())),
     };
     let path = String::from_str(alloc, image)?;
-    let lines = Lines::new(alloc)?;
-    Ok((receipt, lines, path))
+    Ok((receipt, path))
 }
 
 /// Waits until the service is to end. Then all that was accepted is kept, at the drive's own clock.

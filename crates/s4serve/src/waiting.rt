@@ -1,10 +1,14 @@
 //! Lines of doors that wait until a worker takes them.
 ghost use Rattle.std.specs.Prelude.{◌≡◌, ◌++◌, ◌<◌, [], ◌∷◌, IfErr, IfNone, IfOk};
 ghost use Rattle.std.specs.Prelude.{IfSome, OnErr, OnOk, length};
+ghost use Rattle.server.specs.Accounts.{one_part};
 ghost use Rattle.s4serve.specs.Lines.{lines_for, other_role};
+ghost use Rattle.s4serve.specs.declared.parts.TheConstants.{ALL_PARTS};
 
+use crate::parts::Parts;
 use door_lines::SessionName;
 use s4_types::Role;
+use server::{Part, Running};
 use std::alloc::{AllocError, Global};
 use std::collections::VecDeque;
 use std::sync::{Condvar, Mutex, Wait};
@@ -88,20 +92,26 @@ fn put_last(lines: &mut VecDeque<Line>, line: Line) -> Result<(), Line>
     }
 }
 
-/// What workers wait for: the lines, under one lock, and what wakes whoever waits.
+/// What workers wait for: the lines, under one lock, and what wakes whoever waits. With each comes
+/// a part of the books, which nothing else gives.
 #[derive(Drop)]
-pub struct Lines {
+pub struct Lines<J: Running> {
     waiting: Mutex<Waiting>,
     news: Condvar,
+    /// The parts of the books that no session has had.
+    parts: Mutex<Parts<J>>,
 }
 
-impl Lines {
-    /// No lines.
-    pub fn new(alloc: Global) -> Result<Self, AllocError> {
+impl<J: Running> Lines<J> {
+    /// No lines, and all parts of the books of a service.
+    pub fn new(alloc: Global, all: Part<J>) -> Result<Self, AllocError>
+        requires { all.parts ≡ ALL_PARTS }
+    {
         let waiting = Waiting::new(alloc)?;
         Ok(Lines {
             waiting: Mutex::new(waiting),
             news: Condvar::new(),
+            parts: Mutex::new(Parts::new(all)),
         })
     }
 
@@ -112,8 +122,18 @@ impl Lines {
         put
     }
 
-    /// The next line of those for who serves this role, once there is one.
-    pub fn take(&self, rt: &impl Wait, role: Role) -> Line {
+    /// The next line of those for who serves this role, once there is one, and its part of the
+    /// books. None of these once all are given, which no service lives to see.
+    pub fn take(&self, rt: &impl Wait, role: Role) -> (Line, Option<Part<J>>)
+        ensures { IfSome result.1 (λ part. part ≡ one_part) }
+    {
+        let line = self.next(rt, role);
+        let part = self.parts.lock(rt).one();
+        (line, part)
+    }
+
+    /// Waits for the next line of those for who serves this role.
+    fn next(&self, rt: &impl Wait, role: Role) -> Line {
         let mut waiting = self.waiting.lock(rt);
         for _ in rt.forever() {
             match waiting.take(role) {

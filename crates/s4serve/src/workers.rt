@@ -1,6 +1,7 @@
 //! Who serves sessions.
 ghost use Rattle.std.specs.Prelude.{◌≡◌, ◌+◌, ◌^◌, ◌<◌, [], IfNone, IfSome, List};
 ghost use Rattle.batch_serving.specs.Batches.{Serves};
+ghost use Rattle.server.specs.Accounts.{one_part};
 ghost use Rattle.server.specs.Attending.{IsSeated};
 ghost use Rattle.server.specs.Drawing.{DrawsNothing};
 ghost use Rattle.server.specs.declared.clocks.Undrawn.{Undrawn as Nothing};
@@ -18,7 +19,7 @@ use group_commit::{Flush, Open as AnyStep, Receipt, Steps};
 use image_keeping::Keeper;
 use kept_drive::KeptReceipt;
 use s4_types::Role;
-use server::{Locked, Open, Running};
+use server::{Locked, Open, Part, Running};
 use serving::{Clock, ReadSource, Sink, Source, WriteSink};
 use std::alloc::Global;
 use std::sync::Wait;
@@ -33,8 +34,8 @@ pub fn work<J: Running, C: Clock, K: Keeper + Drop, R: Wait + time::Clock, D: Fi
     role: Role,
 ) {
     for _ in rt.forever() {
-        let line = service.lines.take(rt, role);
-        attend(rt, alloc, service, outside, &line);
+        let (line, part) = service.lines.take(rt, role);
+        attend(rt, alloc, service, outside, &line, part);
     }
 }
 
@@ -45,7 +46,10 @@ fn attend<J: Running, C: Clock, K: Keeper + Drop, R: Wait + time::Clock, D: Fifo
     service: &Service<J, C, K>,
     outside: &D,
     line: &Line,
-) {
+    part: Option<Part<J>>,
+)
+    requires { IfSome part (λ part. part ≡ one_part) }
+{
     let Some(door) = service.doors.as_slice().get(line.door) else {
         return;
     };
@@ -54,7 +58,7 @@ fn attend<J: Running, C: Clock, K: Keeper + Drop, R: Wait + time::Clock, D: Fifo
     };
     let mut writer = WriteSink::new(output);
     let reader = ReadSource::new(input);
-    serve_one(rt, alloc, service, outside, door, reader, &mut writer);
+    serve_one(rt, alloc, service, outside, door, part, reader, &mut writer);
 }
 
 /// Serves one session that was asked for at a door. Its replies are due until it has ended.
@@ -72,15 +76,26 @@ fn serve_one<
     service: &Service<J, C, K>,
     outside: &D,
     door: &Door,
+    part: Option<Part<J>>,
     source: S,
     writer: &mut W,
 )
+    requires part { IfSome part (λ part. part ≡ one_part) }
     requires reader { S.failures source + 1 < 2 ^ 64 }
     requires writer { W.failures writer.old + 1 < 2 ^ 64 }
 {
     let mut at_monitor = keeping(rt, alloc, service, outside, &AnyStep);
     let mut reader = DueSource::new(source, rt, &service.monitor);
-    let _ = serve_line(rt, alloc, service, door, &mut reader, writer, &mut at_monitor);
+    let _ = serve_line(
+        rt,
+        alloc,
+        service,
+        door,
+        part,
+        &mut reader,
+        writer,
+        &mut at_monitor,
+    );
     reader.end_replies();
 }
 
@@ -103,10 +118,12 @@ fn serve_line<
     alloc: Global,
     service: &Service<J, C, K>,
     door: &Door,
+    part: Option<Part<J>>,
     reader: &mut S,
     writer: &mut W,
     keeping: &mut AtMonitor<'_, T, R, F, P>,
 ) -> Option<BatchEnd>
+    requires part { IfSome part (λ part. part ≡ one_part) }
     requires reader { S.failures reader.old + 1 < 2 ^ 64 }
     requires writer { W.failures writer.old + 1 < 2 ^ 64 }
     ensures unread { IfNone result (reader.new ≡ reader.old) }
@@ -115,26 +132,29 @@ fn serve_line<
         × IsSeated J.base door.now.role seat.seat
         × (before after : Nothing) × (steps : List ServedFields)
         × Serves (TracedSteps J.base J.moments) DrawsNothing
-        (λ from seat is_kept to. HasWaitedForAll T.number T.reach is_kept seat from.receipt to.receipt) [] end
+        (λ from seat is_kept to. HasWaitedForAll T.number T.reach is_kept seat
+        from.receipt to.receipt) [] end
         (untraced seat) before keeping.old (S.remaining reader.old) (W.passed writer.old)
-        (record { now = now; steps = steps }) after keeping.new (S.remaining reader.new) (W.passed writer.new)) }
+        (record { now = now; steps = steps }) after keeping.new
+        (S.remaining reader.new) (W.passed writer.new)) }
 {
     let gate = Open;
-    let mut seat = seat_for(rt, alloc, service, &gate, door)?;
+    let mut seat = seat_for(rt, alloc, service, &gate, door, part?)?;
     Some(serve_seat(alloc, reader, writer, &mut seat, keeping))
 }
 
-/// A seat of the door's role, with a part of the books. None where the drive has no more of them.
+/// A seat of the door's role, with this part of the books. None where the drive has no more seats.
 fn seat_for<'a, J: Running, C: Clock, K: Keeper, R: Wait>(
     rt: &'a R,
     alloc: Global,
     service: &'a Service<J, C, K>,
     gate: &'a Open,
     door: &Door,
+    part: Part<J>,
 ) -> Option<Seat<'a, J, C, R, Open>>
+    requires { part ≡ one_part }
     ensures { IfSome result (λ s. IsSeated J.base door.now.role s.seat) }
 {
-    let part = service.parts.lock(rt).one()?;
     let had = Locked::beside(
         rt,
         alloc,
