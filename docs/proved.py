@@ -19,11 +19,11 @@ Each crate's public calls that have a contract, with the names of its clauses in
 a refusal leaves), and `least`, `most` and `few` (bounds). A **law** is a theorem: a function without arguments. The contracts are
 in `crates/CRATE/src`, in terms of [DEFINITIONS](DEFINITIONS.md).
 
-**An argument in writing**, of the service `s4serve`, is what joins its clauses. Each session, flush, wait and keeper is shown by itself:
-a reply goes out where a receipt covers its step, a receipt is a flush's, and after a flush a crash leaves an image of the drive with these
-changes at this clock (`serve_batch`, `await_kept`, `KeptImage::flush`, `Keeper::keep`). That a crash falls between two calls of the
-folder, one inside a call being read as a folder whose later calls all fail; that the lock of the monitor orders what the receipts of
-several sessions say; that a real folder is as `Folder` says; and that a thread which waits goes on: these no clause says.
+**An argument in writing**, of `s4serve`, joins its clauses. A reply goes out where a receipt covers its step
+(`serve_line`), and a receipt shows that a crash left an image of the drive with these changes at this clock (`KeptReceipt::shows`). That
+a crash falls between two calls of the folder, one inside a call being read as a folder whose later calls all fail; that the lock of the
+monitor orders what the receipts of several sessions say; that a real folder is as `Folder` says; and that a thread which waits goes on:
+these no clause says.
 """
 WIDTH = 130
 USUAL = {"same", "unchanged", "others", "refusal", "memory", "ledger", "least", "most", "few"}
