@@ -155,7 +155,7 @@ fn remove_left<F: Files>(files: &mut F, left: &mut Vec<F::Leftover>)
 }
 
 impl<F: Files + Drop> Folder for FileFolder<F> {
-    ghost use Rattle.std.specs.Prelude.{◌×◌, IfSome, IsErrOf, IsSomeAnd, OnErr, OnOk, is_some};
+    ghost use Rattle.std.specs.Prelude.{IfSome, IsErrOf, IsSomeAnd, OnErr, OnOk, is_some};
     ghost use Rattle.std.specs.Prelude.{string_bytes};
     ghost use Rattle.image_commands.specs.Files.{AreKnown, KeepsAll};
 
