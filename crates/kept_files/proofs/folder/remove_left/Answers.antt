@@ -14,7 +14,7 @@ loop-leftover-init g c = record {
 pub loop-leftover-preserved : goal.loop-leftover-preserved
 loop-leftover-preserved g c =
     let parts = λ (path : List ℕ) (none : All (λ one. g.F.Files.is_left one path ≡ false) c.args.left.now.items).
-        All-pop (λ one. g.F.Files.is_left one path ≡ false) c.loop-leftover.left.items c.pop.new.self.items c.pop.result c.pop.ensures.items (c.loop-leftover.invariant.rest path none) in
+    All-pop (λ one. g.F.Files.is_left one path ≡ false) c.loop-leftover.left.items c.pop.new.self.items c.pop.result c.pop.ensures.items (c.loop-leftover.invariant.rest path none) in
     record {
       others = λ path none. Keeps-trans _ _ _ (c.loop-leftover.invariant.others path none)
           (c.remove_leftover.ensures.others path (rw c.in-Some.is at (parts path none).1));
