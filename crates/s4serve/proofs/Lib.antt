@@ -1,5 +1,5 @@
 pub mod Collected
 pub mod Created
-pub mod Doors
+pub mod DoorLemmas
 pub mod Growing
 pub mod Tracing

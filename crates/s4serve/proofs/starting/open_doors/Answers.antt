@@ -3,7 +3,7 @@ use Rattle.std.specs.List.{AllZip}
 use Rattle.std.proofs.lemmas.List.{take_all}
 use Rattle.s4serve_command.specs.declared.doors.Door.{Door as AskedDoor}
 use Rattle.s4serve.specs.Doors.{ReadsDoor, asked_door}
-use Rattle.s4serve.proofs.Doors.{doors_more, inputs_more}
+use Rattle.s4serve.proofs.DoorLemmas.{doors_more, inputs_more}
 use Rattle.s4serve.proofs.starting.open_doors.Goals as goal
 
 pub returns-clause-doors : goal.returns-clause-doors
