@@ -1,0 +1,1 @@
+"""A store over many drives: buckets, keys and versions."""

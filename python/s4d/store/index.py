@@ -1,0 +1,109 @@
+"""What a store has, in memory: buckets, keys in their order, and the versions that can be read."""
+from __future__ import annotations
+
+import heapq
+from bisect import bisect_left, insort
+from dataclasses import dataclass, field
+from typing import Dict, List, NamedTuple, Optional, Tuple
+
+from .layout import Version
+
+
+class Place(NamedTuple):
+    """An object of a drive of the store."""
+
+    drive: int
+    object: int
+
+
+@dataclass
+class Entry:
+    """A version, the object that is its head, the moment of its Write, and that of the version that replaced it."""
+
+    version: Version
+    head: Place
+    moment: int
+    until: Optional[int] = None
+
+
+@dataclass
+class Bucket:
+    """A bucket: the object that says so, when it was made, in microseconds, and its keys. `names` are all keys in their order,
+    `live` those whose current version is no marker. The versions of a key ascend. `puts` are heads on their way.
+    """
+
+    name: str
+    place: Place
+    created: int
+    keys: Dict[str, List[Entry]] = field(default_factory=dict)
+    names: List[str] = field(default_factory=list)
+    live: List[str] = field(default_factory=list)
+    puts: int = 0
+
+    def current(self, key: str) -> Optional[Entry]:
+        """The newest version of a key, which may be a marker."""
+        found = self.keys.get(key)
+        return found[-1] if found else None
+
+    def version(self, key: str, id: str) -> Optional[Entry]:
+        """The version of this id, where it can be read still."""
+        return next((it for it in self.keys.get(key, ()) if it.version.id == id), None)
+
+
+class Index:
+    """Versions are added in the order of their sequence for each key. They leave when nobody can read them any more."""
+
+    def __init__(self, window: int) -> None:
+        self._window = window
+        self.buckets: Dict[str, Bucket] = {}
+        self._ends: List[Tuple[int, int, Entry]] = []  # a heap: when a version leaves, a number in their order, and it
+        self._count = 0
+
+    def add(self, entry: Entry) -> None:
+        """Takes a version that is the newest of its key from now on."""
+        bucket, key = self.buckets[entry.version.bucket], entry.version.key
+        known = bucket.keys.get(key)
+        if known is None:
+            known = bucket.keys[key] = []
+            insort(bucket.names, key)
+        was_live = bool(known) and not known[-1].version.is_marker
+        if known:
+            known[-1].until = entry.moment
+            self._leaves(entry.moment, known[-1])
+        known.append(entry)
+        if entry.version.is_marker:
+            self._leaves(entry.moment, entry)
+        if was_live and entry.version.is_marker:
+            remove(bucket.live, key)
+        elif not was_live and not entry.version.is_marker:
+            insort(bucket.live, key)
+
+    def _leaves(self, moment: int, entry: Entry) -> None:
+        self._count += 1
+        heapq.heappush(self._ends, (moment + self._window, self._count, entry))
+
+    def expire(self, now: int) -> List[Place]:
+        """Lets go of what can't be read any more at a moment: versions that were replaced, and markers that are all that a key
+        has. Heads that no version needs any more.
+        """
+        heads: List[Place] = []
+        while self._ends and self._ends[0][0] < now:
+            entry = heapq.heappop(self._ends)[2]
+            bucket = self.buckets.get(entry.version.bucket)
+            known = bucket.keys.get(entry.version.key) if bucket is not None else None
+            if bucket is None or not known or known[0] is not entry:
+                continue
+            known.pop(0)
+            if not known:
+                del bucket.keys[entry.version.key]
+                remove(bucket.names, entry.version.key)
+            if all(it.head != entry.head for it in known):
+                heads.append(entry.head)
+        return heads
+
+
+def remove(names: List[str], name: str) -> None:
+    """Takes a name out of names that ascend."""
+    place = bisect_left(names, name)
+    if place < len(names) and names[place] == name:
+        del names[place]

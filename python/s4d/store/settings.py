@@ -1,0 +1,143 @@
+"""A store's folder: the file `store.json`, the file of keys, and a folder for each drive."""
+from __future__ import annotations
+
+import json
+import os
+import re
+import secrets
+import subprocess
+from dataclasses import dataclass
+from typing import Any, Dict, List
+
+DRIVES = range(1, 65)  # how many a store may have
+FRAMES = range(24, 1_025)
+VERSION = 1  # of the folder's layout
+UNITS = {"s": 1, "m": 60, "h": 3_600, "d": 86_400, "w": 604_800}
+DURATION = re.compile(r"([1-9][0-9]{0,8})([smhdw])")
+ROLES = {"client": 0o770, "admin": 0o700}  # the doors of each drive, and the modes of their folders
+
+
+class StoreFault(Exception):
+    """Something of a store can't be had: its one line says what, and what to do."""
+
+
+@dataclass(frozen=True)
+class Settings:
+    """What a store was made with: how many drives of how many frames, and for how long they keep the past."""
+
+    drives: int
+    frames: int
+    keep: str
+
+    @property
+    def window(self) -> int:
+        """The time that `keep` says, in microseconds."""
+        return microseconds(self.keep)
+
+
+@dataclass(frozen=True)
+class Programs:
+    """The programs of the drives, by their names on the path or their paths."""
+
+    s4d: str = "s4d"
+    s4: str = "s4"
+    s4serve: str = "s4serve"
+
+
+def microseconds(duration: str) -> int:
+    """The time that a word as `30d` says; ValueError where it says none."""
+    found = DURATION.fullmatch(duration)
+    if found is None:
+        raise ValueError(f"{duration!r} is no duration, as 30d: a number and s, m, h, d or w")
+    return int(found[1]) * UNITS[found[2]] * 1_000_000
+
+
+def drive_folder(folder: str, number: int) -> str:
+    return os.path.join(folder, "drives", f"{number:02}")
+
+
+def image_path(folder: str, number: int) -> str:
+    return os.path.join(drive_folder(folder, number), "image")
+
+
+def keys_path(folder: str) -> str:
+    return os.path.join(folder, "keys")
+
+
+def make_store(folder: str, settings: Settings, programs: Programs) -> None:
+    """Makes a store in a folder that isn't there, or is empty. StoreFault where that can't be done.
+
+    The file `store.json` comes last: a folder without it is no store.
+    """
+    try:
+        os.makedirs(folder, 0o700, exist_ok=True)
+        if os.listdir(folder):
+            raise StoreFault(f"{folder} isn't empty: name another folder, or remove what is there")
+        for number in range(settings.drives):
+            make_drive(folder, number, settings, programs)
+        write_new(keys_path(folder), keys_text())
+        said = {"version": VERSION, "drives": settings.drives, "frames": settings.frames, "keep": settings.keep}
+        write_new(os.path.join(folder, "store.json"), json.dumps(said) + "\n")
+    except OSError as error:
+        raise StoreFault(f"{error.filename or folder}: {error.strerror or error}") from error
+
+
+def make_drive(folder: str, number: int, settings: Settings, programs: Programs) -> None:
+    """The folder of a drive: its doors and its image."""
+    for role, mode in ROLES.items():
+        doors = os.path.join(drive_folder(folder, number), "doors", role)
+        os.makedirs(doors)
+        os.chmod(doors, mode)
+        os.mkfifo(os.path.join(doors, "door"), 0o600)
+    words = [programs.s4d, "new", "--window", str(settings.window), image_path(folder, number), str(settings.frames)]
+    ran = subprocess.run(words, stdin=subprocess.DEVNULL, stdout=subprocess.PIPE, stderr=subprocess.PIPE, check=False)
+    if ran.returncode:
+        said = ran.stderr.decode("utf-8", "replace").strip() or f"status {ran.returncode}"
+        raise StoreFault(f"drive {number} can't be made: {said}")
+
+
+def keys_text() -> str:
+    """The file of keys of a new store: one key, with all rights."""
+    return f"# access key, secret, read or write, buckets\ns4{secrets.token_hex(9)} {secrets.token_urlsafe(30)} write *\n"
+
+
+def write_new(path: str, text: str) -> None:
+    """Writes a file that isn't there, for its owner alone, and waits until it is on the disk."""
+    number = os.open(path, os.O_WRONLY | os.O_CREAT | os.O_EXCL | os.O_CLOEXEC, 0o600)
+    with open(number, "w", encoding="utf-8") as file:
+        file.write(text)
+        file.flush()
+        os.fsync(number)
+
+
+def settings_in(folder: str) -> Settings:
+    """What `store.json` says; StoreFault where there is no store."""
+    path = os.path.join(folder, "store.json")
+    try:
+        with open(path, encoding="utf-8") as file:
+            said = json.load(file)
+    except FileNotFoundError:
+        raise StoreFault(f"{folder} is no store: make one by `python3 -m s4d.store init {folder}`") from None
+    except (OSError, ValueError) as error:
+        raise StoreFault(f"{path}: {getattr(error, 'strerror', None) or error}") from error
+    return settings_of(said, path)
+
+
+def settings_of(said: Any, path: str) -> Settings:
+    """The settings that the JSON says; StoreFault where it says none."""
+    if not isinstance(said, dict) or said.get("version") != VERSION:
+        raise StoreFault(f"{path} isn't of version {VERSION}")
+    faults = faults_of(said)
+    if faults:
+        raise StoreFault(f"{path}: {faults[0]}")
+    return Settings(said["drives"], said["frames"], said["keep"])
+
+
+def faults_of(said: Dict[str, Any]) -> List[str]:
+    """What is wrong with the numbers of a store."""
+    faults = [f"{name} is no number from {known[0]} to {known[-1]}" for name, known in (("drives", DRIVES), ("frames", FRAMES))
+              if type(said.get(name)) is not int or said[name] not in known]
+    keep = said.get("keep")
+    if not isinstance(keep, str) or DURATION.fullmatch(keep) is None:
+        faults.append("keep is no duration, as 30d: a number and s, m, h, d or w")
+    return faults
