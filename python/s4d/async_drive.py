@@ -57,8 +57,10 @@ class AsyncDrive:
         await asyncio.wait({self._taking})
         try:
             await asyncio.wait_for(self._writer.wait_closed(), self._timeout or CLOSE_SECONDS)
-        except (OSError, asyncio.TimeoutError):
-            self._writer.transport.abort()  # the other side is gone, or doesn't end
+        except asyncio.TimeoutError:
+            self._writer.transport.abort()
+        except OSError:
+            pass  # the other side is gone
 
     async def __aenter__(self) -> AsyncDrive:
         return self
@@ -98,7 +100,8 @@ class AsyncDrive:
     def _fail(self, why: str) -> None:
         """Ends the session at once."""
         self._lose_all(why)
-        self._writer.transport.abort()
+        if not self._writer.transport.is_closing():
+            self._writer.transport.abort()
 
     def _lose_all(self, why: str) -> None:
         """Nothing is sent or taken any more, and all requests that wait have lost their replies."""

@@ -12,7 +12,7 @@ import fcntl
 import os
 import secrets
 import stat
-from typing import Callable, Dict, Optional
+from typing import Callable, Dict, Optional, Tuple
 
 FLAGS = os.O_NONBLOCK | os.O_NOFOLLOW | os.O_CLOEXEC  # of each FIFO: nobody waits for its other end, and links are none
 PIECE = 65_536  # bytes of replies that are taken at once
@@ -146,6 +146,14 @@ class Pipes:
         except OSError:  # nobody reads them
             return False
         return True
+
+    def take_ends(self) -> Tuple[int, int]:
+        """The descriptors that requests are written to and replies are read from, for who closes them from now on."""
+        if self._sink is None or self._source is None:
+            raise OSError(errno.EBADF, os.strerror(errno.EBADF))
+        ends = self._sink, self._source
+        self._sink = self._source = None
+        return ends
 
     def end_requests(self) -> None:
         """The service finds the end after what was written."""

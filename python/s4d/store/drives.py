@@ -1,0 +1,116 @@
+"""A drive of a store: its service, which is started again where it ends, and a few sessions that requests share."""
+from __future__ import annotations
+
+import asyncio
+import contextlib
+from typing import Awaitable, Callable, List, Optional, TypeVar
+
+from ..async_drive import AsyncDrive
+from ..errors import BadReply, Disconnected, Refused, ReplyLost
+from .service import Service, say
+from .sessions import session_at
+
+T = TypeVar("T")
+
+SESSIONS = 8  # of a drive at once, of the sixteen that it serves: each has one request in flight
+REPLY_SECONDS = 300.0  # that a drive may take for a reply
+FIRST_WAIT = 0.5
+LONGEST_WAIT = 60.0  # seconds between starts of a service that ends again and again
+
+
+class DriveAway(Exception):
+    """A drive doesn't answer now. Where it was asked, it may have done what was asked."""
+
+    def __init__(self, number: int, was_asked: bool) -> None:
+        super().__init__(f"drive {number} doesn't answer")
+        self.number, self.was_asked = number, was_asked
+
+
+class StoreDrive:
+    """`ask` lends one of the sessions for one request."""
+
+    def __init__(self, number: int, service: Service) -> None:
+        self.number, self._service = number, service
+        self._is_served, self._is_stopping = False, False
+        self._idle: List[AsyncDrive] = []
+        self._places = asyncio.Semaphore(SESSIONS)
+        self._watching: Optional[asyncio.Future[None]] = None
+
+    async def start(self) -> None:
+        """Returns once it is served. StoreFault where it can't be."""
+        await self._service.start()
+        self._is_served = True
+        self._watching = asyncio.ensure_future(self._watch())
+
+    async def _watch(self) -> None:
+        """Starts the service again where it ends."""
+        wait = FIRST_WAIT
+        while True:
+            loop = asyncio.get_running_loop()
+            since = loop.time()
+            said = await self._service.ended()
+            self._is_served = False
+            if self._is_stopping:
+                return
+            wait = FIRST_WAIT if loop.time() - since > LONGEST_WAIT else min(2 * wait, LONGEST_WAIT)
+            say(f"drive {self.number} isn't served any more: {said}; it is started again in {wait:g} s")
+            await asyncio.sleep(wait)
+            await self._start_again()
+
+    async def _start_again(self) -> None:
+        try:
+            await self._service.start()
+        except Exception as error:  # it is said, and tried again
+            say(f"{error}")
+            return
+        self._is_served = True
+        say(f"drive {self.number} is served again")
+
+    async def stop(self) -> None:
+        """Ends sessions and service."""
+        self._is_stopping = True
+        for session in self._idle:
+            await session.close()
+        self._idle = []
+        await self._service.stop()
+        if self._watching is not None:
+            self._watching.cancel()
+            with contextlib.suppress(asyncio.CancelledError):
+                await self._watching
+
+    async def ask(self, work: Callable[[AsyncDrive], Awaitable[T]]) -> T:
+        """What one request is answered, in a session that nobody else has meanwhile. A refusal is raised as it is.
+
+        DriveAway where there is no answer.
+        """
+        async with self._places:
+            for _ in range(SESSIONS + 1):  # each session that is left from an earlier service, and a new one
+                session = await self._session()
+                try:
+                    found = await work(session)
+                except (ReplyLost, BadReply) as error:
+                    self._give_up()
+                    raise DriveAway(self.number, was_asked=True) from error
+                except Disconnected:
+                    continue
+                except (Refused, asyncio.CancelledError):
+                    self._idle.append(session)
+                    raise
+                self._idle.append(session)
+                return found
+        raise DriveAway(self.number, was_asked=False)
+
+    def _give_up(self) -> None:
+        """Ends a service that has lost a reply, so that what was asked isn't done after somebody has looked whether it was."""
+        self._is_served, self._idle = False, []
+        self._service.kill()
+
+    async def _session(self) -> AsyncDrive:
+        if self._idle:
+            return self._idle.pop()
+        if not self._is_served or self._is_stopping:
+            raise DriveAway(self.number, was_asked=False)
+        try:
+            return await session_at(self._service.door, REPLY_SECONDS)
+        except (OSError, Disconnected, BadReply) as error:
+            raise DriveAway(self.number, was_asked=False) from error

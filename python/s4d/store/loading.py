@@ -1,0 +1,152 @@
+"""A store's index at a start, from the images and by asking, and what earlier puts left behind.
+
+Which objects there are, and when each was changed, is in the images, which `s4` reads before the drives are served. What
+each version of a head says is asked for: the current one now, each other at the moment before the change that replaced it.
+"""
+from __future__ import annotations
+
+import asyncio
+from typing import Dict, List, NamedTuple, Optional, Sequence, Set, Tuple
+
+from ..errors import BadReply, Expired, Flushed, NoObject, ProgramFailed
+from ..image import Image
+from ..moments import machine_time
+from ..rows import Listed
+from ..wire import READ_BYTES
+from .contents import Gone, Pieces
+from .drives import StoreDrive
+from .index import Bucket, Entry, Index, Place
+from .layout import BadHead, Piece, head_attribute, version_in
+from .names import is_bucket_name
+from .service import say
+from .settings import StoreFault
+from .store import contents_of
+
+IMAGES_AT_ONCE = 4  # that are read side by side
+
+Moments = Dict[int, List[int]]  # of each object, the moments of its changes
+
+
+class Found(NamedTuple):
+    """What an image has: its live objects, and when each was changed."""
+
+    objects: List[Listed]
+    moments: Moments
+
+
+async def found_in(path: str, program: str, limit: asyncio.Semaphore) -> Found:
+    """What the image at a path has; StoreFault where it can't be read."""
+    async with limit:
+        loop = asyncio.get_running_loop()
+        try:
+            return await loop.run_in_executor(None, read_image, Image(path, s4=program))
+        except (ProgramFailed, BadReply) as error:
+            raise StoreFault(f"{path}: {error}") from error
+        except OSError as error:
+            raise StoreFault(f"{program}: {error.strerror}") from error
+
+
+def read_image(image: Image) -> Found:
+    moments: Moments = {}
+    for row in image.log():
+        moments.setdefault(row.object, []).append(row.moment)
+    return Found(image.list(), moments)
+
+
+class Loading:
+    """Makes the index of what was found, and deletes what no version needs."""
+
+    def __init__(self, pieces: Pieces, found: Sequence[Found], window: int) -> None:
+        self._pieces, self._found, self._window, self._now = pieces, found, window, machine_time()
+        self.index = Index(window)
+        self._heads: List[Tuple[Place, bytes]] = []
+        self._parts: List[Place] = []
+        self._left: List[Place] = []  # what else nothing needs
+        self._alone: Dict[Tuple[str, str], Entry] = {}  # the last version of keys whose bucket isn't there
+
+    async def load(self) -> Index:
+        for number, found in enumerate(self._found):
+            for row in found.objects:
+                self._take(Place(number, row.object), row)
+        versions = await asyncio.gather(*[self._versions(place, attribute) for place, attribute in self._heads])
+        for entry in sorted((it for each in versions for it in each), key=lambda it: (it.version.sequence, it.moment)):
+            if entry.version.bucket in self.index.buckets:
+                self.index.add(entry)
+            else:
+                self._alone[entry.version.bucket, entry.version.key] = entry
+        return self.index
+
+    def _take(self, place: Place, row: Listed) -> None:
+        """Takes an object for what its attribute says."""
+        kind, rest = row.attribute[:1], row.attribute[1:]
+        if kind == b"B" and is_bucket_name(rest.decode("latin-1")):
+            bucket = Bucket(rest.decode("ascii"), place, row.created)
+            if self.index.buckets.setdefault(bucket.name, bucket) is not bucket:
+                self._left.append(place)  # its reply was lost, and it was made once more
+        elif kind == b"H" and row.size:
+            self._heads.append((place, row.attribute))
+        elif kind == b"H":
+            self._left.append(place)  # it was made, and never written
+        elif kind == b"P":
+            self._parts.append(place)
+
+    async def _versions(self, place: Place, attribute: bytes) -> List[Entry]:
+        """The versions of a head that can be read."""
+        drive = self._pieces.drives[place.drive]
+        moments = sorted(set(self._found[place.drive].moments.get(place.object, [])))
+        points: List[Optional[int]] = [moment - 1 for moment in moments if moment > 0]
+        found = await asyncio.gather(*[self._version(drive, place, attribute, at) for at in [*points, None]])
+        return list({it.moment: it for it in found if it is not None}.values())
+
+    @staticmethod
+    async def _version(drive: StoreDrive, place: Place, attribute: bytes, at: Optional[int]) -> Optional[Entry]:
+        """The version of a moment, or now; None where there is none that can be read."""
+        try:
+            changed = (await drive.ask(lambda session: session.attributes(place.object, at))).changed
+            data = await drive.ask(lambda session: session.read(place.object, 0, READ_BYTES, at))
+        except (Expired, Flushed, NoObject):
+            return None
+        if not data:
+            return None  # it was made, and not written yet
+        try:
+            version = version_in(data)
+        except BadHead as error:
+            say(f"{named(place)}: {error}")
+            return None
+        if head_attribute(version.bucket, version.key) != attribute:
+            say(f"{named(place)}: its attribute isn't that of its key")
+            return None
+        return Entry(version, place, changed)
+
+    async def collect(self) -> int:
+        """Deletes live pieces that no current version names, and heads that no version needs: how many that were."""
+        kept: Set[Place] = set()
+        left = self._left + self.index.expire(self._now) + self._markers_alone()
+        for bucket in self.index.buckets.values():
+            for key in bucket.live:
+                kept.update(await self._named(bucket.keys[key][-1]))
+        left += [place for place in self._parts if place not in kept]
+        await self._pieces.delete([Piece(*place, 0, 0) for place in left])
+        return len(left)
+
+    def _markers_alone(self) -> List[Place]:
+        """Heads of a bucket that was deleted, which say that their key was deleted before."""
+        heads = []
+        for entry in self._alone.values():
+            if entry.version.is_marker and entry.moment + self._window < self._now:
+                heads.append(entry.head)
+            else:
+                say(f"{named(entry.head)}: its bucket {entry.version.bucket} isn't there")
+        return heads
+
+    async def _named(self, entry: Entry) -> List[Place]:
+        """The pieces of a current version, and those of their lists."""
+        try:
+            pieces, lists = await self._pieces.all_of(contents_of(entry.version), None)
+        except (Gone, BadHead) as error:
+            raise StoreFault(f"the pieces of {entry.version.key!r} in {entry.version.bucket} can't be found: {error}") from error
+        return [Place(piece.drive, piece.object) for piece in pieces + lists]
+
+
+def named(place: Place) -> str:
+    return f"object {place.object} of drive {place.drive}"

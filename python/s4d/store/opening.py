@@ -1,0 +1,78 @@
+"""A store's folder as one program has it: its lock, its drives, and the store over them."""
+from __future__ import annotations
+
+import asyncio
+import contextlib
+import fcntl
+import os
+from typing import Awaitable, List, Optional
+
+from .contents import Pieces
+from .drives import StoreDrive
+from .loading import IMAGES_AT_ONCE, Loading, found_in
+from .service import Service, say
+from .settings import Programs, Settings, StoreFault, image_path, settings_in
+from .store import Store
+
+
+class OpenStore:
+    """`store` is there from `start` to `stop`."""
+
+    def __init__(self, folder: str, programs: Programs, leap: Optional[str] = None) -> None:
+        self._folder, self._programs, self._leap = folder, programs, leap
+        self.settings: Settings = settings_in(folder)
+        self._lock = locked(folder)
+        self._drives: List[StoreDrive] = []
+        self._looking: Optional[asyncio.Future[None]] = None
+        self.store: Optional[Store] = None
+
+    async def start(self) -> Store:
+        """Starts the drives, makes the index, and deletes what puts left that were cut. StoreFault where one can't be served."""
+        numbers = range(self.settings.drives)
+        services = [Service(self._folder, number, self._programs.s4serve, self._leap) for number in numbers]
+        for service in services:
+            service.take()
+        await asyncio.gather(*[service.end_earlier() for service in services])
+        limit = asyncio.Semaphore(IMAGES_AT_ONCE)
+        paths = [image_path(self._folder, number) for number in numbers]
+        found = await asyncio.gather(*[found_in(path, self._programs.s4, limit) for path in paths])
+        self._drives = [StoreDrive(number, service) for number, service in enumerate(services)]
+        await all_done([drive.start() for drive in self._drives])
+        pieces = Pieces(self._drives)
+        loading = Loading(pieces, found, self.settings.window)
+        index = await loading.load()
+        count = await loading.collect()
+        if count:
+            say(f"{count} objects were left by puts that were cut, and are deleted")
+        self.store = Store(pieces, index)
+        self._looking = asyncio.ensure_future(self.store.look_after())
+        return self.store
+
+    async def stop(self) -> None:
+        """Ends what was started, in order."""
+        if self._looking is not None:
+            self._looking.cancel()
+            with contextlib.suppress(asyncio.CancelledError):
+                await self._looking
+        if self.store is not None:
+            await self.store.close()
+        await asyncio.gather(*[drive.stop() for drive in self._drives])
+        os.close(self._lock)
+
+
+async def all_done(works: List[Awaitable[None]]) -> None:
+    """Waits for all, and raises what the first of them failed by, in their order."""
+    for found in await asyncio.gather(*works, return_exceptions=True):
+        if found is not None:
+            raise found
+
+
+def locked(folder: str) -> int:
+    """The folder, locked against other programs that would serve the store."""
+    number = os.open(folder, os.O_RDONLY | os.O_DIRECTORY | os.O_CLOEXEC)
+    try:
+        fcntl.flock(number, fcntl.LOCK_EX | fcntl.LOCK_NB)
+    except OSError:
+        os.close(number)
+        raise StoreFault(f"{folder}: another program serves this store: end that one") from None
+    return number

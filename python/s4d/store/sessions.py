@@ -1,0 +1,53 @@
+"""A session for the tasks of an event loop, by the door of a service."""
+from __future__ import annotations
+
+import asyncio
+import os
+from typing import Tuple
+
+from ..async_drive import AsyncDrive
+from ..doors import Door, Pipes, TurnedAway
+from ..errors import NoObject, NotAsked
+
+OPEN_SECONDS = 120.0  # that a service may take to open a session
+NO_OBJECT = 0  # the number that no object has
+
+
+async def session_at(door: Door, timeout: float) -> AsyncDrive:
+    """A session that the service has opened. NotAsked where it doesn't. Its FIFOs have no names any more."""
+    try:
+        pipes = door.ask_for(door.new_name())
+    except TurnedAway as turned:
+        raise NotAsked(f"no session was to be had: {turned.fault}") from turned
+    try:
+        drive = await drive_over(pipes, timeout)
+        try:
+            await asyncio.wait_for(first_reply(drive), OPEN_SECONDS)
+        except asyncio.TimeoutError:
+            await drive.close()
+            raise NotAsked(f"no session was opened in {OPEN_SECONDS:g} seconds") from None
+        return drive
+    finally:
+        pipes.close()
+
+
+async def first_reply(drive: AsyncDrive) -> None:
+    """Asks something that changes nothing, so that the service has both pipes open."""
+    try:
+        await drive.attributes(NO_OBJECT)
+    except NoObject:
+        pass
+
+
+async def drive_over(pipes: Pipes, timeout: float) -> AsyncDrive:
+    sink, source = pipes.take_ends()
+    return AsyncDrive(*await pipe_streams(sink, source), timeout)
+
+
+async def pipe_streams(sink: int, source: int) -> Tuple[asyncio.StreamReader, asyncio.StreamWriter]:
+    """The streams over two pipes. When the writer is closed the other side ends its pipe, too, and both are gone."""
+    loop, reader, unread = asyncio.get_running_loop(), asyncio.StreamReader(), asyncio.StreamReader()
+    protocol = asyncio.StreamReaderProtocol(unread)
+    transport, _ = await loop.connect_write_pipe(lambda: protocol, os.fdopen(sink, "wb", 0))
+    await loop.connect_read_pipe(lambda: asyncio.StreamReaderProtocol(reader), os.fdopen(source, "rb", 0))
+    return reader, asyncio.StreamWriter(transport, protocol, reader, loop)

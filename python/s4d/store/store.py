@@ -1,0 +1,247 @@
+"""Buckets, keys and versions over the drives of a store."""
+from __future__ import annotations
+
+import asyncio
+import contextlib
+import secrets
+from dataclasses import replace
+from typing import AsyncIterator, Callable, Coroutine, Dict, NamedTuple, Optional, Set, Tuple, Type
+
+from ..errors import ChainFull, NoMemory, NoSpace, Refused
+from ..moments import machine_time
+from ..wire import READ_BYTES
+from .contents import Contents, Incoming, Pieces, stream
+from .drives import DriveAway, StoreDrive
+from .index import Bucket, Entry, Index, Place
+from .layout import Piece, Version, bucket_attribute, first_drive, head_attribute, head_of, piece_attribute, version_in
+from .locks import Locks
+
+APART = 1_000  # microseconds by which the moments of two drives of a machine may differ
+MOST_WAIT = 0.1  # seconds that an answer waits for the machine's time, which may have been set back
+EXPIRE_SECONDS = 1.0  # between looks for what can't be read any more
+HEAD_FULL: Tuple[Type[Refused], ...] = (ChainFull, NoSpace, NoMemory)  # then the key goes on in another head
+
+
+class NoBucket(Exception):
+    """There is no such bucket."""
+
+
+class BucketThere(Exception):
+    """There is such a bucket."""
+
+
+class BucketUsed(Exception):
+    """The bucket has versions that can be read."""
+
+
+def unchecked(_before: Optional[Entry]) -> None:
+    """Takes whatever was there."""
+
+
+Check = Callable[[Optional[Entry]], None]
+
+
+class Doubt(NamedTuple):
+    """A head that may have been written: nobody heard the reply."""
+
+    version: Version
+    place: Place
+
+
+class Store:
+    """What is put is kept before it is answered. One gateway has a store, so that the index is what the drives have.
+
+    DriveAway is raised where a drive that is needed doesn't answer, StoreFull where none has room.
+    """
+
+    def __init__(self, pieces: Pieces, index: Index) -> None:
+        self.pieces, self.index = pieces, index
+        self._locks = Locks()
+        self._doubts: Dict[Tuple[str, str], Doubt] = {}
+        self._tasks: Set[asyncio.Future[None]] = set()
+
+    def bucket(self, name: str) -> Bucket:
+        """The bucket of a name; NoBucket where there is none."""
+        found = self.index.buckets.get(name)
+        if found is None:
+            raise NoBucket(name)
+        return found
+
+    async def create_bucket(self, name: str) -> Bucket:
+        """Makes a bucket; BucketThere where it is there."""
+        async with self._locks.hold(name):
+            if name in self.index.buckets:
+                raise BucketThere(name)
+            attribute = bucket_attribute(name)
+
+            async def make(drive: StoreDrive) -> Bucket:
+                made = await drive.ask(lambda session: session.create(attribute))
+                return Bucket(name, Place(drive.number, made.object), made.moment)
+
+            bucket = await self.pieces.anywhere(first_drive(name, "", len(self.pieces.drives)), make)
+            self.index.buckets[name] = bucket
+            return bucket
+
+    async def delete_bucket(self, name: str) -> None:
+        """Deletes a bucket; BucketUsed where it has versions that can be read."""
+        async with self._locks.hold(name):
+            bucket = self.bucket(name)
+            if bucket.keys or bucket.puts:
+                raise BucketUsed(name)
+            del self.index.buckets[name]  # so that nothing is put there meanwhile
+            try:
+                await self.pieces.drives[bucket.place.drive].ask(lambda session: session.delete(bucket.place.object))
+            except (Refused, DriveAway) as error:
+                if not isinstance(error, DriveAway) or not error.was_asked:  # else it may be gone, and nothing may be put there
+                    self.index.buckets[name] = bucket
+                raise
+
+    async def put(self, bucket: str, key: str, body: AsyncIterator[bytes], headers: Dict[str, str],
+                  check: Check = unchecked) -> Entry:
+        """Makes a version of what comes the current one, and deletes the pieces of the one before. `check` is asked about that,
+        and what it raises is raised, as is what the body raises; nothing is seen of the version then. TooLong where the headers
+        don't fit in a head.
+        """
+        self.bucket(bucket)
+        incoming = Incoming(self.pieces, piece_attribute(bucket, key))
+        try:
+            async for data in body:
+                await incoming.add(data)
+            version = version_with(bucket, key, await incoming.finish(), headers)
+            return await self._commit(version, check)
+        except BaseException:
+            if not self.is_doubtful(bucket, key):  # else the pieces may be those of a version
+                await incoming.abandon()
+            raise
+
+    def is_doubtful(self, bucket: str, key: str) -> bool:
+        """Whether a head of the key may have been written without a reply. Then its pieces aren't to be deleted."""
+        return (bucket, key) in self._doubts
+
+    async def commit(self, bucket: str, key: str, contents: Contents, headers: Dict[str, str], check: Check = unchecked) -> Entry:
+        """Makes a version of contents that are in pieces already the current one, as `put` does."""
+        return await self._commit(version_with(bucket, key, contents, headers), check)
+
+    async def delete(self, bucket: str, key: str) -> Entry:
+        """Puts a marker, so that the key isn't there any more, though its versions can be read."""
+        return await self._commit(Version(bucket, key, 0, "", 0, is_marker=True))
+
+    async def _commit(self, version: Version, check: Check = unchecked) -> Entry:
+        """Gives the version its sequence, time and id, and writes its head."""
+        async with self._locks.hold((version.bucket, version.key)):
+            await self.settle(version.bucket, version.key)
+            bucket = self.bucket(version.bucket)
+            before = bucket.current(version.key)
+            check(before)
+            bucket.puts += 1
+            try:
+                entry = await self._write(following(version, before), None if before is None else before.head)
+            finally:
+                bucket.puts -= 1
+            self.index.add(entry)
+        if before is not None:
+            self._later(self._delete_pieces(before))
+        await self._pass(entry.moment)
+        return entry
+
+    async def _write(self, version: Version, head: Optional[Place]) -> Entry:
+        """Writes a head: the key's own, or where that has no room a new one on any drive."""
+        data = head_of(version)
+        if head is not None:
+            with contextlib.suppress(*HEAD_FULL):
+                return await self._write_to(version, head, data)
+        attribute = head_attribute(version.bucket, version.key)
+
+        async def make(drive: StoreDrive) -> Entry:
+            made = await drive.ask(lambda session: session.create(attribute))
+            place = Place(drive.number, made.object)
+            try:
+                return await self._write_to(version, place, data)
+            except Refused:
+                await self.pieces.delete([Piece(*place, 0, 0)])
+                raise
+
+        return await self.pieces.anywhere(first_drive(version.bucket, version.key, len(self.pieces.drives)), make)
+
+    async def _write_to(self, version: Version, place: Place, data: bytes) -> Entry:
+        try:
+            moment = await self.pieces.drives[place.drive].ask(lambda session: session.write(place.object, 0, data))
+        except DriveAway as error:
+            if error.was_asked:
+                self._doubts[version.bucket, version.key] = Doubt(version, place)
+            raise
+        return Entry(version, place, moment)
+
+    async def settle(self, bucket: str, key: str) -> None:
+        """Looks whether a head was written whose reply was lost, if there is one of this key."""
+        doubt = self._doubts.get((bucket, key))
+        if doubt is None:
+            return
+        drive, number = self.pieces.drives[doubt.place.drive], doubt.place.object
+        found = await drive.ask(lambda session: session.attributes(number))
+        data = await drive.ask(lambda session: session.read(number, 0, READ_BYTES))
+        if self._doubts.pop((bucket, key), None) is None:
+            return  # another task has settled it meanwhile
+        with contextlib.suppress(ValueError):
+            if version_in(data) == doubt.version:
+                self.index.add(Entry(doubt.version, doubt.place, found.changed))
+
+    async def stream(self, entry: Entry, first: int, last: int) -> AsyncIterator[bytes]:
+        """The bytes of a version from the first to the last, counted from 0. Gone where they can't be read any more."""
+        version = entry.version
+        if not version.pieces:
+            yield version.contents[first:last + 1]
+            return
+        pieces, _ = await self.pieces.all_of(contents_of(version), entry.until)
+        async for data in stream(self.pieces, pieces, entry.until, first, last):
+            yield data
+
+    async def _delete_pieces(self, entry: Entry) -> None:
+        """Deletes the pieces of a version that was replaced: they are kept for the window."""
+        with contextlib.suppress(Exception):  # what stays is deleted at the next start
+            pieces, lists = await self.pieces.all_of(contents_of(entry.version), entry.until)
+            await self.pieces.delete(pieces + lists)
+
+    @staticmethod
+    async def _pass(moment: int) -> None:
+        """Waits until each drive's moments are past this one, so that a read at a moment is one cut over all of them."""
+        late = (moment + APART - machine_time()) / 1e6
+        if late > 0:
+            await asyncio.sleep(min(late, MOST_WAIT))
+
+    def _later(self, work: Coroutine[None, None, None]) -> None:
+        """Does something that nobody waits for."""
+        task = asyncio.ensure_future(work)
+        self._tasks.add(task)
+        task.add_done_callback(self._tasks.discard)
+
+    async def look_after(self) -> None:
+        """Lets go of what can't be read any more, until it is cancelled."""
+        while True:
+            for place in self.index.expire(machine_time()):
+                self._later(self.pieces.delete([Piece(*place, 0, 0)]))
+            await asyncio.sleep(EXPIRE_SECONDS)
+
+    async def close(self) -> None:
+        """Waits for what was left for later."""
+        if self._tasks:
+            await asyncio.wait(set(self._tasks))
+
+
+def version_with(bucket: str, key: str, contents: Contents, headers: Dict[str, str]) -> Version:
+    """A version of these contents, before it has its sequence, time and id."""
+    return Version(bucket, key, 0, "", 0, contents.size, contents.etag, False, headers, contents.inline, contents.pieces,
+                   contents.depth)
+
+
+def following(version: Version, before: Optional[Entry]) -> Version:
+    """The version after another of its key, of this machine's time, or a later one where that was set back."""
+    sequence, now = 1, machine_time()
+    if before is not None:
+        sequence, now = before.version.sequence + 1, max(now, before.version.time + 1)
+    return replace(version, sequence=sequence, time=now, id=f"{now:016x}{secrets.token_hex(8)}")
+
+
+def contents_of(version: Version) -> Contents:
+    """Where the contents of a version are."""
+    return Contents(version.size, version.etag, version.contents, version.pieces, version.depth)

@@ -1,0 +1,124 @@
+"""A store in this process, over plain drives in memory whose moments are the machine's time: no program is started."""
+import asyncio
+
+from s4d import Refused, wire
+from s4d.moments import machine_time
+from s4d.rows import Listed
+from s4d.store.contents import Pieces
+from s4d.store.drives import DriveAway
+from s4d.store.loading import Found, Loading
+from s4d.store.store import Store
+
+from .plain_drive import PlainDrive
+
+DAY = 86_400_000_000
+NO_SPACE, CHAIN_FULL = 9, 12
+
+
+class Clock:
+    """A time that a test sets, and that goes on by a millisecond each time that it is asked."""
+
+    def __init__(self):
+        self.value = machine_time()
+
+    def __call__(self):
+        self.value += 1_000
+        return self.value
+
+
+class TimedDrive(PlainDrive):
+    """A plain drive whose clock is the machine's time, with room for so many bytes of writes, and changes of an object."""
+
+    def __init__(self, window=30 * DAY, room=2**60, chain=2**60, clock=machine_time):
+        super().__init__(window)
+        self.room, self.chain, self.now = room, chain, clock
+
+    def answer(self, role, data):
+        self.clock = max(self.clock, self.now() - 1)
+        self.floor = max(self.floor, self.clock - self.window)
+        if data[0] in (1, 4):
+            if self.room < len(data):
+                return bytes([0, NO_SPACE])
+            if data[0] == 4 and len(self.versions.get(int.from_bytes(data[1:9], "big"), ())) > self.chain:
+                return bytes([0, CHAIN_FULL])
+            self.room -= len(data)
+        return super().answer(role, data)
+
+    def found(self):
+        """What `s4 list` and `s4 log` say of it."""
+        live = [Listed(number, "live", len(it.data), it.created, None, it.moment, None, it.attribute, None)
+                for number, (*_, it) in sorted(self.versions.items()) if it.is_live]
+        moments = {number: [it.moment for it in versions] for number, versions in self.versions.items()}
+        return Found(live, moments)
+
+    def live(self, kind):
+        """How many live objects of a kind there are."""
+        return sum(row.attribute[:1] == kind for row in self.found().objects)
+
+
+class PlainSession:
+    """The methods of a session that a store uses."""
+
+    def __init__(self, drive):
+        self.drive = drive
+
+    async def ask(self, request):
+        await asyncio.sleep(0)
+        answer = request.answer(self.drive.answer("client", request.body))
+        if isinstance(answer, Refused):
+            raise answer
+        return answer
+
+    async def create(self, attribute=b""):
+        return await self.ask(wire.create(attribute))
+
+    async def delete(self, object):
+        return await self.ask(wire.delete(object))
+
+    async def write(self, object, offset, data):
+        return await self.ask(wire.write(object, offset, data))
+
+    async def read(self, object, offset, length, at=None):
+        return await self.ask(wire.read(object, offset, length, at))
+
+    async def attributes(self, object, at=None):
+        return await self.ask(wire.attributes(object, at))
+
+
+class PlainStoreDrive:
+    """A drive of a store, in this process. One that is away answers nothing."""
+
+    def __init__(self, number, drive):
+        self.number, self.drive, self.is_away = number, drive, False
+        self.loses = None  # a request of this kind is done, and its reply is lost
+
+    async def ask(self, work):
+        if self.is_away:
+            raise DriveAway(self.number, was_asked=False)
+        asked = len(self.drive.rows)
+        found = await work(PlainSession(self.drive))
+        if self.loses is not None and len(self.drive.rows) > asked and self.drive.rows[-1][1] == self.loses:
+            self.loses = None
+            raise DriveAway(self.number, was_asked=True)
+        return found
+
+
+class PlainStores:
+    """Drives, and the store over them as each start finds it."""
+
+    def __init__(self, count=2, window=30 * DAY, clock=machine_time, **options):
+        self.window, self.clock = window, clock
+        self.drives = [TimedDrive(window, clock=clock, **options) for _ in range(count)]
+
+    async def start(self):
+        """The store, and how many objects were left by puts that were cut."""
+        pieces = Pieces([PlainStoreDrive(number, drive) for number, drive in enumerate(self.drives)])
+        loading = Loading(pieces, [drive.found() for drive in self.drives], self.window)
+        index = await loading.load()
+        self.collected = await loading.collect()
+        return Store(pieces, index)
+
+    def live(self):
+        """How many live objects of each kind all drives have."""
+        counts = {kind: sum(drive.live(kind.encode()) for drive in self.drives) for kind in "BHP"}
+        return {kind: count for kind, count in counts.items() if count}

@@ -1,0 +1,420 @@
+"""A store over plain drives in memory: what is put, what is refused, what is cut, and what a start finds."""
+import asyncio
+import dataclasses
+import unittest
+from unittest import mock
+
+from s4d.store import contents, layout
+from s4d.store.contents import Gone, StoreFull
+from s4d.store.drives import DriveAway
+from s4d.store.store import BucketThere, BucketUsed, Doubt, NoBucket, contents_of
+from s4d.store.uploads import LEAST_PART, NoPart, NoUpload, PartTooSmall, Uploads
+
+from .bridged import PATIENCE
+from .plain_store import Clock, PlainStores
+
+BYTES = bytes(range(256)) * 4_096
+
+
+async def body(data, step=65_536):
+    for start in range(0, len(data), step):
+        yield data[start:start + step]
+
+
+async def cut_body(data):
+    yield data
+    raise ConnectionError("the client has gone")
+
+
+async def got(store, entry, first=0, last=2**60):
+    return b"".join([data async for data in store.stream(entry, first, last)])
+
+
+class Stores(unittest.TestCase):
+    """A store of two drives in memory, which each test starts as often as it needs it."""
+
+    options = {}
+
+    def setUp(self):
+        self.stores = PlainStores(**self.options)
+
+    def run_store(self, *works):
+        """Each work has the store of a start of its own."""
+        async def served():
+            for work in works:
+                store = await self.stores.start()
+                await work(store)
+                await store.close()
+
+        asyncio.run(asyncio.wait_for(served(), PATIENCE))
+
+    def live(self):
+        return self.stores.live()
+
+
+class Puts(Stores):
+    def test_what_is_put_is_there(self):
+        sizes = (0, 1, 400, 401, 24_577, 98_304, 98_305, 900_000)
+
+        async def put(store):
+            await store.create_bucket("one")
+            for size in sizes:
+                entry = await store.put("one", f"k{size}", body(BYTES[:size]), {"content-type": "text/plain"})
+                self.assertEqual(await got(store, entry), BYTES[:size])
+
+        async def get(store):
+            bucket = store.bucket("one")
+            self.assertEqual(bucket.live, sorted(f"k{size}" for size in sizes))
+            for size in sizes:
+                entry = bucket.current(f"k{size}")
+                self.assertEqual(await got(store, entry), BYTES[:size])
+                self.assertEqual(await got(store, entry, 98_300, 98_400), BYTES[:size][98_300:98_401])
+                self.assertEqual(entry.version.headers, {"content-type": "text/plain"})
+
+        self.run_store(put, get)
+        self.assertEqual(self.live(), {"B": 1, "H": 8, "P": 5 + 10 + 1})  # the last has its list in a piece
+
+    def test_versions(self):
+        ids = []
+
+        async def put(store):
+            await store.create_bucket("one")
+            for size in (300_000, 5, 0):
+                ids.append((await store.put("one", "k", body(BYTES[:size]), {})).version.id)
+            ids.append((await store.delete("one", "k")).version.id)
+
+        async def get(store):
+            bucket = store.bucket("one")
+            self.assertEqual((bucket.names, bucket.live), (["k"], []))
+            entries = bucket.keys["k"]
+            self.assertEqual([it.version.id for it in entries], ids)
+            self.assertEqual([it.version.sequence for it in entries], [1, 2, 3, 4])
+            self.assertTrue(entries[3].version.is_marker)
+            for entry, size in zip(entries, (300_000, 5, 0)):
+                self.assertEqual(await got(store, entry), BYTES[:size])
+            with self.assertRaises(BucketUsed):
+                await store.delete_bucket("one")
+
+        self.run_store(put, get)
+        self.assertEqual(self.live(), {"B": 1, "H": 1})
+
+    def test_a_put_that_is_cut(self):
+        async def cut(store):
+            await store.create_bucket("one")
+            with self.assertRaises(ConnectionError):
+                await store.put("one", "k", cut_body(BYTES[:200_000]), {})
+            with self.assertRaises(NoBucket):
+                await store.put("two", "k", body(b""), {})
+            self.assertEqual(store.bucket("one").names, [])
+
+        self.run_store(cut)
+        self.assertEqual(self.live(), {"B": 1})
+
+    def test_buckets(self):
+        async def make(store):
+            for name in ("one", "two"):
+                await store.create_bucket(name)
+            with self.assertRaises(BucketThere):
+                await store.create_bucket("one")
+            await store.delete_bucket("two")
+            with self.assertRaises(NoBucket):
+                store.bucket("two")
+
+        async def look(store):
+            self.assertEqual(list(store.index.buckets), ["one"])
+
+        self.run_store(make, look)
+
+    def test_many_puts_of_a_key_at_once(self):
+        async def put(store):
+            await store.create_bucket("one")
+            await asyncio.gather(*[store.put("one", "k", body(BYTES[:size]), {}) for size in range(395, 405)])
+            entries = store.bucket("one").keys["k"]
+            self.assertEqual([it.version.sequence for it in entries], list(range(1, 11)))
+            self.assertEqual(sorted(it.version.size for it in entries), list(range(395, 405)))
+            for entry in entries:
+                self.assertEqual(await got(store, entry), BYTES[:entry.version.size])
+
+        self.run_store(put)
+
+
+class Full(Stores):
+    def test_a_head_without_room_goes_on_elsewhere(self):
+        async def put(store):
+            await store.create_bucket("one")
+            for size in range(12):
+                await store.put("one", "k", body(BYTES[:size]), {})
+
+        async def get(store):
+            entries = store.bucket("one").keys["k"]
+            self.assertEqual([it.version.size for it in entries], list(range(12)))
+            self.assertEqual(len({it.head for it in entries}), 3)
+            self.assertEqual(await got(store, entries[4]), BYTES[:4])
+
+        self.stores = PlainStores(chain=5)
+        self.run_store(put, get)
+
+    def test_the_next_drive_has_room(self):
+        async def put(store):
+            await store.create_bucket("one")
+            with self.assertRaises(StoreFull):
+                for number in range(10):
+                    await store.put("one", f"k{number}", body(BYTES[:90_000]), {})
+            keys = store.bucket("one").live
+            self.assertEqual(len(keys), 4)
+            self.assertEqual({it.drive for key in keys for it in store.bucket("one").current(key).version.pieces}, {0, 1})
+            for key in keys:
+                self.assertEqual(await got(store, store.bucket("one").current(key)), BYTES[:90_000])
+
+        self.stores = PlainStores(room=200_000)
+        self.run_store(put)
+        self.assertEqual(self.live(), {"B": 1, "H": 4, "P": 4})
+
+
+class Away(Stores):
+    def test_a_drive_that_is_away(self):
+        """What it has isn't there meanwhile; all else is, and new pieces go to others."""
+        async def put(store):
+            await store.create_bucket("one")
+            for number in range(6):
+                await store.put("one", f"k{number}", body(BYTES[:300]), {})
+            away = store.pieces.drives[1]
+            heads = {key: store.bucket("one").current(key).head.drive for key in store.bucket("one").live}
+            self.assertEqual(set(heads.values()), {0, 1})
+            away.is_away = True
+            for key, drive in heads.items():
+                if drive == 1:
+                    with self.assertRaises(DriveAway):
+                        await store.put("one", key, body(b"new"), {})
+                else:
+                    await store.put("one", key, body(BYTES[:200_000]), {})
+                    self.assertEqual({it.drive for it in store.bucket("one").current(key).version.pieces}, {0})
+
+        self.run_store(put)
+
+    def test_a_head_whose_reply_is_lost(self):
+        """Nobody knows whether it was written: so its pieces stay, and who asks for the key next looks."""
+        async def put(store):
+            await store.create_bucket("one")
+            await store.put("one", "k", body(b"old"), {})
+            drive = store.pieces.drives[store.bucket("one").current("k").head.drive]
+            drive.loses = 4
+            with self.assertRaises(DriveAway):
+                await store.put("one", "k", body(b"new"), {})
+            self.assertTrue(store.is_doubtful("one", "k"))
+            drive.is_away = True
+            with self.assertRaises(DriveAway):
+                await store.settle("one", "k")
+            drive.is_away = False
+            await store.settle("one", "k")
+            self.assertEqual(store.bucket("one").current("k").version.contents, b"new")
+            await store.put("one", "k", body(b"newer"), {})
+            self.assertEqual([it.version.sequence for it in store.bucket("one").keys["k"]], [1, 2, 3])
+
+        async def look(store):
+            self.assertEqual([it.version.contents for it in store.bucket("one").keys["k"]], [b"old", b"new", b"newer"])
+
+        self.run_store(put, look)
+
+    def test_a_head_that_was_not_written(self):
+        async def put(store):
+            await store.create_bucket("one")
+            before = await store.put("one", "k", body(b"old"), {})
+            store._doubts["one", "k"] = Doubt(dataclasses.replace(before.version, sequence=2, id="0"), before.head)
+            await store.settle("one", "k")
+            self.assertEqual(store.bucket("one").keys["k"], [before])
+
+        self.run_store(put)
+
+    def test_what_else_loses_its_reply(self):
+        """A bucket, a head, a piece that were made, and nobody knows: the next start finds and deletes them."""
+        async def put(store):
+            for drive in store.pieces.drives:
+                drive.loses = 1
+            with self.assertRaises(DriveAway):
+                await store.create_bucket("one")
+            for drive in store.pieces.drives:
+                drive.loses = None
+            await store.create_bucket("one")
+            for size in (5, 500):
+                for drive in store.pieces.drives:
+                    drive.loses = 1
+                with self.assertRaises(DriveAway):
+                    await store.put("one", "k", body(BYTES[:size]), {})
+            self.assertEqual(self.live(), {"B": 2, "H": 1, "P": 1})
+
+        async def look(store):
+            self.assertEqual(self.stores.collected, 3)
+            self.assertEqual(list(store.index.buckets), ["one"])
+
+        self.run_store(put, look)
+        self.assertEqual(self.live(), {"B": 1})
+
+
+class Windows(Stores):
+    WINDOW = 1_000_000_000
+
+    def setUp(self):
+        clock = Clock()
+        self.stores = PlainStores(window=self.WINDOW, clock=clock)
+        for module in ("store", "loading"):
+            patch = mock.patch(f"s4d.store.{module}.machine_time", clock)
+            patch.start()
+            self.addCleanup(patch.stop)
+
+    def test_what_the_window_has_left(self):
+        """Versions that were replaced leave, with heads that nothing needs; what is current stays, however old."""
+        async def put(store):
+            await store.create_bucket("one")
+            old = await store.put("one", "k", body(BYTES[:100_000]), {})
+            await store.put("one", "k", body(BYTES[:99_000]), {})
+            await store.put("one", "gone", body(b"x"), {})
+            await store.delete("one", "gone")
+            self.stores.clock.value += 2 * self.WINDOW
+            entry = store.bucket("one").current("k")
+            self.assertEqual(await got(store, entry), BYTES[:99_000])  # its moments have expired
+            with self.assertRaises(Gone):
+                await got(store, old)
+            heads = store.index.expire(self.stores.clock())
+            self.assertEqual(len(heads), 1)
+            self.assertEqual(store.bucket("one").names, ["k"])
+
+        async def look(store):
+            entry, = store.bucket("one").keys["k"]
+            self.assertEqual(await got(store, entry), BYTES[:99_000])
+            self.assertEqual(self.stores.collected, 1)  # the head of the key that was deleted
+
+        self.run_store(put, look)
+        self.assertEqual(self.live(), {"B": 1, "H": 1, "P": 2})
+
+    def test_an_old_version_is_read_at_a_later_moment(self):
+        """Its piece's own moment has expired, and it was current until a moment that can be read."""
+        async def put(store):
+            await store.create_bucket("one")
+            old = await store.put("one", "k", body(BYTES[:1_000]), {})
+            self.stores.clock.value += 2 * self.WINDOW
+            await store.put("one", "k", body(b""), {})
+            await store.close()
+            self.stores.clock.value += self.WINDOW // 2
+            self.assertEqual(await got(store, old), BYTES[:1_000])
+            self.stores.clock.value += self.WINDOW
+            with self.assertRaises(Gone):
+                await got(store, old)
+
+        self.run_store(put)
+
+
+class Uploading(Stores):
+    def test_parts(self):
+        last = BYTES[:1_000]
+        first = BYTES * (LEAST_PART // len(BYTES))
+
+        async def put(store):
+            await store.create_bucket("one")
+            uploads = Uploads(store, 2**30)
+            it = uploads.begin("one", "k", {"content-type": "a/b"})
+            parts = [await uploads.put_part(it, number, body(data)) for number, data in ((3, last), (1, first), (2, b"unused"))]
+            with self.assertRaises(NoPart):
+                await uploads.complete(it, [(1, parts[0].etag)])
+            with self.assertRaises(PartTooSmall):
+                await uploads.complete(it, [(2, parts[2].etag), (3, parts[0].etag)])
+            entry = await uploads.complete(it, [(1, parts[1].etag), (3, parts[0].etag)])
+            self.assertEqual(entry.version.etag[-2:], "-2")
+            self.assertEqual(await got(store, entry), first + last)
+            with self.assertRaises(NoUpload):
+                await uploads.put_part(it, 1, body(b""))
+            aborted = uploads.begin("one", "k", {})
+            await uploads.put_part(aborted, 1, body(last))
+            await uploads.abort(aborted)
+            left = uploads.begin("one", "k", {})
+            await uploads.put_part(left, 1, body(last))
+
+        async def get(store):
+            entry = store.bucket("one").current("k")
+            self.assertEqual(entry.version.headers, {"content-type": "a/b"})
+            self.assertEqual(await got(store, entry), first + last)
+
+        self.run_store(put, get)
+        self.assertEqual(self.live(), {"B": 1, "H": 1, "P": -(-LEAST_PART // 98_304) + 2})
+
+
+class Kills(Stores):
+    """A program that puts is killed at each of its requests, before the drive has done it, or after."""
+
+    async def scenario(self, store, acknowledged):
+        """What is acknowledged is noted; None for a marker."""
+        if "one" not in store.index.buckets:
+            await store.create_bucket("one")
+        for size in (5, 1_500, 3_500, 7):
+            entry = await store.put("one", "k", body(BYTES[:size]), {})
+            acknowledged[entry.version.id] = size
+        acknowledged[(await store.delete("one", "k")).version.id] = None
+        uploads = Uploads(store, 2**30)
+        it = uploads.begin("one", "k", {})
+        parts = [await uploads.put_part(it, number, body(BYTES[:500])) for number in (1, 2)]
+        entry = await uploads.complete(it, [(2, parts[1].etag)])
+        acknowledged[entry.version.id] = 500
+        await store.close()
+
+    async def check(self, store, acknowledged):
+        entries = store.bucket("one").keys.get("k", []) if "one" in store.index.buckets else []
+        self.assertEqual([it.version.id for it in entries][:len(acknowledged)], list(acknowledged))
+        self.assertLessEqual(len(entries), len(acknowledged) + 1)  # one may be there that nobody was told of
+        for entry in entries:
+            size = acknowledged.get(entry.version.id, None if entry.version.is_marker else entry.version.size)
+            self.assertEqual(entry.version.is_marker, size is None)
+            self.assertEqual(await got(store, entry), BYTES[:size or 0])
+        named = 0
+        if entries:
+            pieces, lists = await store.pieces.all_of(contents_of(entries[-1].version), None)
+            named = len(pieces) + len(lists)
+        self.assertEqual(self.live(), {kind: count for kind, count in
+                                       (("B", len(store.index.buckets)), ("H", min(len(entries), 1)), ("P", named)) if count})
+
+    async def kill(self, number, is_done):
+        """Whether the program was killed at this request, before it had ended by itself."""
+        self.stores, acknowledged = PlainStores(), {}
+        store = await self.stores.start()
+        left = [number]
+        for drive in store.pieces.drives:
+            drive.ask = killing(drive.ask, left, is_done)
+        try:
+            await self.scenario(store, acknowledged)
+        except Killed:
+            pass
+        await self.check(await self.stores.start(), acknowledged)
+        return left[0] < 0
+
+    def test_kills(self):
+        async def all_of():
+            asyncio.get_running_loop().set_exception_handler(lambda *_: None)  # what a killed program leaves unsaid
+            for is_done in (False, True):
+                number = 0
+                while await self.kill(number, is_done):
+                    number += 1
+                self.assertGreater(number, 30)
+
+        with mock.patch.object(contents, "PIECE_BYTES", 1_000), mock.patch.object(layout, "NAMED_PIECES", 2):
+            asyncio.run(asyncio.wait_for(all_of(), 5 * PATIENCE))
+
+
+class Killed(BaseException):
+    """The program is no more."""
+
+
+def killing(ask, left, is_done):
+    """Asks of a drive of a program that is killed at the request at which `left` is zero."""
+    async def asked(work):
+        left[0] -= 1
+        if left[0] < -1 or (left[0] == -1 and not is_done):
+            raise Killed()
+        found = await ask(work)
+        if left[0] <= -1:
+            raise Killed()
+        return found
+
+    return asked
+
+
+if __name__ == "__main__":
+    unittest.main()
