@@ -1,0 +1,108 @@
+"""From a request to its answer: who asks, what it is, and what became of it."""
+from __future__ import annotations
+
+import secrets
+import time
+from collections import Counter
+from datetime import datetime, timezone
+from typing import Any, Awaitable, Callable, Dict, Mapping, Optional
+from typing import Counter as Counted
+
+from ..access_log import AccessLog
+from ..store.service import say
+from ..store.store import Store
+from ..store.uploads import Uploads
+from .buckets import Buckets
+from .context import Context
+from .errors import S3Error
+from .faults import error_of, is_known
+from .http import METHODS, Answer, Body, Request
+from .keys import Key
+from .limits import KEY_REQUESTS, OBJECT_BYTES
+from .multipart import Multipart
+from .objects import Objects
+from .signature import verified
+from .xml import error_document
+
+Call = Callable[[Context], Awaitable[Answer]]
+
+# The names in a query that say what is asked for. Those that no call has are NotImplemented.
+PARTS = frozenset((
+    "accelerate", "acl", "analytics", "attributes", "cors", "delete", "encryption", "intelligent-tiering", "inventory",
+    "legal-hold", "lifecycle", "location", "logging", "metrics", "notification", "object-lock", "ownershipControls", "policy",
+    "policyStatus", "publicAccessBlock", "replication", "requestPayment", "restore", "retention", "select", "tagging",
+    "torrent", "uploadId", "uploads", "versioning", "versions", "website"))
+WRITES = ("PUT", "POST", "DELETE")
+
+
+class Gateway:
+    """Answers requests. Nothing is done before the signature is found good, and the key has the right."""
+
+    def __init__(self, store: Store, keys: Mapping[str, Key], window: int, log: Optional[AccessLog]) -> None:
+        self.keys, self._log = keys, log
+        uploads = Uploads(store, OBJECT_BYTES)
+        self._buckets, self._objects = Buckets(store, uploads, window), Objects(store, window)
+        self._multipart = Multipart(store, uploads, self._objects)
+        self._working: Counted[str] = Counter()  # requests of each key that are worked on
+
+    async def answer(self, request: Request, body: Body, peer: str) -> Answer:
+        """The answer to a request, errors too."""
+        began, id = time.monotonic(), secrets.token_hex(8)
+        said: Dict[str, Any] = {"request": id, "peer": peer, "method": request.method, "path": request.path}
+        try:
+            answer = await self._answered(request, body, said)
+        except Exception as fault:
+            if not is_known(fault):  # of this program: the other requests go on
+                say(f"request {id} failed: {fault!r}")
+            answer = error_answer(error_of(fault), request, id, said)
+        answer.headers.update({"x-amz-request-id": id, "Server": "s4d"})
+        if self._log is not None:
+            self._log.write(event="request", **said, status=answer.status, bytes=answer.content_length(),
+                            seconds=round(time.monotonic() - began, 6))
+            await self._log.settle()
+        return answer
+
+    async def _answered(self, request: Request, body: Body, said: Dict[str, Any]) -> Answer:
+        if request.method not in METHODS:
+            raise S3Error("MethodNotAllowed")
+        signed = verified(request, self.keys, datetime.now(timezone.utc))
+        access = said["key"] = signed.key.access
+        bucket, _, key = request.path[1:].partition("/")
+        context = Context(request, body, signed, bucket, key, said)
+        call = self._call(context)
+        if bucket and not signed.key.may(bucket, request.method in WRITES):
+            raise S3Error("AccessDenied")
+        if self._working[access] >= KEY_REQUESTS:
+            raise S3Error("SlowDown")
+        self._working[access] += 1
+        try:
+            return await call(context)
+        finally:
+            self._working[access] -= 1
+
+    def _call(self, context: Context) -> Call:
+        """What a request asks for; NotImplemented, or MethodNotAllowed, where it is nothing of these."""
+        request = context.request
+        part = next((name for name in request.names if name in PARTS), "")
+        if not context.bucket:
+            if request.method == "GET" and not part:
+                return self._buckets.list_all
+            raise S3Error("MethodNotAllowed")
+        calls = self._buckets.calls
+        if context.key:
+            calls = {**self._objects.calls, **self._multipart.calls}
+        elif (request.method, part) == ("POST", "delete"):
+            return self._objects.delete_many
+        found = calls.get((request.method, part))
+        if found is None:
+            raise S3Error("NotImplemented" if part else "MethodNotAllowed")
+        return found
+
+
+def error_answer(error: S3Error, request: Request, id: str, said: Dict[str, Any]) -> Answer:
+    """The answer that says an error."""
+    said["error"] = error.code
+    if error.status == 304:
+        return Answer(304, headers=dict(error.headers))
+    body = error_document([("Code", error.code), ("Message", error.message), ("Resource", request.path), ("RequestId", id)])
+    return Answer(error.status, body, {**error.headers, "Content-Type": "application/xml"})

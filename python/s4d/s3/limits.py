@@ -1,0 +1,16 @@
+"""What a client may send and take, each by name. Times are in seconds."""
+
+HEAD_BYTES = 16_384  # of a request's first line and headers
+HEAD_SECONDS = 20.0  # that a head may take once its first byte has come
+IDLE_SECONDS = 60.0  # that a connection may be without a request
+BODY_SECONDS = 60.0  # that a body, or an answer's, may take, and a second more for each LEAST_RATE bytes of it
+LEAST_RATE = 4_096
+DRAINED_BYTES = 65_536  # of a body that nobody wants, so that the connection can go on
+CHUNK_LINE_BYTES = 4_096  # of a line between the chunks of a body
+XML_BYTES = 2_097_152  # of a body that isn't an object's
+OBJECT_BYTES = 64 * 1_048_576  # of an object
+CONNECTIONS = 256  # at once; where one more comes the one goes that has been without a request for longest
+KEY_REQUESTS = 64  # of one access key that are worked on at once
+METADATA_BYTES = 2_048  # of the names and values of x-amz-meta-
+PAGE = 1_000  # entries of a list, and keys of a multi-delete
+PIECE_BYTES = 65_536  # that are taken from a connection, or given to it, at once

@@ -1,0 +1,221 @@
+"""What is asked of objects: their contents, copies, deletions, and what Object Lock says."""
+from __future__ import annotations
+
+from typing import AsyncIterator, Awaitable, Callable, Dict, List, Optional, Tuple
+
+from ..moments import machine_time
+from ..store.index import Entry
+from ..store.names import is_key
+from ..store.store import Store
+from .answers import date_of, headers_of, headers_to_keep, quoted, stamp_in, stamp_of, time_at
+from .buckets import acl_document, xml_answer
+from .conditions import check_read, check_write, range_of
+from .context import Context
+from .errors import S3Error
+from .faults import error_of, is_known
+from .http import Answer, decoded
+from .limits import PAGE
+from .xml import Node, document, parsed, text_in
+
+OVERRIDES = ("content-type", "content-language", "expires", "cache-control", "content-disposition", "content-encoding")
+LOCK = "x-amz-object-lock-"
+
+
+class Objects:
+    """The requests of objects, each by its method and its part of the query."""
+
+    def __init__(self, store: Store, window: int) -> None:
+        self._store, self._window = store, window
+        self.calls: Dict[Tuple[str, str], Callable[[Context], Awaitable[Answer]]] = {
+            ("GET", ""): self.get, ("HEAD", ""): self.get, ("PUT", ""): self.put, ("DELETE", ""): self.delete,
+            ("GET", "retention"): self.retention, ("PUT", "retention"): self.set_retention,
+            ("GET", "legal-hold"): self.legal_hold, ("PUT", "legal-hold"): self.set_legal_hold, ("GET", "acl"): self.acl,
+            ("GET", "tagging"): self.tagging,
+        }
+
+    async def entry(self, bucket: str, key: str, id: Optional[str]) -> Entry:
+        """The version that is asked for, which is no marker; S3Error where there is none."""
+        await self._store.settle(bucket, key)
+        found = self._store.bucket(bucket)
+        entry = found.current(key) if id is None else found.version(key, id)
+        if entry is None:
+            raise S3Error("NoSuchKey" if id is None else "NoSuchVersion")
+        if entry.version.is_marker:
+            headers = {"x-amz-delete-marker": "true", "x-amz-version-id": entry.version.id}
+            if id is None:
+                raise S3Error("NoSuchKey", headers=headers)
+            raise S3Error("MethodNotAllowed", headers={**headers, "Last-Modified": date_of(entry.version.time), "Allow": "DELETE"})
+        return entry
+
+    async def asked(self, context: Context) -> Entry:
+        """The version that a request names by its path."""
+        return await self.entry(context.bucket, context.key, context.version())
+
+    async def get(self, context: Context) -> Answer:
+        """GetObject and HeadObject."""
+        entry, request = await self.asked(context), context.request
+        check_read(request.headers, entry)
+        if "partNumber" in request.names:
+            raise S3Error("NotImplemented", "Parts of an object can't be read by their numbers.")
+        size = entry.version.size
+        given = request.headers.get("range")
+        if request.headers.get("if-range", quoted(entry.version.etag)) != quoted(entry.version.etag):
+            given = None
+        part = range_of(given, size)
+        first, last = part or (0, size - 1)
+        headers = headers_of(entry, self._window)
+        headers.update({name.title(): value for name in OVERRIDES if (value := request.parameter(f"response-{name}"))})
+        if part is not None:
+            headers["Content-Range"] = f"bytes {first}-{last}/{size}"
+        context.said["version"] = entry.version.id
+        body = self._store.stream(entry, first, last)
+        if request.method == "HEAD":
+            return Answer(200 if part is None else 206, body, headers, last - first + 1)
+        return Answer(200 if part is None else 206, await begun(body), headers, last - first + 1)
+
+    async def put(self, context: Context) -> Answer:
+        """PutObject and CopyObject."""
+        if "x-amz-copy-source" in context.request.headers:
+            return await self.copy(context)
+        headers = self.kept(context)
+        payload = context.payload()
+        entry = await self._store.put(context.bucket, context.key, payload.data(), headers,
+                                      lambda before: check_write(context.request.headers, before))
+        context.said["version"] = entry.version.id
+        return Answer(headers={"ETag": quoted(entry.version.etag), "x-amz-version-id": entry.version.id})
+
+    def kept(self, context: Context) -> Dict[str, str]:
+        """The headers that are kept, where the key may be one and what is wanted of the lock is what it does."""
+        if not is_key(context.key):
+            raise S3Error("KeyTooLongError")
+        headers = context.request.headers
+        until = headers.get(f"{LOCK}retain-until-date")
+        if headers.get(f"{LOCK}mode", "COMPLIANCE") != "COMPLIANCE" or headers.get(f"{LOCK}legal-hold", "OFF") != "OFF":
+            raise S3Error("InvalidRequest", "The store keeps each version in compliance mode, for its window, without legal holds.")
+        if until is not None and stamp_in(until) > time_at(machine_time() + self._window):
+            raise S3Error("InvalidRequest", "The store keeps versions for its window and no longer.")
+        return headers_to_keep(headers)
+
+    async def source(self, context: Context) -> Entry:
+        """The version that is copied, which the key may read, and which is what the request wants."""
+        name, _, query = context.request.headers["x-amz-copy-source"].partition("?")
+        bucket, _, key = decoded(name).lstrip("/").partition("/")
+        id = decoded(query[len("versionId="):]) if query.startswith("versionId=") else None
+        if not bucket or not key or (query and id is None):
+            raise S3Error("InvalidArgument", "The x-amz-copy-source isn't BUCKET/KEY or BUCKET/KEY?versionId=ID.")
+        if not context.signed.key.may(bucket, False):
+            raise S3Error("AccessDenied")
+        entry = await self.entry(bucket, key, id)
+        check_read(context.request.headers, entry, "x-amz-copy-source-")
+        return entry
+
+    async def copy(self, context: Context) -> Answer:
+        entry, headers = await self.source(context), self.kept(context)
+        directive = context.request.headers.get("x-amz-metadata-directive", "COPY")
+        if directive not in ("COPY", "REPLACE"):
+            raise S3Error("InvalidArgument", "Unknown metadata directive.")
+        is_itself = (entry.version.bucket, entry.version.key, entry.until) == (context.bucket, context.key, None)
+        if is_itself and directive == "COPY":
+            raise S3Error("InvalidRequest", "This copy request is illegal because it is trying to copy an object to itself "
+                                            "without changing the object's metadata.")
+        body = self._store.stream(entry, 0, entry.version.size - 1)
+        made = await self._store.put(context.bucket, context.key, body, headers if directive == "REPLACE" else entry.version.headers,
+                                     lambda before: check_write(context.request.headers, before))
+        context.said["version"] = made.version.id
+        answer = xml_answer(document("CopyObjectResult", [("ETag", quoted(made.version.etag)),
+                                                          ("LastModified", stamp_of(made.version.time))]))
+        answer.headers.update({"x-amz-version-id": made.version.id, "x-amz-copy-source-version-id": entry.version.id})
+        return answer
+
+    async def delete(self, context: Context) -> Answer:
+        """DeleteObject: a marker, where something is there. A version that can be read isn't deleted."""
+        found = await self._delete(context.bucket, context.key, context.version())
+        context.said.update(version=found.get("x-amz-version-id", ""))
+        return Answer(204, headers=found)
+
+    async def _delete(self, bucket: str, key: str, id: Optional[str]) -> Dict[str, str]:
+        await self._store.settle(bucket, key)
+        entry = self._store.bucket(bucket).current(key)
+        if id is not None:
+            if self._store.bucket(bucket).version(key, id) is not None:
+                raise S3Error("AccessDenied", "Access Denied because object protected by object lock.")
+            return {"x-amz-version-id": id}
+        if entry is None:
+            return {}
+        if not entry.version.is_marker:
+            entry = await self._store.delete(bucket, key)
+        return {"x-amz-delete-marker": "true", "x-amz-version-id": entry.version.id}
+
+    async def delete_many(self, context: Context) -> Answer:
+        """DeleteObjects."""
+        root = parsed(await context.xml(), "Delete")
+        self._store.bucket(context.bucket)
+        rows = [(text_in(it, "Key"), it.findtext("VersionId")) for it in root.findall("Object")]
+        if not 1 <= len(rows) <= PAGE:
+            raise S3Error("MalformedXML")
+        said: List[Node] = []
+        for key, id in rows:
+            said += await self._delete_one(context.bucket, key, id, root.findtext("Quiet") == "true")
+        return xml_answer(document("DeleteResult", said))
+
+    async def _delete_one(self, bucket: str, key: str, id: Optional[str], is_quiet: bool) -> List[Node]:
+        named: List[Node] = [("Key", key), *([("VersionId", id)] if id else [])]
+        try:
+            found = await self._delete(bucket, key, id)
+        except Exception as fault:
+            if not is_known(fault):
+                raise
+            error = error_of(fault)
+            return [("Error", [*named, ("Code", error.code), ("Message", error.message)])]
+        if is_quiet:
+            return []
+        marker: List[Node] = []
+        if found.get("x-amz-delete-marker"):
+            marker = [("DeleteMarker", True), ("DeleteMarkerVersionId", found["x-amz-version-id"])]
+        return [("Deleted", named + marker)]
+
+    async def retention(self, context: Context) -> Answer:
+        version = (await self.asked(context)).version
+        return xml_answer(document("Retention", [("Mode", "COMPLIANCE"),
+                                                 ("RetainUntilDate", stamp_of(version.time + self._window))]))
+
+    async def set_retention(self, context: Context) -> Answer:
+        """What the window keeps anyway may be said; a later date is refused."""
+        version, root = (await self.asked(context)).version, parsed(await context.xml(), "Retention")
+        if text_in(root, "Mode") != "COMPLIANCE" or stamp_in(text_in(root, "RetainUntilDate")) > time_at(version.time + self._window):
+            raise S3Error("InvalidRequest", "The store keeps each version in compliance mode, for its window and no longer.")
+        return Answer()
+
+    async def legal_hold(self, context: Context) -> Answer:
+        await self.asked(context)
+        return xml_answer(document("LegalHold", [("Status", "OFF")]))
+
+    async def set_legal_hold(self, context: Context) -> Answer:
+        await self.asked(context)
+        if text_in(parsed(await context.xml(), "LegalHold"), "Status") != "OFF":
+            raise S3Error("InvalidRequest", "The store keeps versions for its window, and has no legal holds.")
+        return Answer()
+
+    async def acl(self, context: Context) -> Answer:
+        await self.asked(context)
+        return xml_answer(acl_document())
+
+    async def tagging(self, context: Context) -> Answer:
+        """No object has tags."""
+        await self.asked(context)
+        return xml_answer(document("Tagging", [("TagSet", "")]))
+
+
+async def begun(body: AsyncIterator[bytes]) -> AsyncIterator[bytes]:
+    """The same bytes; the first are there, so that an error that comes before them has an answer of its own."""
+    try:
+        first = await body.__anext__()
+    except StopAsyncIteration:
+        first = b""
+
+    async def all_of() -> AsyncIterator[bytes]:
+        yield first
+        async for data in body:
+            yield data
+
+    return all_of()

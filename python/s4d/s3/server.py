@@ -1,0 +1,136 @@
+"""The connections of a gateway: how many there are, and how long each may take."""
+from __future__ import annotations
+
+import asyncio
+import contextlib
+import ssl
+from typing import Dict, Optional, Set
+
+from ..listeners import listen_tcp
+from ..store.service import say
+from .errors import S3Error
+from .faults import is_known
+from .gateway import Gateway, error_answer
+from .http import Answer, Body, Ended, Request, read_head, request_of, write_answer
+from .limits import CONNECTIONS, DRAINED_BYTES, HEAD_BYTES, HEAD_SECONDS
+
+NOBODY = Request("GET", "/", "/", [], {}, False)
+CONTINUE = b"HTTP/1.1 100 Continue\r\n\r\n"
+
+
+class Server:
+    """Serves connections until it is closed. Who sends no request holds no place from others."""
+
+    def __init__(self, gateway: Gateway, host: str, port: int, tls: Optional[ssl.SSLContext]) -> None:
+        self._gateway, self._tls = gateway, tls
+        self._listener = listen_tcp(host, port)
+        self._server: Optional[asyncio.AbstractServer] = None
+        self._idle: Dict[asyncio.StreamWriter, None] = {}  # connections without a request, in the order of their waits
+        self._tasks: Set[asyncio.Future[None]] = set()
+        self._is_stopping = False
+
+    @property
+    def port(self) -> int:
+        return int(self._listener.getsockname()[1])
+
+    async def start(self) -> None:
+        handshake = HEAD_SECONDS if self._tls is not None else None
+        self._server = await asyncio.start_server(self._attend, sock=self._listener, limit=HEAD_BYTES, ssl=self._tls,
+                                                  ssl_handshake_timeout=handshake)
+
+    async def close(self, seconds: float) -> None:
+        """Accepts no more, and waits for the requests that are worked on; what takes longer is cancelled."""
+        self._is_stopping = True
+        if self._server is not None:
+            self._server.close()
+        for writer in list(self._idle):
+            writer.transport.abort()
+        if self._tasks:
+            await asyncio.wait(set(self._tasks), timeout=seconds)
+        for task in list(self._tasks):
+            task.cancel()
+        if self._tasks:
+            await asyncio.wait(set(self._tasks))
+
+    async def _attend(self, reader: asyncio.StreamReader, writer: asyncio.StreamWriter) -> None:
+        """All that becomes of a connection. Nothing that goes wrong with one reaches another."""
+        task = asyncio.ensure_future(self._serve(reader, writer))
+        self._tasks.add(task)
+        try:
+            await asyncio.wait({task})
+        finally:
+            self._tasks.discard(task)
+            self._idle.pop(writer, None)
+            writer.close()
+
+    async def _serve(self, reader: asyncio.StreamReader, writer: asyncio.StreamWriter) -> None:
+        if not self._has_room():
+            with contextlib.suppress(Ended):
+                await write_answer(writer, error_answer(S3Error("SlowDown"), NOBODY, "", {}), False)
+            return
+        try:
+            while not self._is_stopping and await self._serve_one(reader, writer):
+                pass
+        except Ended:
+            pass
+        except Exception as fault:  # where an answer breaks off, its client sees that it is cut
+            writer.transport.abort()
+            if not isinstance(fault, OSError) and not is_known(fault):
+                say(f"a connection failed: {fault!r}")
+
+    def _has_room(self) -> bool:
+        """Whether one more may be served. Where there are too many, the one goes that has waited for longest without a request."""
+        if len(self._tasks) <= CONNECTIONS:
+            return True
+        oldest = next(iter(self._idle), None)
+        if oldest is None:
+            return False
+        del self._idle[oldest]
+        oldest.transport.abort()
+        return True
+
+    async def _serve_one(self, reader: asyncio.StreamReader, writer: asyncio.StreamWriter) -> bool:
+        """Answers a request, and says whether the connection goes on."""
+        self._idle[writer] = None
+        request = NOBODY
+        try:
+            head = await read_head(reader)
+            self._idle.pop(writer, None)
+            request = request_of(head)
+            body = Body(reader, request.headers, lambda: begin(request, writer))
+        except S3Error as error:
+            await write_answer(writer, with_end(error_answer(error, request, "", {})), request.method == "HEAD")
+            return False
+        finally:
+            self._idle.pop(writer, None)
+        answer = await self._gateway.answer(request, body, peer_of(writer))
+        keeps = request.keeps and not self._is_stopping and await drained(body, request)
+        await write_answer(writer, answer if keeps else with_end(answer), request.method == "HEAD")
+        return keeps
+
+
+def begin(request: Request, writer: asyncio.StreamWriter) -> None:
+    """Says that the body may come, to who waits for that, once."""
+    if request.headers.pop("expect", "").lower() == "100-continue":
+        writer.write(CONTINUE)
+
+
+async def drained(body: Body, request: Request) -> bool:
+    """Whether nothing is left of the body that nobody wanted, so that the next request can be read."""
+    if body.is_over:
+        return True
+    if "expect" in request.headers or (body.length or 0) > DRAINED_BYTES:
+        return False
+    with contextlib.suppress(S3Error, OSError):
+        await body.whole(DRAINED_BYTES)
+    return body.is_over
+
+
+def with_end(answer: Answer) -> Answer:
+    answer.headers["Connection"] = "close"
+    return answer
+
+
+def peer_of(writer: asyncio.StreamWriter) -> str:
+    found = writer.get_extra_info("peername")
+    return f"{found[0]}:{found[1]}" if found else ""

@@ -1,0 +1,153 @@
+"""The commands of a store: `init`, which makes one, and `serve`, which starts its drives and the gateway before them."""
+from __future__ import annotations
+
+import argparse
+import asyncio
+import signal
+import ssl
+import sys
+from typing import NoReturn, Optional, Sequence, Tuple
+
+from ..access_log import AccessLog
+from ..s3.gateway import Gateway
+from ..s3.keys import keys_in
+from ..s3.server import Server
+from .opening import OpenStore
+from .service import say
+from .settings import DRIVES, FRAMES, Programs, Settings, StoreFault, keys_path, make_store, microseconds
+
+GRACE = 30.0  # seconds that requests may take to end at SIGTERM
+
+
+class Parser(argparse.ArgumentParser):
+    """A parser that says a fault in one line."""
+
+    def error(self, message: str) -> NoReturn:
+        say(f"{message}; --help lists the options")
+        sys.exit(2)
+
+
+def number_in(known: range, text: str) -> int:
+    if not text.isascii() or not text.isdigit() or len(text) > 5 or int(text) not in known:
+        raise argparse.ArgumentTypeError(f"{text!r} is no number from {known[0]} to {known[-1]}")
+    return int(text)
+
+
+def drives(text: str) -> int:
+    return number_in(DRIVES, text)
+
+
+def frames(text: str) -> int:
+    return number_in(FRAMES, text)
+
+
+def duration(text: str) -> str:
+    try:
+        microseconds(text)
+    except ValueError as error:
+        raise argparse.ArgumentTypeError(str(error)) from None
+    return text
+
+
+def host_and_port(text: str) -> Tuple[str, int]:
+    host, _, port = text.rpartition(":")
+    if not host or not port.isascii() or not port.isdigit() or len(port) > 5 or int(port) > 65_535:
+        raise argparse.ArgumentTypeError(f"{text!r} is no HOST:PORT")
+    return host.strip("[]"), int(port)
+
+
+def parser() -> Parser:
+    """The options of both commands."""
+    made = Parser(prog="python3 -m s4d.store", allow_abbrev=False, description="A store over many drives.")
+    commands = made.add_subparsers(dest="command", required=True, parser_class=Parser)
+    init = commands.add_parser("init", help="makes a store in a folder", allow_abbrev=False)
+    init.add_argument("folder", metavar="DIR")
+    init.add_argument("--drives", type=drives, default=16, help="how many drives it has (16)")
+    init.add_argument("--frames", type=frames, default=1_024, help="how many frames each has (1024)")
+    init.add_argument("--keep", type=duration, default="30d", help="for how long versions are kept (30d)")
+    init.add_argument("--s4d", metavar="PROGRAM", default="s4d", help="the program that makes a drive (s4d)")
+    serve = commands.add_parser("serve", help="starts its drives, and a gateway before them", allow_abbrev=False)
+    serve.add_argument("folder", metavar="DIR")
+    serve.add_argument("--listen", metavar="HOST:PORT", type=host_and_port, default=("127.0.0.1", 9000),
+                       help="where clients come (127.0.0.1:9000)")
+    serve.add_argument("--cert", metavar="FILE", help="a certificate, for TLS")
+    serve.add_argument("--key", metavar="FILE", help="its key")
+    serve.add_argument("--keys", metavar="FILE", help="the file of access keys (DIR/keys)")
+    serve.add_argument("--log", metavar="FILE", help="the access log; none is written where none is given")
+    serve.add_argument("--leap", metavar="DURATION", type=duration, help="as s4serve takes it")
+    serve.add_argument("--s4", metavar="PROGRAM", default="s4", help="the program that reads images (s4)")
+    serve.add_argument("--s4serve", metavar="PROGRAM", default="s4serve", help="the program that serves a drive (s4serve)")
+    return made
+
+
+def fault_of(error: Exception) -> str:
+    """A line that says what couldn't be had, and why."""
+    if isinstance(error, OSError) and error.filename is not None:
+        return f"{error.filename}: {error.strerror}"
+    return str(error)
+
+
+def tls_of(found: argparse.Namespace) -> Optional[ssl.SSLContext]:
+    """The context of the certificate that is given, if one is."""
+    if found.cert is None:
+        return None
+    context = ssl.SSLContext(ssl.PROTOCOL_TLS_SERVER)
+    context.minimum_version = ssl.TLSVersion.TLSv1_2
+    context.load_cert_chain(found.cert, found.key)
+    return context
+
+
+async def begun(opened: OpenStore, found: argparse.Namespace, log: Optional[AccessLog]) -> Server:
+    """The drives are served, and then the gateway."""
+    keys, context = keys_in(found.keys or keys_path(found.folder)), tls_of(found)
+    gateway = Gateway(await opened.start(), keys, opened.settings.window, log)
+    host, port = found.listen
+    server = Server(gateway, host, port, context)
+    await server.start()
+    print(f"ready: {'https' if context else 'http'}://{found.listen[0]}:{server.port}", flush=True)
+    return server
+
+
+async def serve(found: argparse.Namespace) -> int:
+    """Serves until a signal ends it: the status."""
+    log = AccessLog(found.log) if found.log is not None else None
+    opened = OpenStore(found.folder, Programs(s4=found.s4, s4serve=found.s4serve), found.leap)
+    ended, loop = asyncio.Event(), asyncio.get_running_loop()
+    for number in (signal.SIGTERM, signal.SIGINT):
+        loop.add_signal_handler(number, ended.set)
+    starting, waiting = asyncio.ensure_future(begun(opened, found, log)), asyncio.ensure_future(ended.wait())
+    try:
+        await asyncio.wait({starting, waiting}, return_when=asyncio.FIRST_COMPLETED)
+        if starting.done():
+            server = starting.result()
+            await waiting
+            await server.close(GRACE)
+        return 0
+    finally:
+        for task in (starting, waiting):
+            task.cancel()
+        await asyncio.wait({starting, waiting})
+        await opened.stop()
+        if log is not None:
+            log.close()
+
+
+def init(found: argparse.Namespace) -> int:
+    """Makes a store, and says how it is served."""
+    make_store(found.folder, Settings(found.drives, found.frames, found.keep), Programs(s4d=found.s4d))
+    print(f"made {found.folder}; its access key is in {keys_path(found.folder)}; serve it by: "
+          f"python3 -m s4d.store serve {found.folder}")
+    return 0
+
+
+def main(words: Optional[Sequence[str]] = None) -> int:
+    """The program: its status."""
+    options = parser()
+    found = options.parse_args(words)
+    if found.command == "serve" and (found.cert is None) != (found.key is None):
+        options.error("--cert and --key need each other")
+    try:
+        return init(found) if found.command == "init" else asyncio.run(serve(found))
+    except (StoreFault, OSError, ValueError) as error:
+        say(fault_of(error))
+        return 1

@@ -1,0 +1,201 @@
+"""Programs that people have, against the gateway over a store in memory; each is skipped where it isn't installed."""
+import asyncio
+import importlib.util
+import os
+import pathlib
+import shutil
+import subprocess
+import tempfile
+import threading
+import time
+import unittest
+from datetime import datetime, timezone
+
+from .bridged import PATIENCE
+from .s3_client import OWNER, Gatewayed
+from .test_store import BYTES
+
+needs_boto3 = unittest.skipUnless(importlib.util.find_spec("boto3"), "boto3 isn't installed")
+
+
+def needs(name):
+    return unittest.skipUnless(shutil.which(name), f"{name} isn't installed")
+
+
+class Clients(unittest.TestCase):
+    """A gateway in a thread of its own."""
+
+    def setUp(self):
+        folder = tempfile.TemporaryDirectory()
+        self.addCleanup(folder.cleanup)
+        self.folder = pathlib.Path(folder.name)
+        self.is_ready, self.ended = threading.Event(), None
+        self.thread = threading.Thread(target=lambda: asyncio.run(self.serve()), daemon=True)
+        self.thread.start()
+        self.assertTrue(self.is_ready.wait(PATIENCE))
+        self.addCleanup(self.end)
+
+    async def serve(self):
+        self.loop, self.ended = asyncio.get_running_loop(), asyncio.Event()
+        async with Gatewayed() as self.gateway:
+            self.url = f"http://127.0.0.1:{self.gateway.server.port}"
+            self.is_ready.set()
+            await self.ended.wait()
+
+    def end(self):
+        self.loop.call_soon_threadsafe(self.ended.set)
+        self.thread.join(PATIENCE)
+
+    def run_program(self, *words, status=0, **environment):
+        """What a program prints."""
+        known = {"AWS_ACCESS_KEY_ID": OWNER.access, "AWS_SECRET_ACCESS_KEY": OWNER.secret, "AWS_DEFAULT_REGION": "us-east-1",
+                 "AWS_EC2_METADATA_DISABLED": "true", "AWS_CONFIG_FILE": "/dev/null", "HOME": str(self.folder)}
+        ran = subprocess.run(list(map(str, words)), env={**os.environ, **known, **environment}, stdout=subprocess.PIPE,
+                             stderr=subprocess.STDOUT, timeout=5 * PATIENCE, check=False)
+        self.assertEqual(ran.returncode, status, ran.stdout.decode())
+        return ran.stdout.decode()
+
+    def make_files(self):
+        """A folder with files of some sizes."""
+        folder = self.folder / "files"
+        (folder / "deep").mkdir(parents=True)
+        for name, size in (("empty", 0), ("small", 10), ("deep/long", 300_000), ("deep/ü b", 500)):
+            (folder / name).write_bytes(BYTES[:size])
+        return folder
+
+    def check_files(self, folder):
+        found = {str(it.relative_to(folder)): it.stat().st_size for it in folder.rglob("*") if it.is_file()}
+        self.assertEqual(found, {"empty": 0, "small": 10, "deep/long": 300_000, "deep/ü b": 500})
+
+
+@needs_boto3
+class Boto3(Clients):
+    def client(self):
+        import boto3
+        return boto3.client("s3", endpoint_url=self.url, aws_access_key_id=OWNER.access, aws_secret_access_key=OWNER.secret,
+                            region_name="us-east-1")
+
+    def test_objects(self):
+        it = self.client()
+        it.create_bucket(Bucket="one", ObjectLockEnabledForBucket=True)
+        self.assertEqual([row["Name"] for row in it.list_buckets()["Buckets"]], ["one"])
+        first = it.put_object(Bucket="one", Key="a/ü", Body=BYTES[:200_000], Metadata={"who": "me"}, ContentType="a/b")["VersionId"]
+        second = it.put_object(Bucket="one", Key="a/ü", Body=b"moor")["VersionId"]
+        self.assertEqual(it.get_object(Bucket="one", Key="a/ü", Range="bytes=1-2")["Body"].read(), b"oo")
+        old = it.get_object(Bucket="one", Key="a/ü", VersionId=first)
+        self.assertEqual((old["Body"].read(), old["Metadata"], old["ObjectLockMode"]), (BYTES[:200_000], {"who": "me"}, "COMPLIANCE"))
+        marker = it.delete_object(Bucket="one", Key="a/ü")
+        self.assertTrue(marker["DeleteMarker"])
+        with self.assertRaises(it.exceptions.NoSuchKey):
+            it.get_object(Bucket="one", Key="a/ü")
+        rows = it.list_object_versions(Bucket="one", Prefix="a/")
+        self.assertEqual([row["VersionId"] for row in rows["Versions"]], [second, first])
+        self.assertEqual([row["VersionId"] for row in rows["DeleteMarkers"]], [marker["VersionId"]])
+        with self.assertRaisesRegex(it.exceptions.ClientError, "AccessDenied"):
+            it.delete_object(Bucket="one", Key="a/ü", VersionId=first)
+        it.copy_object(Bucket="one", Key="a/ü", CopySource={"Bucket": "one", "Key": "a/ü", "VersionId": first})
+        self.assertEqual(it.get_object(Bucket="one", Key="a/ü")["Body"].read(), BYTES[:200_000])
+        deleted = it.delete_objects(Bucket="one", Delete={"Objects": [{"Key": "a/ü"}, {"Key": "none"}]})
+        self.assertEqual(sorted(row["Key"] for row in deleted["Deleted"]), ["a/ü", "none"])
+
+    def test_pages_and_parts(self):
+        it = self.client()
+        it.create_bucket(Bucket="one")
+        for number in range(7):
+            it.put_object(Bucket="one", Key=f"{number % 2}/{number}", Body=b"")
+        pages = it.get_paginator("list_objects_v2").paginate(Bucket="one", PaginationConfig={"PageSize": 2})
+        self.assertEqual([row["Key"] for page in pages for row in page["Contents"]],
+                         ["0/0", "0/2", "0/4", "0/6", "1/1", "1/3", "1/5"])
+        prefixes = it.list_objects_v2(Bucket="one", Delimiter="/")["CommonPrefixes"]
+        self.assertEqual([row["Prefix"] for row in prefixes], ["0/", "1/"])
+        pages = it.get_paginator("list_object_versions").paginate(Bucket="one", PaginationConfig={"PageSize": 3})
+        self.assertEqual(sum(len(page["Versions"]) for page in pages), 7)
+        upload = it.create_multipart_upload(Bucket="one", Key="parts")["UploadId"]
+        data = BYTES * 5
+        etags = [it.upload_part(Bucket="one", Key="parts", UploadId=upload, PartNumber=number, Body=part)["ETag"]
+                 for number, part in ((1, data), (2, b"end"))]
+        it.complete_multipart_upload(Bucket="one", Key="parts", UploadId=upload, MultipartUpload={
+            "Parts": [{"PartNumber": number, "ETag": etag} for number, etag in enumerate(etags, 1)]})
+        self.assertEqual(it.get_object(Bucket="one", Key="parts")["Body"].read(), data + b"end")
+        url = it.generate_presigned_url("get_object", Params={"Bucket": "one", "Key": "0/0"}, ExpiresIn=60)
+        self.assertIn("Signature", url)
+
+
+@needs("aws")
+class Awscli(Clients):
+    def aws(self, *words, **more):
+        return self.run_program("aws", "--endpoint-url", self.url, *words, **more)
+
+    def test_copies(self):
+        files = self.make_files()
+        self.aws("s3", "mb", "s3://one")
+        self.aws("s3", "cp", "--recursive", files, "s3://one/files")
+        self.assertEqual(len(self.aws("s3", "ls", "--recursive", "s3://one").splitlines()), 4)
+        self.aws("s3", "rm", "--recursive", "s3://one/files/deep")
+        self.assertEqual(len(self.aws("s3", "ls", "--recursive", "s3://one").splitlines()), 2)
+        self.aws("s3", "sync", files, "s3://one/files")
+        self.aws("s3", "sync", "s3://one/files", self.folder / "back")
+        self.check_files(self.folder / "back")
+
+
+@needs("s3cmd")
+class S3cmd(Clients):
+    def test_copies(self):
+        files = self.make_files()
+        host = self.url.partition("//")[2]
+        words = ["s3cmd", "--no-ssl", f"--host={host}", f"--host-bucket={host}", f"--access_key={OWNER.access}",
+                 f"--secret_key={OWNER.secret}"]
+        self.run_program(*words, "mb", "s3://one")
+        self.run_program(*words, "put", "--recursive", f"{files}/", "s3://one/files/")
+        (self.folder / "back").mkdir()
+        self.run_program(*words, "get", "--recursive", "s3://one/files/", f"{self.folder}/back/")
+        self.check_files(self.folder / "back")
+
+
+class Remotes(Clients):
+    """Rclone's words for the gateway."""
+
+    def rclone(self, *words, **more):
+        return self.run_program("rclone", *words, "--retries=1", **more, RCLONE_CONFIG="/dev/null", RCLONE_CONFIG_S4_TYPE="s3",
+                                RCLONE_CONFIG_S4_PROVIDER="Other", RCLONE_CONFIG_S4_ENDPOINT=self.url,
+                                RCLONE_CONFIG_S4_ACCESS_KEY_ID=OWNER.access, RCLONE_CONFIG_S4_SECRET_ACCESS_KEY=OWNER.secret)
+
+
+@needs("rclone")
+class Rclone(Remotes):
+    def test_a_moment_before_an_intruder(self):
+        files = self.make_files()
+        self.rclone("mkdir", "s4:one")
+        self.rclone("sync", files, "s4:one/files")
+        self.rclone("check", files, "s4:one/files")
+        time.sleep(1.1)  # its times are whole seconds
+        before = datetime.now(timezone.utc).strftime("%Y-%m-%dT%H:%M:%SZ")
+        time.sleep(1.1)
+        self.rclone("copyto", files / "small", "s4:one/files/deep/long")  # overwritten
+        self.rclone("delete", "s4:one/files")
+        self.assertEqual(self.rclone("lsf", "-R", "--files-only", "s4:one"), "")
+        self.rclone("copy", "--s3-version-at", before, "s4:one/files", self.folder / "back")
+        self.check_files(self.folder / "back")
+
+
+@needs("restic")
+class Restic(Clients):
+    def test_a_backup(self):
+        files = self.make_files()
+
+        def restic(*words):
+            return self.run_program("restic", "-r", f"s3:{self.url}/backups", *words, RESTIC_PASSWORD="mill", RESTIC_CACHE_DIR=str(self.folder / "cache"))
+
+        restic("init")
+        restic("backup", files)
+        (files / "small").write_bytes(b"moor")
+        restic("backup", files)
+        restic("check", "--read-data")
+        restic("forget", "--keep-last", "1", "--prune")
+        restic("check", "--read-data")
+        restic("restore", "latest", "--target", self.folder / "back")
+        self.assertEqual((self.folder / "back" / str(files)[1:] / "small").read_bytes(), b"moor")
+
+
+if __name__ == "__main__":
+    unittest.main()
