@@ -50,7 +50,8 @@ class Clients(unittest.TestCase):
         """What a program prints."""
         known = {"AWS_ACCESS_KEY_ID": OWNER.access, "AWS_SECRET_ACCESS_KEY": OWNER.secret, "AWS_DEFAULT_REGION": "us-east-1",
                  "AWS_EC2_METADATA_DISABLED": "true", "AWS_CONFIG_FILE": "/dev/null", "HOME": str(self.folder)}
-        ran = subprocess.run(list(map(str, words)), env={**os.environ, **known, **environment}, stdout=subprocess.PIPE,
+        shared = {name: value for name, value in os.environ.items() if not name.startswith("AWS_")}
+        ran = subprocess.run(list(map(str, words)), env={**shared, **known, **environment}, stdout=subprocess.PIPE,
                              stderr=subprocess.STDOUT, timeout=5 * PATIENCE, check=False)
         self.assertEqual(ran.returncode, status, ran.stdout.decode())
         return ran.stdout.decode()

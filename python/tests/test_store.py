@@ -366,7 +366,7 @@ class Kills(Stores):
             self.assertEqual(await got(store, entry), BYTES[:size or 0])
         named = 0
         if entries:
-            pieces, lists = await store.pieces.all_of(contents_of(entries[-1].version), None)
+            pieces, lists = await store.pieces.all_of(contents_of(entries[-1].version), entries[-1])
             named = len(pieces) + len(lists)
         self.assertEqual(self.live(), {kind: count for kind, count in
                                        (("B", len(store.index.buckets)), ("H", min(len(entries), 1)), ("P", named)) if count})

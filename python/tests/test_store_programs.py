@@ -1,4 +1,4 @@
-"""A store whose drives are programs, of a stand-in and, where it is built, of `s4serve`: starts, ends, kills."""
+"""A store whose drives are programs, of a stand-in and, where they are built, of the drive itself: starts, ends, kills."""
 import asyncio
 import os
 import pathlib
@@ -11,75 +11,83 @@ import unittest
 from s4d.store import OpenStore, Programs, Settings, StoreFault, make_store
 from s4d.store.drives import DriveAway
 
-from .bridged import PATIENCE
+from .bridged import PACKAGE, PATIENCE
 from .built import PROGRAM, S4, S4SERVE, needs_program, needs_s4, needs_s4serve
 from .store_standin import programs
 from .test_store import BYTES, body, got
 
 
 class Served(unittest.TestCase):
-    """A store of two drives, which each test starts and stops as it needs it."""
+    """A store of two drives of a stand-in."""
 
     def setUp(self):
         folder = tempfile.TemporaryDirectory()
         self.addCleanup(folder.cleanup)
         self.folder = f"{folder.name}/store"
-        self.programs = Programs(**programs(folder.name))
-        self.environment = {}
+        self.programs = self.programs_in(folder.name)
         make_store(self.folder, Settings(2, 64, "30d"), self.programs)
+
+    def programs_in(self, folder):
+        return Programs(**programs(folder))
 
     def run_store(self, *works):
         """Each work has the store between a start and an end of it."""
         for work in works:
-            asyncio.run(asyncio.wait_for(self.served(work), PATIENCE))
+            asyncio.run(asyncio.wait_for(self.served(work), 5 * PATIENCE))
 
     async def served(self, work):
-        with mock.patch.dict(os.environ, self.environment):
-            opened = OpenStore(self.folder, self.programs)
-            try:
-                store = await opened.start()
-                await work(store)
-            finally:
-                await opened.stop()
-
-    def live(self):
-        """How many live objects of each kind the images have."""
-        count = {}
-        for number in range(2):
-            words = [self.programs.s4, "list", "--json", "--", f"{self.folder}/drives/{number:02}/image"]
-            for line in subprocess.run(words, check=True, capture_output=True).stdout.splitlines():
-                kind = line.decode().split('"attribute": "')[1][:2]
-                count[bytes.fromhex(kind).decode()] = count.get(bytes.fromhex(kind).decode(), 0) + 1
-        return count
+        opened = OpenStore(self.folder, self.programs)
+        try:
+            await work(await opened.start())
+        finally:
+            await opened.stop()
 
 
-class Opening(Served):
-    def test_two_programs(self):
-        async def look(_store):
+class Starts(Served):
+    def test_services_that_are_killed_start_again(self):
+        async def put(store):
+            await store.create_bucket("one")
+            old = await store.put("one", "k", body(BYTES[:200_000]), {})
+            await store.put("one", "k", body(b"new"), {})
             with self.assertRaisesRegex(StoreFault, "another program serves this store: end that one"):
                 OpenStore(self.folder, self.programs)
+            for drive in store.pieces.drives:
+                drive._service.kill()
+            self.assertEqual(await self.once_served(lambda: got(store, old)), BYTES[:200_000])
+            await self.once_served(lambda: store.put("one", "k", body(b"newer"), {}))
 
-        self.run_store(look)
+        async def get(store):
+            entries = store.bucket("one").keys["k"]
+            self.assertEqual([it.version.sequence for it in entries], list(range(1, len(entries) + 1)))
+            self.assertEqual([await got(store, it) for it in entries][:2], [BYTES[:200_000], b"new"])
+            self.assertEqual(await got(store, entries[-1]), b"newer")
+
+        self.run_store(put, get)
+
+    @staticmethod
+    async def once_served(work):
+        """What comes of work once the drives answer again."""
+        while True:
+            try:
+                return await work()
+            except DriveAway:
+                await asyncio.sleep(0.1)
 
     def test_what_is_no_store(self):
         with self.assertRaisesRegex(StoreFault, "is no store: make one by"):
             OpenStore("/", self.programs)
         with self.assertRaisesRegex(StoreFault, "isn't empty"):
             make_store(self.folder, Settings(1, 64, "1d"), self.programs)
-
-    def test_a_service_that_does_not_start(self):
         pathlib.Path(self.programs.s4serve).write_text("#!/bin/sh\necho 's4serve: cannot serve it' >&2\nexit 1\n", encoding="ascii")
         with self.assertRaisesRegex(StoreFault, "drive 0 isn't served: s4serve: cannot serve it"):
-            asyncio.run(self.served(None))
-
-    def test_an_image_that_is_gone(self):
+            self.run_store(None)
         os.unlink(f"{self.folder}/drives/01/image")
         with self.assertRaisesRegex(StoreFault, "drives/01/image: "):
-            asyncio.run(self.served(None))
+            self.run_store(None)
 
 
 class Kills(Served):
-    """A program that puts is killed again and again: what it had acknowledged is there to the byte, and nothing else is."""
+    """A program that has a store is killed while it puts, and its services go on alone."""
 
     PUTS = """
 import asyncio, sys
@@ -87,8 +95,7 @@ from s4d.store import OpenStore, Programs
 async def body(data):
     yield data
 async def main():
-    opened = OpenStore(sys.argv[1], Programs(*sys.argv[2:5]))
-    store = await opened.start()
+    store = await OpenStore(sys.argv[1], Programs(*sys.argv[2:])).start()
     if "one" not in store.index.buckets:
         await store.create_bucket("one")
     print("started", flush=True)
@@ -99,17 +106,10 @@ async def main():
     await asyncio.gather(*map(put, "abc"))
 asyncio.run(main())
 """
+    KILLS = int(os.environ.get("STORE_KILLS", 2))
 
-    def test_kills(self, kills=3):
-        acknowledged, top = [], pathlib.Path(__file__).resolve().parents[1]
-        words = [sys.executable, "-S", "-B", "-c", self.PUTS, self.folder, *(getattr(self.programs, name) for name in ("s4d", "s4", "s4serve"))]
-        for count in range(kills):
-            with subprocess.Popen(words, cwd=top, stdout=subprocess.PIPE, text=True) as puts:
-                self.assertEqual(puts.stdout.readline(), "started\n")
-                for _ in range(3 + count % 4):
-                    acknowledged.append(puts.stdout.readline().split())
-                puts.kill()
-                acknowledged += [line.split() for line in puts.stdout.readlines() if line.count(" ") == 3 and line.endswith("\n")]
+    def test_kills(self):
+        acknowledged = [line for count in range(self.KILLS) for line in self.killed(3 + count % 4)]
 
         async def look(store):
             entries = {it.version.id: it for known in store.bucket("one").keys.values() for it in known}
@@ -118,17 +118,46 @@ asyncio.run(main())
                 self.assertEqual((version.key, version.size, version.etag), (key, int(size), etag))
             for entry in entries.values():
                 self.check_contents(entry, await got(store, entry))
-            current = [store.bucket("one").current(key).version for key in store.bucket("one").live]
-            self.named = sum(len(it.pieces) for it in current)
 
         self.run_store(look)
-        self.assertEqual(self.live().get("P", 0), self.named)
+
+    def killed(self, puts):
+        """What a program acknowledged that was killed after some puts, while the next ones were on their way."""
+        words = [sys.executable, "-S", "-B", "-c", self.PUTS, self.folder, self.programs.s4d, self.programs.s4, self.programs.s4serve]
+        with subprocess.Popen(words, cwd=PACKAGE, stdout=subprocess.PIPE, text=True) as program:
+            self.assertEqual(program.stdout.readline(), "started\n")
+            lines = [program.stdout.readline() for _ in range(puts)]
+            program.send_signal(signal.SIGKILL)
+            lines += program.stdout.readlines()
+        return [line.split() for line in lines if line.endswith("\n")]
 
     def check_contents(self, entry, data):
         self.assertEqual(len(data), entry.version.size)
         count = 30 if entry.version.size < 1_000 else 30_000
         self.assertEqual(data, data[:len(data) // count] * count)
         self.assertEqual(data[:1].decode(), entry.version.key)
+
+
+class Real:
+    """The drive's own programs."""
+
+    def programs_in(self, _folder):
+        return Programs(PROGRAM, S4, S4SERVE)
+
+
+@needs_program
+@needs_s4
+@needs_s4serve
+class RealStarts(Real, Served):
+    test_services_that_are_killed_start_again = Starts.test_services_that_are_killed_start_again
+    once_served = staticmethod(Starts.once_served)
+
+
+@needs_program
+@needs_s4
+@needs_s4serve
+class RealKills(Real, Kills):
+    pass
 
 
 if __name__ == "__main__":

@@ -24,6 +24,8 @@ class Context:
 
     def payload(self) -> Payload:
         """The body, as the contents of an object. EntityTooLarge where it says so of itself."""
+        if not self.body.is_chunked and "content-length" not in self.request.headers:
+            raise S3Error("MissingContentLength")
         return Payload(self.request, self.body, self.signed, OBJECT_BYTES)
 
     async def xml(self) -> bytes:

@@ -9,9 +9,11 @@ from typing import Any, Awaitable, Callable, Dict, Mapping, Optional
 from typing import Counter as Counted
 
 from ..access_log import AccessLog
+from ..moments import machine_time
 from ..store.service import say
 from ..store.store import Store
 from ..store.uploads import Uploads
+from .answers import date_of
 from .buckets import Buckets
 from .context import Context
 from .errors import S3Error
@@ -55,7 +57,7 @@ class Gateway:
             if not is_known(fault):  # of this program: the other requests go on
                 say(f"request {id} failed: {fault!r}")
             answer = error_answer(error_of(fault), request, id, said)
-        answer.headers.update({"x-amz-request-id": id, "Server": "s4d"})
+        answer.headers.update({"x-amz-request-id": id, "Server": "s4d", "Date": date_of(machine_time())})
         if self._log is not None:
             self._log.write(event="request", **said, status=answer.status, bytes=answer.content_length(),
                             seconds=round(time.monotonic() - began, 6))

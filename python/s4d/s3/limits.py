@@ -6,6 +6,7 @@ IDLE_SECONDS = 60.0  # that a connection may be without a request
 BODY_SECONDS = 60.0  # that a body, or an answer's, may take, and a second more for each LEAST_RATE bytes of it
 LEAST_RATE = 4_096
 DRAINED_BYTES = 65_536  # of a body that nobody wants, so that the connection can go on
+LINGER_SECONDS = 1.0  # that what a client still sends is taken after an answer that ends the connection
 CHUNK_LINE_BYTES = 4_096  # of a line between the chunks of a body
 XML_BYTES = 2_097_152  # of a body that isn't an object's
 OBJECT_BYTES = 64 * 1_048_576  # of an object

@@ -82,10 +82,10 @@ class Payload:
     def _length(self) -> int:
         """How many bytes there are; EntityTooLarge where that is too much."""
         length = self._headers.get("x-amz-decoded-content-length") if self._is_streaming else None
-        if length is None and self._body.length is None:
-            raise S3Error("MissingContentLength")
         found = self._body.length if length is None else number_of(length)
-        if found is None or found > self._most:
+        if found is None:
+            raise S3Error("MissingContentLength")
+        if found > self._most:
             raise S3Error("EntityTooLarge")
         return found
 

@@ -12,7 +12,7 @@ from .errors import S3Error
 from .faults import is_known
 from .gateway import Gateway, error_answer
 from .http import Answer, Body, Ended, Request, read_head, request_of, write_answer
-from .limits import CONNECTIONS, DRAINED_BYTES, HEAD_BYTES, HEAD_SECONDS
+from .limits import CONNECTIONS, DRAINED_BYTES, HEAD_BYTES, HEAD_SECONDS, LINGER_SECONDS, PIECE_BYTES
 
 NOBODY = Request("GET", "/", "/", [], {}, False)
 CONTINUE = b"HTTP/1.1 100 Continue\r\n\r\n"
@@ -100,12 +100,15 @@ class Server:
             body = Body(reader, request.headers, lambda: begin(request, writer))
         except S3Error as error:
             await write_answer(writer, with_end(error_answer(error, request, "", {})), request.method == "HEAD")
+            await dropped(reader, writer)
             return False
         finally:
             self._idle.pop(writer, None)
         answer = await self._gateway.answer(request, body, peer_of(writer))
         keeps = request.keeps and not self._is_stopping and await drained(body, request)
         await write_answer(writer, answer if keeps else with_end(answer), request.method == "HEAD")
+        if not keeps:
+            await dropped(reader, writer)
         return keeps
 
 
@@ -124,6 +127,19 @@ async def drained(body: Body, request: Request) -> bool:
     with contextlib.suppress(S3Error, OSError):
         await body.whole(DRAINED_BYTES)
     return body.is_over
+
+
+async def dropped(reader: asyncio.StreamReader, writer: asyncio.StreamWriter) -> None:
+    """Takes what still comes for a moment: who sends it to a closed connection may never see its answer."""
+    with contextlib.suppress(OSError, asyncio.TimeoutError):
+        if writer.can_write_eof():
+            writer.write_eof()
+        await asyncio.wait_for(read_to_end(reader), LINGER_SECONDS)
+
+
+async def read_to_end(reader: asyncio.StreamReader) -> None:
+    while await reader.read(PIECE_BYTES):
+        pass
 
 
 def with_end(answer: Answer) -> Answer:

@@ -4,7 +4,7 @@ from __future__ import annotations
 import asyncio
 import hashlib
 from dataclasses import dataclass
-from typing import AsyncIterator, Awaitable, Callable, List, Optional, Sequence, Set, Tuple, TypeVar
+from typing import AsyncIterator, Awaitable, Callable, Iterator, List, Optional, Protocol, Sequence, Set, Tuple, TypeVar
 
 from ..async_drive import AsyncDrive, answered
 from ..errors import Expired, Flushed, Future, NoMemory, NoObject, NoSpace, Refused
@@ -25,6 +25,12 @@ class StoreFull(Exception):
 
 class Gone(Exception):
     """What was asked for can't be read any more: it has expired, or was flushed."""
+
+
+class Life(Protocol):
+    """When a version was replaced, a moment; None while it is current."""
+
+    until: Optional[int]
 
 
 @dataclass(frozen=True)
@@ -76,15 +82,9 @@ class Pieces:
             raise faults[0]
         return Piece(drive.number, made.object, max(it for it in found if isinstance(it, int)), len(data))
 
-    async def read(self, piece: Piece, until: Optional[int]) -> bytes:
-        """The bytes of a piece, of a version that was replaced at the moment `until`, or of a current one.
-
-        A piece never changes, and its object is deleted after that: so it is read at its own moment, where that has expired
-        at the last one, and now where the version is current. Gone where none of them can be read.
-        """
-        moments: List[Optional[int]] = [piece.moment]
-        moments += [None] if until is None else [until - CLOCKS] if until - CLOCKS > piece.moment else []
-        for at in moments:
+    async def read(self, piece: Piece, life: Life) -> bytes:
+        """The bytes of a piece of a version with this life. Gone where they can't be read any more."""
+        for at in moments_of(piece, life):
             try:
                 return await self._read_at(piece, at)
             except (Expired, Flushed, NoObject, Future):
@@ -110,13 +110,13 @@ class Pieces:
         except (Refused, DriveAway):
             pass
 
-    async def all_of(self, contents: Contents, until: Optional[int]) -> Tuple[List[Piece], List[Piece]]:
+    async def all_of(self, contents: Contents, life: Life) -> Tuple[List[Piece], List[Piece]]:
         """The pieces of contents in their order, and those of the lists that name them."""
         lists: List[Piece] = []
         pieces = list(contents.pieces)
         for _ in range(contents.depth):
             lists += pieces
-            data = [await self.read(piece, until) for piece in pieces]
+            data = [await self.read(piece, life) for piece in pieces]
             pieces = pieces_in(b"".join(data))
         return pieces, lists
 
@@ -137,6 +137,19 @@ class Pieces:
             made += named
             depth += 1
         return tuple(named), depth
+
+
+def moments_of(piece: Piece, life: Life) -> Iterator[Optional[int]]:
+    """The moments at which a piece is tried to be read, one after the other; None is now.
+
+    A piece never changes, and its object is deleted when its version is replaced. So it is read at its own moment; where that has
+    expired now, if the version is current; and else just before it was replaced, which may have been meanwhile.
+    """
+    yield piece.moment
+    if life.until is None:
+        yield None
+    if life.until is not None and life.until - CLOCKS > piece.moment:
+        yield life.until - CLOCKS
 
 
 def writing(object: int, start: int, data: bytes) -> Callable[[AsyncDrive], Awaitable[int]]:
@@ -209,7 +222,7 @@ class Incoming:
             await self._pieces.delete([it.result() for it in done if it.exception() is None])
 
 
-async def stream(pieces: Pieces, found: Sequence[Piece], until: Optional[int], first: int, last: int) -> AsyncIterator[bytes]:
+async def stream(pieces: Pieces, found: Sequence[Piece], life: Life, first: int, last: int) -> AsyncIterator[bytes]:
     """The bytes from the first to the last, counted from 0, of contents in pieces. A few of these are read ahead."""
     start, wanted = 0, []
     for piece in found:
@@ -220,7 +233,7 @@ async def stream(pieces: Pieces, found: Sequence[Piece], until: Optional[int], f
     try:
         for place, (_, begin, end) in enumerate(wanted):
             for piece, _, _ in wanted[place + len(running):place + IN_FLIGHT]:
-                running.append(asyncio.ensure_future(pieces.read(piece, until)))
+                running.append(asyncio.ensure_future(pieces.read(piece, life)))
             yield (await running.pop(0))[begin:end]
     finally:
         for task in running:

@@ -142,7 +142,7 @@ class Loading:
     async def _named(self, entry: Entry) -> List[Place]:
         """The pieces of a current version, and those of their lists."""
         try:
-            pieces, lists = await self._pieces.all_of(contents_of(entry.version), None)
+            pieces, lists = await self._pieces.all_of(contents_of(entry.version), entry)
         except (Gone, BadHead) as error:
             raise StoreFault(f"the pieces of {entry.version.key!r} in {entry.version.bucket} can't be found: {error}") from error
         return [Place(piece.drive, piece.object) for piece in pieces + lists]

@@ -7,9 +7,10 @@ import fcntl
 import os
 from typing import Awaitable, List, Optional
 
+from ..errors import Error
 from .contents import Pieces
-from .drives import StoreDrive
-from .loading import IMAGES_AT_ONCE, Loading, found_in
+from .drives import DriveAway, StoreDrive
+from .loading import IMAGES_AT_ONCE, Found, Loading, found_in
 from .service import Service, say
 from .settings import Programs, Settings, StoreFault, image_path, settings_in
 from .store import Store
@@ -38,15 +39,21 @@ class OpenStore:
         found = await asyncio.gather(*[found_in(path, self._programs.s4, limit) for path in paths])
         self._drives = [StoreDrive(number, service) for number, service in enumerate(services)]
         await all_done([drive.start() for drive in self._drives])
-        pieces = Pieces(self._drives)
-        loading = Loading(pieces, found, self.settings.window)
-        index = await loading.load()
-        count = await loading.collect()
-        if count:
-            say(f"{count} objects were left by puts that were cut, and are deleted")
-        self.store = Store(pieces, index)
+        self.store = await self._loaded(found)
         self._looking = asyncio.ensure_future(self.store.look_after())
         return self.store
+
+    async def _loaded(self, found: List[Found]) -> Store:
+        pieces = Pieces(self._drives)
+        loading = Loading(pieces, found, self.settings.window)
+        try:
+            index = await loading.load()
+            count = await loading.collect()
+        except (DriveAway, Error) as error:
+            raise StoreFault(f"the index can't be made: {error}") from error
+        if count:
+            say(f"{count} objects were left by puts that were cut, or are past the window, and are deleted")
+        return Store(pieces, index)
 
     async def stop(self) -> None:
         """Ends what was started, in order."""

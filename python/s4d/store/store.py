@@ -86,7 +86,7 @@ class Store:
         """Deletes a bucket; BucketUsed where it has versions that can be read."""
         async with self._locks.hold(name):
             bucket = self.bucket(name)
-            if bucket.keys or bucket.puts:
+            if bucket.keys or bucket.puts or any(of == name for of, _ in self._doubts):
                 raise BucketUsed(name)
             del self.index.buckets[name]  # so that nothing is put there meanwhile
             try:
@@ -192,14 +192,14 @@ class Store:
         if not version.pieces:
             yield version.contents[first:last + 1]
             return
-        pieces, _ = await self.pieces.all_of(contents_of(version), entry.until)
-        async for data in stream(self.pieces, pieces, entry.until, first, last):
+        pieces, _ = await self.pieces.all_of(contents_of(version), entry)
+        async for data in stream(self.pieces, pieces, entry, first, last):
             yield data
 
     async def _delete_pieces(self, entry: Entry) -> None:
         """Deletes the pieces of a version that was replaced: they are kept for the window."""
         with contextlib.suppress(Exception):  # what stays is deleted at the next start
-            pieces, lists = await self.pieces.all_of(contents_of(entry.version), entry.until)
+            pieces, lists = await self.pieces.all_of(contents_of(entry.version), entry)
             await self.pieces.delete(pieces + lists)
 
     @staticmethod
