@@ -1,6 +1,7 @@
 """What is asked of objects: their contents, copies, deletions, and what Object Lock says."""
 from __future__ import annotations
 
+import asyncio
 from typing import AsyncIterator, Awaitable, Callable, Dict, List, Optional, Tuple
 
 from ..moments import machine_time
@@ -153,10 +154,9 @@ class Objects:
         rows = [(text_in(it, "Key"), it.findtext("VersionId")) for it in root.findall("Object")]
         if not 1 <= len(rows) <= PAGE:
             raise S3Error("MalformedXML")
-        said: List[Node] = []
-        for key, id in rows:
-            said += await self._delete_one(context.bucket, key, id, root.findtext("Quiet") == "true")
-        return xml_answer(document("DeleteResult", said))
+        is_quiet = root.findtext("Quiet") == "true"
+        found = await asyncio.gather(*[self._delete_one(context.bucket, key, id, is_quiet) for key, id in rows])
+        return xml_answer(document("DeleteResult", [node for nodes in found for node in nodes]))
 
     async def _delete_one(self, bucket: str, key: str, id: Optional[str], is_quiet: bool) -> List[Node]:
         named: List[Node] = [("Key", key), *([("VersionId", id)] if id else [])]

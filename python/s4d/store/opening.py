@@ -31,13 +31,13 @@ class OpenStore:
         """Starts the drives, makes the index, and deletes what puts left that were cut. StoreFault where one can't be served."""
         numbers = range(self.settings.drives)
         services = [Service(self._folder, number, self._programs.s4serve, self._leap) for number in numbers]
+        self._drives = [StoreDrive(number, service) for number, service in enumerate(services)]
         for service in services:
             service.take()
         await asyncio.gather(*[service.end_earlier() for service in services])
         limit = asyncio.Semaphore(IMAGES_AT_ONCE)
         paths = [image_path(self._folder, number) for number in numbers]
         found = await asyncio.gather(*[found_in(path, self._programs.s4, limit) for path in paths])
-        self._drives = [StoreDrive(number, service) for number, service in enumerate(services)]
         await all_done([drive.start() for drive in self._drives])
         self.store = await self._loaded(found)
         self._looking = asyncio.ensure_future(self.store.look_after())

@@ -23,9 +23,11 @@ async def session_at(door: Door, timeout: float) -> AsyncDrive:
         drive = await drive_over(pipes, timeout)
         try:
             await asyncio.wait_for(first_reply(drive), OPEN_SECONDS)
-        except asyncio.TimeoutError:
+        except BaseException as error:
             await drive.close()
-            raise NotAsked(f"no session was opened in {OPEN_SECONDS:g} seconds") from None
+            if isinstance(error, asyncio.TimeoutError):
+                raise NotAsked(f"no session was opened in {OPEN_SECONDS:g} seconds") from None
+            raise
         return drive
     finally:
         pipes.close()

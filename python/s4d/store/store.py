@@ -164,13 +164,15 @@ class Store:
         return await self.pieces.anywhere(first_drive(version.bucket, version.key, len(self.pieces.drives)), make)
 
     async def _write_to(self, version: Version, place: Place, data: bytes) -> Entry:
+        drive = self.pieces.drives[place.drive]
         try:
-            moment = await self.pieces.drives[place.drive].ask(lambda session: session.write(place.object, 0, data))
-        except DriveAway as error:
-            if error.was_asked:
+            return Entry(version, place, await drive.ask(lambda session: session.write(place.object, 0, data)))
+        except Refused:
+            raise
+        except BaseException as error:  # a cancellation, too, doesn't take the request back
+            if not isinstance(error, DriveAway) or error.was_asked:
                 self._doubts[version.bucket, version.key] = Doubt(version, place)
             raise
-        return Entry(version, place, moment)
 
     async def settle(self, bucket: str, key: str) -> None:
         """Looks whether a head was written whose reply was lost, if there is one of this key."""
