@@ -1,0 +1,96 @@
+"""The commands of a store: what they print, and their statuses."""
+import asyncio
+import contextlib
+import io
+import json
+import os
+import pathlib
+import signal
+import subprocess
+import sys
+import tempfile
+import unittest
+
+from s4d.s3.keys import keys_in
+from s4d.store.command import main
+
+from .bridged import PACKAGE, PATIENCE
+from .s3_client import Client, Signer
+from .store_standin import programs
+
+
+class Commands(unittest.TestCase):
+    def setUp(self):
+        folder = tempfile.TemporaryDirectory()
+        self.addCleanup(folder.cleanup)
+        self.store, self.programs = f"{folder.name}/store", programs(folder.name)
+
+    def run_command(self, *words):
+        """The status, what is printed, and what is said on standard error."""
+        printed, said = io.StringIO(), io.StringIO()
+        with contextlib.redirect_stdout(printed), contextlib.redirect_stderr(said):
+            try:
+                status = main(words)
+            except SystemExit as end:
+                status = end.code
+        return status, printed.getvalue(), said.getvalue()
+
+    def init(self, *more):
+        return self.run_command("init", self.store, "--drives", "1", "--frames", "24", "--keep", "1d", "--s4d", self.programs["s4d"], *more)
+
+    def test_words_that_are_wrong(self):
+        for words, line in ((["init", self.store, "--drives", "0"], "'0' is no number from 1 to 64"),
+                            (["init", self.store, "--frames", "x"], "'x' is no number from 24 to 1024"),
+                            (["init", self.store, "--keep", "soon"], "'soon' is no duration, as 30d"),
+                            (["serve", self.store, "--listen", "9000"], "'9000' is no HOST:PORT"),
+                            (["serve", self.store, "--cert", "x"], "--cert and --key need each other"),
+                            (["remake", self.store], "invalid choice: 'remake'"), ([], "command")):
+            status, printed, said = self.run_command(*words)
+            self.assertEqual((status, printed, said.count("\n")), (2, "", 1), words)
+            self.assertRegex(said, f"^s4store: .*{line}")
+
+    def test_init(self):
+        status, printed, said = self.init()
+        self.assertEqual((status, said), (0, ""))
+        self.assertIn(f"serve it by: python3 -m s4d.store serve {self.store}", printed)
+        folder = pathlib.Path(self.store)
+        self.assertEqual(json.loads((folder / "store.json").read_text()), {"version": 1, "drives": 1, "frames": 24, "keep": "1d"})
+        self.assertEqual([(folder / name).stat().st_mode & 0o777 for name in (".", "keys")], [0o700, 0o600])
+        self.assertEqual([key.may_write for key in keys_in(str(folder / "keys")).values()], [True])
+        self.assertEqual(self.init()[::2], (1, f"s4store: {self.store} isn't empty: name another folder, or remove what is there\n"))
+
+    def test_what_can_not_be_had(self):
+        self.assertEqual(self.run_command("serve", self.store)[::2],
+                         (1, f"s4store: {self.store} is no store: make one by `python3 -m s4d.store init {self.store}`\n"))
+        status, _, said = self.init("--s4d", "/nowhere/s4d")
+        self.assertEqual((status, said), (1, "s4store: /nowhere/s4d: No such file or directory\n"))
+        self.assertEqual(self.run_command("serve", self.store)[0], 1)  # what is half made is no store
+
+    def test_serve(self):
+        self.init()
+        words = [sys.executable, "-B", "-m", "s4d.store", "serve", self.store, "--listen", "127.0.0.1:0", "--log", f"{self.store}/log",
+                 "--s4", self.programs["s4"], "--s4serve", self.programs["s4serve"]]
+        key, = keys_in(f"{self.store}/keys").values()
+
+        async def ask(port):
+            client = await Client.connect(port)
+            replies = [await client.ask(method, path, body, signer=Signer(key))
+                       for method, path, body in (("PUT", "/one", b""), ("PUT", "/one/k", b"mill"), ("GET", "/one/k", b""))]
+            client.writer.close()
+            return [(it.status, it.body) for it in replies]
+
+        with subprocess.Popen(words, cwd=PACKAGE, stdout=subprocess.PIPE, text=True) as serving:
+            ready = serving.stdout.readline()
+            self.assertRegex(ready, r"^ready: http://127\.0\.0\.1:[0-9]+\n$")
+            self.assertEqual(asyncio.run(ask(int(ready.rpartition(":")[2]))), [(200, b""), (200, b""), (200, b"mill")])
+            serving.send_signal(signal.SIGTERM)
+            self.assertEqual(serving.wait(PATIENCE), 0)
+        lines = [json.loads(line) for line in pathlib.Path(f"{self.store}/log").read_text(encoding="utf-8").splitlines()]
+        self.assertEqual([(it["method"], it["path"], it["key"], it["status"]) for it in lines],
+                         [("PUT", "/one", key.access, 200), ("PUT", "/one/k", key.access, 200), ("GET", "/one/k", key.access, 200)])
+        with self.assertRaises(OSError):  # nobody reads at the drive's door any more
+            os.open(f"{self.store}/drives/00/doors/client/door", os.O_WRONLY | os.O_NONBLOCK)
+
+
+if __name__ == "__main__":
+    unittest.main()
