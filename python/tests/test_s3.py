@@ -390,19 +390,19 @@ class Held(unittest.TestCase):
 
     def test_times(self):
         async def work(gateway, it):
-            for sent in (b"", b"GET / HTTP/1.1\r\n"):
-                slow = await gateway.connect()
-                slow.writer.write(sent)
-                self.assertTrue(await slow.is_ended())
+            for name, sent in (("IDLE_SECONDS", b""), ("HEAD_SECONDS", b"GET / HTTP/1.1\r\n")):
+                with mock.patch.object(http, name, 0.1):
+                    slow = await gateway.connect()
+                    slow.writer.write(sent)
+                    self.assertTrue(await slow.is_ended())
             headers = Signer().headers("PUT", "/one/k", [], b"", {}, "UNSIGNED-PAYLOAD")
             slow = await gateway.connect()
-            slow.writer.write(b"PUT /one/k HTTP/1.1\r\ncontent-length: 100\r\n"
-                              + "".join(f"{name}: {value}\r\n" for name, value in headers.items()).encode() + b"\r\nx")
-            self.assertEqual((await slow.reply()).code, "RequestTimeout")
+            with mock.patch.object(http, "BODY_SECONDS", 0.1):
+                slow.writer.write(b"PUT /one/k HTTP/1.1\r\ncontent-length: 100\r\n"
+                                  + "".join(f"{name}: {value}\r\n" for name, value in headers.items()).encode() + b"\r\nx")
+                self.assertEqual((await slow.reply()).code, "RequestTimeout")
 
-        with mock.patch.object(http, "IDLE_SECONDS", 0.3), mock.patch.object(http, "HEAD_SECONDS", 0.3), \
-                mock.patch.object(http, "BODY_SECONDS", 0.3):
-            with_client(work)
+        with_client(work)
 
     def test_connections(self):
         async def work(gateway, it):
@@ -411,20 +411,16 @@ class Held(unittest.TestCase):
                 await asyncio.sleep(0.01)
             new = await gateway.connect()
             self.assertEqual((await new.ask("HEAD", "/one")).status, 200)
-            ended = [client.reader.at_eof() or bool(await self.has_ended(client)) for client in (it, *silent)]
-            self.assertEqual(sum(ended), 1)
+            reads = [asyncio.ensure_future(client.reader.read(1)) for client in (it, *silent)]
+            ended, others = await asyncio.wait(reads, return_when=asyncio.FIRST_COMPLETED)
+            self.assertEqual((ended, len(others)), ({reads[0]}, 3))  # the one that has been without a request for longest
+            for read in others:
+                read.cancel()
+            await asyncio.wait(reads)
+            self.assertTrue(reads[0].exception() is not None or reads[0].result() == b"")
 
         with mock.patch.object(server, "CONNECTIONS", 4):
             with_client(work)
-
-    @staticmethod
-    async def has_ended(client):
-        try:
-            return await asyncio.wait_for(client.reader.read(1), 0.2) == b""
-        except asyncio.TimeoutError:
-            return False
-        except OSError:
-            return True
 
     def test_requests_of_a_key(self):
         async def work(gateway, it):

@@ -4,6 +4,7 @@ from __future__ import annotations
 import asyncio
 import contextlib
 import os
+import signal
 import sys
 from typing import Optional
 
@@ -112,7 +113,7 @@ class Service:
         """Ends the process at once, which loses nothing that it replied."""
         if self._process is not None and self._process.returncode is None:
             with contextlib.suppress(ProcessLookupError):
-                self._process.kill()
+                os.kill(self._process.pid, signal.SIGKILL)  # the object's own `kill` may take its status from the loop
 
     def _say_stop(self) -> None:
         with contextlib.suppress(OSError):  # nobody reads it: the service has ended
