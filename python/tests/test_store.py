@@ -345,9 +345,11 @@ class Kills(Stores):
         """What is acknowledged is noted; None for a marker."""
         if "one" not in store.index.buckets:
             await store.create_bucket("one")
-        for size in (5, 1_500, 3_500, 7):
+        for size in (5, 1_500, 3_500, 7, 2_500, 4_500):
             entry = await store.put("one", "k", body(BYTES[:size]), {})
             acknowledged[entry.version.id] = size
+        old = store.bucket("one").keys["k"][2]
+        acknowledged[(await store.put("one", "k", store.stream(old, 0, old.version.size - 1), {})).version.id] = 3_500
         acknowledged[(await store.delete("one", "k")).version.id] = None
         uploads = Uploads(store, 2**30)
         it = uploads.begin("one", "k", {})
@@ -392,7 +394,7 @@ class Kills(Stores):
                 number = 0
                 while await self.kill(number, is_done):
                     number += 1
-                self.assertGreater(number, 30)
+                self.assertGreater(number, 80)
 
         with mock.patch.object(contents, "PIECE_BYTES", 1_000), mock.patch.object(layout, "NAMED_PIECES", 2):
             asyncio.run(asyncio.wait_for(all_of(), 5 * PATIENCE))
