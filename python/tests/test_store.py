@@ -4,6 +4,7 @@ import dataclasses
 import unittest
 from unittest import mock
 
+from s4d import wire
 from s4d.store import contents, layout
 from s4d.store.contents import Gone, StoreFull
 from s4d.store.drives import DriveAway
@@ -125,6 +126,31 @@ class Puts(Stores):
 
         self.run_store(make, look)
 
+    def test_a_put_that_is_cancelled_once_its_head_is_written(self):
+        """Its version is there, and so are its pieces and their list."""
+        async def cancelled(store, work):
+            before = len(store.bucket("one").keys.get("k", ()))
+            task = asyncio.ensure_future(work)
+            while len(store.bucket("one").keys.get("k", ())) == before:
+                await asyncio.sleep(0)
+            task.cancel()
+            with self.assertRaises(asyncio.CancelledError):
+                await task
+            await store.close()
+            self.assertEqual(self.live()["P"], 4)
+
+        async def put(store):
+            await store.create_bucket("one")
+            await cancelled(store, store.put("one", "k", body(BYTES[:3_000]), {}))
+            uploads = Uploads(store, 2**30)
+            it = uploads.begin("one", "k", {})
+            part = await uploads.put_part(it, 1, body(BYTES[:3_000]))
+            await cancelled(store, uploads.complete(it, [(1, part.etag)]))
+
+        with mock.patch.object(contents, "PIECE_BYTES", 1_000), mock.patch.object(layout, "NAMED_PIECES", 2), \
+                mock.patch("s4d.store.store.APART", 10_000_000):
+            self.run_store(put)
+
     def test_many_puts_of_a_key_at_once(self):
         async def put(store):
             await store.create_bucket("one")
@@ -226,6 +252,40 @@ class Away(Stores):
 
         self.run_store(put)
 
+    def test_two_doubts_of_a_key(self):
+        """What was read for the first says nothing of the second."""
+        async def put(store):
+            await store.create_bucket("one")
+            entry = await store.put("one", "k", body(b"mill"), {})
+            first, second = (Doubt(dataclasses.replace(entry.version, id=id), entry.head) for id in ("first", "second"))
+            store._doubts["one", "k"] = first
+            drive = store.pieces.drives[entry.head.drive]
+            ask = drive.ask
+
+            async def asked(work):
+                store._doubts["one", "k"] = second
+                return await ask(work)
+
+            drive.ask = asked
+            await store.settle("one", "k")
+            self.assertEqual(store._doubts, {("one", "k"): second})
+
+        self.run_store(put)
+
+    def test_a_bucket_that_is_gone(self):
+        """Who deletes its object, by a session of the drive, doesn't make a start delete what its keys have."""
+        async def put(store):
+            place = (await store.create_bucket("one")).place
+            await store.put("one", "k", body(BYTES[:1_000]), {})
+            self.stores.drives[place.drive].answer("client", wire.delete(place.object).body)
+
+        async def look(store):
+            self.assertEqual(store.index.buckets, {})
+
+        with mock.patch("s4d.store.loading.say"):
+            self.run_store(put, look)
+        self.assertEqual(self.live(), {"H": 1, "P": 1})
+
     def test_what_else_loses_its_reply(self):
         """A bucket, a head, a piece that were made, and nobody knows: the next start finds and deletes them."""
         async def put(store):
@@ -286,6 +346,32 @@ class Windows(Stores):
 
         self.run_store(put, look)
         self.assertEqual(self.live(), {"B": 1, "H": 1, "P": 2})
+
+    def test_a_key_that_is_put_while_its_marker_leaves(self):
+        """Its head isn't deleted once it is written."""
+        async def put(store):
+            await store.create_bucket("one")
+            await store.put("one", "k", body(b"x"), {})
+            drive = store.pieces.drives[(await store.delete("one", "k")).head.drive]
+            self.stores.clock.value += 2 * self.WINDOW
+            ask = drive.ask
+
+            async def asked(work):
+                found = await ask(work)
+                looking = asyncio.ensure_future(store.look_after())
+                await asyncio.sleep(0.01)
+                looking.cancel()
+                return found
+
+            drive.ask = asked
+            await store.put("one", "k", body(b"y"), {})
+            drive.ask = ask
+
+        async def look(store):
+            entry, = [it for it in store.bucket("one").keys["k"] if it.until is None]
+            self.assertEqual(await got(store, entry), b"y")
+
+        self.run_store(put, look)
 
     def test_an_old_version_is_read_at_a_later_moment(self):
         """Its piece's own moment has expired, and it was current until a moment that can be read."""

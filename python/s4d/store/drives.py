@@ -9,6 +9,7 @@ from ..async_drive import AsyncDrive
 from ..errors import BadReply, Disconnected, Refused, ReplyLost
 from .service import Service, say
 from .sessions import session_at
+from .settings import StoreFault
 
 T = TypeVar("T")
 
@@ -60,7 +61,7 @@ class StoreDrive:
     async def _start_again(self) -> None:
         try:
             await self._service.start()
-        except Exception as error:  # it is said, and tried again
+        except (StoreFault, OSError) as error:  # it is said, and tried again
             say(f"{error}")
             return
         self._is_served = True

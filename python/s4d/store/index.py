@@ -4,7 +4,7 @@ from __future__ import annotations
 import heapq
 from bisect import bisect_left, insort
 from dataclasses import dataclass, field
-from typing import Dict, List, NamedTuple, Optional, Tuple
+from typing import Callable, Dict, List, NamedTuple, Optional, Tuple
 
 from .layout import Version
 
@@ -50,6 +50,11 @@ class Bucket:
         return next((it for it in self.keys.get(key, ()) if it.version.id == id), None)
 
 
+def nobody(_bucket: str, _key: str) -> bool:
+    """No key is used."""
+    return False
+
+
 class Index:
     """Versions are added in the order of their sequence for each key. They leave when nobody can read them any more."""
 
@@ -82,24 +87,33 @@ class Index:
         self._count += 1
         heapq.heappush(self._ends, (moment + self._window, self._count, entry))
 
-    def expire(self, now: int) -> List[Place]:
+    def expire(self, now: int, is_used: Callable[[str, str], bool] = nobody) -> List[Place]:
         """Lets go of what can't be read any more at a moment: versions that were replaced, and markers that are all that a key
-        has. Heads that no version needs any more.
+        has. Heads that no version needs any more. A key that is used, whose head may be written now, is left for later.
         """
         heads: List[Place] = []
+        later: List[Tuple[int, int, Entry]] = []
         while self._ends and self._ends[0][0] < now:
-            entry = heapq.heappop(self._ends)[2]
-            bucket = self.buckets.get(entry.version.bucket)
-            known = bucket.keys.get(entry.version.key) if bucket is not None else None
-            if bucket is None or not known or known[0] is not entry:
-                continue
-            known.pop(0)
-            if not known:
-                del bucket.keys[entry.version.key]
-                remove(bucket.names, entry.version.key)
-            if all(it.head != entry.head for it in known):
-                heads.append(entry.head)
+            end = heapq.heappop(self._ends)
+            if is_used(end[2].version.bucket, end[2].version.key):
+                later.append(end)
+            else:
+                heads += self._let_go(end[2])
+        for end in later:
+            heapq.heappush(self._ends, end)
         return heads
+
+    def _let_go(self, entry: Entry) -> List[Place]:
+        """Lets go of the oldest version of a key: its head, where no later one needs that."""
+        bucket = self.buckets.get(entry.version.bucket)
+        known = bucket.keys.get(entry.version.key) if bucket is not None else None
+        if bucket is None or not known or known[0] is not entry:
+            return []
+        known.pop(0)
+        if not known:
+            del bucket.keys[entry.version.key]
+            remove(bucket.names, entry.version.key)
+        return [] if any(it.head == entry.head for it in known) else [entry.head]
 
 
 def remove(names: List[str], name: str) -> None:

@@ -125,6 +125,8 @@ class Loading:
         for bucket in self.index.buckets.values():
             for key in bucket.live:
                 kept.update(await self._named(bucket.keys[key][-1]))
+        for entry in self._alone.values():
+            kept.update(await self._named(entry))  # whoever makes the bucket again has them
         left += [place for place in self._parts if place not in kept]
         await self._pieces.delete([Piece(*place, 0, 0) for place in left])
         return len(left)

@@ -20,6 +20,10 @@ class Locks:
     def __init__(self) -> None:
         self._locks: Dict[Hashable, Turns] = {}
 
+    def is_wanted(self, name: Hashable) -> bool:
+        """Whether somebody holds the name's lock, or waits for it."""
+        return name in self._locks
+
     @contextlib.asynccontextmanager
     async def hold(self, name: Hashable) -> AsyncIterator[None]:
         """The block begins once nobody else holds the name's lock, first come, first served."""

@@ -10,10 +10,10 @@ from typing import AsyncIterator, Callable, Coroutine, Dict, NamedTuple, Optiona
 from ..errors import ChainFull, NoMemory, NoSpace, Refused
 from ..moments import machine_time
 from ..wire import READ_BYTES
-from .contents import Contents, Incoming, Pieces, stream
+from .contents import Contents, Gone, Incoming, Pieces, stream
 from .drives import DriveAway, StoreDrive
 from .index import Bucket, Entry, Index, Place
-from .layout import Piece, Version, bucket_attribute, first_drive, head_attribute, head_of, piece_attribute, version_in
+from .layout import BadHead, Piece, Version, bucket_attribute, first_drive, head_attribute, head_of, piece_attribute, version_in
 from .locks import Locks
 
 APART = 1_000  # microseconds by which the moments of two drives of a machine may differ
@@ -108,23 +108,29 @@ class Store:
             async for data in body:
                 await incoming.add(data)
             version = version_with(bucket, key, await incoming.finish(), headers)
-            return await self._commit(version, check)
+            entry = await self._commit(version, check)
         except BaseException:
             if not self.is_doubtful(bucket, key):  # else the pieces may be those of a version
                 await incoming.abandon()
             raise
+        await self.passed(entry)
+        return entry
 
     def is_doubtful(self, bucket: str, key: str) -> bool:
         """Whether a head of the key may have been written without a reply. Then its pieces aren't to be deleted."""
         return (bucket, key) in self._doubts
 
     async def commit(self, bucket: str, key: str, contents: Contents, headers: Dict[str, str], check: Check = unchecked) -> Entry:
-        """Makes a version of contents that are in pieces already the current one, as `put` does."""
+        """Makes a version of contents that are in pieces already the current one, as `put` does. It isn't to be answered before
+        `passed`. Where this raises, and the key isn't doubtful, no version has the pieces.
+        """
         return await self._commit(version_with(bucket, key, contents, headers), check)
 
     async def delete(self, bucket: str, key: str) -> Entry:
         """Puts a marker, so that the key isn't there any more, though its versions can be read."""
-        return await self._commit(Version(bucket, key, 0, "", 0, is_marker=True))
+        entry = await self._commit(Version(bucket, key, 0, "", 0, is_marker=True))
+        await self.passed(entry)
+        return entry
 
     async def _commit(self, version: Version, check: Check = unchecked) -> Entry:
         """Gives the version its sequence, time and id, and writes its head."""
@@ -141,7 +147,6 @@ class Store:
             self.index.add(entry)
         if before is not None:
             self._later(self._delete_pieces(before))
-        await self._pass(entry.moment)
         return entry
 
     async def _write(self, version: Version, head: Optional[Place]) -> Entry:
@@ -182,8 +187,9 @@ class Store:
         drive, number = self.pieces.drives[doubt.place.drive], doubt.place.object
         found = await drive.ask(lambda session: session.attributes(number))
         data = await drive.ask(lambda session: session.read(number, 0, READ_BYTES))
-        if self._doubts.pop((bucket, key), None) is None:
+        if self._doubts.get((bucket, key)) is not doubt:
             return  # another task has settled it meanwhile
+        del self._doubts[bucket, key]
         with contextlib.suppress(ValueError):
             if version_in(data) == doubt.version:
                 self.index.add(Entry(doubt.version, doubt.place, found.changed))
@@ -200,14 +206,14 @@ class Store:
 
     async def _delete_pieces(self, entry: Entry) -> None:
         """Deletes the pieces of a version that was replaced: they are kept for the window."""
-        with contextlib.suppress(Exception):  # what stays is deleted at the next start
+        with contextlib.suppress(Refused, DriveAway, Gone, BadHead):  # what stays is deleted at the next start
             pieces, lists = await self.pieces.all_of(contents_of(entry.version), entry)
             await self.pieces.delete(pieces + lists)
 
     @staticmethod
-    async def _pass(moment: int) -> None:
-        """Waits until each drive's moments are past this one, so that a read at a moment is one cut over all of them."""
-        late = (moment + APART - machine_time()) / 1e6
+    async def passed(entry: Entry) -> None:
+        """Waits until each drive's moments are past the version's, so that a read at a moment is one cut over all of them."""
+        late = (entry.moment + APART - machine_time()) / 1e6
         if late > 0:
             await asyncio.sleep(min(late, MOST_WAIT))
 
@@ -217,10 +223,14 @@ class Store:
         self._tasks.add(task)
         task.add_done_callback(self._tasks.discard)
 
+    def _is_used(self, bucket: str, key: str) -> bool:
+        """Whether a head of the key may be written now, or may have been: it isn't to be deleted meanwhile."""
+        return self._locks.is_wanted((bucket, key)) or self.is_doubtful(bucket, key)
+
     async def look_after(self) -> None:
         """Lets go of what can't be read any more, until it is cancelled."""
         while True:
-            for place in self.index.expire(machine_time()):
+            for place in self.index.expire(machine_time(), self._is_used):
                 self._later(self.pieces.delete([Piece(*place, 0, 0)]))
             await asyncio.sleep(EXPIRE_SECONDS)
 

@@ -126,6 +126,7 @@ class Uploads:
                 raise
         used: Set[int] = {part.number for part in parts}
         await self._delete([part for part in upload.parts.values() if part.number not in used])
+        await self._store.passed(entry)
         return entry
 
     async def _commit(self, upload: Upload, parts: Sequence[Part], check: Check) -> Entry:
