@@ -5,6 +5,7 @@ import io
 import json
 import os
 import pathlib
+import resource
 import signal
 import subprocess
 import sys
@@ -12,7 +13,7 @@ import tempfile
 import unittest
 
 from s4d.s3.keys import keys_in
-from s4d.store.command import main
+from s4d.store.command import OPEN_FILES, allow_open_files, main
 
 from .bridged import PACKAGE, PATIENCE
 from .s3_client import Client, Signer
@@ -42,6 +43,7 @@ class Commands(unittest.TestCase):
         for words, line in ((["init", self.store, "--drives", "0"], "'0' is no number from 1 to 64"),
                             (["init", self.store, "--frames", "x"], "'x' is no number from 24 to 1024"),
                             (["init", self.store, "--keep", "soon"], "'soon' is no duration, as 30d"),
+                            (["init", self.store, "--keep", "36501d"], "36501d is longer than 36,500 days"),
                             (["serve", self.store, "--listen", "9000"], "'9000' is no HOST:PORT"),
                             (["serve", self.store, "--cert", "x"], "--cert and --key need each other"),
                             (["remake", self.store], "invalid choice: 'remake'"), ([], "command")):
@@ -55,9 +57,17 @@ class Commands(unittest.TestCase):
         self.assertIn(f"serve it by: python3 -m s4d.store serve {self.store}", printed)
         folder = pathlib.Path(self.store)
         self.assertEqual(json.loads((folder / "store.json").read_text()), {"version": 1, "drives": 1, "frames": 24, "keep": "1d"})
-        self.assertEqual([(folder / name).stat().st_mode & 0o777 for name in (".", "keys")], [0o700, 0o600])
+        self.assertEqual([(folder / name).stat().st_mode & 0o777 for name in (".", "keys", "drives/00/doors/client")],
+                         [0o700, 0o600, 0o700])
         self.assertEqual([key.may_write for key in keys_in(str(folder / "keys")).values()], [True])
         self.assertEqual(self.init()[::2], (1, f"s4store: {self.store} isn't empty: name another folder, or remove what is there\n"))
+
+    def test_open_files(self):
+        before = resource.getrlimit(resource.RLIMIT_NOFILE)
+        self.addCleanup(resource.setrlimit, resource.RLIMIT_NOFILE, before)
+        resource.setrlimit(resource.RLIMIT_NOFILE, (min(256, before[1]), before[1]))
+        allow_open_files()
+        self.assertEqual(resource.getrlimit(resource.RLIMIT_NOFILE)[0], min(OPEN_FILES, before[1]))
 
     def test_what_can_not_be_had(self):
         self.assertEqual(self.run_command("serve", self.store)[::2],

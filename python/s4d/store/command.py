@@ -3,6 +3,7 @@ from __future__ import annotations
 
 import argparse
 import asyncio
+import resource
 import signal
 import ssl
 import sys
@@ -17,6 +18,7 @@ from .service import say
 from .settings import DRIVES, FRAMES, Programs, Settings, StoreFault, keys_path, make_store, microseconds
 
 GRACE = 30.0  # seconds that requests may take to end at SIGTERM
+OPEN_FILES = 4_096  # that 64 drives with all their sessions, and all connections, have, with room
 
 
 class Parser(argparse.ArgumentParser):
@@ -108,8 +110,17 @@ async def begun(opened: OpenStore, found: argparse.Namespace, log: Optional[Acce
     return server
 
 
+def allow_open_files() -> None:
+    """Lets this program have as many files open as it may need, or as it may have."""
+    soft, hard = resource.getrlimit(resource.RLIMIT_NOFILE)
+    wanted = OPEN_FILES if hard == resource.RLIM_INFINITY else min(OPEN_FILES, hard)
+    if soft != resource.RLIM_INFINITY and soft < wanted:
+        resource.setrlimit(resource.RLIMIT_NOFILE, (wanted, hard))
+
+
 async def serve(found: argparse.Namespace) -> int:
     """Serves until a signal ends it: the status."""
+    allow_open_files()
     log = AccessLog(found.log) if found.log is not None else None
     opened = OpenStore(found.folder, Programs(s4=found.s4, s4serve=found.s4serve), found.leap)
     ended, loop = asyncio.Event(), asyncio.get_running_loop()

@@ -14,7 +14,8 @@ FRAMES = range(24, 1_025)
 VERSION = 1  # of the folder's layout
 UNITS = {"s": 1, "m": 60, "h": 3_600, "d": 86_400, "w": 604_800}
 DURATION = re.compile(r"([1-9][0-9]{0,8})([smhdw])")
-ROLES = {"client": 0o770, "admin": 0o700}  # the doors of each drive, and the modes of their folders
+LONGEST = 36_500 * 86_400 * 1_000_000  # microseconds of a duration: times after it still have a date
+ROLES = ("client", "admin")  # the doors of each drive
 
 
 class StoreFault(Exception):
@@ -45,11 +46,14 @@ class Programs:
 
 
 def microseconds(duration: str) -> int:
-    """The time that a word as `30d` says; ValueError where it says none."""
+    """The time that a word as `30d` says; ValueError where it says none, or one that is too long."""
     found = DURATION.fullmatch(duration)
     if found is None:
         raise ValueError(f"{duration!r} is no duration, as 30d: a number and s, m, h, d or w")
-    return int(found[1]) * UNITS[found[2]] * 1_000_000
+    time = int(found[1]) * UNITS[found[2]] * 1_000_000
+    if time > LONGEST:
+        raise ValueError(f"{duration} is longer than {LONGEST // UNITS['d'] // 1_000_000:,} days")
+    return time
 
 
 def drive_folder(folder: str, number: int) -> str:
@@ -84,10 +88,10 @@ def make_store(folder: str, settings: Settings, programs: Programs) -> None:
 
 def make_drive(folder: str, number: int, settings: Settings, programs: Programs) -> None:
     """The folder of a drive: its doors and its image."""
-    for role, mode in ROLES.items():
+    for role in ROLES:
         doors = os.path.join(drive_folder(folder, number), "doors", role)
         os.makedirs(doors)
-        os.chmod(doors, mode)
+        os.chmod(doors, 0o700)
         os.mkfifo(os.path.join(doors, "door"), 0o600)
     words = [programs.s4d, "new", "--window", str(settings.window), image_path(folder, number), str(settings.frames)]
     ran = subprocess.run(words, stdin=subprocess.DEVNULL, stdout=subprocess.PIPE, stderr=subprocess.PIPE, check=False)
@@ -137,7 +141,8 @@ def faults_of(said: Dict[str, Any]) -> List[str]:
     """What is wrong with the numbers of a store."""
     faults = [f"{name} is no number from {known[0]} to {known[-1]}" for name, known in (("drives", DRIVES), ("frames", FRAMES))
               if type(said.get(name)) is not int or said[name] not in known]
-    keep = said.get("keep")
-    if not isinstance(keep, str) or DURATION.fullmatch(keep) is None:
-        faults.append("keep is no duration, as 30d: a number and s, m, h, d or w")
+    try:
+        microseconds(str(said.get("keep")))
+    except ValueError as error:
+        faults.append(f"keep: {error}")
     return faults
