@@ -70,6 +70,18 @@ class Signatures(unittest.TestCase):
 
         with_client(work)
 
+    def test_presigned_by_nobody(self):
+        """What no program signs is refused, and is no fault of the gateway's own."""
+        async def work(gateway, it):
+            good = Signer().presigned("GET", "/one/k", 60)
+            for change, code in (({"X-Amz-Signature": "\u00e9"}, "SignatureDoesNotMatch"),
+                                 ({"X-Amz-Date": "99991231T235959Z", "X-Amz-Expires": "604800"}, "AccessDenied"),
+                                 ({"X-Amz-Date": "00010101T000000Z"}, "AccessDenied")):
+                reply = await it.send("GET", "/one/k", b"", list({**dict(good), **change}.items()), {"host": "test"})
+                self.assertEqual((reply.status, reply.code), (403, code))
+
+        with_client(work)
+
     def test_presigned(self):
         async def work(gateway, it):
             await it.ask("PUT", "/one/a b", b"mill")
@@ -274,7 +286,8 @@ class Objects(unittest.TestCase):
             past = "Mon, 01 Jan 2024 00:00:00 GMT"
             for more, status in (({"if_none_match": md5(b"mill")}, 304), ({"if_none_match": '"0"'}, 200), ({"if_match": '"0"'}, 412),
                                  ({"if_match": md5(b"mill")}, 200), ({"if_modified_since": changed}, 304), ({"if_modified_since": past}, 200),
-                                 ({"if_unmodified_since": past}, 412), ({"if_unmodified_since": changed}, 200)):
+                                 ({"if_unmodified_since": past}, 412), ({"if_unmodified_since": changed}, 200),
+                                 ({"if_modified_since": "Mon, 01 Jan 99999999999 00:00:00 GMT"}, 200)):
                 self.assertEqual((await it.ask("GET", "/one/k", **more)).status, status, more)
 
         with_client(work)
@@ -323,6 +336,10 @@ class Objects(unittest.TestCase):
             self.assertEqual((await it.ask("GET", "/one", query=[("uploads", "")])).all("UploadId"), [id])
             self.assertEqual((await it.ask("PUT", "/one/k", b"", query=[("partNumber", "0"), ("uploadId", id)])).code, "InvalidArgument")
             self.assertEqual((await it.ask("PUT", "/one/k", b"", query=[("partNumber", "1"), ("uploadId", "0")])).code, "NoSuchUpload")
+            await it.ask("PUT", "/one/source", b"mill")
+            reply = await it.ask("PUT", "/one/k", b"", query=[("partNumber", "3"), ("uploadId", id)], x_amz_copy_source="/one/source",
+                                 x_amz_copy_source_range="bytes=0-1,2-3")
+            self.assertEqual(reply.code, "InvalidArgument")
             def body(*named):
                 rows = "".join(f"<Part><PartNumber>{number}</PartNumber><ETag>{etag}</ETag></Part>" for number, etag in named)
                 return f"<CompleteMultipartUpload>{rows}</CompleteMultipartUpload>".encode()
@@ -404,6 +421,39 @@ class Held(unittest.TestCase):
 
         with_client(work)
 
+    def test_a_body_that_nobody_wants(self):
+        """Who hasn't signed holds no place by a body that doesn't come."""
+        async def work(gateway, it):
+            it.writer.write(b"PUT /one/k HTTP/1.1\r\ncontent-length: 1000\r\n\r\n")
+            self.assertEqual((await asyncio.wait_for(it.reply(), 20)).code, "AccessDenied")
+            self.assertTrue(await it.is_ended())
+
+        with_client(work)
+
+    def test_who_takes_nothing(self):
+        """Its connection is let go with what wasn't sent, and counts until then."""
+        class Stuck(mock.Mock):
+            async def drain(self):
+                await asyncio.sleep(PATIENCE)
+
+            wait_closed = drain
+
+        async def work(gateway, it):
+            stuck = Stuck()
+            with mock.patch.object(http, "BODY_SECONDS", 0.01), self.assertRaises(http.Ended):
+                await http.write_answer(stuck, http.Answer(body=b"x"), False)
+            stuck.transport.abort.assert_called_once_with()
+            stuck = Stuck()
+            with mock.patch.object(server, "BODY_SECONDS", 0.5), mock.patch.object(gateway.server, "_serve", mock.AsyncMock()):
+                attending = asyncio.ensure_future(gateway.server._attend(mock.Mock(), stuck))
+                await asyncio.sleep(0.01)
+                self.assertEqual(len(gateway.server._tasks), 2)
+                await attending
+            stuck.close.assert_called_once_with()
+            stuck.transport.abort.assert_called_once_with()
+
+        with_client(work)
+
     def test_connections(self):
         async def work(gateway, it):
             silent = [await gateway.connect() for _ in range(3)]
@@ -433,6 +483,7 @@ class Held(unittest.TestCase):
     def test_what_is_no_request(self):
         async def work(gateway, it):
             for sent in (b"hello\r\n\r\n", b"GET / HTTP/2\r\n\r\n", b"GET http://x/ HTTP/1.1\r\n\r\n", b"GET / HTTP/1.1\r\nno colon\r\n\r\n",
+                         b"PUT /one/k HTTP/1.1\r\nx-amz-meta-a\nset-cookie: b\r\n\r\n", b"GET / HTTP/1.1\r\na b: c\r\n\r\n",
                          b"GET / HTTP/1.1\r\nhost: a\r\nhost: b\r\n\r\n", b"GET / HTTP/1.1\r\ncontent-length: -1\r\n\r\n",
                          b"GET /%ff HTTP/1.1\r\n\r\n", b"GET / HTTP/1.1\r\ntransfer-encoding: gzip\r\n\r\n"):
                 client = await gateway.connect()
@@ -495,9 +546,10 @@ class Files(unittest.TestCase):
         data = document("A", [("B", 'a"<&>\n'), ("C", [("D", 1), ("E", True)])])
         self.assertTrue(data.endswith(b"<B>a&quot;&lt;&amp;&gt;&#xa;</B><C><D>1</D><E>true</E></C></A>"))
         self.assertEqual(parsed(data, "A").findtext("C/D"), "1")
-        with self.assertRaises(S3Error):
-            parsed(data, "B")
-
+        defines = '<?xml version="1.0" encoding="utf-16"?><!DOCTYPE A [<!ENTITY b "c">]><A>&b;</A>'
+        for data, name in ((data, "B"), (defines.encode("utf-8"), "A"), (defines.encode("utf-16"), "A")):
+            with self.assertRaises(S3Error):
+                parsed(data, name)
 
 
 if __name__ == "__main__":

@@ -42,7 +42,7 @@ def date_in(text: str) -> Optional[datetime]:
     """The time of a header, or None where it says none."""
     try:
         found = parsedate_to_datetime(text)
-    except (TypeError, ValueError, IndexError):
+    except (TypeError, ValueError, IndexError, OverflowError):
         return None
     return found if found.tzinfo is not None else found.replace(tzinfo=timezone.utc)
 

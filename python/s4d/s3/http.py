@@ -13,6 +13,7 @@ from .limits import BODY_SECONDS, CHUNK_LINE_BYTES, HEAD_SECONDS, IDLE_SECONDS, 
 
 METHODS = ("GET", "HEAD", "PUT", "POST", "DELETE")
 CONTROL = re.compile("[\x00-\x1f\x7f]")
+NAME = re.compile(r"[!#$%&'*+.^_`|~0-9A-Za-z-]+")  # of a header: it is given back with a version, so it has no end of a line
 
 
 class Ended(Exception):
@@ -74,7 +75,7 @@ def request_of(head: bytes) -> Request:
     headers: Dict[str, str] = {}
     for line in lines:
         name, colon, value = line.partition(":")
-        if not colon or not name or name != name.strip():
+        if not colon or NAME.fullmatch(name) is None:
             raise S3Error("InvalidRequest", "A line of the head is no header.")
         name, value = name.lower(), value.strip(" \t")
         if name in headers and name in ("host", "content-length", "transfer-encoding", "authorization"):
@@ -222,6 +223,7 @@ async def write_answer(writer: asyncio.StreamWriter, answer: Answer, without_bod
             await asyncio.wait_for(writer.drain(), max(allowed, 0.01))
         await asyncio.wait_for(writer.drain(), BODY_SECONDS)
     except (OSError, asyncio.TimeoutError):
+        writer.transport.abort()  # what it didn't take is let go
         raise Ended() from None
 
 

@@ -49,7 +49,10 @@ class Multipart:
         """The bytes of another version, or of a range of it."""
         entry = await self._objects.source(context)
         given = context.request.headers.get("x-amz-copy-source-range")
-        first, last = range_of(given, entry.version.size) or (0, entry.version.size - 1)
+        part = range_of(given, entry.version.size)
+        if given is not None and part is None:
+            raise S3Error("InvalidArgument", "The x-amz-copy-source-range isn't bytes=FIRST-LAST.")
+        first, last = part or (0, entry.version.size - 1)
         return self._store.stream(entry, first, last)
 
     async def complete(self, context: Context) -> Answer:

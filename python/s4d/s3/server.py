@@ -12,7 +12,7 @@ from .errors import S3Error
 from .faults import is_known
 from .gateway import Gateway, error_answer
 from .http import Answer, Body, Ended, Request, read_head, request_of, write_answer
-from .limits import CONNECTIONS, DRAINED_BYTES, HEAD_BYTES, HEAD_SECONDS, LINGER_SECONDS, PIECE_BYTES
+from .limits import BODY_SECONDS, CONNECTIONS, DRAINED_BYTES, HEAD_BYTES, HEAD_SECONDS, LINGER_SECONDS, PIECE_BYTES
 
 NOBODY = Request("GET", "/", "/", [], {}, False)
 CONTINUE = b"HTTP/1.1 100 Continue\r\n\r\n"
@@ -54,14 +54,24 @@ class Server:
 
     async def _attend(self, reader: asyncio.StreamReader, writer: asyncio.StreamWriter) -> None:
         """All that becomes of a connection. Nothing that goes wrong with one reaches another."""
-        task = asyncio.ensure_future(self._serve(reader, writer))
+        task = asyncio.ensure_future(self._serve_to_end(reader, writer))
         self._tasks.add(task)
         try:
             await asyncio.wait({task})
         finally:
             self._tasks.discard(task)
-            self._idle.pop(writer, None)
+
+    async def _serve_to_end(self, reader: asyncio.StreamReader, writer: asyncio.StreamWriter) -> None:
+        """Serves a connection, which counts until it is closed, and that has an end where the other side takes nothing more."""
+        try:
+            await self._serve(reader, writer)
             writer.close()
+            await asyncio.wait_for(writer.wait_closed(), BODY_SECONDS)
+        except (OSError, asyncio.TimeoutError):
+            pass  # the other side is gone, or takes nothing
+        finally:
+            self._idle.pop(writer, None)
+            writer.transport.abort()
 
     async def _serve(self, reader: asyncio.StreamReader, writer: asyncio.StreamWriter) -> None:
         if not self._has_room():
@@ -119,13 +129,15 @@ def begin(request: Request, writer: asyncio.StreamWriter) -> None:
 
 
 async def drained(body: Body, request: Request) -> bool:
-    """Whether nothing is left of the body that nobody wanted, so that the next request can be read."""
+    """Whether nothing is left of the body that nobody wanted, so that the next request can be read. It isn't waited for: who has
+    not signed could hold places so.
+    """
     if body.is_over:
         return True
     if "expect" in request.headers or (body.length or 0) > DRAINED_BYTES:
         return False
-    with contextlib.suppress(S3Error, OSError):
-        await body.whole(DRAINED_BYTES)
+    with contextlib.suppress(S3Error, OSError, asyncio.TimeoutError):
+        await asyncio.wait_for(body.whole(DRAINED_BYTES), LINGER_SECONDS)
     return body.is_over
 
 

@@ -67,7 +67,7 @@ def verified(request: Request, keys: Mapping[str, Key], now: datetime) -> Signed
     scope = claim.credential.partition("/")[2]
     text = "\n".join([ALGORITHM, claim.stamp, scope, digest_of(canonical(request, claim).encode())])
     wanted = hmac.new(signing_key, text.encode(), hashlib.sha256).hexdigest()
-    if not hmac.compare_digest(wanted, claim.signature):
+    if not hmac.compare_digest(wanted.encode(), claim.signature.encode()):
         raise S3Error("SignatureDoesNotMatch")
     return Signed(key, claim.payload, claim.stamp, scope, claim.signature, signing_key)
 
@@ -99,7 +99,7 @@ def presigned_claim(request: Request, now: datetime) -> Claim:
     if not re.fullmatch(r"[0-9]{1,6}", expires) or not 1 <= int(expires) <= LONGEST_EXPIRY:
         raise S3Error("AuthorizationQueryParametersError", f"X-Amz-Expires is no number from 1 to {LONGEST_EXPIRY}.")
     begin = time_of(given["Date"])
-    if now > begin + timedelta(seconds=int(expires)):
+    if now - begin > timedelta(seconds=int(expires)):
         raise S3Error("AccessDenied", "Request has expired")
     if begin - now > SKEW:
         raise S3Error("AccessDenied", "Request is not valid yet")

@@ -41,11 +41,11 @@ def error_document(members: Sequence[Node]) -> bytes:
 
 
 def parsed(data: bytes, name: str) -> ElementTree.Element:
-    """The root of a document, without namespaces; MalformedXML where it is none of this name, or defines anything."""
+    """The root of a document in UTF-8, without namespaces; MalformedXML where it is none of this name, or defines anything."""
     if b"<!" in data:
         raise S3Error("MalformedXML")
     try:
-        root = ElementTree.fromstring(data)
+        root = ElementTree.fromstring(data.decode("utf-8-sig"))  # whatever encoding it names itself
     except (ElementTree.ParseError, ValueError, LookupError):
         raise S3Error("MalformedXML") from None
     for element in root.iter():
