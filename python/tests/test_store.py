@@ -224,21 +224,21 @@ class Away(Stores):
             await store.create_bucket("one")
             await store.put("one", "k", body(b"old"), {})
             drive = store.pieces.drives[store.bucket("one").current("k").head.drive]
-            drive.loses = 4
             with self.assertRaises(DriveAway):
-                await store.put("one", "k", body(b"new"), {})
-            self.assertTrue(store.is_doubtful("one", "k"))
+                await store.put("one", "k", body(BYTES[:500]), {}, lambda _: setattr(drive, "loses", 4))
+            self.assertTrue(store.is_doubtful("one", "k", store._doubts["one", "k"].version.pieces))
+            self.assertEqual(self.live()["P"], 1)
             drive.is_away = True
             with self.assertRaises(DriveAway):
                 await store.settle("one", "k")
             drive.is_away = False
             await store.settle("one", "k")
-            self.assertEqual(store.bucket("one").current("k").version.contents, b"new")
+            self.assertEqual(await got(store, store.bucket("one").current("k")), BYTES[:500])
             await store.put("one", "k", body(b"newer"), {})
             self.assertEqual([it.version.sequence for it in store.bucket("one").keys["k"]], [1, 2, 3])
 
         async def look(store):
-            self.assertEqual([it.version.contents for it in store.bucket("one").keys["k"]], [b"old", b"new", b"newer"])
+            self.assertEqual([await got(store, it) for it in store.bucket("one").keys["k"]], [b"old", BYTES[:500], b"newer"])
 
         self.run_store(put, look)
 
@@ -249,6 +249,34 @@ class Away(Stores):
             store._doubts["one", "k"] = Doubt(dataclasses.replace(before.version, sequence=2, id="0"), before.head)
             await store.settle("one", "k")
             self.assertEqual(store.bucket("one").keys["k"], [before])
+
+        self.run_store(put)
+
+    def test_puts_while_a_doubt_can_not_be_settled(self):
+        """They leave no pieces, and an upload stays."""
+        async def put(store):
+            await store.create_bucket("one")
+            entry = await store.put("one", "k", body(b"mill"), {})
+            uploads = Uploads(store, 2**30)
+            it = uploads.begin("one", "k", {})
+            part = await uploads.put_part(it, 1, body(BYTES[:1_000]))
+            drive = store.pieces.drives[entry.head.drive]
+            drive.loses = 4
+            with self.assertRaises(DriveAway):
+                await store.put("one", "k", body(b"moor"), {})
+            drive.is_away = True
+            other, = [number for number in (0, 1) if number != drive.number]
+            before = self.stores.drives[other].live(b"P")
+            for _ in range(3):
+                with self.assertRaises(DriveAway):
+                    await store.put("one", "k", body(BYTES[:1_000]), {})
+                with self.assertRaises(DriveAway):
+                    await uploads.complete(it, [(1, part.etag)])
+            self.assertEqual(self.stores.drives[other].live(b"P"), before)
+            drive.is_away = False
+            entry = await uploads.complete(it, [(1, part.etag)])
+            self.assertEqual(entry.version.sequence, 3)
+            self.assertEqual(await got(store, entry), BYTES[:1_000])
 
         self.run_store(put)
 

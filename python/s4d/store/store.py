@@ -103,26 +103,27 @@ class Store:
         don't fit in a head.
         """
         self.bucket(bucket)
-        incoming = Incoming(self.pieces, piece_attribute(bucket, key))
+        incoming, named = Incoming(self.pieces, piece_attribute(bucket, key)), Contents(0, "")
         try:
             async for data in body:
                 await incoming.add(data)
-            version = version_with(bucket, key, await incoming.finish(), headers)
-            entry = await self._commit(version, check)
+            named = await incoming.finish()
+            entry = await self._commit(version_with(bucket, key, named, headers), check)
         except BaseException:
-            if not self.is_doubtful(bucket, key):  # else the pieces may be those of a version
+            if not self.is_doubtful(bucket, key, named.pieces):  # else they may be those of a version
                 await incoming.abandon()
             raise
         await self.passed(entry)
         return entry
 
-    def is_doubtful(self, bucket: str, key: str) -> bool:
-        """Whether a head of the key may have been written without a reply. Then its pieces aren't to be deleted."""
-        return (bucket, key) in self._doubts
+    def is_doubtful(self, bucket: str, key: str, pieces: Tuple[Piece, ...]) -> bool:
+        """Whether a head that names these pieces may have been written without a reply. Then they aren't to be deleted."""
+        doubt = self._doubts.get((bucket, key))
+        return doubt is not None and pieces != () and doubt.version.pieces == pieces
 
     async def commit(self, bucket: str, key: str, contents: Contents, headers: Dict[str, str], check: Check = unchecked) -> Entry:
         """Makes a version of contents that are in pieces already the current one, as `put` does. It isn't to be answered before
-        `passed`. Where this raises, and the key isn't doubtful, no version has the pieces.
+        `passed`. Where this raises, and the pieces aren't doubtful, no version has them.
         """
         return await self._commit(version_with(bucket, key, contents, headers), check)
 
@@ -225,7 +226,7 @@ class Store:
 
     def _is_used(self, bucket: str, key: str) -> bool:
         """Whether a head of the key may be written now, or may have been: it isn't to be deleted meanwhile."""
-        return self._locks.is_wanted((bucket, key)) or self.is_doubtful(bucket, key)
+        return self._locks.is_wanted((bucket, key)) or (bucket, key) in self._doubts
 
     async def look_after(self) -> None:
         """Lets go of what can't be read any more, until it is cancelled."""

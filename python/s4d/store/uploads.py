@@ -120,8 +120,6 @@ class Uploads:
                 entry = await self._commit(upload, parts, check)
                 del self._uploads[upload.id]
             except BaseException:
-                if self._store.is_doubtful(upload.bucket, upload.key):
-                    del self._uploads[upload.id]  # its parts may be those of a version now
                 upload.is_ending = False
                 raise
         used: Set[int] = {part.number for part in parts}
@@ -139,7 +137,9 @@ class Uploads:
         try:
             return await self._store.commit(upload.bucket, upload.key, contents, upload.headers, check)
         except BaseException:
-            if depth and not self._store.is_doubtful(upload.bucket, upload.key):
+            if self._store.is_doubtful(upload.bucket, upload.key, listed):
+                del self._uploads[upload.id]  # its parts may be those of a version now
+            elif depth:
                 await self._store.pieces.delete(listed)
             raise
 
