@@ -430,6 +430,18 @@ class Held(unittest.TestCase):
 
         with_client(work)
 
+    def test_what_follows_a_fault_is_no_request(self):
+        async def work(gateway, it):
+            more = {"x-amz-decoded-content-length": "4", "transfer-encoding": "chunked"}
+            for sent in (b"zz\r\n0\r\n\r\n", b"1\r\nxyz\r\n0\r\n\r\n"):
+                headers = Signer().headers("PUT", "/one/k", [], b"", more, "STREAMING-UNSIGNED-PAYLOAD-TRAILER")
+                client = await gateway.connect()
+                reply = await client.send("PUT", "/one/k", sent + b"GET / HTTP/1.1\r\n\r\n", [], headers)
+                self.assertEqual((reply.status, reply.code), (400, "InvalidRequest"))
+                self.assertTrue(await client.is_ended())
+
+        with_client(work)
+
     def test_who_takes_nothing(self):
         """Its connection is let go with what wasn't sent, and counts until then."""
         class Stuck(mock.Mock):
@@ -547,7 +559,8 @@ class Files(unittest.TestCase):
         self.assertTrue(data.endswith(b"<B>a&quot;&lt;&amp;&gt;&#xa;</B><C><D>1</D><E>true</E></C></A>"))
         self.assertEqual(parsed(data, "A").findtext("C/D"), "1")
         defines = '<?xml version="1.0" encoding="utf-16"?><!DOCTYPE A [<!ENTITY b "c">]><A>&b;</A>'
-        for data, name in ((data, "B"), (defines.encode("utf-8"), "A"), (defines.encode("utf-16"), "A")):
+        for data, name in ((data, "B"), (defines.encode("utf-8"), "A"), (defines.encode("utf-16"), "A"),
+                           (b"<A>" + b"<B/>" * 100_000 + b"</A>", "A")):
             with self.assertRaises(S3Error):
                 parsed(data, name)
 

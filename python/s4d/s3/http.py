@@ -109,7 +109,7 @@ class Body:
             raise S3Error("NotImplemented", "Of transfer encodings only chunked is implemented.")
         self.length = None if self.is_chunked else number_of(headers.get("content-length", "0"))
         self._left, self._is_over = self.length or 0, self.length == 0
-        self._held, self.taken = b"", 0
+        self._held, self.taken, self._is_broken = b"", 0, False
         self._since = asyncio.get_running_loop().time()
 
     @property
@@ -150,7 +150,10 @@ class Body:
     async def _next(self) -> bytes:
         if self._is_over:
             return b""
+        if self._is_broken:
+            raise S3Error("IncompleteBody")
         self._begin()
+        self._is_broken = True  # until this has come: what follows a fault is no request
         if self.is_chunked and not self._left:
             self._left = await self._next_chunk()
             if not self._left:
@@ -163,8 +166,9 @@ class Body:
         self._left -= len(data)
         if not self._left and not self.is_chunked:
             self._is_over = True
-        elif not self._left:
-            await self._timed(self._reader.readuntil(b"\r\n"))
+        elif not self._left and await self._timed(self._reader.readuntil(b"\r\n")) != b"\r\n":
+            raise S3Error("InvalidRequest", "A chunk is longer than its length.")
+        self._is_broken = False
         return data
 
     async def _next_chunk(self) -> int:

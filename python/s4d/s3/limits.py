@@ -9,6 +9,7 @@ DRAINED_BYTES = 65_536  # of a body that nobody wants, so that the connection ca
 LINGER_SECONDS = 1.0  # that what a client still sends is taken after an answer that ends the connection
 CHUNK_LINE_BYTES = 4_096  # of a line between the chunks of a body
 XML_BYTES = 2_097_152  # of a body that isn't an object's
+XML_TAGS = 100_000  # in it: 10,000 parts have 80,000, and nobody else is answered while it is taken apart
 OBJECT_BYTES = 64 * 1_048_576  # of an object
 CONNECTIONS = 256  # at once; where one more comes the one goes that has been without a request for longest
 KEY_REQUESTS = 64  # of one access key that are worked on at once

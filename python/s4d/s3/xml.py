@@ -6,6 +6,7 @@ from typing import List, Sequence, Tuple, Union
 from xml.etree import ElementTree
 
 from .errors import S3Error
+from .limits import XML_TAGS
 
 NAMESPACE = "http://s3.amazonaws.com/doc/2006-03-01/"
 HEAD = '<?xml version="1.0" encoding="UTF-8"?>\n'
@@ -41,8 +42,10 @@ def error_document(members: Sequence[Node]) -> bytes:
 
 
 def parsed(data: bytes, name: str) -> ElementTree.Element:
-    """The root of a document in UTF-8, without namespaces; MalformedXML where it is none of this name, or defines anything."""
-    if b"<!" in data:
+    """The root of a document in UTF-8, without namespaces; MalformedXML where it is none of this name, defines anything, or has too
+    many tags.
+    """
+    if b"<!" in data or data.count(b"<") > XML_TAGS:
         raise S3Error("MalformedXML")
     try:
         root = ElementTree.fromstring(data.decode("utf-8-sig"))  # whatever encoding it names itself
