@@ -76,6 +76,12 @@ class Commands(unittest.TestCase):
         self.assertEqual((status, said), (1, "s4store: /nowhere/s4d: No such file or directory\n"))
         self.assertEqual(self.run_command("serve", self.store)[0], 1)  # what is half made is no store
 
+    def test_a_certificate_that_is_none(self):
+        self.init()
+        status, _, said = self.run_command("serve", self.store, "--cert", "/nowhere/cert", "--key", "/nowhere/key")
+        self.assertEqual((status, said.count("\n")), (1, 1))
+        self.assertIn("s4store: /nowhere/cert and /nowhere/key are no certificate with its key: ", said)
+
     def test_serve(self):
         self.init()
         words = [sys.executable, "-B", "-m", "s4d.store", "serve", self.store, "--listen", "127.0.0.1:0", "--log", f"{self.store}/log",

@@ -90,12 +90,15 @@ def fault_of(error: Exception) -> str:
 
 
 def tls_of(found: argparse.Namespace) -> Optional[ssl.SSLContext]:
-    """The context of the certificate that is given, if one is."""
+    """The context of the certificate that is given, if one is; StoreFault where it can't be had."""
     if found.cert is None:
         return None
     context = ssl.SSLContext(ssl.PROTOCOL_TLS_SERVER)
     context.minimum_version = ssl.TLSVersion.TLSv1_2
-    context.load_cert_chain(found.cert, found.key)
+    try:
+        context.load_cert_chain(found.cert, found.key)
+    except (OSError, ValueError) as error:  # which name no file
+        raise StoreFault(f"{found.cert} and {found.key} are no certificate with its key: {error}") from error
     return context
 
 
