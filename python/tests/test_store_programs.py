@@ -64,6 +64,26 @@ class Starts(Served):
 
         self.run_store(put, get)
 
+    def test_a_service_that_ends_before_it_opens_a_session(self):
+        """Nobody waits for it; and an end while it starts again leaves no process."""
+        async def ask(store):
+            drive = store.pieces.drives[0]
+            self.assertEqual(drive._idle, [])
+            os.kill(drive._service._process.pid, signal.SIGSTOP)
+            asking = asyncio.ensure_future(drive.ask(lambda session: session.attributes(0)))
+            await asyncio.sleep(0.1)
+            drive._service.kill()
+            with self.assertRaises(DriveAway):
+                await asyncio.wait_for(asking, 20)
+            killed = drive._service._process
+            while drive._service._process is killed:
+                await asyncio.sleep(0.01)
+            started.append(drive._service._process)
+
+        started = []
+        self.run_store(ask)
+        self.assertEqual([it.returncode is not None for it in started], [True])
+
     @staticmethod
     async def once_served(work):
         """What comes of work once the drives answer again."""

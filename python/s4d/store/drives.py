@@ -8,7 +8,6 @@ from typing import Awaitable, Callable, List, Optional, TypeVar
 from ..async_drive import AsyncDrive
 from ..errors import BadReply, Disconnected, Refused, ReplyLost
 from .service import Service, say
-from .sessions import session_at
 from .settings import StoreFault
 
 T = TypeVar("T")
@@ -51,8 +50,6 @@ class StoreDrive:
             since = loop.time()
             said = await self._service.ended()
             self._is_served = False
-            if self._is_stopping:
-                return
             wait = FIRST_WAIT if loop.time() - since > LONGEST_WAIT else min(2 * wait, LONGEST_WAIT)
             say(f"drive {self.number} isn't served any more: {said}; it is started again in {wait:g} s")
             await asyncio.sleep(wait)
@@ -70,14 +67,16 @@ class StoreDrive:
     async def stop(self) -> None:
         """Ends sessions and service."""
         self._is_stopping = True
+        if self._watching is not None:  # first, so that no other service is started meanwhile
+            self._watching.cancel()
+            with contextlib.suppress(asyncio.CancelledError):
+                await self._watching
+        if not self._is_served:
+            self._service.kill()  # it starts still, and has replied nothing
         for session in self._idle:
             await session.close()
         self._idle = []
         await self._service.stop()
-        if self._watching is not None:
-            self._watching.cancel()
-            with contextlib.suppress(asyncio.CancelledError):
-                await self._watching
 
     async def ask(self, work: Callable[[AsyncDrive], Awaitable[T]]) -> T:
         """What one request is answered, in a session that nobody else has meanwhile. A refusal is raised as it is.
@@ -112,6 +111,6 @@ class StoreDrive:
         if not self._is_served or self._is_stopping:
             raise DriveAway(self.number, was_asked=False)
         try:
-            return await session_at(self._service.door, REPLY_SECONDS)
+            return await self._service.session(REPLY_SECONDS)
         except (OSError, Disconnected, BadReply) as error:
             raise DriveAway(self.number, was_asked=False) from error

@@ -6,9 +6,12 @@ import contextlib
 import os
 import signal
 import sys
-from typing import Optional
+from typing import Any, Optional, Set
 
+from ..async_drive import AsyncDrive
 from ..doors import FLAGS, Door, Seats
+from ..errors import NotAsked
+from .sessions import session_at
 from .settings import StoreFault, drive_folder, image_path
 
 SERVES = "s4serve: serves "  # how the line begins that says that sessions can be asked for
@@ -86,6 +89,19 @@ class Service:
             self._last = line
             say(f"drive {self._number}: {line}")
         await process.wait()
+
+    async def session(self, timeout: float) -> AsyncDrive:
+        """A session that the process has opened. NotAsked where it doesn't, or ends meanwhile."""
+        opening = asyncio.ensure_future(session_at(self.door, timeout))
+        try:
+            waited: Set[asyncio.Future[Any]] = {opening} if self._hearing is None else {opening, self._hearing}
+            await asyncio.wait(waited, return_when=asyncio.FIRST_COMPLETED)
+            if opening.done():
+                return opening.result()
+        finally:
+            opening.cancel()
+        await asyncio.wait({opening})
+        raise NotAsked("the service has ended")
 
     async def ended(self) -> str:
         """Waits until the process has ended: its last line, and its status."""
