@@ -1,13 +1,19 @@
 """A store over plain drives in memory: what is put, what is refused, what is cut, and what a start finds."""
 import asyncio
 import dataclasses
+import os
+import tempfile
 import unittest
 from unittest import mock
 
 from s4d import wire
 from s4d.store import contents, layout
 from s4d.store.contents import Gone, StoreFull
-from s4d.store.drives import DriveAway
+from s4d.doors import Door, Seats
+from s4d.store.drives import DriveAway, StoreDrive
+from s4d.store.layout import Piece
+from s4d.store.service import Service
+from s4d.store.sessions import session_at
 from s4d.store.store import BucketThere, BucketUsed, Doubt, NoBucket, contents_of
 from s4d.store.uploads import LEAST_PART, NoPart, NoUpload, PartTooSmall, Uploads
 
@@ -337,6 +343,72 @@ class Away(Stores):
 
         self.run_store(put, look)
         self.assertEqual(self.live(), {"B": 1})
+
+
+class Sessions(unittest.TestCase):
+    """What the sessions of a drive leave open."""
+
+    def test_an_opening_that_is_cancelled(self):
+        """Neither end of its pipes stays open, wherever it was: a service has places for sixteen sessions."""
+        async def cancelled(door, steps):
+            opening = asyncio.ensure_future(session_at(door, 1.0))
+            for _ in range(steps):
+                await asyncio.sleep(0)
+            opening.cancel()
+            await asyncio.wait({opening})
+            for _ in range(5):
+                await asyncio.sleep(0)
+            return opening.cancelled(), len(os.listdir("/proc/self/fd"))
+
+        async def work(folder):
+            os.mkfifo(f"{folder}/door")
+            read = os.open(f"{folder}/door", os.O_RDONLY | os.O_NONBLOCK)
+            door = Door("client", folder, Seats(0, 0, 0.0))
+            found = [await cancelled(door, steps) for steps in range(20)]
+            os.close(read)
+            self.assertEqual(found, [found[0]] * 20)
+            self.assertTrue(found[0][0])
+            self.assertEqual(os.listdir(folder), ["door"])
+
+        with tempfile.TemporaryDirectory() as folder:
+            asyncio.run(work(folder))
+
+    def test_a_session_that_nobody_waits_for(self):
+        """It is closed, where it was opened while who asked for it was cancelled."""
+        async def cancelled(service, steps):
+            drive = mock.Mock(close=mock.AsyncMock())
+            with mock.patch("s4d.store.service.session_at", mock.AsyncMock(return_value=drive)) as session_at:
+                asking = asyncio.ensure_future(service.session(1.0))
+                for _ in range(steps):
+                    await asyncio.sleep(0)
+                asking.cancel()
+                await asyncio.wait({asking})
+                for _ in range(5):
+                    await asyncio.sleep(0)
+                kept = 0 if asking.cancelled() else 1
+                return session_at.await_count - drive.close.await_count - kept
+
+        async def work():
+            service = Service("/nowhere", 0, "s4serve", None)
+            self.assertEqual([await cancelled(service, steps) for steps in range(10)], [0] * 10)
+
+        asyncio.run(work())
+
+    def test_what_goes_wrong_in_one_takes_none(self):
+        async def ask():
+            service = mock.Mock(session=mock.AsyncMock(return_value="a session"))
+            drive = StoreDrive(0, service)
+            drive._is_served = True
+
+            async def wrong(_session):
+                raise ValueError("what is asked for is no request")
+
+            for _ in range(3):
+                with self.assertRaises(ValueError):
+                    await drive.ask(wrong)
+            self.assertEqual((service.session.await_count, drive._idle), (1, ["a session"]))
+
+        asyncio.run(ask())
 
 
 class Windows(Stores):

@@ -6,7 +6,7 @@ import contextlib
 from typing import Awaitable, Callable, List, Optional, TypeVar
 
 from ..async_drive import AsyncDrive
-from ..errors import BadReply, Disconnected, Refused, ReplyLost
+from ..errors import BadReply, Disconnected, ReplyLost
 from .service import Service, say
 from .settings import StoreFault
 
@@ -93,7 +93,7 @@ class StoreDrive:
                     raise DriveAway(self.number, was_asked=True) from error
                 except Disconnected:
                     continue
-                except (Refused, asyncio.CancelledError):
+                except BaseException:  # a refusal, or a cancellation: the next request's reply comes after this one's
                     self._idle.append(session)
                     raise
                 self._idle.append(session)

@@ -26,6 +26,12 @@ def say(line: str) -> None:
         print(f"s4store: {line}", file=sys.stderr, flush=True)
 
 
+def let_go(opening: asyncio.Future[AsyncDrive]) -> None:
+    """Closes a session that nobody waits for any more, where it was opened."""
+    if not opening.cancelled() and opening.exception() is None:
+        asyncio.ensure_future(opening.result().close())
+
+
 class Service:
     """Starts and stops the process, and passes on what it says. Its sessions are asked for at `door`."""
 
@@ -98,10 +104,11 @@ class Service:
             await asyncio.wait(waited, return_when=asyncio.FIRST_COMPLETED)
             if opening.done():
                 return opening.result()
-        finally:
+            raise NotAsked("the service has ended")
+        except BaseException:
             opening.cancel()
-        await asyncio.wait({opening})
-        raise NotAsked("the service has ended")
+            opening.add_done_callback(let_go)  # it may be there already
+            raise
 
     async def ended(self) -> str:
         """Waits until the process has ended: its last line, and its status."""

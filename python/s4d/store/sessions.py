@@ -6,7 +6,7 @@ import os
 from typing import Tuple
 
 from ..async_drive import AsyncDrive
-from ..doors import Door, Pipes, TurnedAway
+from ..doors import Door, TurnedAway
 from ..errors import NoObject, NotAsked
 
 OPEN_SECONDS = 120.0  # that a service may take to open a session
@@ -20,10 +20,12 @@ async def session_at(door: Door, timeout: float) -> AsyncDrive:
     except TurnedAway as turned:
         raise NotAsked(f"no session was to be had: {turned.fault}") from turned
     try:
-        drive = await drive_over(pipes, timeout)
+        reader, writer, replies = await pipe_streams(*pipes.take_ends())
+        drive = AsyncDrive(reader, writer, timeout)
         try:
             await asyncio.wait_for(first_reply(drive), OPEN_SECONDS)
         except BaseException as error:
+            replies.close()  # which the service may never open, and so never close
             await drive.close()
             if isinstance(error, asyncio.TimeoutError):
                 raise NotAsked(f"no session was opened in {OPEN_SECONDS:g} seconds") from None
@@ -41,15 +43,20 @@ async def first_reply(drive: AsyncDrive) -> None:
         pass
 
 
-async def drive_over(pipes: Pipes, timeout: float) -> AsyncDrive:
-    sink, source = pipes.take_ends()
-    return AsyncDrive(*await pipe_streams(sink, source), timeout)
-
-
-async def pipe_streams(sink: int, source: int) -> Tuple[asyncio.StreamReader, asyncio.StreamWriter]:
-    """The streams over two pipes. When the writer is closed the other side ends its pipe, too, and both are gone."""
+async def pipe_streams(sink: int, source: int) -> Tuple[asyncio.StreamReader, asyncio.StreamWriter, asyncio.BaseTransport]:
+    """The streams over two pipes, and the transport of the reader. When the writer is closed the other side ends its pipe, too,
+    and both are gone. Where this is cancelled both are closed: a session whose requests stay open takes a place of the service.
+    """
     loop, reader, unread = asyncio.get_running_loop(), asyncio.StreamReader(), asyncio.StreamReader()
-    protocol = asyncio.StreamReaderProtocol(unread)
-    transport, _ = await loop.connect_write_pipe(lambda: protocol, os.fdopen(sink, "wb", 0))
-    await loop.connect_read_pipe(lambda: asyncio.StreamReaderProtocol(reader), os.fdopen(source, "rb", 0))
-    return reader, asyncio.StreamWriter(transport, protocol, reader, loop)
+    protocol, replies = asyncio.StreamReaderProtocol(unread), os.fdopen(source, "rb", 0)
+    try:
+        transport, _ = await loop.connect_write_pipe(lambda: protocol, os.fdopen(sink, "wb", 0))
+    except BaseException:
+        replies.close()
+        raise
+    try:
+        reading, _ = await loop.connect_read_pipe(lambda: asyncio.StreamReaderProtocol(reader), replies)
+    except BaseException:
+        transport.abort()
+        raise
+    return reader, asyncio.StreamWriter(transport, protocol, reader, loop), reading
