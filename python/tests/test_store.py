@@ -320,6 +320,24 @@ class Away(Stores):
             self.run_store(put, look)
         self.assertEqual(self.live(), {"H": 1, "P": 1})
 
+    def test_a_head_that_can_not_be_read(self):
+        """Nobody knows which pieces it names: those of its key stay, of others they go."""
+        async def put(store):
+            await store.create_bucket("one")
+            for key in ("k", "l"):
+                for _ in range(2):
+                    await store.pieces.put(layout.piece_attribute("one", key), b"mill")
+            entry = await store.put("one", "k", body(b"mill"), {})
+            self.stores.drives[entry.head.drive].answer("client", wire.write(entry.head.object, 0, b"S4H2").body)
+
+        async def look(store):
+            self.assertEqual(self.stores.collected, 2)
+
+        with mock.patch("s4d.store.loading.say") as say:
+            self.run_store(put, look)
+        self.assertEqual(self.live(), {"B": 1, "H": 1, "P": 2})
+        self.assertIn("no head begins there; the pieces of its key are left as they are", say.call_args[0][0])
+
     def test_what_else_loses_its_reply(self):
         """A bucket, a head, a piece that were made, and nobody knows: the next start finds and deletes them."""
         async def put(store):
@@ -472,6 +490,26 @@ class Windows(Stores):
             self.assertEqual(await got(store, entry), b"y")
 
         self.run_store(put, look)
+
+    def test_a_marker_whose_head_stays(self):
+        """Its drive was away when it left the window, and the key was put again: that is what the next start finds."""
+        async def put(store):
+            await store.create_bucket("one")
+            for _ in range(3):
+                await store.put("one", "k", body(b"x"), {})
+            drive = store.pieces.drives[(await store.delete("one", "k")).head.drive]
+            self.stores.clock.value += 2 * self.WINDOW
+            drive.is_away = True
+            left = store.index.expire(self.stores.clock())
+            await store.pieces.delete([Piece(*place, 0, 0) for place in left])
+            entry = await store.put("one", "k", body(BYTES[:1_000]), {})
+            self.assertNotEqual(entry.head.drive, drive.number)
+
+        async def look(store):
+            self.assertEqual(await got(store, store.bucket("one").current("k")), BYTES[:1_000])
+
+        self.run_store(put, look, look)
+        self.assertEqual(self.live(), {"B": 1, "H": 1, "P": 1})
 
     def test_an_old_version_is_read_at_a_later_moment(self):
         """Its piece's own moment has expired, and it was current until a moment that can be read."""

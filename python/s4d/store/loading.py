@@ -60,7 +60,8 @@ class Loading:
         self._pieces, self._found, self._window, self._now = pieces, found, window, machine_time()
         self.index = Index(window)
         self._heads: List[Tuple[Place, bytes]] = []
-        self._parts: List[Place] = []
+        self._parts: List[Tuple[Place, bytes]] = []
+        self._unread: Set[bytes] = set()  # hashes of keys, of which a head says something that isn't known here
         self._left: List[Place] = []  # what else nothing needs
         self._alone: Dict[Tuple[str, str], Entry] = {}  # the last version of keys whose bucket isn't there
 
@@ -69,7 +70,7 @@ class Loading:
             for row in found.objects:
                 self._take(Place(number, row.object), row)
         versions = await asyncio.gather(*[self._versions(place, attribute) for place, attribute in self._heads])
-        for entry in sorted((it for each in versions for it in each), key=lambda it: (it.version.sequence, it.moment)):
+        for entry in sorted((it for each in versions for it in each), key=age):
             if entry.version.bucket in self.index.buckets:
                 self.index.add(entry)
             else:
@@ -88,7 +89,7 @@ class Loading:
         elif kind == b"H":
             self._left.append(place)  # it was made, and never written
         elif kind == b"P":
-            self._parts.append(place)
+            self._parts.append((place, rest))
 
     async def _versions(self, place: Place, attribute: bytes) -> List[Entry]:
         """The versions of a head that can be read."""
@@ -98,8 +99,7 @@ class Loading:
         found = await asyncio.gather(*[self._version(drive, place, attribute, at) for at in [*points, None]])
         return list({it.moment: it for it in found if it is not None}.values())
 
-    @staticmethod
-    async def _version(drive: StoreDrive, place: Place, attribute: bytes, at: Optional[int]) -> Optional[Entry]:
+    async def _version(self, drive: StoreDrive, place: Place, attribute: bytes, at: Optional[int]) -> Optional[Entry]:
         """The version of a moment, or now; None where there is none that can be read."""
         try:
             changed = (await drive.ask(lambda session: session.attributes(place.object, at))).changed
@@ -110,16 +110,18 @@ class Loading:
             return None  # it was made, and not written yet
         try:
             version = version_in(data)
+            if head_attribute(version.bucket, version.key) != attribute:
+                raise BadHead("its attribute isn't that of its key")
         except BadHead as error:
-            say(f"{named(place)}: {error}")
-            return None
-        if head_attribute(version.bucket, version.key) != attribute:
-            say(f"{named(place)}: its attribute isn't that of its key")
+            say(f"{named(place)}: {error}; the pieces of its key are left as they are")
+            self._unread.add(attribute[1:])
             return None
         return Entry(version, place, changed)
 
     async def collect(self) -> int:
-        """Deletes live pieces that no current version names, and heads that no version needs: how many that were."""
+        """Deletes live pieces that no current version names, and heads that no version needs: how many that were. Where a head
+        can't be read, nobody knows which pieces it names: all of its key stay.
+        """
         kept: Set[Place] = set()
         left = self._left + self.index.expire(self._now) + self._markers_alone()
         for bucket in self.index.buckets.values():
@@ -127,7 +129,7 @@ class Loading:
                 kept.update(await self._named(bucket.keys[key][-1]))
         for entry in self._alone.values():
             kept.update(await self._named(entry))  # whoever makes the bucket again has them
-        left += [place for place in self._parts if place not in kept]
+        left += [place for place, key in self._parts if place not in kept and key not in self._unread]
         await self._pieces.delete([Piece(*place, 0, 0) for place in left])
         return len(left)
 
@@ -148,6 +150,13 @@ class Loading:
         except (Gone, BadHead) as error:
             raise StoreFault(f"the pieces of {entry.version.key!r} in {entry.version.bucket} can't be found: {error}") from error
         return [Place(piece.drive, piece.object) for piece in pieces + lists]
+
+
+def age(entry: Entry) -> Tuple[int, int]:
+    """By what the versions of a key ascend. A key that was deleted, and put again once its marker was past the window, counts
+    from 1 again, and the head of that marker may be there still. Times ascend in any case.
+    """
+    return entry.version.time, entry.moment
 
 
 def named(place: Place) -> str:
