@@ -2,6 +2,7 @@
 import asyncio
 import hashlib
 import hmac
+import re
 from datetime import datetime, timedelta, timezone
 from urllib.parse import quote
 
@@ -11,6 +12,7 @@ from s4d.s3.server import Server
 
 from .plain_store import PlainStores
 
+SPACES = re.compile("[ \t]+")
 OWNER = Key("owner", "a secret that nobody knows", True, None)
 READER = Key("reader", "a secret of who may only read", False, frozenset(["one"]))
 
@@ -39,7 +41,7 @@ class Signer:
     def signature(self, method, path, query, headers, payload):
         names = sorted(headers)
         canonical = "\n".join([method, encoded(path, "/"), "&".join(f"{encoded(k)}={encoded(v)}" for k, v in sorted(query)),
-                               "".join(f"{name}:{headers[name]}\n" for name in names), ";".join(names), payload])
+                               "".join(f"{name}:{SPACES.sub(' ', headers[name])}\n" for name in names), ";".join(names), payload])
         return self.sign("\n".join(["AWS4-HMAC-SHA256", self.stamp, self.scope, hashlib.sha256(canonical.encode()).hexdigest()]))
 
     def headers(self, method, path, query, body, more, payload=None):
@@ -107,7 +109,7 @@ class Client:
         line = encoded(path, "/") + ("?" + "&".join(f"{encoded(k)}={encoded(v)}" for k, v in query) if query else "")
         given = {"content-length": str(len(body)), **headers} if "transfer-encoding" not in headers else headers
         head = "".join(f"{name}: {value}\r\n" for name, value in given.items())
-        self.writer.write(f"{method} {line} HTTP/1.1\r\n{head}\r\n".encode("latin-1") + body)
+        self.writer.write(f"{method} {line} HTTP/1.1\r\n{head}\r\n".encode() + body)
         return await self.reply(method)
 
     async def reply(self, method="GET"):

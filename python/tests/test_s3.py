@@ -70,6 +70,19 @@ class Signatures(unittest.TestCase):
 
         with_client(work)
 
+    def test_bytes_and_spaces_of_headers(self):
+        """A header is signed as its bytes came, whatever they say, and a row of spaces as one."""
+        async def work(gateway, it):
+            for given in ("\u00e0 la \u2003carte\u0085", "a   b \t c"):
+                self.assertEqual((await it.ask("PUT", "/one/k", b"mill", x_amz_meta_a=given)).status, 200, given)
+                got = (await it.ask("HEAD", "/one/k")).headers["x-amz-meta-a"]
+                self.assertEqual(got.encode("latin-1"), given.replace("\t", " ").encode())
+            query = [*Signer().presigned("GET", "/one/k", 60)]
+            query[4] = ("X-Amz-SignedHeaders", "host;\u2003")
+            self.assertEqual((await it.send("GET", "/one/k", b"", query, {"host": "test"})).code, "SignatureDoesNotMatch")
+
+        with_client(work)
+
     def test_presigned_by_nobody(self):
         """What no program signs is refused, and is no fault of the gateway's own."""
         async def work(gateway, it):
@@ -442,6 +455,19 @@ class Held(unittest.TestCase):
 
         with_client(work)
 
+    def test_a_body_that_is_not_as_long_as_was_said(self):
+        """Its connection ends: what follows would be taken for its rest."""
+        async def work(gateway, it):
+            await it.ask("PUT", "/one/k", b"mill")
+
+            async def cut(*_words):
+                yield b"mi"
+
+            with mock.patch.object(gateway.store, "stream", cut), self.assertRaises((EOFError, OSError)):
+                await it.ask("GET", "/one/k")
+
+        with_client(work)
+
     def test_who_takes_nothing(self):
         """Its connection is let go with what wasn't sent, and counts until then."""
         class Stuck(mock.Mock):
@@ -496,6 +522,7 @@ class Held(unittest.TestCase):
         async def work(gateway, it):
             for sent in (b"hello\r\n\r\n", b"GET / HTTP/2\r\n\r\n", b"GET http://x/ HTTP/1.1\r\n\r\n", b"GET / HTTP/1.1\r\nno colon\r\n\r\n",
                          b"PUT /one/k HTTP/1.1\r\nx-amz-meta-a\nset-cookie: b\r\n\r\n", b"GET / HTTP/1.1\r\na b: c\r\n\r\n",
+                         b"GET / HTTP/1.1\r\na: b\ncontent-length: 5\r\n\r\n", b"GET / HTTP/1.1\r\na: b\rhost: c\r\n\r\n",
                          b"GET / HTTP/1.1\r\nhost: a\r\nhost: b\r\n\r\n", b"GET / HTTP/1.1\r\ncontent-length: -1\r\n\r\n",
                          b"GET /%ff HTTP/1.1\r\n\r\n", b"GET / HTTP/1.1\r\ntransfer-encoding: gzip\r\n\r\n"):
                 client = await gateway.connect()
@@ -544,10 +571,11 @@ class Files(unittest.TestCase):
             path = pathlib.Path(folder) / "keys"
             path.write_text("# who\n\nabc sixteen-letters-1 write *\ndef sixteen-letters-2 read one,two\n", encoding="utf-8")
             keys = keys_in(str(path))
+            self.assertNotIn("sixteen", repr(keys))
             self.assertEqual(keys["def"], Key("def", "sixteen-letters-2", False, frozenset(["one", "two"])))
             self.assertIsNone(keys["abc"].buckets)
             for text, line in (("a b c", "give an access key"), ("abc short write *", "the secret has less than 16"),
-                               ("abc sixteen-letters-1 all *", "all is neither read nor write"), ("", "has no key"),
+                               ("abc sixteen-letters-1 all *", ":1: the third word is neither read nor write"), ("", "has no key"),
                                ("abc sixteen-letters-1 read ONE", "'ONE' is no bucket's name"),
                                ("abc sixteen-letters-1 read *\n" * 2, ":2: abc is named twice")):
                 path.write_text(text, encoding="utf-8")

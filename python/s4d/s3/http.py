@@ -13,6 +13,7 @@ from .limits import BODY_SECONDS, CHUNK_LINE_BYTES, HEAD_SECONDS, IDLE_SECONDS, 
 
 METHODS = ("GET", "HEAD", "PUT", "POST", "DELETE")
 CONTROL = re.compile("[\x00-\x1f\x7f]")
+FORBIDDEN = re.compile("[\x00-\x08\x0a-\x1f\x7f]")  # in a head: who takes one of them for an end of a line reads another request
 NAME = re.compile(r"[!#$%&'*+.^_`|~0-9A-Za-z-]+")  # of a header: it is given back with a version, so it has no end of a line
 
 
@@ -70,6 +71,8 @@ def request_of(head: bytes) -> Request:
     """The request that a head says; S3Error where it is none."""
     first, *lines = head[:-4].decode("latin-1").split("\r\n")
     words = first.split(" ")
+    if any(map(FORBIDDEN.search, (first, *lines))):
+        raise S3Error("InvalidRequest", "A line of the head has a control character.")
     if len(words) != 3 or words[2] not in ("HTTP/1.1", "HTTP/1.0") or not words[1].startswith("/"):
         raise S3Error("InvalidRequest", "The first line is no request of HTTP/1.1.")
     headers: Dict[str, str] = {}
@@ -215,7 +218,7 @@ def head_of(answer: Answer, has_body: bool) -> bytes:
 
 
 async def write_answer(writer: asyncio.StreamWriter, answer: Answer, without_body: bool) -> None:
-    """Writes an answer. Ended where the other side takes it too slowly, or has gone."""
+    """Writes an answer. Ended where the other side takes it too slowly, or has gone, or the body isn't as long as was said."""
     loop = asyncio.get_running_loop()
     since, sent = loop.time(), 0
     try:
@@ -226,7 +229,9 @@ async def write_answer(writer: asyncio.StreamWriter, answer: Answer, without_bod
             allowed = since + BODY_SECONDS + sent / LEAST_RATE - loop.time()
             await asyncio.wait_for(writer.drain(), max(allowed, 0.01))
         await asyncio.wait_for(writer.drain(), BODY_SECONDS)
-    except (OSError, asyncio.TimeoutError):
+        if not without_body and sent != answer.content_length():
+            raise EOFError  # else the next answer would be taken for the rest of this one
+    except (OSError, EOFError, asyncio.TimeoutError):
         writer.transport.abort()  # what it didn't take is let go
         raise Ended() from None
 

@@ -2,7 +2,7 @@
 from __future__ import annotations
 
 import re
-from dataclasses import dataclass
+from dataclasses import dataclass, field
 from typing import Dict, FrozenSet, List, Optional
 
 from ..store.names import is_bucket_name
@@ -17,7 +17,7 @@ class Key:
     """An access key. Without buckets it may ask for all of them."""
 
     access: str
-    secret: str
+    secret: str = field(repr=False)
     may_write: bool
     buckets: Optional[FrozenSet[str]]
 
@@ -65,7 +65,7 @@ def key_of(words: List[str]) -> Key:
     if len(secret) < LEAST_SECRET:
         raise ValueError(f"the secret has less than {LEAST_SECRET} characters")
     if rights not in ("read", "write"):
-        raise ValueError(f"{rights} is neither read nor write")
+        raise ValueError("the third word is neither read nor write")
     buckets = None if named == ALL else frozenset(named.split(","))
     wrong = sorted(it for it in buckets or () if not is_bucket_name(it))
     if wrong:

@@ -4,7 +4,7 @@ from __future__ import annotations
 import hashlib
 import hmac
 import re
-from dataclasses import dataclass
+from dataclasses import dataclass, field
 from datetime import datetime, timedelta, timezone
 from typing import Mapping, Tuple
 from urllib.parse import quote
@@ -20,6 +20,7 @@ STAMP = "%Y%m%dT%H%M%SZ"
 UNSIGNED = "UNSIGNED-PAYLOAD"
 
 HEADER = re.compile(r"AWS4-HMAC-SHA256 +Credential=([^, ]+), *SignedHeaders=([^, ]+), *Signature=([0-9a-f]{64})")
+SPACES = re.compile("[ \t]+")
 SCOPE = re.compile(r"([^/]+)/([0-9]{8})/([A-Za-z0-9-]{1,64})/s3/aws4_request")
 
 
@@ -32,7 +33,7 @@ class Signed:
     stamp: str
     scope: str
     signature: str
-    signing_key: bytes
+    signing_key: bytes = field(repr=False)
 
     def next_signature(self, kind: str, before: str, *digests: str) -> str:
         """The signature of a chunk or a trailer that follows another."""
@@ -65,7 +66,7 @@ def verified(request: Request, keys: Mapping[str, Key], now: datetime) -> Signed
     check_signed_headers(request, claim)
     signing_key = key_for(key.secret, found[2], found[3])
     scope = claim.credential.partition("/")[2]
-    text = "\n".join([ALGORITHM, claim.stamp, scope, digest_of(canonical(request, claim).encode())])
+    text = "\n".join([ALGORITHM, claim.stamp, scope, digest_of(canonical(request, claim))])
     wanted = hmac.new(signing_key, text.encode(), hashlib.sha256).hexdigest()
     if not hmac.compare_digest(wanted.encode(), claim.signature.encode()):
         raise S3Error("SignatureDoesNotMatch")
@@ -126,12 +127,13 @@ def check_signed_headers(request: Request, claim: Claim) -> None:
         raise S3Error("AccessDenied", f"There were headers present in the request which were not signed: {', '.join(missing)}")
 
 
-def canonical(request: Request, claim: Claim) -> str:
-    """The text that is signed of a request."""
+def canonical(request: Request, claim: Claim) -> bytes:
+    """The bytes that are signed of a request: those of headers as they came, with one space for each row of them."""
     query = sorted((encoded(name), encoded(value)) for name, value in request.query if name != "X-Amz-Signature")
-    headers = [f"{name}:{' '.join(request.headers.get(name, '').split())}\n" for name in claim.headers]
-    return "\n".join([request.method, encoded(request.path, "/"), "&".join(f"{name}={value}" for name, value in query),
+    headers = [f"{name}:{SPACES.sub(' ', request.headers.get(name, ''))}\n" for name in claim.headers]
+    text = "\n".join([request.method, encoded(request.path, "/"), "&".join(f"{name}={value}" for name, value in query),
                       "".join(headers), ";".join(claim.headers), claim.payload])
+    return text.encode("latin-1", "replace")  # a presigned query may name what is no header
 
 
 def encoded(text: str, safe: str = "") -> str:
