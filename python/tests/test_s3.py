@@ -35,6 +35,12 @@ def with_client(work, stores=None):
     asyncio.run(asyncio.wait_for(all_of(), PATIENCE))
 
 
+async def nobody_works(gateway):
+    """Waits until each answer counts as taken."""
+    while gateway.gateway._working["owner"]:
+        await asyncio.sleep(0.001)
+
+
 class Signatures(unittest.TestCase):
     def test_who_may_ask(self):
         async def work(gateway, it):
@@ -317,6 +323,28 @@ class Objects(unittest.TestCase):
 
         with_client(work)
 
+    def test_a_long_multi_delete(self):
+        """A few keys at once are deleted, so that the drives answer others meanwhile."""
+        async def work(gateway, it):
+            running, most, delete = [], [], gateway.store.delete
+
+            async def counted(bucket, key):
+                running.append(key)
+                most.append(len(running))
+                marker = await delete(bucket, key)
+                running.remove(key)
+                return marker
+
+            keys = [f"k{number}" for number in range(20)]
+            for key in keys:
+                await it.ask("PUT", f"/one/{key}", b"")
+            body = "".join(f"<Object><Key>{key}</Key></Object>" for key in keys)
+            with mock.patch.object(gateway.store, "delete", counted):
+                reply = await it.ask("POST", "/one", f"<Delete>{body}</Delete>".encode(), query=[("delete", "")])
+            self.assertEqual((reply.all("Key"), max(most), gateway.store.bucket("one").live), (keys, limits.DELETES, []))
+
+        with_client(work)
+
     def test_object_lock(self):
         async def work(gateway, it):
             await it.ask("PUT", "/one/k", b"mill")
@@ -512,9 +540,53 @@ class Held(unittest.TestCase):
 
     def test_requests_of_a_key(self):
         async def work(gateway, it):
+            await nobody_works(gateway)
             gateway.gateway._working["owner"] = limits.KEY_REQUESTS
             self.assertEqual((await it.ask("GET", "/one")).code, "SlowDown")
             self.assertEqual((await it.ask("GET", "/one", signer=Signer(READER))).status, 200)
+
+        with_client(work)
+
+    def test_an_answer_that_is_not_taken(self):
+        """Its request counts for its key until it is."""
+        async def work(gateway, it):
+            await nobody_works(gateway)
+            taking, write_answer = asyncio.Event(), http.write_answer
+
+            async def slowly(*words):
+                await taking.wait()
+                await write_answer(*words)
+
+            with mock.patch.object(server, "write_answer", slowly), mock.patch("s4d.s3.gateway.KEY_REQUESTS", 2):
+                asks = [asyncio.ensure_future((await gateway.connect()).ask("GET", "/one")) for _ in range(3)]
+                while gateway.gateway._working["owner"] < 2:
+                    await asyncio.sleep(0.01)
+                await asyncio.sleep(0.1)
+                taking.set()
+                self.assertEqual(sorted(it.status for it in await asyncio.gather(*asks)), [200, 200, 503])
+            await nobody_works(gateway)
+
+        with_client(work)
+
+    def test_who_has_not_signed_goes_first(self):
+        """Where another connection comes, that of a request that was refused goes, whatever its answer waits for."""
+        async def work(gateway, it):
+            it.writer.write(b"PUT /one/k HTTP/1.1\r\ncontent-length: 1000\r\n\r\n")
+            while not gateway.server._idle:
+                await asyncio.sleep(0.01)
+            self.assertEqual((await (await gateway.connect()).ask("HEAD", "/one")).status, 200)
+            with self.assertRaises((OSError, EOFError)):
+                await it.reply()
+
+        with mock.patch.object(server, "CONNECTIONS", 1), mock.patch.object(server, "LINGER_SECONDS", PATIENCE):
+            with_client(work)
+
+    def test_paths_in_the_log(self):
+        async def work(gateway, it):
+            gateway.gateway._log = mock.Mock(settle=mock.AsyncMock())
+            self.assertEqual((await it.send("GET", "/" + "x" * 9_000, b"", [], {"host": "test"})).code, "AccessDenied")
+            said = gateway.gateway._log.write.call_args[1]
+            self.assertEqual((said["path"], said["error"], said.get("key")), ("/" + "x" * 1_099, "AccessDenied", None))
 
         with_client(work)
 

@@ -1,11 +1,12 @@
 """From a request to its answer: who asks, what it is, and what became of it."""
 from __future__ import annotations
 
+import contextlib
 import secrets
 import time
 from collections import Counter
 from datetime import datetime, timezone
-from typing import Any, Awaitable, Callable, Dict, Mapping, Optional
+from typing import Any, AsyncIterator, Awaitable, Callable, Dict, Iterator, Mapping, Optional
 from typing import Counter as Counted
 
 from ..access_log import AccessLog
@@ -20,7 +21,7 @@ from .errors import S3Error
 from .faults import error_of, is_known
 from .http import METHODS, Answer, Body, Request
 from .keys import Key
-from .limits import KEY_REQUESTS, OBJECT_BYTES
+from .limits import KEY_REQUESTS, LOGGED_PATH, OBJECT_BYTES
 from .multipart import Multipart
 from .objects import Objects
 from .signature import verified
@@ -47,16 +48,22 @@ class Gateway:
         self._multipart = Multipart(store, uploads, self._objects)
         self._working: Counted[str] = Counter()  # requests of each key that are worked on
 
-    async def answer(self, request: Request, body: Body, peer: str) -> Answer:
-        """The answer to a request, errors too."""
+    @contextlib.asynccontextmanager
+    async def answer(self, request: Request, body: Body, peer: str) -> AsyncIterator[Answer]:
+        """The answer to a request, errors too. The request counts for its key until the block, which takes the answer, ends."""
+        with contextlib.ExitStack() as held:
+            yield await self._answer(request, body, peer, held)
+
+    async def _answer(self, request: Request, body: Body, peer: str, held: contextlib.ExitStack) -> Answer:
         began, id = time.monotonic(), secrets.token_hex(8)
-        said: Dict[str, Any] = {"request": id, "peer": peer, "method": request.method, "path": request.path}
+        said: Dict[str, Any] = {"request": id, "peer": peer, "method": request.method, "path": request.path[:LOGGED_PATH]}
         try:
-            answer = await self._answered(request, body, said)
+            answer = await self._answered(request, body, said, held)
         except Exception as fault:
             if not is_known(fault):  # of this program: the other requests go on
                 say(f"request {id} failed: {fault!r}")
             answer = error_answer(error_of(fault), request, id, said)
+        answer.is_signed = "key" in said
         answer.headers.update({"x-amz-request-id": id, "Server": "s4d", "Date": date_of(machine_time())})
         if self._log is not None:
             self._log.write(event="request", **said, status=answer.status, bytes=answer.content_length(),
@@ -64,7 +71,7 @@ class Gateway:
             await self._log.settle()
         return answer
 
-    async def _answered(self, request: Request, body: Body, said: Dict[str, Any]) -> Answer:
+    async def _answered(self, request: Request, body: Body, said: Dict[str, Any], held: contextlib.ExitStack) -> Answer:
         if request.method not in METHODS:
             raise S3Error("MethodNotAllowed")
         signed = verified(request, self.keys, datetime.now(timezone.utc))
@@ -74,11 +81,17 @@ class Gateway:
         call = self._call(context)
         if bucket and not signed.key.may(bucket, request.method in WRITES):
             raise S3Error("AccessDenied")
+        held.enter_context(self._place(access))
+        return await call(context)
+
+    @contextlib.contextmanager
+    def _place(self, access: str) -> Iterator[None]:
+        """One of the places that an access key has; SlowDown where it has no more."""
         if self._working[access] >= KEY_REQUESTS:
             raise S3Error("SlowDown")
         self._working[access] += 1
         try:
-            return await call(context)
+            yield
         finally:
             self._working[access] -= 1
 

@@ -49,6 +49,7 @@ class Answer:
     body: Union[bytes, AsyncIterator[bytes]] = b""
     headers: Dict[str, str] = field(default_factory=dict)
     length: int = 0
+    is_signed: bool = True  # whether who asked is known by a signature
 
     def content_length(self) -> int:
         return len(self.body) if isinstance(self.body, bytes) else self.length

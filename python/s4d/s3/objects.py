@@ -15,7 +15,7 @@ from .context import Context
 from .errors import S3Error
 from .faults import error_of, is_known
 from .http import Answer, decoded
-from .limits import PAGE
+from .limits import DELETES, PAGE
 from .xml import Node, document, parsed, text_in
 
 OVERRIDES = ("content-type", "content-language", "expires", "cache-control", "content-disposition", "content-encoding")
@@ -155,8 +155,11 @@ class Objects:
         if not 1 <= len(rows) <= PAGE:
             raise S3Error("MalformedXML")
         is_quiet = root.findtext("Quiet") == "true"
-        found = await asyncio.gather(*[self._delete_one(context.bucket, key, id, is_quiet) for key, id in rows])
-        return xml_answer(document("DeleteResult", [node for nodes in found for node in nodes]))
+        found: List[Node] = []
+        for start in range(0, len(rows), DELETES):
+            deletes = [self._delete_one(context.bucket, key, id, is_quiet) for key, id in rows[start:start + DELETES]]
+            found += [node for nodes in await asyncio.gather(*deletes) for node in nodes]
+        return xml_answer(document("DeleteResult", found))
 
     async def _delete_one(self, bucket: str, key: str, id: Optional[str], is_quiet: bool) -> List[Node]:
         named: List[Node] = [("Key", key), *([("VersionId", id)] if id else [])]

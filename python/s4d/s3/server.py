@@ -114,9 +114,11 @@ class Server:
             return False
         finally:
             self._idle.pop(writer, None)
-        answer = await self._gateway.answer(request, body, peer_of(writer))
-        keeps = request.keeps and not self._is_stopping and await drained(body, request)
-        await write_answer(writer, answer if keeps else with_end(answer), request.method == "HEAD")
+        async with self._gateway.answer(request, body, peer_of(writer)) as answer:
+            if not answer.is_signed:
+                self._idle[writer] = None  # it has its answer, and holds no place by not taking it
+            keeps = request.keeps and not self._is_stopping and await drained(body, request)
+            await write_answer(writer, answer if keeps else with_end(answer), request.method == "HEAD")
         if not keeps:
             await dropped(reader, writer)
         return keeps
