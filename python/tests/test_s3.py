@@ -311,6 +311,25 @@ class Objects(unittest.TestCase):
 
         with_client(work)
 
+    def test_a_condition_comes_before_the_body(self):
+        """A body that isn't wanted fills no drive."""
+        async def work(gateway, it):
+            await it.ask("PUT", "/one/k", b"mill")
+            changes = [len(drive.rows) for drive in gateway.stores.drives]
+            for more in ({"if_none_match": "*"}, {"if_match": '"0"'}):
+                self.assertEqual((await it.ask("PUT", "/one/k", BYTES[:50_000], **more)).code, "PreconditionFailed")
+            self.assertEqual([len(drive.rows) for drive in gateway.stores.drives], changes)
+
+        with_client(work)
+
+    def test_rights_that_nobody_has(self):
+        async def work(gateway, it):
+            for acl, code in (("private", ""), ("bucket-owner-full-control", ""), ("public-read", "AccessControlListNotSupported")):
+                self.assertEqual((await it.ask("PUT", "/one/k", b"mill", x_amz_acl=acl)).code, code)
+                self.assertEqual((await it.ask("PUT", f"/{acl}", x_amz_acl=acl)).code, code)
+
+        with_client(work)
+
     def test_multi_delete(self):
         async def work(gateway, it):
             id = (await it.ask("PUT", "/one/a", b"mill")).headers["x-amz-version-id"]
@@ -423,6 +442,8 @@ class Lists(unittest.TestCase):
             self.assertEqual((await it.ask("HEAD", "/two")).status, 404)
             for part, text in (("location", "LocationConstraint"), ("versioning", "Enabled"), ("acl", "FULL_CONTROL"), ("lifecycle", "Noncurrent")):
                 self.assertIn(text, (await it.ask("GET", "/one", query=[(part, "")])).body.decode())
+            with mock.patch("s4d.store.store.BUCKETS", 1):
+                self.assertEqual((await it.ask("PUT", "/more")).code, "TooManyBuckets")
             for part, code in (("policy", "NoSuchBucketPolicy"), ("cors", "NoSuchCORSConfiguration"), ("website", "NotImplemented")):
                 self.assertEqual((await it.ask("GET", "/one", query=[(part, "")])).code, code)
 

@@ -15,7 +15,7 @@ from s4d.store.layout import Piece
 from s4d.store.service import Service
 from s4d.store.sessions import session_at
 from s4d.store.store import BucketThere, BucketUsed, Doubt, NoBucket, contents_of
-from s4d.store.uploads import LEAST_PART, NoPart, NoUpload, PartTooSmall, Uploads
+from s4d.store.uploads import LEAST_PART, NoPart, NoUpload, PartTooSmall, TooManyUploads, UploadTooLarge, Uploads
 
 from .bridged import PATIENCE
 from .plain_store import Clock, PlainStores
@@ -149,7 +149,7 @@ class Puts(Stores):
             await store.create_bucket("one")
             await cancelled(store, store.put("one", "k", body(BYTES[:3_000]), {}))
             uploads = Uploads(store, 2**30)
-            it = uploads.begin("one", "k", {})
+            it = uploads.begin("one", "k", {}, "me")
             part = await uploads.put_part(it, 1, body(BYTES[:3_000]))
             await cancelled(store, uploads.complete(it, [(1, part.etag)]))
 
@@ -230,8 +230,9 @@ class Away(Stores):
             await store.create_bucket("one")
             await store.put("one", "k", body(b"old"), {})
             drive = store.pieces.drives[store.bucket("one").current("k").head.drive]
-            with self.assertRaises(DriveAway):
-                await store.put("one", "k", body(BYTES[:500]), {}, lambda _: setattr(drive, "loses", 4))
+            asked = []
+            with self.assertRaises(DriveAway):  # its head's, not its piece's, before which it is asked, too
+                await store.put("one", "k", body(BYTES[:500]), {}, lambda _: setattr(drive, "loses", 4 if asked else None) or asked.append(1))
             self.assertTrue(store.is_doubtful("one", "k", store._doubts["one", "k"].version.pieces))
             self.assertEqual(self.live()["P"], 1)
             drive.is_away = True
@@ -264,7 +265,7 @@ class Away(Stores):
             await store.create_bucket("one")
             entry = await store.put("one", "k", body(b"mill"), {})
             uploads = Uploads(store, 2**30)
-            it = uploads.begin("one", "k", {})
+            it = uploads.begin("one", "k", {}, "me")
             part = await uploads.put_part(it, 1, body(BYTES[:1_000]))
             drive = store.pieces.drives[entry.head.drive]
             drive.loses = 4
@@ -536,7 +537,7 @@ class Uploading(Stores):
         async def put(store):
             await store.create_bucket("one")
             uploads = Uploads(store, 2**30)
-            it = uploads.begin("one", "k", {"content-type": "a/b"})
+            it = uploads.begin("one", "k", {"content-type": "a/b"}, "me")
             parts = [await uploads.put_part(it, number, body(data)) for number, data in ((3, last), (1, first), (2, b"unused"))]
             with self.assertRaises(NoPart):
                 await uploads.complete(it, [(1, parts[0].etag)])
@@ -547,10 +548,10 @@ class Uploading(Stores):
             self.assertEqual(await got(store, entry), first + last)
             with self.assertRaises(NoUpload):
                 await uploads.put_part(it, 1, body(b""))
-            aborted = uploads.begin("one", "k", {})
+            aborted = uploads.begin("one", "k", {}, "me")
             await uploads.put_part(aborted, 1, body(last))
             await uploads.abort(aborted)
-            left = uploads.begin("one", "k", {})
+            left = uploads.begin("one", "k", {}, "me")
             await uploads.put_part(left, 1, body(last))
 
         async def get(store):
@@ -560,6 +561,29 @@ class Uploading(Stores):
 
         self.run_store(put, get)
         self.assertEqual(self.live(), {"B": 1, "H": 1, "P": -(-LEAST_PART // 98_304) + 2})
+
+    def test_how_much_an_upload_holds(self):
+        """Who begins uploads and ends none leaves room for others, and none holds what no version has room for."""
+        async def put(store):
+            await store.create_bucket("one")
+            uploads = Uploads(store, 1_500)
+            it = [uploads.begin("one", "k", {}, "me") for _ in range(2)][0]
+            with self.assertRaises(TooManyUploads):
+                uploads.begin("one", "k", {}, "me")
+            uploads.begin("one", "k", {}, "other")
+            await uploads.put_part(it, 1, body(BYTES[:1_000]))
+            for number, size in ((2, 501), (1, 1_501)):
+                with self.assertRaises(UploadTooLarge):
+                    await uploads.put_part(it, number, body(BYTES[:size]))
+            self.assertEqual(self.live()["P"], 1)
+            for number, size in ((1, 1_001), (2, 1), (3, 1)):
+                await uploads.put_part(it, number, body(BYTES[:size]))
+            with self.assertRaises(UploadTooLarge):
+                await uploads.put_part(it, 4, body(b""))
+            self.assertEqual(sorted(it.parts), [1, 2, 3])
+
+        with mock.patch("s4d.store.uploads.UPLOADS_OF_ONE", 2), mock.patch("s4d.store.uploads.PARTS_OF_ONE", 3):
+            self.run_store(put)
 
 
 class Kills(Stores):
@@ -576,7 +600,7 @@ class Kills(Stores):
         acknowledged[(await store.put("one", "k", store.stream(old, 0, old.version.size - 1), {})).version.id] = 3_500
         acknowledged[(await store.delete("one", "k")).version.id] = None
         uploads = Uploads(store, 2**30)
-        it = uploads.begin("one", "k", {})
+        it = uploads.begin("one", "k", {}, "me")
         parts = [await uploads.put_part(it, number, body(BYTES[:500])) for number in (1, 2)]
         entry = await uploads.complete(it, [(2, parts[1].etag)])
         acknowledged[entry.version.id] = 500

@@ -17,6 +17,7 @@ KEPT = ("content-type", "cache-control", "content-disposition", "content-encodin
 METADATA = "x-amz-meta-"
 REFUSED = ("x-amz-server-side-encryption", "x-amz-tagging", "x-amz-website-redirect-location", "x-amz-grant-",
            "x-amz-write-offset-bytes")
+ACLS = ("private", "bucket-owner-full-control")  # that say what is so anyway: the owner has all rights, and nobody else any
 DEFAULT_TYPE = "binary/octet-stream"
 
 
@@ -61,6 +62,7 @@ def headers_to_keep(headers: Mapping[str, str]) -> Dict[str, str]:
     for name in headers:
         if name.startswith(REFUSED):
             raise S3Error("NotImplemented", f"The header {name} is not implemented.")
+    check_acl(headers)
     kept = {name: value for name, value in headers.items() if name in KEPT or name.startswith(METADATA)}
     encodings = [it.strip() for it in kept.pop("content-encoding", "").split(",")]
     encoding = ",".join(it for it in encodings if it and it != "aws-chunked")
@@ -69,6 +71,12 @@ def headers_to_keep(headers: Mapping[str, str]) -> Dict[str, str]:
     if sum(len(name) - len(METADATA) + len(value) for name, value in kept.items() if name.startswith(METADATA)) > METADATA_BYTES:
         raise S3Error("MetadataTooLarge")
     return kept
+
+
+def check_acl(headers: Mapping[str, str]) -> None:
+    """AccessControlListNotSupported where rights are asked for that nobody has."""
+    if headers.get("x-amz-acl", ACLS[0]) not in ACLS:
+        raise S3Error("AccessControlListNotSupported")
 
 
 def headers_of(entry: Entry, window: int) -> Dict[str, str]:

@@ -6,7 +6,7 @@ from typing import Awaitable, Callable, Dict, List, Tuple
 from ..store.names import is_bucket_name
 from ..store.store import Store
 from ..store.uploads import Uploads
-from .answers import OWNER, stamp_of
+from .answers import OWNER, check_acl, stamp_of
 from .context import Context
 from .errors import S3Error
 from .http import Answer
@@ -44,6 +44,7 @@ class Buckets:
     async def create(self, context: Context) -> Answer:
         if not is_bucket_name(context.bucket):
             raise S3Error("InvalidBucketName")
+        check_acl(context.request.headers)
         body = await context.xml()
         if body:
             parsed(body, "CreateBucketConfiguration")

@@ -4,6 +4,7 @@ from __future__ import annotations
 from typing import Dict, Optional, Tuple
 
 ERRORS: Dict[str, Tuple[int, str]] = {
+    "AccessControlListNotSupported": (400, "The bucket does not allow ACLs."),
     "AccessDenied": (403, "Access Denied"),
     "AuthorizationHeaderMalformed": (400, "The authorization header that you provided is not valid."),
     "AuthorizationQueryParametersError": (400, "Error parsing the query parameters of the signature."),
@@ -48,6 +49,7 @@ ERRORS: Dict[str, Tuple[int, str]] = {
     "ServiceUnavailable": (503, "A drive that has what you asked for doesn't answer. Please try again."),
     "SignatureDoesNotMatch": (403, "The request signature that we calculated does not match the signature you provided."),
     "SlowDown": (503, "Please reduce your request rate."),
+    "TooManyBuckets": (400, "You have attempted to create more buckets than allowed."),
     "XAmzContentSHA256Mismatch": (400, "The provided 'x-amz-content-sha256' header does not match what was computed."),
 }
 

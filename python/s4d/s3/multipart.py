@@ -32,7 +32,7 @@ class Multipart:
 
     async def begin(self, context: Context) -> Answer:
         """CreateMultipartUpload."""
-        upload = self._uploads.begin(context.bucket, context.key, self._objects.kept(context))
+        upload = self._uploads.begin(context.bucket, context.key, self._objects.kept(context), context.signed.key.access)
         return xml_answer(document("InitiateMultipartUploadResult", [("Bucket", upload.bucket), ("Key", upload.key),
                                                                      ("UploadId", upload.id)]))
 

@@ -18,6 +18,7 @@ from .locks import Locks
 
 APART = 1_000  # microseconds by which the moments of two drives of a machine may differ
 MOST_WAIT = 0.1  # seconds that an answer waits for the machine's time, which may have been set back
+BUCKETS = 1_000
 EXPIRE_SECONDS = 1.0  # between looks for what can't be read any more
 HEAD_FULL: Tuple[Type[Refused], ...] = (ChainFull, NoSpace, NoMemory)  # then the key goes on in another head
 
@@ -28,6 +29,10 @@ class NoBucket(Exception):
 
 class BucketThere(Exception):
     """There is such a bucket."""
+
+
+class TooManyBuckets(Exception):
+    """As many buckets as a store may have are there."""
 
 
 class BucketUsed(Exception):
@@ -68,10 +73,12 @@ class Store:
         return found
 
     async def create_bucket(self, name: str) -> Bucket:
-        """Makes a bucket; BucketThere where it is there."""
+        """Makes a bucket; BucketThere where it is there, TooManyBuckets where no more may be."""
         async with self._locks.hold(name):
             if name in self.index.buckets:
                 raise BucketThere(name)
+            if len(self.index.buckets) >= BUCKETS:
+                raise TooManyBuckets(name)
             attribute = bucket_attribute(name)
 
             async def make(drive: StoreDrive) -> Bucket:
@@ -102,7 +109,8 @@ class Store:
         and what it raises is raised, as is what the body raises; nothing is seen of the version then. TooLong where the headers
         don't fit in a head.
         """
-        self.bucket(bucket)
+        await self.settle(bucket, key)
+        check(self.bucket(bucket).current(key))  # before a body fills the drives in vain; it is asked again in its turn
         incoming, named = Incoming(self.pieces, piece_attribute(bucket, key)), Contents(0, "")
         try:
             async for data in body:

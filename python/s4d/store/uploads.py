@@ -16,6 +16,8 @@ from .locks import Locks
 from .store import Check, Store, unchecked
 
 UPLOADS = 1_000  # at once
+UPLOADS_OF_ONE = 100  # of one access key: who begins and doesn't end them leaves room for others
+PARTS_OF_ONE = 100  # of one upload at once: parts are in memory, and a version has room for thirteen that aren't too small
 PARTS = 10_000  # the greatest number of a part
 LEAST_PART = 5 * 1_048_576  # bytes of each part but the last
 
@@ -33,11 +35,11 @@ class PartTooSmall(Exception):
 
 
 class TooManyUploads(Exception):
-    """As many as may be at once are there."""
+    """As many as may be at once are there, of all or of one access key."""
 
 
 class UploadTooLarge(Exception):
-    """All parts together have more bytes than a version may have."""
+    """The parts have more bytes than a version may have, or are too many."""
 
 
 @dataclass
@@ -59,6 +61,7 @@ class Upload:
     bucket: str
     key: str
     headers: Dict[str, str]
+    owner: str  # the access key that began it
     time: int
     parts: Dict[int, Part] = field(default_factory=dict)
     is_ending: bool = False  # its parts become a version
@@ -72,12 +75,13 @@ class Uploads:
         self._uploads: Dict[str, Upload] = {}
         self._locks = Locks()
 
-    def begin(self, bucket: str, key: str, headers: Dict[str, str]) -> Upload:
+    def begin(self, bucket: str, key: str, headers: Dict[str, str], owner: str) -> Upload:
         """A new upload; TooManyUploads where there is no room for it."""
         self._store.bucket(bucket)
-        if len(self._uploads) >= UPLOADS:
-            raise TooManyUploads(f"{UPLOADS:,} uploads are there")
-        upload = Upload(secrets.token_hex(16), bucket, key, headers, machine_time())
+        of_owner = sum(it.owner == owner for it in self._uploads.values())
+        if len(self._uploads) >= UPLOADS or of_owner >= UPLOADS_OF_ONE:
+            raise TooManyUploads(f"{of_owner:,} uploads of this key are there, of {len(self._uploads):,}")
+        upload = Upload(secrets.token_hex(16), bucket, key, headers, owner, machine_time())
         self._uploads[upload.id] = upload
         return upload
 
@@ -93,7 +97,9 @@ class Uploads:
         return sorted((it for it in self._uploads.values() if it.bucket == bucket), key=lambda it: (it.key, it.time))
 
     async def put_part(self, upload: Upload, number: int, body: AsyncIterator[bytes]) -> Part:
-        """Takes a part, which replaces an earlier one of its number. What the body raises is raised."""
+        """Takes a part, which replaces an earlier one of its number. What the body raises is raised. UploadTooLarge where the
+        upload has no room for it.
+        """
         incoming = Incoming(self._store.pieces, piece_attribute(upload.bucket, upload.key))
         try:
             async for data in body:
@@ -101,6 +107,7 @@ class Uploads:
             part = Part(number, incoming.size, incoming.etag, await incoming.finish_pieces(), machine_time())
             if upload.is_ending or upload.id not in self._uploads:
                 raise NoUpload(upload.id)
+            self._check_room(upload, part)
         except BaseException:
             await incoming.abandon()
             raise
@@ -109,6 +116,11 @@ class Uploads:
         if before is not None:
             await self._store.pieces.delete(before.pieces)
         return part
+
+    def _check_room(self, upload: Upload, part: Part) -> None:
+        others = [it.size for number, it in upload.parts.items() if number != part.number]
+        if len(others) >= PARTS_OF_ONE or sum(others) + part.size > self._most:
+            raise UploadTooLarge()
 
     async def complete(self, upload: Upload, named: Sequence[Tuple[int, str]], check: Check = unchecked) -> Entry:
         """Makes a version of the parts that are named by number and digest, in their order. The others are deleted."""
