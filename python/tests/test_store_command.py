@@ -11,6 +11,7 @@ import subprocess
 import sys
 import tempfile
 import unittest
+from unittest import mock
 
 from s4d.s3.keys import keys_in
 from s4d.store.command import OPEN_FILES, allow_open_files, main
@@ -52,13 +53,18 @@ class Commands(unittest.TestCase):
             self.assertRegex(said, f"^s4store: .*{line}")
 
     def test_init(self):
-        status, printed, said = self.init()
+        synced, fsync = [], os.fsync
+        with mock.patch("os.fsync", lambda number: synced.append(os.readlink(f"/proc/self/fd/{number}")) or fsync(number)):
+            status, printed, said = self.init()
         self.assertEqual((status, said), (0, ""))
+        self.assertEqual([os.path.relpath(path, os.path.dirname(self.store)) for path in synced],
+                         ["store/drives/00/doors", "store/drives/00", "store/keys", "store/drives", "store", ".", "store/store.json",
+                          "store"])
         self.assertIn(f"serve it by: python3 -m s4d.store serve {self.store}", printed)
         folder = pathlib.Path(self.store)
         self.assertEqual(json.loads((folder / "store.json").read_text()), {"version": 1, "drives": 1, "frames": 24, "keep": "1d"})
-        self.assertEqual([(folder / name).stat().st_mode & 0o777 for name in (".", "keys", "drives/00/doors/client")],
-                         [0o700, 0o600, 0o700])
+        self.assertEqual([(folder / name).stat().st_mode & 0o777 for name in (".", "keys", "drives", "drives/00/doors/client")],
+                         [0o700, 0o600, 0o700, 0o700])
         self.assertEqual([key.may_write for key in keys_in(str(folder / "keys")).values()], [True])
         self.assertEqual(self.init()[::2], (1, f"s4store: {self.store} isn't empty: name another folder, or remove what is there\n"))
 

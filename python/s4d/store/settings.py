@@ -71,23 +71,28 @@ def keys_path(folder: str) -> str:
 def make_store(folder: str, settings: Settings, programs: Programs) -> None:
     """Makes a store in a folder that isn't there, or is empty. StoreFault where that can't be done.
 
-    The file `store.json` comes last: a folder without it is no store.
+    The file `store.json` comes last, once all else is on the disk: a folder without it is no store.
     """
+    drives = os.path.join(folder, "drives")
     try:
         os.makedirs(folder, 0o700, exist_ok=True)
         if os.listdir(folder):
             raise StoreFault(f"{folder} isn't empty: name another folder, or remove what is there")
+        os.mkdir(drives, 0o700)
         for number in range(settings.drives):
             make_drive(folder, number, settings, programs)
         write_new(keys_path(folder), keys_text())
+        for path in (drives, folder, os.path.dirname(os.path.abspath(folder))):
+            sync_folder(path)
         said = {"version": VERSION, "drives": settings.drives, "frames": settings.frames, "keep": settings.keep}
         write_new(os.path.join(folder, "store.json"), json.dumps(said) + "\n")
+        sync_folder(folder)
     except OSError as error:
         raise StoreFault(f"{error.filename or folder}: {error.strerror or error}") from error
 
 
 def make_drive(folder: str, number: int, settings: Settings, programs: Programs) -> None:
-    """The folder of a drive: its doors and its image."""
+    """The folder of a drive: its doors and its image, whose program has it on the disk."""
     for role in ROLES:
         doors = os.path.join(drive_folder(folder, number), "doors", role)
         os.makedirs(doors)
@@ -98,6 +103,8 @@ def make_drive(folder: str, number: int, settings: Settings, programs: Programs)
     if ran.returncode:
         said = ran.stderr.decode("utf-8", "replace").strip() or f"status {ran.returncode}"
         raise StoreFault(f"drive {number} can't be made: {said}")
+    sync_folder(os.path.join(drive_folder(folder, number), "doors"))
+    sync_folder(drive_folder(folder, number))
 
 
 def keys_text() -> str:
@@ -112,6 +119,15 @@ def write_new(path: str, text: str) -> None:
         file.write(text)
         file.flush()
         os.fsync(number)
+
+
+def sync_folder(path: str) -> None:
+    """Waits until the names in a folder are on the disk."""
+    number = os.open(path, os.O_RDONLY | os.O_DIRECTORY | os.O_CLOEXEC)
+    try:
+        os.fsync(number)
+    finally:
+        os.close(number)
 
 
 def settings_in(folder: str) -> Settings:
