@@ -1,4 +1,6 @@
-"""Programs that people have, against the gateway over a store in memory; each is skipped where it isn't installed."""
+"""Programs that people have, against the gateway over a store in memory, in a longer run: where STORE_CLIENTS=1 is set. Each is
+skipped where it isn't installed.
+"""
 import asyncio
 import importlib.util
 import os
@@ -15,6 +17,7 @@ from .bridged import PATIENCE
 from .s3_client import OWNER, Gatewayed
 from .test_store import BYTES
 
+is_long = unittest.skipUnless(os.environ.get("STORE_CLIENTS"), "clients of S3 are tried where STORE_CLIENTS=1 is set")
 needs_boto3 = unittest.skipUnless(importlib.util.find_spec("boto3"), "boto3 isn't installed")
 
 
@@ -22,6 +25,7 @@ def needs(name):
     return unittest.skipUnless(shutil.which(name), f"{name} isn't installed")
 
 
+@is_long
 class Clients(unittest.TestCase):
     """A gateway in a thread of its own."""
 

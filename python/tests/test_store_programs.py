@@ -47,19 +47,19 @@ class Starts(Served):
     def test_services_that_are_killed_start_again(self):
         async def put(store):
             await store.create_bucket("one")
-            old = await store.put("one", "k", body(BYTES[:200_000]), {})
+            old = await store.put("one", "k", body(BYTES[:100_000]), {})
             await store.put("one", "k", body(b"new"), {})
             with self.assertRaisesRegex(StoreFault, "another program serves this store: end that one"):
                 OpenStore(self.folder, self.programs)
             for drive in store.pieces.drives:
                 drive._service.kill()
-            self.assertEqual(await self.once_served(lambda: got(store, old)), BYTES[:200_000])
+            self.assertEqual(await self.once_served(lambda: got(store, old)), BYTES[:100_000])
             await self.once_served(lambda: store.put("one", "k", body(b"newer"), {}))
 
         async def get(store):
             entries = store.bucket("one").keys["k"]
             self.assertEqual([it.version.sequence for it in entries], list(range(1, len(entries) + 1)))
-            self.assertEqual([await got(store, it) for it in entries][:2], [BYTES[:200_000], b"new"])
+            self.assertEqual([await got(store, it) for it in entries][:2], [BYTES[:100_000], b"new"])
             self.assertEqual(await got(store, entries[-1]), b"newer")
 
         self.run_store(put, get)
@@ -91,7 +91,7 @@ class Starts(Served):
             try:
                 return await work()
             except DriveAway:
-                await asyncio.sleep(0.1)
+                await asyncio.sleep(0.3)
 
     def test_what_is_no_store(self):
         with self.assertRaisesRegex(StoreFault, "is no store: make one by"):
@@ -121,7 +121,7 @@ async def main():
     print("started", flush=True)
     async def put(name):
         for number in range(10**9):
-            it = await store.put("one", name, body((name + str(number)).encode() * (30 if number % 2 else 30_000)), {})
+            it = await store.put("one", name, body((name + str(number)).encode() * (30 if number % 2 else 10_000)), {})
             print(name, it.version.id, it.version.size, it.version.etag, flush=True)
     await asyncio.gather(*map(put, "abc"))
 asyncio.run(main())
@@ -153,7 +153,7 @@ asyncio.run(main())
 
     def check_contents(self, entry, data):
         self.assertEqual(len(data), entry.version.size)
-        count = 30 if entry.version.size < 1_000 else 30_000
+        count = 30 if entry.version.size < 1_000 else 10_000
         self.assertEqual(data, data[:len(data) // count] * count)
         self.assertEqual(data[:1].decode(), entry.version.key)
 
