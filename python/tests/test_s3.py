@@ -512,8 +512,8 @@ class Held(unittest.TestCase):
             async def cut(*_words):
                 yield b"mi"
 
-            with mock.patch.object(gateway.store, "stream", cut), self.assertRaises((EOFError, OSError)):
-                await it.ask("GET", "/one/k")
+            with mock.patch.object(gateway.store, "stream", cut), self.assertRaises((EOFError, ConnectionError)):
+                await asyncio.wait_for(it.ask("GET", "/one/k"), http.IDLE_SECONDS / 2)
 
         with_client(work)
 
