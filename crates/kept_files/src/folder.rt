@@ -1,6 +1,8 @@
 //! The path of an image among files.
-ghost use Rattle.std.specs.Prelude.{◌≡◌, ◌↔◌, [], IfErr, IfOk, None, Some, true};
-ghost use Rattle.std.specs.Prelude.{is_ok};
+ghost use Rattle.std.specs.Prelude.{◌≡◌, ◌↔◌, ℕ, List, [], IfErr, IfOk, None, Some, true};
+ghost use Rattle.std.specs.Prelude.{false, is_ok};
+ghost use Rattle.std.specs.List.{All};
+ghost use Rattle.std.specs.Io.KnownBytes.{Keeps};
 ghost use Rattle.image_commands.specs.Crashes.{IsShort};
 ghost use Rattle.kept_files.specs.Causes.{cause_of_sync};
 
@@ -139,7 +141,10 @@ fn answer_of(has_ended_well: bool) -> Result<(), FolderError>
 }
 
 impl<F: Files + Drop> Folder for FileFolder<F> {
-    ghost use Rattle.std.specs.Prelude.{IfSome, false, is_some};
+    ghost use Rattle.std.specs.Prelude.{IfSome, IsErrOf, IsSomeAnd, IsTrue, OnErr, OnOk, is_some};
+    ghost use Rattle.std.specs.Prelude.{string_bytes};
+    ghost use Rattle.image_keeping.specs.Leaving.{Adds, AddsNothing, Only};
+    ghost use Rattle.image_commands.specs.Files.{AreKnown, KeepsAll};
 
     // No clause of the files says that a crash may leave something.
     ghost is_known = { false };
@@ -157,7 +162,15 @@ impl<F: Files + Drop> Folder for FileFolder<F> {
 
     ghost is_usable = { λ f. f.is_usable };
 
-    fn write_beside(&mut self, bytes: &[u8]) -> Result<(), FolderError> {
+    fn write_beside(&mut self, bytes: &[u8]) -> Result<(), FolderError>
+        requires { IsTrue self.old.is_usable }
+        ensures written { OnOk result (IfSome self.new.beside (λ b. F.is_filled b bytes.now)) }
+        ensures crash { AddsNothing (F.may_leave self.old.files self.old.claim)
+            (F.may_leave self.new.files self.new.claim) }
+        ensures usable { IsTrue self.new.is_usable }
+        ensures left { self.new.left ≡ self.old.left }
+        ensures whole { self.new.whole ≡ self.old.whole }
+    {
         // What an earlier try left is of no use, and what was in its way may not be there any more.
         self.cause = None;
         if let Some(beside) = self.beside.take() {
@@ -180,7 +193,19 @@ impl<F: Files + Drop> Folder for FileFolder<F> {
         }
     }
 
-    fn sync_beside(&mut self) -> Result<(), FolderError> {
+    fn sync_beside(&mut self) -> Result<(), FolderError>
+        requires { IsTrue self.old.is_usable }
+        ensures durable { OnOk result
+            ((bytes : List ℕ) → IfSome self.old.beside (λ b. F.is_filled b bytes)
+            → Only bytes (λ c. IfSome self.new.beside (λ b. F.beside_leaves b c))) }
+        ensures written { (bytes : List ℕ) → IfSome self.old.beside (λ b. F.is_filled b bytes)
+            → IfSome self.new.beside (λ b. F.is_filled b bytes) }
+        ensures crash { AddsNothing (F.may_leave self.old.files self.old.claim)
+            (F.may_leave self.new.files self.new.claim) }
+        ensures usable { self.new.is_usable ≡ is_ok result }
+        ensures left { self.new.left ≡ self.old.left }
+        ensures whole { self.new.whole ≡ self.old.whole }
+    {
         self.is_usable = match &mut self.beside {
             Some(beside) => has_lasted(self.files.sync_beside(beside), &mut self.cause),
             None => false,
@@ -188,14 +213,45 @@ impl<F: Files + Drop> Folder for FileFolder<F> {
         answer_of(self.is_usable)
     }
 
-    fn lock_beside(&mut self) -> Result<(), FolderError> {
+    fn lock_beside(&mut self) -> Result<(), FolderError>
+        requires { IsTrue self.old.is_usable }
+        ensures locked { OnOk result (IsTrue (is_some self.new.beside)) }
+        ensures beside { AddsNothing (λ c. IfSome self.old.beside (λ b. F.beside_leaves b c))
+            (λ c. IfSome self.new.beside (λ b. F.beside_leaves b c)) }
+        ensures crash { AddsNothing (F.may_leave self.old.files self.old.claim)
+            (F.may_leave self.new.files self.new.claim) }
+        ensures usable { IsTrue self.new.is_usable }
+        ensures same { self.new ≡ self.old }
+    {
         match &self.beside {
             Some(_) => Ok(()),
             None => Err(FolderError::Failed),
         }
     }
 
-    fn rename(&mut self) -> Result<(), FolderError> {
+    fn rename(&mut self) -> Result<(), FolderError>
+        requires usable { IsTrue self.old.is_usable }
+        requires locked { IsTrue (is_some self.old.beside) }
+        ensures named { OnOk result
+            (AddsNothing (λ c. IfSome self.old.beside (λ b. F.beside_leaves b c))
+            (F.placed_leaves self.new.files self.new.claim)) }
+        ensures crash { Adds (λ c. IfSome self.old.beside (λ b. F.beside_leaves b c))
+            (F.may_leave self.old.files self.old.claim)
+            (F.may_leave self.new.files self.new.claim) }
+        ensures refused { IsErrOf result FolderError.NoRoom
+            → AddsNothing (F.may_leave self.old.files self.old.claim)
+            (F.may_leave self.new.files self.new.claim) }
+        ensures usable { IsTrue self.new.is_usable }
+        // Nobody has what is new but the file of this path.
+        ensures whole { IsErrOf result FolderError.Failed
+            → IsSomeAnd self.new.whole
+            (λ path. (bytes : List ℕ) → IfSome self.old.beside (λ b. F.is_filled b bytes)
+            → AreKnown (F.contents self.new.files (string_bytes path)) bytes) }
+        // It is tried again.
+        ensures short { IsErrOf result FolderError.NoRoom
+            → (self.new.beside ≡ self.old.beside) × (self.new.whole ≡ self.old.whole) }
+        ensures left { self.new.left ≡ self.old.left }
+    {
         let Some(beside) = self.beside.take() else {
             return Err(FolderError::Failed);
         };
@@ -214,17 +270,31 @@ impl<F: Files + Drop> Folder for FileFolder<F> {
         }
     }
 
-    fn sync_folder(&mut self) -> Result<(), FolderError> {
+    fn sync_folder(&mut self) -> Result<(), FolderError>
+        requires { IsTrue self.old.is_usable }
+        ensures durable { OnOk result
+            (AddsNothing (F.placed_leaves self.old.files self.old.claim)
+            (F.may_leave self.new.files self.new.claim)) }
+        ensures crash { AddsNothing (F.may_leave self.old.files self.old.claim)
+            (F.may_leave self.new.files self.new.claim) }
+        ensures usable { self.new.is_usable ≡ is_ok result }
+        ensures whole { self.new.whole ≡ self.old.whole }
+        // Nothing is removed before an image is kept.
+        ensures left { OnErr result (self.new.left ≡ self.old.left) }
+        ensures kept { OnErr result
+            (KeepsAll (F.contents self.old.files) (F.contents self.new.files)) }
+        ensures removed { OnOk result (self.new.left.items ≡ []) }
+        ensures others { OnOk result
+            ((path : List ℕ) → All (λ one. F.is_left one path ≡ false) self.old.left.items
+            → Keeps (F.contents self.old.files path) (F.contents self.new.files path)) }
+    {
         self.is_usable = has_lasted(self.files.sync_folder(&self.claim), &mut self.cause);
-        let spent = match self.is_usable {
-            true => self.left.len(),
-            false => 0,
-        };
-        for _ in 0..spent {
-            if let Some(leftover) = self.left.pop() {
-                self.files.remove_leftover(leftover);
-            }
+        if !self.is_usable {
+            return Err(FolderError::Failed);
         }
-        answer_of(self.is_usable)
+        while let Some(leftover) = self.left.pop() {
+            self.files.remove_leftover(leftover);
+        }
+        Ok(())
     }
 }
