@@ -141,7 +141,7 @@ class Instructions(unittest.TestCase):
 
     def counted(self, requests):
         words = ["valgrind", "--tool=callgrind", "--callgrind-out-file=/dev/null", PROGRAM, "pipe",
-                 "--frames", "1024", "--window", "1000000", "--tick", "0", "admin"]
+                 "--frames", "64", "--window", "1000000", "--tick", "0", "admin"]
         data = b"".join(request.frame() for request in requests)
         ran = subprocess.run(words, input=data, stdout=subprocess.DEVNULL, stderr=subprocess.PIPE, check=False)
         if ran.returncode:
