@@ -213,14 +213,14 @@ leaves_change b P Q e p = subst (λ (x : Bool). MatchBool x P Q) (sym e) p
 leaves_all : (b : Bool) (P Q : Type 0) → b ≡ false → Q → MatchBool b P Q
 leaves_all b P Q e q = subst (λ (x : Bool). MatchBool x P Q) (sym e) q
 
-served_change : (d later : DriveFields) (before after : SessionFields) (request : Request) (now : ℕ) (given : Reply) → TakesChange (first_refusal (state_in d) before.role request) d later before after request now given → IsServed d later before after request now given
-served_change d later before after request now given is =
+served_change : (scarce : StoreFields) (d later : DriveFields) (before after : SessionFields) (request : Request) (now : ℕ) (given : Reply) → TakesChange scarce (first_refusal (state_in d) before.role request) d later before after request now given → IsServed scarce d later before after request now given
+served_change scarce d later before after request now given is =
     let accepts : is_acceptance given ≡ true = ap (λ (r : Reply). is_acceptance r) is.reply ∙ accepts_change is.change (stamp (state_in d) now) in
     let as_it_was : judged (history_of d) request now ≡ state_in d = judged-change (history_of d) request now is.change is.asked in
     record {
-      step = step_accepts d later before after before.role request now given is;
-      refused = subst (λ (r : Reply). RefusesBy (refusal_of (store_of d) (judged (history_of d) request now) before.role request now) later request r) (sym is.reply)
-          (accepted_unrefused _ later request is.change (stamp (state_in d) now) (ap (λ (s : State). refusal_of (store_of d) s before.role request now) as_it_was ∙ is.free));
+      step = step_accepts scarce d later before after before.role request now given is;
+      refused = subst (λ (r : Reply). RefusesBy (refusal_of scarce (judged (history_of d) request now) before.role request now) later request r) (sym is.reply)
+          (accepted_unrefused _ later request is.change (stamp (state_in d) now) (ap (λ (s : State). refusal_of scarce s before.role request now) as_it_was ∙ is.free));
       stored = leaves_change (is_acceptance given) ((c : Change) → change_of (state_in d) request ≡ Some c → StoresChange (store_of d) c (stamp (state_in d) now) (store_of later)) (store_of later ≡ store_of d) accepts
           (λ c asked. subst (λ (x : Change). StoresChange (store_of d) x (stamp (state_in d) now) (store_of later)) (same_change (change_of (state_in d) request) is.change c is.asked asked) is.stored);
       fits = subst ReplyFits (sym is.reply) (accepted_fits is.change (stamp (state_in d) now));
@@ -231,14 +231,14 @@ served_change d later before after request now given is =
     }
 
 -- a refused request, from the drive and the session that it leaves
-served_refused : (d later : DriveFields) (before after : SessionFields) (request : Request) (now : ℕ) (e : Refusal)
-    → IsRefusal (first_refusal (judged (history_of d) request now) before.role request) (store_of d) (judged (history_of d) request now) request now e
-    → Sees d later before after now → IsServed d later before after request now (Refused e)
-served_refused d later before after request now e why sees = record {
-  step = subst (λ (l : Ledger). Step (history_of d) before.role request now (Refused e) l.history) (sym sees.0) (step_refuses (history_of d) (store_of d) before.role request now e why);
-  refused = refused_by (first_refusal (judged (history_of d) request now) before.role request) (store_of d) later (judged (history_of d) request now) request now e why;
+served_refused : (scarce : StoreFields) (d later : DriveFields) (before after : SessionFields) (request : Request) (now : ℕ) (e : Refusal)
+    → IsRefusal (first_refusal (judged (history_of d) request now) before.role request) scarce (judged (history_of d) request now) request now e
+    → Sees d later before after now → IsServed scarce d later before after request now (Refused e)
+served_refused scarce d later before after request now e why sees = record {
+  step = subst (λ (l : Ledger). Step (history_of d) before.role request now (Refused e) l.history) (sym sees.0) (step_refuses (history_of d) scarce before.role request now e why);
+  refused = refused_by (first_refusal (judged (history_of d) request now) before.role request) scarce later (judged (history_of d) request now) request now e why;
   stored = sees.1;
-  fits = refusal_fits (judged (history_of d) request now) before.role (store_of d) request now e why;
+  fits = refusal_fits (judged (history_of d) request now) before.role scarce request now e why;
   session = sees.2;
   owners = ap (λ (l : Ledger). l.owners) sees.0;
   fits_before = sees.3;
@@ -246,29 +246,29 @@ served_refused d later before after request now e why sees = record {
 }
 
 -- a change that was refused, and whose moment was seen then
-served_refusal : (d middle later : DriveFields) (before between after : SessionFields) (request : Request) (now : ℕ) (e : Refusal) → judged (history_of d) request now ≡ state_in d
-    → RefusesChange (first_refusal (state_in d) before.role request) d middle before between request now e
-    → Sees middle later between after now → IsServed d later before after request now (Refused e)
-served_refusal d middle later before between after request now e judging is sees =
+served_refusal : (scarce : StoreFields) (d middle later : DriveFields) (before between after : SessionFields) (request : Request) (now : ℕ) (e : Refusal) → judged (history_of d) request now ≡ state_in d
+    → RefusesChange scarce (first_refusal (state_in d) before.role request) d middle before between request now e
+    → Sees middle later between after now → IsServed scarce d later before after request now (Refused e)
+served_refusal scarce d middle later before between after request now e judging is sees =
     let as_it_was : state_in d ≡ judged (history_of d) request now = sym judging in
     let ledger : later.ledger ≡ with_moment d.ledger now = sees.0 ∙ ap (λ (l : Ledger). with_moment l now) is.ledger in
     let store : store_of later ≡ store_of d = sees.1 ∙ is.store in
     let told : after ≡ record before { told = caught_up later.ledger before.told } = sees.2 ∙ ap (λ (x : SessionFields). record x { told = caught_up later.ledger x.told }) is.session in
     let fits : FitsLedger d.ledger before.told = subst (λ (x : SessionFields). FitsLedger d.ledger x.told) is.session (subst (λ (l : Ledger). FitsLedger l between.told) is.ledger sees.3) in
-    served_refused d later before after request now e
-    (subst (λ (s : State). IsRefusal (first_refusal s before.role request) (store_of d) s request now e) as_it_was is.why)
+    served_refused scarce d later before after request now e
+    (subst (λ (s : State). IsRefusal (first_refusal s before.role request) scarce s request now e) as_it_was is.why)
     (ledger, store, told, fits, sees.4)
 
 -- a request for a change, once it was settled
-pub served_settled : (d middle later : DriveFields) (before between after : SessionFields) (request : Request) (now : ℕ) (done : Result Reply Refusal) (given : Reply) → judged (history_of d) request now ≡ state_in d
-    → ComesTo (first_refusal (state_in d) before.role request) d middle before between request now done → IsSettled middle later between after now done given → IsServed d later before after request now given
-served_settled d middle later before between after request now (Ok reply) given judging takes settled =
-    subst (λ (r : Reply). IsServed d later before after request now r) (sym settled.0)
-    (subst (λ (x : DriveFields). IsServed d x before after request now reply) (sym settled.1)
-    (subst (λ (x : SessionFields). IsServed d middle before x request now reply) (sym settled.2) (served_change d middle before between request now reply takes)))
-served_settled d middle later before between after request now (Err e) given judging refuses settled =
-    subst (λ (r : Reply). IsServed d later before after request now r) (sym settled.0)
-    (served_refusal d middle later before between after request now e judging refuses settled.1)
+pub served_settled : (scarce : StoreFields) (d middle later : DriveFields) (before between after : SessionFields) (request : Request) (now : ℕ) (done : Result Reply Refusal) (given : Reply) → judged (history_of d) request now ≡ state_in d
+    → ComesTo scarce (first_refusal (state_in d) before.role request) d middle before between request now done → IsSettled middle later between after now done given → IsServed scarce d later before after request now given
+served_settled scarce d middle later before between after request now (Ok reply) given judging takes settled =
+    subst (λ (r : Reply). IsServed scarce d later before after request now r) (sym settled.0)
+    (subst (λ (x : DriveFields). IsServed scarce d x before after request now reply) (sym settled.1)
+    (subst (λ (x : SessionFields). IsServed scarce d middle before x request now reply) (sym settled.2) (served_change scarce d middle before between request now reply takes)))
+served_settled scarce d middle later before between after request now (Err e) given judging refuses settled =
+    subst (λ (r : Reply). IsServed scarce d later before after request now r) (sym settled.0)
+    (served_refusal scarce d middle later before between after request now e judging refuses settled.1)
 
 -- a request that asks for no change
 abbrev pub IsRead : Request → Type 0
@@ -296,14 +296,14 @@ refuses_judged first store s request now e read out =
     subst (λ (r : Option Refusal). ((e ≡ refusal.NoMemory) × MayLackMemory r request) ⊎ (r ≡ Some e)) same out
 
 -- a read that had no pin, from the drive and the session that it leaves
-served_busy : (d later : DriveFields) (before after : SessionFields) (request : Request) (now : ℕ) (e : Refusal) → IsRead request → e ≡ refusal.Busy
-    → first_refusal (judged (history_of d) request now) before.role request ≡ None → WantsPin later request → Sees d later before after now → IsServed d later before after request now (Refused e)
+served_busy : (scarce : StoreFields) (d later : DriveFields) (before after : SessionFields) (request : Request) (now : ℕ) (e : Refusal) → IsRead request → e ≡ refusal.Busy
+    → first_refusal (judged (history_of d) request now) before.role request ≡ None → WantsPin later request → Sees d later before after now → IsServed scarce d later before after request now (Refused e)
 unfolding IsWhole
-served_busy d later before after request now e read is free wants sees =
+served_busy scarce d later before after request now e read is free wants sees =
     let left : IsLeftOpen e = subst IsLeftOpen (sym is) tt in
     record {
       step = subst (λ (l : Ledger). Step (history_of d) before.role request now (Refused e) l.history) (sym sees.0) (Refuses e refl (AsOpen free left) refl);
-      refused = inr (inr (is, ap (λ (r : Option Refusal). or_then r (want_of (store_of d) (judged (history_of d) request now) request now)) free ∙ read_wants_nothing (store_of d) (judged (history_of d) request now) request now read, wants));
+      refused = inr (inr (is, ap (λ (r : Option Refusal). or_then r (want_of scarce (judged (history_of d) request now) request now)) free ∙ read_wants_nothing scarce (judged (history_of d) request now) request now read, wants));
       stored = sees.1;
       fits = open_is_whole e left;
       session = sees.2;
@@ -323,23 +323,23 @@ seen_still d seen_at later before after now sees ledger store = (
 )
 
 -- a read that was refused, once its moment was seen
-served_untold : (d seen_at later : DriveFields) (before after : SessionFields) (request : Request) (now : ℕ) (e : Refusal) → IsRead request
+served_untold : (scarce : StoreFields) (d seen_at later : DriveFields) (before after : SessionFields) (request : Request) (now : ℕ) (e : Refusal) → IsRead request
     → Sees d seen_at before after now → later.ledger ≡ seen_at.ledger → store_of later ≡ store_of seen_at
-    → IsUnplanned (first_refusal (state_in seen_at) before.role request) later request e → IsServed d later before after request now (Refused e)
-served_untold d seen_at later before after request now e read sees ledger store (inl out) =
+    → IsUnplanned (first_refusal (state_in seen_at) before.role request) later request e → IsServed scarce d later before after request now (Refused e)
+served_untold scarce d seen_at later before after request now e read sees ledger store (inl out) =
     let judging : state_in seen_at ≡ judged (history_of d) request now = ap (λ (l : Ledger). state_of l.history) sees.0 ∙ read_is_judged (history_of d) request now read in
-    served_refused d later before after request now e
-    (refuses_judged (first_refusal (judged (history_of d) request now) before.role request) (store_of d) (judged (history_of d) request now) request now e read
+    served_refused scarce d later before after request now e
+    (refuses_judged (first_refusal (judged (history_of d) request now) before.role request) scarce (judged (history_of d) request now) request now e read
     (subst (λ (s : State). IsJudgedOut (first_refusal s before.role request) request e) judging out)) (seen_still d seen_at later before after now sees ledger store)
-served_untold d seen_at later before after request now e read sees ledger store (inr busy) =
+served_untold scarce d seen_at later before after request now e read sees ledger store (inr busy) =
     let judging : state_in seen_at ≡ judged (history_of d) request now = ap (λ (l : Ledger). state_of l.history) sees.0 ∙ read_is_judged (history_of d) request now read in
-    served_busy d later before after request now e read busy.0 (subst (λ (s : State). first_refusal s before.role request ≡ None) judging busy.1) busy.2 (seen_still d seen_at later before after now sees ledger store)
+    served_busy scarce d later before after request now e read busy.0 (subst (λ (s : State). first_refusal s before.role request ≡ None) judging busy.1) busy.2 (seen_still d seen_at later before after now sees ledger store)
 
 -- and one that was answered
-pub served_told : (d seen_at later : DriveFields) (before after : SessionFields) (request : Request) (now : ℕ) (given : Reply) → IsRead request
+pub served_told : (scarce : StoreFields) (d seen_at later : DriveFields) (before after : SessionFields) (request : Request) (now : ℕ) (given : Reply) → IsRead request
     → Sees d seen_at before after now → later.ledger ≡ seen_at.ledger → store_of later ≡ store_of seen_at
-    → first_refusal (state_in seen_at) before.role request ≡ None → reply_to_read (state_in seen_at) request ≡ Some given → ReplyFits given → IsServed d later before after request now given
-served_told d seen_at later before after request now given read sees ledger store free tells fits =
+    → first_refusal (state_in seen_at) before.role request ≡ None → reply_to_read (state_in seen_at) request ≡ Some given → ReplyFits given → IsServed scarce d later before after request now given
+served_told scarce d seen_at later before after request now given read sees ledger store free tells fits =
     let judging : state_in seen_at ≡ judged (history_of d) request now = ap (λ (l : Ledger). state_of l.history) sees.0 ∙ read_is_judged (history_of d) request now read in
     let told : IsTold given = read_is_told (state_in seen_at) request given tells in
     let nothing : is_acceptance given ≡ false = told_accepts_nothing given told in
@@ -348,7 +348,7 @@ served_told d seen_at later before after request now given read sees ledger stor
       step = subst (λ (l : Ledger). Step (history_of d) before.role request now given l.history) (sym (ledger ∙ sees.0))
           (step_tells (history_of d) before.role request now given unrefused (subst (λ (s : State). reply_to_read s request ≡ Some given) judging tells));
       refused = told_unrefused _ later request given told
-          (ap (λ (r : Option Refusal). or_then r (want_of (store_of d) (judged (history_of d) request now) request now)) unrefused ∙ read_wants_nothing (store_of d) (judged (history_of d) request now) request now read);
+          (ap (λ (r : Option Refusal). or_then r (want_of scarce (judged (history_of d) request now) request now)) unrefused ∙ read_wants_nothing scarce (judged (history_of d) request now) request now read);
       stored = leaves_all (is_acceptance given) ((c : Change) → change_of (state_in d) request ≡ Some c → StoresChange (store_of d) c (stamp (state_in d) now) (store_of later)) (store_of later ≡ store_of d) nothing (store ∙ sees.1);
       fits = fits;
       session = sees.2 ∙ ap (λ (l : Ledger). record before { told = caught_up l before.told }) (sym ledger)
@@ -359,24 +359,24 @@ served_told d seen_at later before after request now given read sees ledger stor
     }
 
 -- so of a read, whatever was told
-pub served_read : (d seen_at later : DriveFields) (before after : SessionFields) (role : Role) (request : Request) (now : ℕ) (told : Result Reply Refusal) (given : Reply) → IsRead request
+pub served_read : (scarce : StoreFields) (d seen_at later : DriveFields) (before after : SessionFields) (role : Role) (request : Request) (now : ℕ) (told : Result Reply Refusal) (given : Reply) → IsRead request
     → Sees d seen_at before after now → later.ledger ≡ seen_at.ledger → store_of later ≡ store_of seen_at → role ≡ before.role
     → IfOk told (λ reply. (first_refusal (state_in seen_at) role request ≡ None) × (reply_to_read (state_in seen_at) request ≡ Some reply)) → IfOk told ReplyFits
     → IfErr told (IsUnplanned (first_refusal (state_in seen_at) role request) later request)
-    → MatchResult told (λ reply. given ≡ reply) (λ e. given ≡ Refused e) → IsServed d later before after request now given
-served_read d seen_at later before after role request now (Ok reply) given read sees ledger store same ok fits out is =
-    subst (λ (r : Reply). IsServed d later before after request now r) (sym is)
-    (served_told d seen_at later before after request now reply read sees ledger store (subst (λ (r : Role). first_refusal (state_in seen_at) r request ≡ None) same ok.0) ok.1 fits)
-served_read d seen_at later before after role request now (Err e) given read sees ledger store same ok fits out is =
-    subst (λ (r : Reply). IsServed d later before after request now r) (sym is)
-    (served_untold d seen_at later before after request now e read sees ledger store (subst (λ (r : Role). IsUnplanned (first_refusal (state_in seen_at) r request) later request e) same out))
+    → MatchResult told (λ reply. given ≡ reply) (λ e. given ≡ Refused e) → IsServed scarce d later before after request now given
+served_read scarce d seen_at later before after role request now (Ok reply) given read sees ledger store same ok fits out is =
+    subst (λ (r : Reply). IsServed scarce d later before after request now r) (sym is)
+    (served_told scarce d seen_at later before after request now reply read sees ledger store (subst (λ (r : Role). first_refusal (state_in seen_at) r request ≡ None) same ok.0) ok.1 fits)
+served_read scarce d seen_at later before after role request now (Err e) given read sees ledger store same ok fits out is =
+    subst (λ (r : Reply). IsServed scarce d later before after request now r) (sym is)
+    (served_untold scarce d seen_at later before after request now e read sees ledger store (subst (λ (r : Role). IsUnplanned (first_refusal (state_in seen_at) r request) later request e) same out))
 
 -- so of a read that was planned, or wasn't
-pub served_planned : (d seen_at later : DriveFields) (before after : SessionFields) (request : Request) (now : ℕ) (planned : Result PlanFields Refusal) → IsRead request
+pub served_planned : (scarce : StoreFields) (d seen_at later : DriveFields) (before after : SessionFields) (request : Request) (now : ℕ) (planned : Result PlanFields Refusal) → IsRead request
     → Sees d seen_at before after now → later.ledger ≡ seen_at.ledger → store_of later ≡ store_of seen_at
     → OnOk planned ((role : Role) → first_refusal (state_in seen_at) role request ≡ None) → IfOk planned (λ plan. reply_to_read (state_in seen_at) request ≡ Some (Data (bytes_planned plan))) → IfOk planned (λ plan. ReplyFits (Data (bytes_planned plan)))
-    → IfErr planned (λ e. (role : Role) → IsUnplanned (first_refusal (state_in seen_at) role request) later request e) → IsServed d later before after request now (reply_planned planned)
-served_planned d seen_at later before after request now (Ok plan) read sees ledger store free tells fits out =
-    served_told d seen_at later before after request now (Data (bytes_planned plan)) read sees ledger store (free before.role) tells fits
-served_planned d seen_at later before after request now (Err e) read sees ledger store free tells fits out =
-    served_untold d seen_at later before after request now e read sees ledger store (out before.role)
+    → IfErr planned (λ e. (role : Role) → IsUnplanned (first_refusal (state_in seen_at) role request) later request e) → IsServed scarce d later before after request now (reply_planned planned)
+served_planned scarce d seen_at later before after request now (Ok plan) read sees ledger store free tells fits out =
+    served_told scarce d seen_at later before after request now (Data (bytes_planned plan)) read sees ledger store (free before.role) tells fits
+served_planned scarce d seen_at later before after request now (Err e) read sees ledger store free tells fits out =
+    served_untold scarce d seen_at later before after request now e read sees ledger store (out before.role)

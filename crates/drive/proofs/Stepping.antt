@@ -149,9 +149,9 @@ pub step_takes : (h : History) (role : Role) (request : Request) (now : ℕ) (ch
 step_takes h role request now change free asked =
     Serves (Took (accepted_record (state_of h) change now)) (ap (λ (s : State). first_refusal s role request) (judged-change h request now change asked) ∙ free) (Alters change asked refl refl) refl
 
-pub step_accepts : (d later : DriveFields) (before after : SessionFields) (role : Role) (request : Request) (now : ℕ) (reply : Reply) → TakesChange (first_refusal (state_in d) role request) d later before after request now reply → Step d.ledger.history role request now reply later.ledger.history
-step_accepts d later before after role request now reply is =
-    let step = step_takes d.ledger.history role request now is.change (or_then_none (first_refusal (state_in d) role request) (want_of (store_of d) (state_in d) request now) is.free).0 is.asked in
+pub step_accepts : (scarce : StoreFields) (d later : DriveFields) (before after : SessionFields) (role : Role) (request : Request) (now : ℕ) (reply : Reply) → TakesChange scarce (first_refusal (state_in d) role request) d later before after request now reply → Step d.ledger.history role request now reply later.ledger.history
+step_accepts scarce d later before after role request now reply is =
+    let step = step_takes d.ledger.history role request now is.change (or_then_none (first_refusal (state_in d) role request) (want_of scarce (state_in d) request now) is.free).0 is.asked in
     subst (λ (r : Reply). Step d.ledger.history role request now r later.ledger.history) (sym is.reply)
     (subst (λ (x : Ledger). Step d.ledger.history role request now (reply_to_change (state_in d) is.change now) x.history) (sym is.ledger) step)
 

@@ -1,6 +1,6 @@
 -- Changes that make a version.
 use Rattle.std.proofs.Common.{◌≡◌, ℕ, ◌==◌, ◌||◌, ◌⊎◌, inl, inr, Bool, true, false, cond, Option, None, Some, refl, sym, ap, subst, ◌∙◌, arith}
-use Rattle.std.specs.Prelude.{is_some, MatchBool}
+use Rattle.std.specs.Prelude.{is_some, MatchBool, Result, Ok, Err}
 use Rattle.std.proofs.lemmas.Bool.{false≢true}
 use Rattle.std.proofs.lemmas.Option.{none-some, same_Some}
 use Rattle.std.specs.Option.{option_and_then}
@@ -11,6 +11,7 @@ use Rattle.s4_types.specs.declared.changes.Change.TheVariants as change
 use Rattle.s4_types.specs.declared.requests.Request.{Request}
 use Rattle.s4_types.specs.declared.requests.Request.TheVariants.{Update, Query, Control}
 use Rattle.s4_types.specs.declared.requests.ObjectRequest.{ObjectRequest}
+use Rattle.s4_types.specs.declared.requests.AdminRequest.{AdminRequest}
 use Rattle.s4_types.specs.declared.requests.AdminRequest.TheVariants.{SetWindow, Flush, FlushO}
 use Rattle.s4_types.specs.declared.refusals.Refusal.{Refusal}
 use Rattle.s4_types.specs.declared.replies.Reply.{Reply}
@@ -30,12 +31,12 @@ use Rattle.object_map.specs.Rows.{row_of}
 use Rattle.version_store.specs.Store.{StoreFields, IsStore}
 use Rattle.s4_model.specs.Effect.{is_of_versions, object_of}
 use Rattle.version_store.specs.Versions.{inode_by, version_by, version_in, version_taken}
-use Rattle.version_store.specs.Costs.{change_refusal}
+use Rattle.version_store.specs.Costs.{change_refusal, short_of}
 use Rattle.version_store.specs.Taking.{IsThere, IsReadyFor, RowChanges, AppendsBy}
 use Rattle.version_store.specs.Laws.{ThePresentStays}
 use Rattle.drive.specs.Keeping.{IsKeptDrive}
 use Rattle.drive.specs.Fields.{DriveFields, SessionFields, store_of, state_in}
-use Rattle.drive.specs.Answering.{StoresVersion, StoresChange, TakesChange, RefusesChange}
+use Rattle.drive.specs.Answering.{StoresVersion, StoresChange, TakesChange, RefusesChange, ComesTo}
 use Rattle.drive.specs.Refusing.{or_then, storing_refusal, want_of, IsOfBlocks, MayLackMemory, IsRefusal}
 use Rattle.drive.proofs.Kept.{kept_taken, given_by}
 use Rattle.drive.proofs.Unversioned.{StateByChanges}
@@ -144,33 +145,44 @@ refuses_it first store s request now m c e asked ready free at (inl is) memory =
 refuses_it first store s request now m c e asked ready free at (inr is) memory =
     inr (ap (λ (r : Option Refusal). or_then r (want_of store s request now)) free ∙ wants_so store s request now c e asked ready (subst (λ (t : ℕ). change_refusal store c t ≡ Some e) at is))
 
+-- a store with fewer places ahead is ready for the same changes
+ready_short : (least : ℕ) (store : StoreFields) (c : Change) → IsReadyFor store c → IsReadyFor (short_of least store) c
+ready_short least store (change.Create object attribute) ready = ready
+ready_short least store (change.Delete object) ready = ready
+ready_short least store (change.Write object offset bytes) ready = ready
+ready_short least store (change.Truncate object n) ready = ready
+ready_short least store (change.SetAttr object attribute) ready = ready
+ready_short least store (change.SetWindow window) ready = ready
+ready_short least store (change.Flush first last) ready = ready
+ready_short least store (change.FlushO object first last) ready = ready
+
 -- a change that its store doesn't take is refused before anything has changed
-pub refuses_untaken : (first : Option Refusal) (d later : DriveFields) (before : SessionFields) (request : Request) (now m : ℕ) (c : Change) (e : Refusal) (store : StoreFields)
+pub refuses_untaken : (least : ℕ) (first : Option Refusal) (d later : DriveFields) (before : SessionFields) (request : Request) (now m : ℕ) (c : Change) (e : Refusal) (store : StoreFields)
     → later.ledger ≡ d.ledger → store_of later ≡ store_of d → store ≡ store_of d
     → change_of (state_in d) request ≡ Some c → IsReadyFor (store_of d) c → first ≡ None → m ≡ stamp (state_in d) now
-    → (e ≡ NoMemory) ⊎ (change_refusal store c m ≡ Some e) → (e ≡ NoMemory → (change_refusal store c m ≡ None) × (row_of store.rows (object_of c) ≡ None))
-    → RefusesChange first d later before before request now e
-refuses_untaken first d later before request now m c e store ledger same held asked ready free at answer memory = record {
-  why = refuses_it first (store_of d) (state_in d) request now m c e asked ready free at
-      (subst (λ (x : StoreFields). (e ≡ NoMemory) ⊎ (change_refusal x c m ≡ Some e)) held answer)
-      (subst (λ (x : StoreFields). e ≡ NoMemory → (change_refusal x c m ≡ None) × (row_of x.rows (object_of c) ≡ None)) held memory);
+    → (e ≡ NoMemory) ⊎ (change_refusal (short_of least store) c m ≡ Some e) → (e ≡ NoMemory → (change_refusal (short_of least store) c m ≡ None) × (row_of store.rows (object_of c) ≡ None))
+    → RefusesChange (short_of least (store_of d)) first d later before before request now e
+refuses_untaken least first d later before request now m c e store ledger same held asked ready free at answer memory = record {
+  why = refuses_it first (short_of least (store_of d)) (state_in d) request now m c e asked (ready_short least (store_of d) c ready) free at
+      (subst (λ (x : StoreFields). (e ≡ NoMemory) ⊎ (change_refusal (short_of least x) c m ≡ Some e)) held answer)
+      (subst (λ (x : StoreFields). e ≡ NoMemory → (change_refusal (short_of least x) c m ≡ None) × (row_of x.rows (object_of c) ≡ None)) held memory);
   ledger = ledger;
   store = same;
   session = refl;
 }
 
 -- a change that its store takes is accepted
-pub takes_stored : (first : Option Refusal) (d later : DriveFields) (before after : SessionFields) (request : Request) (now m : ℕ) (c : Change) (given : Reply) (l : Ledger) (session : SessionFields) (store : StoreFields)
+pub takes_stored : (least : ℕ) (first : Option Refusal) (d later : DriveFields) (before after : SessionFields) (request : Request) (now m : ℕ) (c : Change) (given : Reply) (l : Ledger) (session : SessionFields) (store : StoreFields)
     → store ≡ store_of d → l ≡ d.ledger → session ≡ before
-    → change_of (state_in d) request ≡ Some c → IsReadyFor (store_of d) c → first ≡ None → m ≡ stamp (state_in d) now → change_refusal store c m ≡ None
+    → change_of (state_in d) request ≡ Some c → IsReadyFor (store_of d) c → first ≡ None → m ≡ stamp (state_in d) now → change_refusal (short_of least store) c m ≡ None
     → AppendsBy store c m (store_of later).log → RowChanges store (object_of c) m (store_of later).rows → (store_of later).latest ≡ m
     → later.ledger ≡ with_change l session.told.seat m c → given ≡ reply_at c m
     → after ≡ record session { told = credited later.ledger session.told } → FitsLedger l session.told → FitsLedger later.ledger after.told
-    → TakesChange first d later before after request now given
-takes_stored first d later before after request now m c given l session store held ledger same asked ready free at fits blocks rows latest goes reply told true_before true_after = record {
+    → TakesChange (short_of least (store_of d)) first d later before after request now given
+takes_stored least first d later before after request now m c given l session store held ledger same asked ready free at fits blocks rows latest goes reply told true_before true_after = record {
   change = c;
-  free = ap (λ (r : Option Refusal). or_then r (want_of (store_of d) (state_in d) request now)) free
-      ∙ wants_none (store_of d) (state_in d) request now c asked (subst (λ (t : ℕ). change_refusal (store_of d) c t ≡ None) at (subst (λ (x : StoreFields). change_refusal x c m ≡ None) held fits));
+  free = ap (λ (r : Option Refusal). or_then r (want_of (short_of least (store_of d)) (state_in d) request now)) free
+      ∙ wants_none (short_of least (store_of d)) (state_in d) request now c asked (subst (λ (t : ℕ). change_refusal (short_of least (store_of d)) c t ≡ None) at (subst (λ (x : StoreFields). change_refusal (short_of least x) c m ≡ None) held fits));
   asked = asked;
   reply = reply ∙ ap (λ (t : ℕ). reply_at c t) at;
   ledger = goes ∙ ap (λ (x : Ledger). with_change x session.told.seat m c) ledger ∙ ap (λ (x : SessionFields). with_change d.ledger x.told.seat m c) same ∙ ap (λ (t : ℕ). with_change d.ledger before.told.seat t c) at;
@@ -182,8 +194,8 @@ takes_stored first d later before after request now m c given l session store he
 }
 
 -- a change that the checks refuse is refused before anything has changed
-pub refuses_checked : (first : Option Refusal) (d : DriveFields) (before : SessionFields) (request : Request) (now : ℕ) (e : Refusal) → first ≡ Some e → RefusesChange first d d before before request now e
-refuses_checked first d before request now e is = record { why = inr (ap (λ (r : Option Refusal). or_then r (want_of (store_of d) (state_in d) request now)) is); ledger = refl; store = refl; session = refl }
+pub refuses_checked : (scarce : StoreFields) (first : Option Refusal) (d : DriveFields) (before : SessionFields) (request : Request) (now : ℕ) (e : Refusal) → first ≡ Some e → RefusesChange scarce first d d before before request now e
+refuses_checked scarce first d before request now e is = record { why = inr (ap (λ (r : Option Refusal). or_then r (want_of scarce (state_in d) request now)) is); ledger = refl; store = refl; session = refl }
 
 -- ---- no room for a row
 
@@ -209,10 +221,10 @@ of_want first store s request now free =
     subst (λ (r : Option Refusal). IsOfBlocks (or_then r (want_of store s request now))) (sym free) (of_wanted store (stamp s now) (change_of s request))
 
 -- a change that has no room for its row is refused before anything has changed
-pub refuses_roomless : (first : Option Refusal) (d later : DriveFields) (before : SessionFields) (update : ObjectRequest) (now : ℕ) (e : Refusal)
-    → later.ledger ≡ d.ledger → store_of later ≡ store_of d → first ≡ None → e ≡ NoMemory → RefusesChange first d later before before (Update update) now e
-refuses_roomless first d later before update now e ledger same free is = record {
-  why = inl (is, of_want first (store_of d) (state_in d) (Update update) now free);
+pub refuses_roomless : (scarce : StoreFields) (first : Option Refusal) (d later : DriveFields) (before : SessionFields) (update : ObjectRequest) (now : ℕ) (e : Refusal)
+    → later.ledger ≡ d.ledger → store_of later ≡ store_of d → first ≡ None → e ≡ NoMemory → RefusesChange scarce first d later before before (Update update) now e
+refuses_roomless scarce first d later before update now e ledger same free is = record {
+  why = inl (is, of_want first scarce (state_in d) (Update update) now free);
   ledger = ledger;
   store = same;
   session = refl;
@@ -223,12 +235,42 @@ none_wanted : (store : StoreFields) (m : ℕ) (c : Change) → is_of_versions c 
 none_wanted store m c none = ap (λ (b : Bool). cond b (change_refusal store c m) None) none
 
 -- so is one that makes no version, where nothing refuses it
-pub refuses_roomless_control : (first : Option Refusal) (d later : DriveFields) (before : SessionFields) (request : Request) (now : ℕ) (e : Refusal)
-    → MayLackMemory None request → or_then first (want_of (store_of d) (state_in d) request now) ≡ None → later.ledger ≡ d.ledger → store_of later ≡ store_of d → e ≡ NoMemory
-    → RefusesChange first d later before before request now e
-refuses_roomless_control first d later before request now e may free ledger same is = record {
+pub refuses_roomless_control : (scarce : StoreFields) (first : Option Refusal) (d later : DriveFields) (before : SessionFields) (request : Request) (now : ℕ) (e : Refusal)
+    → MayLackMemory None request → or_then first (want_of scarce (state_in d) request now) ≡ None → later.ledger ≡ d.ledger → store_of later ≡ store_of d → e ≡ NoMemory
+    → RefusesChange scarce first d later before before request now e
+refuses_roomless_control scarce first d later before request now e may free ledger same is = record {
   why = inl (is, subst (λ (r : Option Refusal). MayLackMemory r request) (sym free) may);
   ledger = ledger;
   store = same;
   session = refl;
+}
+
+-- what makes no version lacks no blocks, however few there are
+control_wants : (store : StoreFields) (s : State) (control : AdminRequest) (now : ℕ) → want_of store s (Control control) now ≡ None
+control_wants store s (SetWindow window) now = refl
+control_wants store s (Flush first last) now = refl
+control_wants store s (FlushO object first last) now = refl
+
+wants_alike : (store other : StoreFields) (s : State) (control : AdminRequest) (now : ℕ) → want_of store s (Control control) now ≡ want_of other s (Control control) now
+wants_alike store other s control now = control_wants store s control now ∙ sym (control_wants other s control now)
+
+-- so it comes to the same over a store with fewer places
+pub control_of_any : (scarce store : StoreFields) (first : Option Refusal) (d later : DriveFields) (before after : SessionFields) (control : AdminRequest) (now : ℕ) (done : Result Reply Refusal)
+    → ComesTo store first d later before after (Control control) now done → ComesTo scarce first d later before after (Control control) now done
+control_of_any scarce store first d later before after control now (Ok reply) takes = record {
+  change = takes.change;
+  free = subst (λ (w : Option Refusal). or_then first w ≡ None) (wants_alike store scarce (state_in d) control now) takes.free;
+  asked = takes.asked;
+  reply = takes.reply;
+  ledger = takes.ledger;
+  stored = takes.stored;
+  told = takes.told;
+  true_before = takes.true_before;
+  true_after = takes.true_after;
+}
+control_of_any scarce store first d later before after control now (Err e) refuses = record {
+  why = subst (λ (w : Option Refusal). ((e ≡ NoMemory) × MayLackMemory (or_then first w) (Control control)) ⊎ (or_then first w ≡ Some e)) (wants_alike store scarce (state_in d) control now) refuses.why;
+  ledger = refuses.ledger;
+  store = refuses.store;
+  session = refuses.session;
 }

@@ -114,9 +114,9 @@ pub refuses_first : (first want : Option Refusal) (e : Refusal) → first ≡ So
 refuses_first first want e is = ap (λ (r : Option Refusal). or_then r want) is
 
 -- a bad span is refused before anything has changed
-pub refuses_bad : (first : Option Refusal) (d : DriveFields) (before : SessionFields) (request : Request) (now : ℕ) (e : Refusal) → first ≡ Some BadSpan → e ≡ BadSpan → RefusesChange first d d before before request now e
-refuses_bad first d before request now e is same = record {
-  why = inr (refuses_first first (want_of (store_of d) (state_in d) request now) e (is ∙ ap (λ (r : Refusal). Some r) (sym same)));
+pub refuses_bad : (scarce : StoreFields) (first : Option Refusal) (d : DriveFields) (before : SessionFields) (request : Request) (now : ℕ) (e : Refusal) → first ≡ Some BadSpan → e ≡ BadSpan → RefusesChange scarce first d d before before request now e
+refuses_bad scarce first d before request now e is same = record {
+  why = inr (refuses_first first (want_of scarce (state_in d) request now) e (is ∙ ap (λ (r : Refusal). Some r) (sym same)));
   ledger = refl;
   store = refl;
   session = refl;

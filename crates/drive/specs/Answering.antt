@@ -12,7 +12,7 @@ use Rattle.s4_model.specs.State.{State}
 use Rattle.s4_model.specs.VersionAt.{version_of}
 use Rattle.s4_model.specs.Refusals.{moment_refusal, is_absent, asked}
 use Rattle.s4_types.specs.Sizes.{ReplyFits}
-use Rattle.s4_model.specs.Step.{Step, change_of, stamp, reply_to_change, reply_to_read}
+use Rattle.s4_model.specs.Step.{Step, judged, change_of, stamp, reply_to_change, reply_to_read}
 use Rattle.segment_word.specs.AcceptViews.{Ledger, Told, with_change, with_moment, caught_up, credited}
 use Rattle.codec.specs.declared.inodes.Inode.{Inode}
 use Rattle.inode.specs.Contents.{contents_of, bytes_of}
@@ -26,7 +26,7 @@ use Rattle.atomic_table.specs.Seated.{TableId}
 use Rattle.time_read.specs.Plans.{PlanFields, IsAt, bytes_planned, pieces_of, pins_held, is_pinned, is_pinned_in}
 use Rattle.version_store.specs.Versions.{inode_in}
 use Rattle.drive.specs.Fields.{DriveFields, SessionFields, history_of, store_of, state_in}
-use Rattle.drive.specs.Refusing.{or_then, want_of, RefusesExactly, IsRefusal}
+use Rattle.drive.specs.Refusing.{or_then, want_of, refusal_of, RefusesBy, IsRefusal}
 
 -- a reply to an accepted change
 abbrev pub is_acceptance : Reply → Bool
@@ -60,11 +60,11 @@ Leaves store s request now reply after = MatchBool (is_acceptance reply)
     ((change : Change) → change_of s request ≡ Some change → StoresChange store change (stamp s now) after)
     (after ≡ store)
 
--- A change was accepted for a session, where the checks refuse so: neither they nor lack of blocks refused it, the history
--- has it, its blocks and its row are stored, and the session was told.
-pub record TakesChange (first : Option Refusal) (d later : DriveFields) (before after : SessionFields) (request : Request) (now : ℕ) (given : Reply) : Type 0 where
+-- A change was accepted for a session, where the checks refuse so, and lack of blocks is judged by this store, which may be one
+-- with fewer places ahead: neither refused it, the history has it, its blocks and its row are stored, and the session was told.
+pub record TakesChange (scarce : StoreFields) (first : Option Refusal) (d later : DriveFields) (before after : SessionFields) (request : Request) (now : ℕ) (given : Reply) : Type 0 where
   pub change : Change
-  pub free : or_then first (want_of (store_of d) (state_in d) request now) ≡ None
+  pub free : or_then first (want_of scarce (state_in d) request now) ≡ None
   pub asked : change_of (state_in d) request ≡ Some change
   pub reply : given ≡ reply_to_change (state_in d) change now
   pub ledger : later.ledger ≡ with_change d.ledger before.told.seat (stamp (state_in d) now) change
@@ -74,16 +74,16 @@ pub record TakesChange (first : Option Refusal) (d later : DriveFields) (before 
   pub true_after : FitsLedger later.ledger after.told
 
 -- a change was refused: nothing has changed yet
-pub record RefusesChange (first : Option Refusal) (d later : DriveFields) (before after : SessionFields) (request : Request) (now : ℕ) (given : Refusal) : Type 0 where
-  pub why : IsRefusal first (store_of d) (state_in d) request now given
+pub record RefusesChange (scarce : StoreFields) (first : Option Refusal) (d later : DriveFields) (before after : SessionFields) (request : Request) (now : ℕ) (given : Refusal) : Type 0 where
+  pub why : IsRefusal first scarce (state_in d) request now given
   pub ledger : later.ledger ≡ d.ledger
   pub store : store_of later ≡ store_of d
   pub session : after ≡ before
 
 -- what a request for a change came to
-abbrev pub ComesTo : Option Refusal → DriveFields → DriveFields → SessionFields → SessionFields → Request → ℕ → Result Reply Refusal → Type 0
-ComesTo first d later before after request now result =
-    MatchResult result (TakesChange first d later before after request now) (RefusesChange first d later before after request now)
+abbrev pub ComesTo : StoreFields → Option Refusal → DriveFields → DriveFields → SessionFields → SessionFields → Request → ℕ → Result Reply Refusal → Type 0
+ComesTo scarce first d later before after request now result =
+    MatchResult result (TakesChange scarce first d later before after request now) (RefusesChange scarce first d later before after request now)
 
 -- a moment was seen, and the session has seen all accepted changes
 abbrev pub Sees : DriveFields → DriveFields → SessionFields → SessionFields → ℕ → Type 0
@@ -97,10 +97,10 @@ IsSettled d later before after now done given =
     (λ reply. (given ≡ reply) × (later ≡ d) × (after ≡ before))
     (λ e. (given ≡ Refused e) × Sees d later before after now)
 
--- All that a request came to.
-pub record IsServed (d later : DriveFields) (before after : SessionFields) (request : Request) (now : ℕ) (given : Reply) : Type 0 where
+-- All that a request came to, where lack of blocks is judged by this store.
+pub record IsServed (scarce : StoreFields) (d later : DriveFields) (before after : SessionFields) (request : Request) (now : ℕ) (given : Reply) : Type 0 where
   pub step : Step (history_of d) before.role request now given (history_of later)
-  pub refused : RefusesExactly d before.role request now given later
+  pub refused : RefusesBy (refusal_of scarce (judged (history_of d) request now) before.role request now) later request given
   pub stored : Leaves (store_of d) (state_in d) request now given (store_of later)
   pub fits : ReplyFits given
   pub session : after ≡ record before { told = told_after given later.ledger before.told }

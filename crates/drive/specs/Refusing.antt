@@ -18,7 +18,7 @@ use Rattle.s4_model.specs.Refusals.{first_refusal, asked, is_one_span_too_many, 
 use Rattle.s4_model.specs.Step.{change_of, stamp, judged}
 use Rattle.s4_model.specs.Effect.{is_of_versions}
 use Rattle.version_store.specs.Store.{StoreFields}
-use Rattle.version_store.specs.Costs.{change_refusal}
+use Rattle.version_store.specs.Costs.{change_refusal, short_of}
 use Rattle.version_store.specs.Versions.{inode_in}
 use Rattle.time_read.specs.Plans.{pieces_of, is_pinned}
 use Rattle.drive.specs.Fields.{DriveFields, history_of, store_of, state_in}
@@ -86,6 +86,11 @@ RefusesBy why d request _ = why ≡ None
 -- of memory and of a pin, as told above. A pin is wanted over the drive as it is afterwards.
 abbrev pub RefusesExactly : DriveFields → Role → Request → ℕ → Reply → DriveFields → Type 0
 RefusesExactly d role request now reply later = RefusesBy (refusal_of (store_of d) (judged (history_of d) request now) role request now) later request reply
+
+-- The same of a drive that keeps this many blocks back: NoSpace is judged by its room less these, down to none, and nothing
+-- else is judged by its room.
+abbrev pub RefusesLeaving : ℕ → DriveFields → Role → Request → ℕ → Reply → DriveFields → Type 0
+RefusesLeaving least d role request now reply later = RefusesBy (refusal_of (short_of least (store_of d)) (judged (history_of d) request now) role request now) later request reply
 
 -- Where the reply to a request at a moment is lack of memory, the checks over the drive, as it was before, leave it room.
 abbrev pub LacksMemoryInPlace : DriveFields → Role → Request → ℕ → Reply → Type 0

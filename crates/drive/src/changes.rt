@@ -1,15 +1,17 @@
 //! Changes of objects: judged by the present inode, then stored and accepted.
 ghost use Rattle.std.specs.Prelude.{◌≡◌, ◌+◌, ◌<◌, max, None, Some, option_copied, IfOk, IfErr};
+ghost use Rattle.std.specs.Prelude.{nat_lt};
 ghost use Rattle.std.specs.Prelude.{OnOk};
 ghost use Rattle.s4_types.specs.declared.requests.Request.TheVariants.{Update};
 ghost use Rattle.s4_model.specs.Numbers.{next_by};
 ghost use Rattle.s4_model.specs.State.{took};
-ghost use Rattle.s4_model.specs.Refusals.{last_number};
+ghost use Rattle.s4_model.specs.Refusals.{last_number, present, size_of as size_in};
 ghost use Rattle.s4_model.specs.Step.{change_of, stamp, accepted_record, reply_at};
 ghost use Rattle.s4_model.specs.Sound.{IsSound};
 ghost use Rattle.s4_model.specs.Plain.{HasNext};
 ghost use Rattle.drive.specs.Later.{later_refusal, IsWithin};
 ghost use Rattle.version_store.specs.Taking.{Takes};
+ghost use Rattle.version_store.specs.Costs.{short_of};
 ghost use Rattle.drive.specs.Fields.{state_in, store_of};
 ghost use Rattle.drive.specs.Answering.{ComesTo, size_by};
 
@@ -98,21 +100,34 @@ impl<J: Naming> Drive<J> {
         Ok(Judged { change, moment })
     }
 
-    /// A request for a version of an object, once `check_update` let it pass.
+    /// Whether an object has more bytes than this now; an absent one counts as empty. No memory is
+    /// taken.
+    pub fn is_longer(&self, object: ObjectId, size: u64) -> bool
+        ensures { result ≡ nat_lt size (size_in (present (state_in self.now) object)) }
+    {
+        what_changes_of_objects_rest_on();
+        let found = self.store.present(object);
+        let has = size_of(found).unwrap_or(0);
+        size < has
+    }
+
+    /// A request for a version of an object, once `check_update` let it pass. NoSpace is judged by
+    /// the room less `least`.
     pub(crate) fn change_object(
         &mut self,
         session: &mut Session<J>,
         update: ObjectRequest,
         now: Moment,
+        least: usize,
     ) -> Result<Reply, Refusal>
         requires within { IsWithin (Update update) }
-        ensures { ComesTo (later_refusal (state_in self.old) (Update update)) self.old self.new
-            session.old session.new (Update update) now result }
+        ensures { ComesTo (short_of least (store_of self.old)) (later_refusal (state_in self.old) (Update update))
+            self.old self.new session.old session.new (Update update) now result }
     {
         what_changes_of_objects_rest_on();
         let Judged { change, moment } = self.judge_object(update, now)?;
         self.audit.reserve()?;
-        self.store.take(&change, moment)?;
+        self.store.take(&change, moment, least)?;
         self.window.stamp(now);
         self.next = next_after(&change, self.next);
         self.audit.push(row_of(&change, moment));

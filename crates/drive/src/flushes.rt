@@ -9,7 +9,7 @@ ghost use Rattle.s4_model.specs.State.{State};
 ghost use Rattle.s4_model.specs.Refusals.{last_number};
 ghost use Rattle.window.specs.Timeline.{StandsFor, IsPlanned};
 ghost use Rattle.drive.specs.Later.{later_refusal};
-ghost use Rattle.drive.specs.Fields.{state_in};
+ghost use Rattle.drive.specs.Fields.{state_in, store_of};
 ghost use Rattle.drive.specs.Refusing.{span_refusal};
 ghost use Rattle.drive.specs.Answering.{ComesTo};
 
@@ -59,7 +59,7 @@ impl<J: Naming> Drive<J> {
         window: u64,
         now: Moment,
     ) -> Result<Reply, Refusal>
-        ensures { ComesTo (later_refusal (state_in self.old) (Control (SetWindow window))) self.old self.new
+        ensures { ComesTo (store_of self.old) (later_refusal (state_in self.old) (Control (SetWindow window))) self.old self.new
             session.old session.new (Control (SetWindow window)) now result }
     {
         histories_go_on_record_by_record();
@@ -80,7 +80,7 @@ impl<J: Naming> Drive<J> {
         last: Moment,
         now: Moment,
     ) -> Result<Reply, Refusal>
-        ensures { ComesTo (later_refusal (state_in self.old) (Control (Flush first last))) self.old self.new
+        ensures { ComesTo (store_of self.old) (later_refusal (state_in self.old) (Control (Flush first last))) self.old self.new
             session.old session.new (Control (Flush first last)) now result }
     {
         histories_go_on_record_by_record();
@@ -108,7 +108,7 @@ impl<J: Naming> Drive<J> {
         last: Moment,
         now: Moment,
     ) -> Result<Reply, Refusal>
-        ensures { ComesTo (later_refusal (state_in self.old) (Control (FlushO object first last))) self.old
+        ensures { ComesTo (store_of self.old) (later_refusal (state_in self.old) (Control (FlushO object first last))) self.old
             self.new session.old session.new (Control (FlushO object first last)) now result }
     {
         histories_go_on_record_by_record();

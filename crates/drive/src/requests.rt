@@ -6,8 +6,10 @@ ghost use Rattle.s4_model.specs.Step.{Step};
 ghost use Rattle.s4_types.specs.declared.requests.Request.TheVariants.{Query, Update, Control};
 ghost use Rattle.segment_word.specs.AcceptViews.{with_moment, caught_up};
 ghost use Rattle.segment_word.specs.AcceptRule.{FitsLedger};
+ghost use Rattle.version_store.specs.Store.{StoreFields};
+ghost use Rattle.version_store.specs.Costs.{short_of};
 ghost use Rattle.drive.specs.Fields.{history_of, state_in, store_of};
-ghost use Rattle.drive.specs.Refusing.{RefusesExactly, LacksMemoryInPlace};
+ghost use Rattle.drive.specs.Refusing.{RefusesExactly, RefusesLeaving, LacksMemoryInPlace};
 ghost use Rattle.drive.specs.Answering.{Leaves, ComesTo, IsServed, IsSettled};
 ghost use Rattle.drive.specs.Answering.{told_after, owners_after};
 
@@ -68,17 +70,57 @@ impl<J: Naming> Drive<J> {
         ensures before { FitsLedger self.old.ledger session.old.told }
         ensures after { FitsLedger self.new.ledger session.new.told }
     {
-        self.serve(session, request, now)
+        self.request_leaving(session, request, now, 0)
+    }
+
+    /// What [`Drive::request`] answers and changes, but that `least` blocks of room are kept back: a
+    /// change is refused with NoSpace exactly where nothing else refuses it and the room less
+    /// `least`, down to none, is less than the blocks that it appends. Such a refusal is one like
+    /// each other: its moment is seen, and nothing else has changed. With 0 it is that request.
+    pub fn request_leaving(
+        &mut self,
+        session: &mut Session<J>,
+        request: Request,
+        now: Moment,
+        least: usize,
+    ) -> Reply
+        // The history goes on by a step of the model.
+        ensures step { Step (history_of self.old) session.old.role request now result
+            (history_of self.new) }
+        // NoSpace is judged by the room less `least`, and the moment of each refusal is seen.
+        ensures refused { RefusesLeaving least self.old session.old.role request now result self.new }
+        ensures memory { LacksMemoryInPlace self.old session.old.role request now result }
+        // An accepted change appends exactly its blocks, and changes its object's row alone, whose
+        // stamp it raises by one; it is the last change then. Nothing else changes blocks, rows or
+        // the last change's moment.
+        ensures stored { Leaves (store_of self.old) (state_in self.old) request now result
+            (store_of self.new) }
+        ensures fits { ReplyFits result }
+
+        // The session has seen all accepted changes, and an accepted one is its own.
+        ensures session { session.new ≡ record session.old { told = told_after result self.new.ledger session.old.told } }
+        ensures owners { self.new.ledger.owners
+            ≡ owners_after result session.old.told.seat self.old.ledger.owners }
+        ensures before { FitsLedger self.old.ledger session.old.told }
+        ensures after { FitsLedger self.new.ledger session.new.told }
+    {
+        self.serve(session, request, now, least)
     }
 
     /// The same, as one record.
-    fn serve(&mut self, session: &mut Session<J>, request: Request, now: Moment) -> Reply
-        ensures { IsServed self.old self.new session.old session.new request now result }
+    fn serve(
+        &mut self,
+        session: &mut Session<J>,
+        request: Request,
+        now: Moment,
+        least: usize,
+    ) -> Reply
+        ensures { IsServed (short_of least (store_of self.old)) self.old self.new session.old session.new request now result }
     {
         match request {
             Request::Query(question) => self.answer(session, question, now),
             Request::Update(update) => {
-                let done = self.update(session, update, now);
+                let done = self.update(session, update, now, least);
                 self.settle(session, done, now)
             }
             Request::Control(control) => {
@@ -90,7 +132,8 @@ impl<J: Naming> Drive<J> {
 
     /// The reply to a question, by the history that has seen its moment.
     fn answer(&mut self, session: &mut Session<J>, question: Question, now: Moment) -> Reply
-        ensures { IsServed self.old self.new session.old session.new (Query question) now result }
+        ensures { (scarce : StoreFields)
+            → IsServed scarce self.old self.new session.old session.new (Query question) now result }
     {
         self.see(session, now);
         let role = session.role;
@@ -135,13 +178,14 @@ impl<J: Naming> Drive<J> {
         session: &mut Session<J>,
         update: ObjectRequest,
         now: Moment,
+        least: usize,
     ) -> Result<Reply, Refusal>
-        ensures { ComesTo
+        ensures { ComesTo (short_of least (store_of self.old))
             (first_refusal (state_in self.old) session.old.role (Update update)) self.old
             self.new session.old session.new (Update update) now result }
     {
         check_update(&update)?;
-        self.change_object(session, update, now)
+        self.change_object(session, update, now, least)
     }
 
     /// The same of a request for administrators.
@@ -151,7 +195,7 @@ impl<J: Naming> Drive<J> {
         control: AdminRequest,
         now: Moment,
     ) -> Result<Reply, Refusal>
-        ensures { ComesTo
+        ensures { ComesTo (store_of self.old)
             (first_refusal (state_in self.old) session.old.role (Control control)) self.old
             self.new session.old session.new (Control control) now result }
     {

@@ -29,6 +29,13 @@ impl<J: Naming> Model for Session<J> {
 }
 
 impl<J: Naming> Session<J> {
+    /// What it may do.
+    pub fn role(&self) -> Role
+        ensures { result ≡ self.now.role }
+    {
+        self.role
+    }
+
     /// Its seat alone, with all that the session has seen.
     pub(crate) fn into_seat(self) -> SessionSeat<J>
         ensures { result ≡ self.told }

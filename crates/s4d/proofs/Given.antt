@@ -27,22 +27,22 @@ module _ {J S W : Type 0} where
       let at : i < length clients = omega (arith, lt, count) in
       subst P (sym (each i d at)) (keeps (get_or clients i d) (all i d at))
 
-  module _ (remaining : S → Option (List ℕ)) (passed : W → Option (List ℕ)) (reader_failures : S → ℕ) (writer_failures : W → ℕ) (base : Base) (begins : DriveFields → Type 0) (moments : List ℕ → Type 0) (has_upkeep : Bool) where
+  module _ (remaining : S → Option (List ℕ)) (passed : W → Option (List ℕ)) (reader_failures : S → ℕ) (writer_failures : W → ℕ) (base : Base) (reserve : ℕ) (begins : DriveFields → Type 0) (moments : List ℕ → Type 0) (has_upkeep : Bool) where
     -- what became of a client doesn't rest on the part that it got
-    given_attended : (before after : Client J S W) → IsAttendedClient remaining passed reader_failures writer_failures base moments (with_part before) after → IsAttendedClient remaining passed reader_failures writer_failures base moments before after
+    given_attended : (before after : Client J S W) → IsAttendedClient remaining passed reader_failures writer_failures base reserve moments (with_part before) after → IsAttendedClient remaining passed reader_failures writer_failures base reserve moments before after
     given_attended before after is = record { role = is.role; attended = is.attended; reading = is.reading; writing = is.writing }
 
     -- so of all of them
     pub are_served : (clients given served after : List (Client J S W)) (rest : PartFields) (drive : DriveFields) → rest.requests ≡ 0 → rest.changes ≡ 0 → length served ≡ length clients → AreGiven clients given
-        → ((i : ℕ) (d : Client J S W) → i < length clients → IsAttendedClient remaining passed reader_failures writer_failures base moments (get_or given i d) (get_or served i d))
+        → ((i : ℕ) (d : Client J S W) → i < length clients → IsAttendedClient remaining passed reader_failures writer_failures base reserve moments (get_or given i d) (get_or served i d))
         → ((i : ℕ) (d : Client J S W) → i < length clients → HasSettled drive.ledger (without_part (get_or served i d)) (get_or after i d))
         → HasCome begins moments has_upkeep (rest.requests + sum_by (λ (c : Client J S W). requests_in c.part) served) (rest.changes + sum_by (λ (c : Client J S W). changes_in c.part) served) drive
-        → AreServed remaining passed reader_failures writer_failures base begins moments has_upkeep clients after drive
+        → AreServed remaining passed reader_failures writer_failures base reserve begins moments has_upkeep clients after drive
     are_served clients given served after rest drive no_requests no_changes count each attended settled come = record {
       served = served;
       count = count;
       each = λ i d lt. given_attended (get_or clients i d) (get_or served i d)
-          (subst (λ (c : Client J S W). IsAttendedClient remaining passed reader_failures writer_failures base moments c (get_or served i d)) (each i d lt) (attended i d lt));
+          (subst (λ (c : Client J S W). IsAttendedClient remaining passed reader_failures writer_failures base reserve moments c (get_or served i d)) (each i d lt) (attended i d lt));
       settled = settled;
       come =
           let requests : rest.requests + sum_by (λ (c : Client J S W). requests_in c.part) served ≡ sum_by (λ (c : Client J S W). requests_in c.part) served = omega (arith, no_requests) in

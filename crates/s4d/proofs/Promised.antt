@@ -88,7 +88,7 @@ told_seen : (accepts : Bool) (l : Ledger) (t : Told) → (if accepts then credit
 told_seen true l t = refl
 told_seen false l t = refl
 
-steps_beside : (base : Base) (old new : SessionFields) (request : Request) (now : ℕ) (reply : Reply) → SharedStep base old request now reply new → StepsBeside base (seen_of old) request now reply (seen_of new)
+steps_beside : (base : Base) (old new : SessionFields) (request : Request) (now : ℕ) (reply : Reply) → SharedStep base 0 old request now reply new → StepsBeside base (seen_of old) request now reply (seen_of new)
 steps_beside base old new request now reply is = record {
   before = history_of is.before;
   after = history_of is.after;
@@ -98,11 +98,11 @@ steps_beside base old new request now reply is = record {
   has_seen = ap seen_of is.told ∙ ap (λ (seen : List Accepted). record { role = old.role; seen = seen }) (told_seen (is_acceptance reply) is.after.ledger old.told);
 }
 
-answers_beside : (base : Base) (clock : ClockFields) (old new : SeatFields) (request : Request) (given : ℕ) (reply : Reply) → SeatSteps base (AreTicks clock) old request given reply new
+answers_beside : (base : Base) (clock : ClockFields) (old new : SeatFields) (request : Request) (given : ℕ) (reply : Reply) → SeatSteps base 0 (AreTicks clock) old request given reply new
     → AnswersBeside base clock (seat_seen old) request given reply (seat_seen new)
 answers_beside base clock old new request given reply is =
     let a = is.answer in
-    let ticks = answer_ticks base clock old.requests old.session new.session request reply new.clock a in
+    let ticks = answer_ticks base 0 clock old.requests old.session new.session request reply new.clock a in
     record {
       count = length a.before + 1;
       late = ticks.0;
@@ -138,7 +138,7 @@ acknowledged steps draws changes (item ∷ items) moments replies old new is num
 -- ---- what a session came to
 
 came_to : (base : Base) (left : Ledger) (clock : ClockFields) (role : Role) (outcome : Outcome) (session : Option SessionFields) (part : Option PartFields) (input output input' output' : Option (List ℕ))
-    → IsAttended base (AreTicks clock) role outcome session part input output input' output' → IfSome session (λ last. FitsLedger left last.told)
+    → IsAttended base 0 (AreTicks clock) role outcome session part input output input' output' → IfSome session (λ last. FitsLedger left last.told)
     → ComesTo base left.history clock role outcome (requests_in part) (changes_in part) input output input' output'
 came_to base left clock role Waiting session part input output input' output' is told = is
 came_to base left clock role (Served end) None part input output input' output' is told = absurd is
@@ -147,14 +147,14 @@ came_to base left clock role (Served end) (Some last) (Some part) input output i
     let finishes = is.serves.finishes in
     let first : SeatFields = record { session = is.first; requests = 0; clock = is.opened } in
     let ended : SeatFields = record { session = last; requests = part.requests; clock = is.closed } in
-    let made = acknowledged {B = SeatFields} {C = Undrawn} (SeatSteps base (AreTicks clock)) DrawsNothing last.told.seen finishes.items finishes.answered.moments finishes.replies first ended finishes.answered.run last.told.mine is.own in
+    let made = acknowledged {B = SeatFields} {C = Undrawn} (SeatSteps base 0 (AreTicks clock)) DrawsNothing last.told.seen finishes.items finishes.answered.moments finishes.replies first ended finishes.answered.run last.told.mine is.own in
     record {
       first = seen_of is.first;
       role_is = is.seated.fresh.role_is;
       last = seen_of last;
       before = is.before;
       after = is.after;
-      serves = serves_so (SeatSteps base (AreTicks clock)) (AnswersBeside base clock) DrawsNothing seat_seen (λ old new request given reply. answers_beside base clock old new request given reply) end first ended is.before is.after input output input' output' is.serves;
+      serves = serves_so (SeatSteps base 0 (AreTicks clock)) (AnswersBeside base clock) DrawsNothing seat_seen (λ old new request given reply. answers_beside base clock old new request given reply) end first ended is.before is.after input output input' output' is.serves;
       asked = is.asked;
       taken = is.accepted ∙ made;
       seen = told.seen;

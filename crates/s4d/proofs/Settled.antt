@@ -47,36 +47,36 @@ ones f (x ∷ xs) each =
     omega (arith, one, others, cons)
 
 -- a session that was attended has its part of the books
-part_of : (base : Base) (moments : List ℕ → Type 0) (role : Role) (outcome : Outcome) (session : Option SessionFields) (part : Option PartFields) (input output input' output' : Option (List ℕ))
-    → IsAttended base moments role outcome session part input output input' output' → parts_in part ≡ 1
-part_of base moments role Waiting session part input output input' output' is = absurd is
-part_of base moments role (Served end) None part input output input' output' is = absurd is
-part_of base moments role (Served end) (Some last) None input output input' output' is = absurd is
-part_of base moments role (Served end) (Some last) (Some part) input output input' output' is = is.one
-part_of base moments role (Refused refusal) session part input output input' output' is = ap parts_in is.2
+part_of : (base : Base) (reserve : ℕ) (moments : List ℕ → Type 0) (role : Role) (outcome : Outcome) (session : Option SessionFields) (part : Option PartFields) (input output input' output' : Option (List ℕ))
+    → IsAttended base reserve moments role outcome session part input output input' output' → parts_in part ≡ 1
+part_of base reserve moments role Waiting session part input output input' output' is = absurd is
+part_of base reserve moments role (Served end) None part input output input' output' is = absurd is
+part_of base reserve moments role (Served end) (Some last) None input output input' output' is = absurd is
+part_of base reserve moments role (Served end) (Some last) (Some part) input output input' output' is = is.one
+part_of base reserve moments role (Refused refusal) session part input output input' output' is = ap parts_in is.2
 
 -- what became of a client, with what is counted on its part of the books
 abbrev pub came_of : {J S W : Type 0} → Client J S W → Came
 came_of client = record { outcome = client.outcome; requests = requests_in client.part; changes = changes_in client.part }
 
-module _ {J S W : Type 0} (remaining : S → Option (List ℕ)) (passed : W → Option (List ℕ)) (reader_failures : S → ℕ) (writer_failures : W → ℕ) (base : Base) (begins : DriveFields → Type 0) (moments : List ℕ → Type 0) (has_upkeep : Bool) where
+module _ {J S W : Type 0} (remaining : S → Option (List ℕ)) (passed : W → Option (List ℕ)) (reader_failures : S → ℕ) (writer_failures : W → ℕ) (base : Base) (reserve : ℕ) (begins : DriveFields → Type 0) (moments : List ℕ → Type 0) (has_upkeep : Bool) where
   -- a client that was attended was begun
-  attended_begun : (before after : Client J S W) → IsAttendedClient remaining passed reader_failures writer_failures base moments before after → after.outcome ≢ Waiting
+  attended_begun : (before after : Client J S W) → IsAttendedClient remaining passed reader_failures writer_failures base reserve moments before after → after.outcome ≢ Waiting
   attended_begun before after is waits =
-      subst (λ (x : Outcome). IsAttended base moments before.role x after.session after.part (remaining before.reader) (passed before.writer) (remaining after.reader) (passed after.writer)) waits is.attended
+      subst (λ (x : Outcome). IsAttended base reserve moments before.role x after.session after.part (remaining before.reader) (passed before.writer) (remaining after.reader) (passed after.writer)) waits is.attended
 
   -- where each of several was attended, there are as many parts
   pub parts_served : (before served : List (Client J S W)) → length served ≡ length before
-      → ((i : ℕ) (d : Client J S W) → i < length before → IsAttendedClient remaining passed reader_failures writer_failures base moments (get_or before i d) (get_or served i d)) → sum_by (λ (x : Client J S W). parts_in x.part) served ≡ length before
+      → ((i : ℕ) (d : Client J S W) → i < length before → IsAttendedClient remaining passed reader_failures writer_failures base reserve moments (get_or before i d) (get_or served i d)) → sum_by (λ (x : Client J S W). parts_in x.part) served ≡ length before
   parts_served before served count each =
       ones (λ (x : Client J S W). parts_in x.part) served (λ i d lt.
       let at : i < length before = omega (arith, lt, count) in
       let is = each i d at in
-      part_of base moments (get_or before i d).role (get_or served i d).outcome (get_or served i d).session (get_or served i d).part _ _ _ _ is.attended)
+      part_of base reserve moments (get_or before i d).role (get_or served i d).outcome (get_or served i d).session (get_or served i d).part _ _ _ _ is.attended)
       ∙ count
 
   -- so was each
-  pub served_begun : (before after : List (Client J S W)) (drive : DriveFields) → AreServed remaining passed reader_failures writer_failures base begins moments has_upkeep before after drive
+  pub served_begun : (before after : List (Client J S W)) (drive : DriveFields) → AreServed remaining passed reader_failures writer_failures base reserve begins moments has_upkeep before after drive
       → (i : ℕ) (d : Client J S W) → i < length before → (get_or after i d).outcome ≢ Waiting
   served_begun before after drive are i d lt waits =
       let settled = are.settled i d lt in
@@ -93,12 +93,12 @@ module _ {J S W : Type 0} (remaining : S → Option (List ℕ)) (passed : W → 
 
     -- it was attended, and what it was told fits the drive that is left
     abbrev IsTold : Client J S W → Client J S W → Type 0
-    IsTold before served = IsAttendedClient remaining passed reader_failures writer_failures base moments before served × IfSome served.session (λ last. FitsLedger drive.ledger last.told)
+    IsTold before served = IsAttendedClient remaining passed reader_failures writer_failures base reserve moments before served × IfSome served.session (λ last. FitsLedger drive.ledger last.told)
 
     ran : (asked : RunSession) (before served : Client J S W) → IsAsked asked before → IsTold before served → IsLeft asked served
-        → RunsSession base moments opens files final there drive asked (came_of served)
+        → RunsSession base reserve moments opens files final there drive asked (came_of served)
     ran asked before served first is last =
-        let Attends : Role → Type 0 = λ role. IsAttended base moments role served.outcome served.session served.part (remaining before.reader) (passed before.writer) (remaining served.reader) (passed served.writer) in
+        let Attends : Role → Type 0 = λ role. IsAttended base reserve moments role served.outcome served.session served.part (remaining before.reader) (passed before.writer) (remaining served.reader) (passed served.writer) in
         record {
           input = remaining before.reader;
           output = passed before.writer;
@@ -115,7 +115,7 @@ module _ {J S W : Type 0} (remaining : S → Option (List ℕ)) (passed : W → 
         }
 
     -- each ended well where each is so in the end
-    ends_served : (before after : List (Client J S W)) (are : AreServed remaining passed reader_failures writer_failures base begins moments has_upkeep before after drive) → length after ≡ length before
+    ends_served : (before after : List (Client J S W)) (are : AreServed remaining passed reader_failures writer_failures base reserve begins moments has_upkeep before after drive) → length after ≡ length before
         → All (λ (x : Client J S W). x.outcome ≡ Served Ended) after ↔ All (λ (c : Came). c.outcome ≡ Served Ended) (map came_of are.served)
     ends_served before after are count = (
       (λ all. All-map (λ (c : Came). c.outcome ≡ Served Ended) came_of are.served (λ i d lt.
@@ -133,10 +133,10 @@ module _ {J S W : Type 0} (remaining : S → Option (List ℕ)) (passed : W → 
 
     -- the sessions of a line, from what became of their clients
     pub sessions_ran : (clock : ClockFields) → ((drawn : List ℕ) → moments drawn → AreTicks clock drawn) → (sessions : List RunSession) (clients after : List (Client J S W)) (are_ended : Bool) → AllZip IsAsked sessions clients → length after ≡ length clients
-        → AreServed remaining passed reader_failures writer_failures base begins moments has_upkeep clients after drive → AllZip IsLeft sessions after
+        → AreServed remaining passed reader_failures writer_failures base reserve begins moments has_upkeep clients after drive → AllZip IsLeft sessions after
         → (IsTrue are_ended ↔ All (λ x. x.outcome ≡ Served Ended) after) → ((d : DriveFields) → begins d → IsUnasked base d)
         → ARunAddsItsChangesAlone → ARunsClockGoesByItsRequests → base.clock ≤ clock.start
-        → RunsSessions base moments clock has_upkeep opens files final sessions (are_ended && there) drive
+        → RunsSessions base reserve moments clock has_upkeep opens files final sessions (are_ended && there) drive
     sessions_ran clock ticks sessions clients after are_ended asked count are left ends unasked adds goes within =
         let so = ends_served clients after are count in
         let left_so = zip_moved IsLeft (λ (x y : Client J S W). passed x.writer ≡ passed y.writer) (λ s x y kept same is_there. subst (λ (bytes : Option (List ℕ)). Keeps bytes (final s.output.now)) same (kept is_there))
@@ -159,7 +159,7 @@ module _ {J S W : Type 0} (remaining : S → Option (List ℕ)) (passed : W → 
         record {
           came = map came_of are.served;
           there = there;
-          each = zip_on IsAsked IsTold IsLeft (RunsSession base moments opens files final there drive) came_of ran sessions clients are.served asked are.count
+          each = zip_on IsAsked IsTold IsLeft (RunsSession base reserve moments opens files final there drive) came_of ran sessions clients are.served asked are.count
               (λ i d lt. (are.each i d lt, fits_ledger drive.ledger (get_or are.served i d).session (get_or after i d).session (are.settled i d lt).session)) left_so;
           ends = (
             (λ t. let both = ended_there are_ended there t in (both.1, so.0 (ends.0 both.0))),

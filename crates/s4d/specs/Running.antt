@@ -59,7 +59,7 @@ pub record Came : Type 0 where
 -- What became of a session that the line asks for, beside the drive that is saved: it was attended in its role, and what it was told
 -- fits that drive. So the drive's history begins with all that the session had seen, and has the session's own changes, which its
 -- replies acknowledge. Where the paths of outputs lead to what was written, its file has just what its writer took, which is its replies.
-pub record RunsSession (base : Base) (moments : List ℕ → Type 0) (opens : List ℕ → Option (List ℕ) → Type 0) (files files' : List ℕ → Option (List ℕ)) (there : Bool) (drive : DriveFields) (asked : RunSession) (came : Came) : Type 0 where
+pub record RunsSession (base : Base) (reserve : ℕ) (moments : List ℕ → Type 0) (opens : List ℕ → Option (List ℕ) → Type 0) (files files' : List ℕ → Option (List ℕ)) (there : Bool) (drive : DriveFields) (asked : RunSession) (came : Came) : Type 0 where
   pub input : Option (List ℕ)
   pub output : Option (List ℕ)
   pub first : HasFiles opens files asked input output
@@ -67,7 +67,7 @@ pub record RunsSession (base : Base) (moments : List ℕ → Type 0) (opens : Li
   pub written : Option (List ℕ)
   pub session : Option SessionFields
   pub part : Option PartFields
-  pub attended : IsAttended base moments asked.role came.outcome session part input output unread written
+  pub attended : IsAttended base reserve moments asked.role came.outcome session part input output unread written
   pub requests : came.requests ≡ requests_in part
   pub changes : came.changes ≡ changes_in part
   pub told : IfSome session (λ last. FitsLedger drive.ledger last.told)
@@ -81,10 +81,10 @@ IsUnasked base drive = drive.ledger ≡ begun base
 -- was written, exactly where that is answered. The drive is what the requests that were answered to them have made, in their order, of one
 -- whose history was the base; and without upkeep nothing else was done to it. So its accepted changes are as many as were accepted for
 -- the sessions of the line; and its clock is at most a tick for each request after the clock's start, and a moment for each such change.
-pub record RunsSessions (base : Base) (moments : List ℕ → Type 0) (clock : ClockFields) (has_upkeep : Bool) (opens : List ℕ → Option (List ℕ) → Type 0) (files files' : List ℕ → Option (List ℕ)) (sessions : List RunSession) (ended : Bool) (drive : DriveFields) : Type 0 where
+pub record RunsSessions (base : Base) (reserve : ℕ) (moments : List ℕ → Type 0) (clock : ClockFields) (has_upkeep : Bool) (opens : List ℕ → Option (List ℕ) → Type 0) (files files' : List ℕ → Option (List ℕ)) (sessions : List RunSession) (ended : Bool) (drive : DriveFields) : Type 0 where
   pub came : List Came
   pub there : Bool
-  pub each : AllZip (RunsSession base moments opens files files' there drive) sessions came
+  pub each : AllZip (RunsSession base reserve moments opens files files' there drive) sessions came
   pub ends : IsTrue ended ↔ (IsTrue there × All (λ c. c.outcome ≡ Served Ended) came)
   pub come : HasCome (IsUnasked base) moments has_upkeep (sum_by (λ c. c.requests) came) (sum_by (λ c. c.changes) came) drive
   pub changes : length (accepted (history_of drive)) ≡ sum_by (λ c. c.changes) came
@@ -98,7 +98,7 @@ pub record RunsImage (opens : List ℕ → Option (List ℕ) → Type 0) (run : 
   pub verified : IsVerified (files run.image.now) image
   pub base : Base
   pub told : IsToldBy (image_in verified.bytes) base
-  pub leaves : LeavesDrive base (RunsSessions base (AreTicks (record { start = image.clock; tick = run.tick })) (record { start = image.clock; tick = run.tick }) run.upkeep opens files files' run.sessions.items ended) (IsSavedIn saved)
+  pub leaves : LeavesDrive base (RunsSessions base 0 (AreTicks (record { start = image.clock; tick = run.tick })) (record { start = image.clock; tick = run.tick }) run.upkeep opens files files' run.sessions.items ended) (IsSavedIn saved)
 
 -- no session was served
 abbrev pub IsUnserved : RunFault → Type 0

@@ -179,12 +179,14 @@ fn run_begun<'a, J: Running + Send + Sync, T: Threads + Wait + Clock + Sync, F: 
     requires moments { (moments : List ℕ) → J.moments moments
         → AreTicks (record { start = begun.manner.start; tick = begun.manner.tick }) moments }
     requires upkeep { J.has_upkeep ≡ begun.manner.upkeep }
+    // Clients leave no room to administrators.
+    requires reserve { J.reserve ≡ 0 }
     requires ledgers { (begun.blanks.requests ≡ J.asked) × (begun.blanks.changes ≡ J.name) }
     requires parts { (begun.blanks.parts ≡ J.parts) × (J.parts ≡ 17) }
     requires start { begun.opened.timeline.clock ≡ begun.manner.start }
     requires claimed { F.leads begun.claim begun.path.now }
     ensures left { IfOk result (λ ran. LeavesDrive J.base
-        (RunsSessions J.base J.moments (record { start = begun.entry.manner.start; tick = begun.entry.manner.tick }) begun.entry.manner.upkeep (HoldsAt F.writes F.Writer.contents) (F.contents files.old) (F.contents files.new) sessions.now ran.is_ended)
+        (RunsSessions J.base J.reserve J.moments (record { start = begun.entry.manner.start; tick = begun.entry.manner.tick }) begun.entry.manner.upkeep (HoldsAt F.writes F.Writer.contents) (F.contents files.old) (F.contents files.new) sessions.now ran.is_ended)
         (IsSavedIn (F.contents files.new begun.entry.path.now))) }
     ensures apart { OnOk result
         (All (λ written. All (λ read. F.apart read.input.now written.output.now) sessions.now)
@@ -196,7 +198,7 @@ fn run_begun<'a, J: Running + Send + Sync, T: Threads + Wait + Clock + Sync, F: 
     ensures unserved { IfErr result (λ fault. IsUnserved fault → (path : List ℕ)
         → IsKeptOrLeft (IsBeside F.leads F.reserves begun.entry.path.now path) (F.contents files.old path) (F.contents files.new path)) }
     ensures fault { IfErr result (λ fault. (known : Option (List ℕ)) → SaysUnrun known begun.entry.path.now sessions.now (λ saved. (ended : Bool) × LeavesDrive J.base
-        (RunsSessions J.base J.moments (record { start = begun.entry.manner.start; tick = begun.entry.manner.tick }) begun.entry.manner.upkeep (HoldsAt F.writes F.Writer.contents) (F.contents files.old) (F.contents files.new) sessions.now ended)
+        (RunsSessions J.base J.reserve J.moments (record { start = begun.entry.manner.start; tick = begun.entry.manner.tick }) begun.entry.manner.upkeep (HoldsAt F.writes F.Writer.contents) (F.contents files.old) (F.contents files.new) sessions.now ended)
         (IsSavedIn saved)) (F.contents files.new) fault) }
 {
     a_run_is_what_was_asked();
@@ -336,6 +338,7 @@ fn serve_named<
         → AreTicks (record { start = manner.start; tick = manner.tick }) moments
         → J.moments moments }
     requires upkeep { J.has_upkeep ≡ manner.upkeep }
+    requires reserve { J.reserve ≡ 0 }
     requires ledgers { (blanks.requests ≡ J.asked) × (blanks.changes ≡ J.name) }
     requires parts { (blanks.parts ≡ J.parts) × (J.parts ≡ 17) }
     requires count { vec_len clients ≤ 16 }
@@ -347,14 +350,14 @@ fn serve_named<
     // history begins with all that a session had seen, and has the session's own changes at their
     // numbers; or there was no seat for the session.
     ensures left { LeavesDrive J.base
-        (AreServed S.remaining W.passed S.failures W.failures J.base J.begins J.moments J.has_upkeep
+        (AreServed S.remaining W.passed S.failures W.failures J.base J.reserve J.begins J.moments J.has_upkeep
         clients.items result.0.items)
         (λ drive. IfOk result.1 (λ bytes. SpellsSaved drive bytes.items)) }
     ensures refusal { IfErr result.1 (λ e. e ≡ NoMemory) }
 {
     let drive = opened.named::<J>();
     let clock = Ticking::new(manner.start, manner.tick);
-    let (shared, mut rest) = SharedDrive::new(drive, clock, blanks);
+    let (shared, mut rest) = SharedDrive::new(drive, clock, blanks, 0);
     let clients = with_parts(&mut rest, clients);
     let shared = Mutex::new(shared);
     let mut served = serve_all(rt, alloc, &shared, manner.upkeep, clients);
@@ -400,7 +403,7 @@ fn serve_all<
     ensures count { vec_len result ≡ vec_len clients }
     // Each session was answered by steps of the shared drive, or the drive had no seat for it.
     ensures attended { (i : ℕ) (d : _) → i < vec_len clients
-        → IsAttendedClient S.remaining W.passed S.failures W.failures J.base J.moments
+        → IsAttendedClient S.remaining W.passed S.failures W.failures J.base J.reserve J.moments
         (slice_index_or clients.items i d) (slice_index_or result.items i d) }
 {
     if upkeep {

@@ -30,9 +30,9 @@ seen_all : (is : Bool) (l : Ledger) (t : Told) → (if is then credited l t else
 seen_all true l t = refl
 seen_all false l t = refl
 
-pub seen_more : (base : Base) (old new : SessionFields) (request : Request) (now : ℕ) (reply : Reply) → SharedStep base old request now reply new
+pub seen_more : (base : Base) (reserve : ℕ) (old new : SessionFields) (request : Request) (now : ℕ) (reply : Reply) → SharedStep base reserve old request now reply new
     → length old.told.seen ≤ length new.told.seen
-seen_more base old new request now reply h =
+seen_more base reserve old new request now reply h =
     let before = begins_shorter old.told.seen (accepted (history_of h.before)) h.had_seen.seen in
     let more = step_more (history_of h.before) (history_of h.after) old.role request now reply h.step in
     let seen : new.told.seen ≡ accepted (history_of h.after) = ap (λ (s : SessionFields). s.told.seen) h.told ∙ seen_all (is_acceptance reply) h.after.ledger old.told in

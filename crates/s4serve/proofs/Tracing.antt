@@ -27,25 +27,25 @@ ArePast now steps = AllByRecursion (IsPast now) steps
 abbrev pub traced : ServedFields → List ServedFields → TracedFields
 traced now steps = record { now = now; steps = steps }
 
-module _ (base : Base) (moments : List ℕ → Type 0) where
-  past_later : (old new before : ServedFields) (request : Request) (given : ℕ) (reply : Reply) → ServedSteps base moments old request given reply new → IsPast old before → IsPast new before
+module _ (base : Base) (reserve : ℕ) (moments : List ℕ → Type 0) where
+  past_later : (old new before : ServedFields) (request : Request) (given : ℕ) (reply : Reply) → ServedSteps base reserve moments old request given reply new → IsPast old before → IsPast new before
   past_later old new before request given reply h is =
-      let more = seen_more base old.seat.session new.seat.session request h.step.answer.now reply h.step.answer.step in
+      let more = seen_more base reserve old.seat.session new.seat.session request h.step.answer.now reply h.step.answer.step in
       let seen = is.seen in
       let clock = is.clock in
       let reached = h.reached in
       record { seen = omega (arith, seen, more); clock = omega (arith, clock, reached) }
 
-  past_now : (old new : ServedFields) (request : Request) (given : ℕ) (reply : Reply) → ServedSteps base moments old request given reply new → IsPast new new
+  past_now : (old new : ServedFields) (request : Request) (given : ℕ) (reply : Reply) → ServedSteps base reserve moments old request given reply new → IsPast new new
   past_now old new request given reply h = let reached = h.reached in record { seen = omega arith; clock = omega (arith, reached) }
 
-  past_more : (old new : ServedFields) (request : Request) (given : ℕ) (reply : Reply) → ServedSteps base moments old request given reply new → (steps : List ServedFields) → ArePast old steps → ArePast new (steps ++ new ∷ [])
+  past_more : (old new : ServedFields) (request : Request) (given : ℕ) (reply : Reply) → ServedSteps base reserve moments old request given reply new → (steps : List ServedFields) → ArePast old steps → ArePast new (steps ++ new ∷ [])
   past_more old new request given reply h [] are = (past_now old new request given reply h, tt)
   past_more old new request given reply h (s ∷ steps) are = (past_later old new s request given reply h are.0, past_more old new request given reply h steps are.1)
 
   trace_run : {C : Type 0} (draws : C → ℕ → C → Type 0) (items : List (Item Request)) (drawn : List ℕ) (replies : List Reply) (old new : ServedFields) (steps : List ServedFields) → ArePast old steps
-      → Run (ServedSteps base moments) draws items drawn replies old new
-      → (more : List ServedFields) × Run (TracedSteps base moments) draws items drawn replies (traced old steps) (traced new more) × ArePast new more
+      → Run (ServedSteps base reserve moments) draws items drawn replies old new
+      → (more : List ServedFields) × Run (TracedSteps base reserve moments) draws items drawn replies (traced old steps) (traced new more) × ArePast new more
   trace_run draws [] drawn replies old new steps are h = (steps, (h.0, h.1, ap (λ s. traced s steps) h.2), subst (λ (s : ServedFields). ArePast s steps) (sym h.2) are)
   trace_run draws (Whole request ∷ items) drawn replies old new steps are h =
       let noted = steps ++ h.4 ∷ [] in
@@ -55,7 +55,7 @@ module _ (base : Base) (moments : List ℕ → Type 0) where
       let rest = trace_run draws items h.1 h.3 h.4 new steps (subst (λ (s : ServedFields). ArePast s steps) (sym h.7.2) are) h.8 in
       (rest.0, (h.0, h.1, h.2, h.3, traced h.4 steps, h.5, h.6, (h.7.0, h.7.1, ap (λ s. traced s steps) h.7.2), rest.1), rest.2)
 
-module _ {C T K : Type 0} (base : Base) (moments : List ℕ → Type 0) (draws : C → ℕ → C → Type 0) (number_of reach_of : T → ℕ) (receipt_of : K → Option T) where
+module _ {C T K : Type 0} (base : Base) (reserve : ℕ) (moments : List ℕ → Type 0) (draws : C → ℕ → C → Type 0) (number_of reach_of : T → ℕ) (receipt_of : K → Option T) where
   -- a wait of a session, and the same wait where it is traced
   abbrev pub waits : K → ServedFields → Bool → K → Type 0
   waits from served is_kept to = HasWaited IsSeatAt number_of reach_of is_kept served (receipt_of from) (receipt_of to)
@@ -84,15 +84,15 @@ module _ {C T K : Type 0} (base : Base) (moments : List ℕ → Type 0) (draws :
   waited_for_all false now steps old new are h = h
 
   trace_answered : (items : List (Item Request)) (replies : List Reply) (old new : ServedFields) (before after : C) (steps : List ServedFields) → ArePast old steps
-      → Answered (ServedSteps base moments) draws items replies old before new after
-      → (more : List ServedFields) × Answered (TracedSteps base moments) draws items replies (traced old steps) before (traced new more) after × ArePast new more
+      → Answered (ServedSteps base reserve moments) draws items replies old before new after
+      → (more : List ServedFields) × Answered (TracedSteps base reserve moments) draws items replies (traced old steps) before (traced new more) after × ArePast new more
   trace_answered items replies old new before after steps are h =
-      let run = trace_run base moments draws items h.moments replies old new steps are h.run in
+      let run = trace_run base reserve moments draws items h.moments replies old new steps are h.run in
       (run.0, record { moments = h.moments; run = run.1; drawn = h.drawn }, run.2)
 
   trace_batches : (batches : List (List (Item Request))) (old new : ServedFields) (before after : C) (from to : K) (output output' : Option (List ℕ)) (steps : List ServedFields) → ArePast old steps
-      → AreBatches (ServedSteps base moments) draws waits batches old before from output new after to output'
-      → (more : List ServedFields) × AreBatches (TracedSteps base moments) draws all_waits batches (traced old steps) before from output (traced new more) after to output' × ArePast new more
+      → AreBatches (ServedSteps base reserve moments) draws waits batches old before from output new after to output'
+      → (more : List ServedFields) × AreBatches (TracedSteps base reserve moments) draws all_waits batches (traced old steps) before from output (traced new more) after to output' × ArePast new more
   trace_batches [] old new before after from to output output' steps are h =
       (steps, (ap (λ s. traced s steps) h.0, h.1, h.2, h.3), subst (λ (s : ServedFields). ArePast s steps) (sym h.0) are)
   trace_batches (items ∷ batches) old new before after from to output output' steps are h =
@@ -112,16 +112,16 @@ module _ {C T K : Type 0} (base : Base) (moments : List ℕ → Type 0) (draws :
   trace_left ReadFailed bytes new steps from to output output' are h = h
 
   trace_last : (end : BatchEnd) (items : List (Item Request)) (old new : ServedFields) (before after : C) (from to : K) (output output' : Option (List ℕ)) (steps : List ServedFields) → ArePast old steps
-      → IsLast (ServedSteps base moments) draws waits end items old before from output new after to output'
-      → (more : List ServedFields) × IsLast (TracedSteps base moments) draws all_waits end items (traced old steps) before from output (traced new more) after to output'
+      → IsLast (ServedSteps base reserve moments) draws waits end items old before from output new after to output'
+      → (more : List ServedFields) × IsLast (TracedSteps base reserve moments) draws all_waits end items (traced old steps) before from output (traced new more) after to output'
   trace_last end items old new before after from to output output' steps are h =
       let one = trace_answered items h.replies old new before after steps are h.answered in
       (one.0, record { replies = h.replies; answered = one.1; small = h.small; left = trace_left end _ new one.0 from to output output' one.2 h.left })
 
   -- a whole session
   pub trace_session : (end : BatchEnd) (old new : ServedFields) (before after : C) (from to : K) (input output input' output' : Option (List ℕ))
-      → Serves (ServedSteps base moments) draws waits [] end old before from input output new after to input' output'
-      → (steps : List ServedFields) × Serves (TracedSteps base moments) draws all_waits [] end (untraced old) before from input output (traced new steps) after to input' output'
+      → Serves (ServedSteps base reserve moments) draws waits [] end old before from input output new after to input' output'
+      → (steps : List ServedFields) × Serves (TracedSteps base reserve moments) draws all_waits [] end (untraced old) before from input output (traced new steps) after to input' output'
   trace_session end old new before after from to input output input' output' h =
       let comes = h.finishes.comes in
       let whole = trace_batches comes.whole.batches old comes.mid before comes.drawn from comes.waited output comes.written [] tt comes.whole.run in

@@ -11,8 +11,8 @@ pub record ServedFields : Type 0 where
   pub reached : ℕ
 
 -- a step of a session beside others, whose clock has been reached after it
-pub record ServedSteps (base : Base) (moments : List ℕ → Type 0) (old : ServedFields) (request : Request) (given : ℕ) (reply : Reply) (new : ServedFields) : Type 0 where
-  pub step : SeatSteps base moments old.seat request given reply new.seat
+pub record ServedSteps (base : Base) (reserve : ℕ) (moments : List ℕ → Type 0) (old : ServedFields) (request : Request) (given : ℕ) (reply : Reply) (new : ServedFields) : Type 0 where
+  pub step : SeatSteps base reserve moments old.seat request given reply new.seat
   pub reached : new.reached ≡ max old.reached new.seat.clock
 
 -- with the session's last step this many changes were accepted in the drive's history, by a count that stops at its last number: the

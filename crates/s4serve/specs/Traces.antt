@@ -18,8 +18,8 @@ abbrev pub untraced : ServedFields → TracedFields
 untraced now = record { now = now; steps = [] }
 
 -- a step of such a session, which is its last one then
-pub record TracedSteps (base : Base) (moments : List ℕ → Type 0) (old : TracedFields) (request : Request) (given : ℕ) (reply : Reply) (new : TracedFields) : Type 0 where
-  pub step : ServedSteps base moments old.now request given reply new.now
+pub record TracedSteps (base : Base) (reserve : ℕ) (moments : List ℕ → Type 0) (old : TracedFields) (request : Request) (given : ℕ) (reply : Reply) (new : TracedFields) : Type 0 where
+  pub step : ServedSteps base reserve moments old.now request given reply new.now
   pub noted : new.steps ≡ old.steps ++ new.now ∷ []
 
 -- a receipt covers a step after which the session was this: all changes that it had seen then, and the clock of their history

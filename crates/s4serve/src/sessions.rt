@@ -56,7 +56,7 @@ impl<'a, J: Running, C: Clock, R: Wait, G: Gate> Seat<'a, J, C, R, G> {
 impl<J: Running, C: Clock, R: Wait, G: Gate> Backend for Seat<'_, J, C, R, G> {
     ghost use Rattle.s4serve.specs.Seats.{ServedSteps};
 
-    ghost steps = { ServedSteps J.base J.moments };
+    ghost steps = { ServedSteps J.base J.reserve J.moments };
 
     fn request(&mut self, request: Request, drawn: Moment) -> Reply {
         let reply = self.locked.request(request, drawn);
@@ -101,13 +101,13 @@ pub fn serve_seat<
 ) -> BatchEnd
     requires reader { S.failures reader.old + 1 < 2 ^ 64 }
     requires writer { W.failures writer.old + 1 < 2 ^ 64 }
-    ensures session { (before after : Nothing) × Serves (ServedSteps J.base J.moments) DrawsNothing
+    ensures session { (before after : Nothing) × Serves (ServedSteps J.base J.reserve J.moments) DrawsNothing
         (λ from seat is_kept to. HasWaited IsSeatAt T.number T.reach is_kept seat from.receipt to.receipt) [] result
         seat.old before keeping.old (S.remaining reader.old) (W.passed writer.old)
         seat.new after keeping.new (S.remaining reader.new) (W.passed writer.new) }
     // Nothing was written before a receipt covered each step that the session had taken by then.
     ensures covered { (before after : Nothing) × (steps : List ServedFields)
-        × Serves (TracedSteps J.base J.moments) DrawsNothing
+        × Serves (TracedSteps J.base J.reserve J.moments) DrawsNothing
         (λ from seat is_kept to. HasWaitedForAll T.number T.reach is_kept seat from.receipt to.receipt) [] result
         (untraced seat.old) before keeping.old (S.remaining reader.old) (W.passed writer.old)
         (record { now = seat.new; steps = steps }) after keeping.new (S.remaining reader.new) (W.passed writer.new) }

@@ -139,6 +139,7 @@ fn serve_ready<
     requires moments { (moments : List ℕ) (later : _) → Drawn C.draws ready.clock moments later
         → J.moments moments }
     requires upkeep { J.has_upkeep ≡ true }
+    requires reserve { J.reserve ≡ 0 }
     requires ledgers { (ready.blanks.requests ≡ J.asked) × (ready.blanks.changes ≡ J.name) }
     requires parts { (ready.blanks.parts ≡ J.parts) × (J.parts ≡ ALL_PARTS) }
     requires usable { IsTrue (K.is_usable ready.keeper) }
@@ -158,7 +159,7 @@ fn serve_ready<
     } = ready;
     let image = asked.image;
     let patience = asked.patience.unwrap_or(PATIENCE) / SECOND;
-    let (shared, rest) = SharedDrive::new(drive.named::<J>(), clock, blanks);
+    let (shared, rest) = SharedDrive::new(drive.named::<J>(), clock, blanks, 0);
     let drive = Mutex::new(shared);
     let first = keep_first(rt, alloc, &drive, keeper, start, image)?;
     let lines = Lines::new(alloc, rest)?;

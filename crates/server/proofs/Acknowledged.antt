@@ -161,15 +161,15 @@ module _ (by_moments : (h : History) (now : ℕ) → state_of (grown h (Seen now
   by_step l l' role r now reply old new had (Serves rec free (Reads is rec_is) grows) told =
       none_gained l l' (Whole r) reply old new had (saw l.history l'.history now (grows ∙ ap (grown l.history) rec_is)) (sym (ap accepts is) ∙ reads_accept_nothing (judged l.history r now) r) told
 
-  by_turn : (base : Base) (may : List ℕ → Type 0) (item : Item Request) (moments : List ℕ) (reply : Reply) (old new : SeatFields) → Turn (SeatSteps base may) (DrawsNothing {C = Undrawn}) item moments reply old new
+  by_turn : (base : Base) (reserve : ℕ) (may : List ℕ → Type 0) (item : Item Request) (moments : List ℕ) (reply : Reply) (old new : SeatFields) → Turn (SeatSteps base reserve may) (DrawsNothing {C = Undrawn}) item moments reply old new
       → GainsOne item reply old.session.told new.session.told × (new.requests ≡ old.requests + cond (is_request item) 1 0)
-  by_turn base may (Whole r) moments reply old new t =
+  by_turn base reserve may (Whole r) moments reply old new t =
       let a = t.2.answer in
-      let s : SharedStep base old.session r a.now reply new.session = a.step in (
+      let s : SharedStep base reserve old.session r a.now reply new.session = a.step in (
         by_step s.before.ledger s.after.ledger old.session.role r a.now reply old.session.told new.session.told s.had_seen.seen s.step (ap (λ (f : SessionFields). f.told) s.told),
         t.2.counted,
       )
-  by_turn base may BadFrame moments reply old new t = (
+  by_turn base reserve may BadFrame moments reply old new t = (
     record {
       numbers = [];
       mine = ap (λ (f : SeatFields). f.session.told.mine) t.2 ∙ sym (append-nil old.session.told.mine);
@@ -179,9 +179,9 @@ module _ (by_moments : (h : History) (now : ℕ) → state_of (grown h (Seen now
     (let same : new.requests ≡ old.requests = ap (λ (f : SeatFields). f.requests) t.2 in omega (arith, same)),
   )
 
-  all_gained : (base : Base) (may : List ℕ → Type 0) (items : List (Item Request)) (moments : List ℕ) (replies : List Reply) (old new : SeatFields)
-      → Run (SeatSteps base may) (DrawsNothing {C = Undrawn}) items moments replies old new → Gains items replies old.session.told new.session.told × (new.requests ≡ old.requests + count_by is_request items)
-  all_gained base may [] moments replies old new run = (
+  all_gained : (base : Base) (reserve : ℕ) (may : List ℕ → Type 0) (items : List (Item Request)) (moments : List ℕ) (replies : List Reply) (old new : SeatFields)
+      → Run (SeatSteps base reserve may) (DrawsNothing {C = Undrawn}) items moments replies old new → Gains items replies old.session.told new.session.told × (new.requests ≡ old.requests + count_by is_request items)
+  all_gained base reserve may [] moments replies old new run = (
     record {
       numbers = [];
       mine = ap (λ (f : SeatFields). f.session.told.mine) run.2 ∙ sym (append-nil old.session.told.mine);
@@ -190,9 +190,9 @@ module _ (by_moments : (h : History) (now : ℕ) → state_of (grown h (Seen now
     },
     (let same : new.requests ≡ old.requests = ap (λ (f : SeatFields). f.requests) run.2 in omega (arith, same)),
   )
-  all_gained base may (item ∷ items) moments replies old new run =
-      let one = by_turn base may item run.0 run.2 old run.4 run.7 in
-      let all = all_gained base may items run.1 run.3 run.4 new run.8 in
+  all_gained base reserve may (item ∷ items) moments replies old new run =
+      let one = by_turn base reserve may item run.0 run.2 old run.4 run.7 in
+      let all = all_gained base reserve may items run.1 run.3 run.4 new run.8 in
       let first : run.4.requests ≡ old.requests + cond (is_request item) 1 0 = one.1 in
       let others : new.requests ≡ run.4.requests + count_by is_request items = all.1 in
       let cons : count_by is_request (item ∷ items) ≡ cond (is_request item) 1 0 + count_by is_request items = sum_by-cons (λ x. cond (is_request x) 1 0) item items in (
@@ -202,11 +202,11 @@ module _ (by_moments : (h : History) (now : ℕ) → state_of (grown h (Seen now
       )
 
   -- of a session that was just had
-  pub all_own : (base : Base) (may : List ℕ → Type 0) (role : Role) (items : List (Item Request)) (moments : List ℕ) (replies : List Reply) (first last : SeatFields) → IsSeated base role first
-      → Run (SeatSteps base may) (DrawsNothing {C = Undrawn}) items moments replies first last
+  pub all_own : (base : Base) (reserve : ℕ) (may : List ℕ → Type 0) (role : Role) (items : List (Item Request)) (moments : List ℕ) (replies : List Reply) (first last : SeatFields) → IsSeated base role first
+      → Run (SeatSteps base reserve may) (DrawsNothing {C = Undrawn}) items moments replies first last
       → AreAcknowledged last.session.told.seen items replies last.session.told.mine × (last.requests ≡ count_by is_request items)
-  all_own base may role items moments replies first last seated run =
-      let all = all_gained base may items moments replies first last run in
+  all_own base reserve may role items moments replies first last seated run =
+      let all = all_gained base reserve may items moments replies first last run in
       let g : Gains items replies first.session.told last.session.told = all.0 in
       let none = seated.requests in
       let count : last.requests ≡ first.requests + count_by is_request items = all.1 in (

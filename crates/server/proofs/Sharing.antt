@@ -25,12 +25,13 @@ use Rattle.time_read.specs.Plans.{PlanFields, bytes_planned}
 use Rattle.drive.specs.Fields.{DriveFields, SessionFields, history_of, state_in, store_of}
 use Rattle.drive.specs.Keeping.{DecodesWhereVisible}
 use Rattle.drive.specs.Opened.{NoneFrom}
-use Rattle.drive.specs.Refusing.{RefusesExactly, LacksMemoryInPlace}
+use Rattle.drive.specs.Refusing.{RefusesLeaving, LacksMemoryInPlace}
 use Rattle.drive.specs.Answering.{told_after, is_acceptance, reply_planned}
 use Rattle.server.specs.Attending.{IsSeated}
 use Rattle.server.specs.Drawing.{MayGoOn}
 use Rattle.server.specs.Sequence.{HasCome, IsAnswered, moments_of}
 use Rattle.server.proofs.Sequence.{moments_counted}
+use Rattle.server.specs.Reserve.{least_of}
 use Rattle.server.specs.Sharing.{SharedStep, SharedAnswer, IsFetched, IsFresh}
 
 -- whether a change of it was accepted or not, it has seen all
@@ -55,11 +56,11 @@ planned_answered (Ok plan) d e seat role request now step store ledger = record 
 planned_answered (Err refusal) d e seat role request now step store ledger = record { step = step; stored = store; owners = ap (λ (l : Ledger). l.owners) ledger }
 
 -- A request was answered by a drive of which what always holds of one holds, and which had all that the session had seen.
-abbrev pub shared_step : (base : Base) (frames : TableId) (d e : DriveFields) (old new : SessionFields) (request : Request) (now : ℕ) (reply : Reply)
+abbrev pub shared_step : (base : Base) (reserve : ℕ) (frames : TableId) (d e : DriveFields) (old new : SessionFields) (request : Request) (now : ℕ) (reply : Reply)
     → (history_of d).base ≡ base → DecodesWhereVisible (store_of d) (state_in d) → HasFramesInOrder frames d.store.table → IsSound (state_in d) → IsStore (store_of d) → (store_of d).latest ≤ (state_in d).clock → NoneFrom (state_in d).next (store_of d)
-    → FitsLedger d.ledger old.told → IsAnswered d old.told.seat old.role request now reply e → RefusesExactly d old.role request now reply e → LacksMemoryInPlace d old.role request now reply
-    → new ≡ record old { told = told_after reply e.ledger old.told } → FitsLedger e.ledger new.told → SharedStep base old request now reply new
-shared_step base frames d e old new request now reply begins decodes in_order sound store past unborn had_seen one refused memory told has_seen = record {
+    → FitsLedger d.ledger old.told → IsAnswered d old.told.seat old.role request now reply e → RefusesLeaving (least_of reserve (state_in d) old.role request) d old.role request now reply e → LacksMemoryInPlace d old.role request now reply
+    → new ≡ record old { told = told_after reply e.ledger old.told } → FitsLedger e.ledger new.told → SharedStep base reserve old request now reply new
+shared_step base reserve frames d e old new request now reply begins decodes in_order sound store past unborn had_seen one refused memory told has_seen = record {
   before = d;
   after = e;
   there = record {
@@ -82,9 +83,9 @@ shared_step base frames d e old new request now reply begins decodes in_order so
 }
 
 -- so it was at the moment that was drawn, after at least as many requests as its part of the books has
-pub shared_answer : {C : Type 0} (draws : C → ℕ → C → Type 0) (begins : DriveFields → Type 0) (moments : List ℕ → Type 0) (has_upkeep : Bool) (requests changes own : ℕ) (base : Base) (clock later : C) (now : ℕ) (old new : SessionFields) (request : Request) (reply : Reply) (d : DriveFields)
-    → HasCome begins (MayGoOn draws moments clock) has_upkeep requests changes d → draws clock now later → own ≤ requests → (step : SharedStep base old request now reply new) → SharedAnswer base moments own old request reply new (state_in step.after).clock
-shared_answer draws begins moments has_upkeep requests changes own base clock later now old new request reply d come draw bound step =
+pub shared_answer : {C : Type 0} (draws : C → ℕ → C → Type 0) (begins : DriveFields → Type 0) (moments : List ℕ → Type 0) (has_upkeep : Bool) (requests changes own : ℕ) (base : Base) (reserve : ℕ) (clock later : C) (now : ℕ) (old new : SessionFields) (request : Request) (reply : Reply) (d : DriveFields)
+    → HasCome begins (MayGoOn draws moments clock) has_upkeep requests changes d → draws clock now later → own ≤ requests → (step : SharedStep base reserve old request now reply new) → SharedAnswer base reserve moments own old request reply new (state_in step.after).clock
+shared_answer draws begins moments has_upkeep requests changes own base reserve clock later now old new request reply d come draw bound step =
     let all = moments_counted come.events in
     let answered = come.answered in
     record {
@@ -117,8 +118,8 @@ fetch_free h after role o off len now at bytes (Refuses refusal is may grows) = 
 fetch_free h after role o off len now at bytes (Serves r free accepts grows) = free
 
 -- so of a session that shares its drive
-pub shared_unfetched : (base : Base) (old new : SessionFields) (o off len now : ℕ) (at : Option ℕ) (bytes : List ℕ) → SharedStep base old (Query (Read o off len at)) now (Data bytes) new → SharedStep base old (Query (Read o off len at)) now (Refused NoMemory) new
-shared_unfetched base old new o off len now at bytes s = record {
+pub shared_unfetched : (base : Base) (reserve : ℕ) (old new : SessionFields) (o off len now : ℕ) (at : Option ℕ) (bytes : List ℕ) → SharedStep base reserve old (Query (Read o off len at)) now (Data bytes) new → SharedStep base reserve old (Query (Read o off len at)) now (Refused NoMemory) new
+shared_unfetched base reserve old new o off len now at bytes s = record {
   before = s.before;
   after = s.after;
   there = s.there;
@@ -133,17 +134,17 @@ shared_unfetched base old new o off len now at bytes s = record {
 }
 
 -- a plan that was fetched, or couldn't be: the drive came to the same
-pub shared_fetched : (base : Base) (old new : SessionFields) (o off len now : ℕ) (at : Option ℕ) (planned : Result PlanFields Refusal) (reply : Reply)
-    → (s : SharedStep base old (Query (Read o off len at)) now (reply_planned planned) new) → IsFetched planned reply → (t : SharedStep base old (Query (Read o off len at)) now reply new) × (t.after ≡ s.after)
+pub shared_fetched : (base : Base) (reserve : ℕ) (old new : SessionFields) (o off len now : ℕ) (at : Option ℕ) (planned : Result PlanFields Refusal) (reply : Reply)
+    → (s : SharedStep base reserve old (Query (Read o off len at)) now (reply_planned planned) new) → IsFetched planned reply → (t : SharedStep base reserve old (Query (Read o off len at)) now reply new) × (t.after ≡ s.after)
 unfolding shared_unfetched
-shared_fetched base old new o off len now at (Ok plan) reply s (inl is) =
-    let Comes : Reply → Type 0 = λ r. (t : SharedStep base old (Query (Read o off len at)) now r new) × (t.after ≡ s.after) in
+shared_fetched base reserve old new o off len now at (Ok plan) reply s (inl is) =
+    let Comes : Reply → Type 0 = λ r. (t : SharedStep base reserve old (Query (Read o off len at)) now r new) × (t.after ≡ s.after) in
     subst Comes (sym is) (s, refl)
-shared_fetched base old new o off len now at (Ok plan) reply s (inr is) =
-    let Comes : Reply → Type 0 = λ r. (t : SharedStep base old (Query (Read o off len at)) now r new) × (t.after ≡ s.after) in
-    subst Comes (sym is) (shared_unfetched base old new o off len now at (bytes_planned plan) s, refl)
-shared_fetched base old new o off len now at (Err refusal) reply s is =
-    let Comes : Reply → Type 0 = λ r. (t : SharedStep base old (Query (Read o off len at)) now r new) × (t.after ≡ s.after) in
+shared_fetched base reserve old new o off len now at (Ok plan) reply s (inr is) =
+    let Comes : Reply → Type 0 = λ r. (t : SharedStep base reserve old (Query (Read o off len at)) now r new) × (t.after ≡ s.after) in
+    subst Comes (sym is) (shared_unfetched base reserve old new o off len now at (bytes_planned plan) s, refl)
+shared_fetched base reserve old new o off len now at (Err refusal) reply s is =
+    let Comes : Reply → Type 0 = λ r. (t : SharedStep base reserve old (Query (Read o off len at)) now r new) × (t.after ≡ s.after) in
     subst Comes (sym is) (s, refl)
 
 -- a session that was just had of a drive with this base
@@ -163,10 +164,10 @@ seated_fresh base role session_of clock_of (Ok s) is = is.fresh
 seated_fresh base role session_of clock_of (Err refusal) is = tt
 
 -- the same of a session that draws its moment with the drive's lock
-pub answer_fetched : (base : Base) (moments : List ℕ → Type 0) (own : ℕ) (old new : SessionFields) (o off len : ℕ) (at : Option ℕ) (planned : Result PlanFields Refusal) (reply : Reply) (clock : ℕ)
-    → SharedAnswer base moments own old (Query (Read o off len at)) (reply_planned planned) new clock → IsFetched planned reply → SharedAnswer base moments own old (Query (Read o off len at)) reply new clock
-answer_fetched base moments own old new o off len at planned reply clock a is =
-    let both = shared_fetched base old new o off len a.now at planned reply a.step is in
+pub answer_fetched : (base : Base) (reserve : ℕ) (moments : List ℕ → Type 0) (own : ℕ) (old new : SessionFields) (o off len : ℕ) (at : Option ℕ) (planned : Result PlanFields Refusal) (reply : Reply) (clock : ℕ)
+    → SharedAnswer base reserve moments own old (Query (Read o off len at)) (reply_planned planned) new clock → IsFetched planned reply → SharedAnswer base reserve moments own old (Query (Read o off len at)) reply new clock
+answer_fetched base reserve moments own old new o off len at planned reply clock a is =
+    let both = shared_fetched base reserve old new o off len a.now at planned reply a.step is in
     record {
       before = a.before;
       now = a.now;

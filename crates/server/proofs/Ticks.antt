@@ -27,6 +27,6 @@ last_tick clock before now ticks =
     let len : length (before ++ now ∷ []) ≡ length before + 1 = length-append before (now ∷ []) in
     sym (get_or-append_seam before now [] 0) ∙ ticks (length before) (omega (arith, len))
 
-pub answer_ticks : (base : Base) (clock : ClockFields) (own : ℕ) (old new : SessionFields) (request : Request) (reply : Reply) (came_to : ℕ)
-    → (answer : SharedAnswer base (AreTicks clock) own old request reply new came_to) → (own < length answer.before + 1) × (answer.now ≡ moment_at clock (length answer.before + 1))
-answer_ticks base clock own old new request reply came_to answer = let late = answer.late in (omega (arith, late), last_tick clock answer.before answer.now answer.drawn)
+pub answer_ticks : (base : Base) (reserve : ℕ) (clock : ClockFields) (own : ℕ) (old new : SessionFields) (request : Request) (reply : Reply) (came_to : ℕ)
+    → (answer : SharedAnswer base reserve (AreTicks clock) own old request reply new came_to) → (own < length answer.before + 1) × (answer.now ≡ moment_at clock (length answer.before + 1))
+answer_ticks base reserve clock own old new request reply came_to answer = let late = answer.late in (omega (arith, late), last_tick clock answer.before answer.now answer.drawn)

@@ -45,6 +45,6 @@ by_any : (store : StoreFields) (s : State) (role : Role) (window now : ℕ) (ref
 by_any store s role window now refusal (inl memory) = inr (inr memory)
 by_any store s role window now refusal (inr is) = or_memory role refusal (first_of_window store s role window now refusal is)
 
-pub window_refused : (base : Base) (old new : SessionFields) (window now : ℕ) (refusal : Refusal) → SharedStep base old (Control (SetWindow window)) now (Refused refusal) new
+pub window_refused : (base : Base) (reserve : ℕ) (old new : SessionFields) (window now : ℕ) (refusal : Refusal) → SharedStep base reserve old (Control (SetWindow window)) now (Refused refusal) new
     → ((old.role ≡ Client) × (refusal ≡ NotAdmin)) ⊎ ((refusal ≡ ClockEnd) ⊎ (refusal ≡ NoMemory))
-window_refused base old new window now refusal s = by_any (store_of s.before) (state_in s.before) old.role window now refusal (of_window _ s.after window refusal s.refused)
+window_refused base reserve old new window now refusal s = by_any (store_of s.before) (state_in s.before) old.role window now refusal (of_window _ s.after window refusal s.refused)

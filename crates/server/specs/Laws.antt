@@ -16,7 +16,7 @@ use Rattle.server.specs.Sharing.{SharedAnswer, SharedStep}
 
 -- A window is refused to a client, and else at the clock's end or for lack of memory alone.
 abbrev pub AWindowIsRefusedByRoleClockOrMemory : Type 0
-AWindowIsRefusedByRoleClockOrMemory = (base : Base) (old new : SessionFields) (window now : ℕ) (refusal : Refusal) → SharedStep base old (Control (SetWindow window)) now (Refused refusal) new
+AWindowIsRefusedByRoleClockOrMemory = (base : Base) (reserve : ℕ) (old new : SessionFields) (window now : ℕ) (refusal : Refusal) → SharedStep base reserve old (Control (SetWindow window)) now (Refused refusal) new
     → ((old.role ≡ Client) × (refusal ≡ NotAdmin)) ⊎ ((refusal ≡ ClockEnd) ⊎ (refusal ≡ NoMemory))
 
 -- The last drive that events make of a first one has the accepted changes of that, as many more as were accepted in the events, and no
@@ -34,5 +34,5 @@ ARunsClockGoesByItsRequests = (clock : ClockFields) (first last : DriveFields) (
 -- Where the moments are those of a clock that ticks, a request is answered at the moment of that clock which its place among all requests of
 -- the run gives: after at least as many as its session was answered before.
 abbrev pub ATickGivesEachMoment : Type 0
-ATickGivesEachMoment = (base : Base) (clock : ClockFields) (own : ℕ) (old new : SessionFields) (request : Request) (reply : Reply) (came_to : ℕ)
-    → (answer : SharedAnswer base (AreTicks clock) own old request reply new came_to) → (own < length answer.before + 1) × (answer.now ≡ moment_at clock (length answer.before + 1))
+ATickGivesEachMoment = (base : Base) (reserve : ℕ) (clock : ClockFields) (own : ℕ) (old new : SessionFields) (request : Request) (reply : Reply) (came_to : ℕ)
+    → (answer : SharedAnswer base reserve (AreTicks clock) own old request reply new came_to) → (own < length answer.before + 1) × (answer.now ≡ moment_at clock (length answer.before + 1))

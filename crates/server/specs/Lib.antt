@@ -1,3 +1,4 @@
+pub mod Reserve
 pub mod Sharing
 pub mod Drawing
 pub mod Accounts

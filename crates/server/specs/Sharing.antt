@@ -18,8 +18,9 @@ use Rattle.time_read.specs.Plans.{PlanFields, bytes_planned}
 use Rattle.drive.specs.Fields.{DriveFields, SessionFields, history_of, state_in, store_of}
 use Rattle.drive.specs.Keeping.{DecodesWhereVisible}
 use Rattle.drive.specs.Opened.{NoneFrom}
-use Rattle.drive.specs.Refusing.{RefusesExactly, LacksMemoryInPlace}
+use Rattle.drive.specs.Refusing.{RefusesLeaving, LacksMemoryInPlace}
 use Rattle.drive.specs.Answering.{Leaves, told_after, owners_after}
+use Rattle.server.specs.Reserve.{least_of}
 
 -- A drive as others may have left it under the lock: its history has this base, and what always holds of a drive holds of it. So its
 -- blocks decode to the versions of its history at each moment that can be read, and its frames are in order.
@@ -33,15 +34,15 @@ pub record IsSharedDrive (base : Base) (drive : DriveFields) : Type 0 where
   pub unborn : NoneFrom (state_in drive).next (store_of drive)
 
 -- A request is answered as a drive of this base answers it, whose history begins with all that the session had seen: by a step of the
--- model, with a refusal exactly where there is one over that drive, and with what the request stores there. Afterwards the session
--- has seen all that was accepted then, and an accepted change is its own.
-pub record SharedStep (base : Base) (old : SessionFields) (request : Request) (now : ℕ) (reply : Reply) (new : SessionFields) : Type 0 where
+-- model, with a refusal exactly where there is one over that drive, which keeps back what the request of this role leaves of a
+-- reserve, and with what the request stores there. Afterwards the session has seen all that was accepted then, and an accepted change is its own.
+pub record SharedStep (base : Base) (reserve : ℕ) (old : SessionFields) (request : Request) (now : ℕ) (reply : Reply) (new : SessionFields) : Type 0 where
   pub before : DriveFields
   pub after : DriveFields
   pub there : IsSharedDrive base before
   pub had_seen : FitsLedger before.ledger old.told
   pub step : Step (history_of before) old.role request now reply (history_of after)
-  pub refused : RefusesExactly before old.role request now reply after
+  pub refused : RefusesLeaving (least_of reserve (state_in before) old.role request) before old.role request now reply after
   pub memory : LacksMemoryInPlace before old.role request now reply
   pub stored : Leaves (store_of before) (state_in before) request now reply (store_of after)
   pub owners : after.ledger.owners ≡ owners_after reply old.told.seat before.ledger.owners
@@ -51,12 +52,12 @@ pub record SharedStep (base : Base) (old : SessionFields) (request : Request) (n
 -- So a request is answered to a session that was answered `own` requests before, at a moment of the clock that all sessions share: the drive's
 -- lock is held while that is drawn. It is the last of moments that the run may draw, and comes after those of at least as many requests; how
 -- many more there are rests on the others. The drive's clock has come to this one then.
-pub record SharedAnswer (base : Base) (moments : List ℕ → Type 0) (own : ℕ) (old : SessionFields) (request : Request) (reply : Reply) (new : SessionFields) (clock : ℕ) : Type 0 where
+pub record SharedAnswer (base : Base) (reserve : ℕ) (moments : List ℕ → Type 0) (own : ℕ) (old : SessionFields) (request : Request) (reply : Reply) (new : SessionFields) (clock : ℕ) : Type 0 where
   pub before : List ℕ
   pub now : ℕ
   pub drawn : moments (before ++ now ∷ [])
   pub late : own ≤ length before
-  pub step : SharedStep base old request now reply new
+  pub step : SharedStep base reserve old request now reply new
   pub came_to : clock ≡ (state_in step.after).clock
 
 -- how many accepted changes a session has seen, by a count that stops at the last number

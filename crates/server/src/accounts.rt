@@ -26,6 +26,9 @@ pub trait Running: Naming + Ledger {
 
     /// The ledger of the requests that were answered.
     ghost asked: { ℕ };
+
+    /// How many blocks of room clients leave to administrators.
+    ghost reserve: { ℕ };
 }
 
 impl Running for Brand {
@@ -38,6 +41,8 @@ impl Running for Brand {
     ghost has_upkeep = { false };
 
     ghost asked = { 0 };
+
+    ghost reserve = { 0 };
 }
 
 /// The ledger of the requests that were answered in a run.

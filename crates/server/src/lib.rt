@@ -29,6 +29,7 @@ mod locked;
 mod moving;
 mod pace;
 mod progress;
+mod reserves;
 mod running;
 mod settling;
 mod shared;

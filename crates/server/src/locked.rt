@@ -88,7 +88,7 @@ fn resolve<J: Running, C: Clock>(
     at: Option<Moment>,
 ) -> Result<ReadPlan, Refusal>
     requires { 0 < part.old.parts }
-    ensures step { SharedAnswer J.base J.moments part.old.requests session.old
+    ensures step { SharedAnswer J.base J.reserve J.moments part.old.requests session.old
         (Query (Read object offset length at)) (reply_planned result) session.new
         place.new.clock }
     ensures number { place.new.number ≡ number_seen session.new }
@@ -125,7 +125,7 @@ fn ask<J: Running, C: Clock>(
     request: Request,
 ) -> Reply
     requires { 0 < part.old.parts }
-    ensures step { SharedAnswer J.base J.moments part.old.requests session.old request result
+    ensures step { SharedAnswer J.base J.reserve J.moments part.old.requests session.old request result
         session.new place.new.clock }
     ensures number { place.new.number ≡ number_seen session.new }
     ensures part { part.new ≡ counted part.old (is_acceptance result) }
@@ -483,7 +483,7 @@ impl<'a, J: Running, C: Clock, R: Wait, G: Gate> Locked<'a, J, C, R, G> {
 
     /// The reply to a Read. The lock isn't held while its bytes are fetched.
     fn read(&mut self, object: ObjectId, offset: u64, length: u32, at: Option<Moment>) -> Reply
-        ensures step { SeatAnswer J.base J.moments self.old (Query (Read object offset length at)) result
+        ensures step { SeatAnswer J.base J.reserve J.moments self.old (Query (Read object offset length at)) result
             self.new }
         ensures fits { ReplyFits result }
     {
@@ -505,7 +505,7 @@ impl<'a, J: Running, C: Clock, R: Wait, G: Gate> Locked<'a, J, C, R, G> {
 
     /// The reply to a question: a Read's bytes are fetched without the lock.
     fn answer(&mut self, question: Question) -> Reply
-        ensures step { SeatAnswer J.base J.moments self.old (Query question) result self.new }
+        ensures step { SeatAnswer J.base J.reserve J.moments self.old (Query question) result self.new }
         ensures fits { ReplyFits result }
     {
         match &question {
@@ -523,7 +523,7 @@ impl<'a, J: Running, C: Clock, R: Wait, G: Gate> Locked<'a, J, C, R, G> {
 
     /// The reply to a request.
     fn reply(&mut self, request: Request) -> Reply
-        ensures step { SeatAnswer J.base J.moments self.old request result self.new }
+        ensures step { SeatAnswer J.base J.reserve J.moments self.old request result self.new }
         ensures fits { ReplyFits result }
     {
         match request {
@@ -534,7 +534,7 @@ impl<'a, J: Running, C: Clock, R: Wait, G: Gate> Locked<'a, J, C, R, G> {
 
     /// The reply to another request, all of it under the lock.
     fn change(&mut self, request: Request) -> Reply
-        ensures step { SeatAnswer J.base J.moments self.old request result self.new }
+        ensures step { SeatAnswer J.base J.reserve J.moments self.old request result self.new }
         ensures fits { ReplyFits result }
     {
         ask(
@@ -552,7 +552,7 @@ impl<'a, J: Running, C: Clock, R: Wait, G: Gate> Locked<'a, J, C, R, G> {
 impl<J: Running, C: Clock, R: Wait, G: Gate> Backend for Locked<'_, J, C, R, G> {
     ghost use Rattle.server.specs.Attending.{SeatSteps};
 
-    ghost steps = { SeatSteps J.base J.moments };
+    ghost steps = { SeatSteps J.base J.reserve J.moments };
 
     fn request(&mut self, request: Request, _drawn: Moment) -> Reply {
         self.calls = self.calls.saturating_add(1);

@@ -49,7 +49,7 @@ impl Pace {
     ) -> Self {
         let shared = drive.lock(rt);
         Pace {
-            progress: Mutex::new(Progress::new(alloc, &shared.drive)),
+            progress: Mutex::new(Progress::new(alloc, &shared.drive, shared.clients_leave())),
             news: Condvar::new(),
             wanting: AtomicU64::new(0),
         }

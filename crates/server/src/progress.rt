@@ -80,6 +80,8 @@ pub(crate) struct Progress {
     clock: u64,
     window: u64,
     floor: u64,
+    /// Blocks of that room that clients leave to administrators.
+    kept: u64,
     /// The clock when the last round began.
     visited: u64,
     /// Blocks that are left of the reserve, and the clock when there last was room for a change.
@@ -107,8 +109,8 @@ pub(crate) struct Progress {
 }
 
 impl Progress {
-    /// Before the first round.
-    pub(crate) fn new<J: Naming>(alloc: Global, drive: &Drive<J>) -> Self {
+    /// Before the first round of a drive, of whose room clients leave so many blocks.
+    pub(crate) fn new<J: Naming>(alloc: Global, drive: &Drive<J>, kept: usize) -> Self {
         Progress {
             begun: 0,
             ended: 0,
@@ -123,6 +125,7 @@ impl Progress {
             clock: drive.clock().number(),
             window: drive.window(),
             floor: drive.floor().number(),
+            kept: kept as u64,
             visited: 0,
             reserve: RESERVE_BLOCKS as u64,
             roomy: drive.clock().number(),
@@ -158,11 +161,21 @@ impl Progress {
         self.clock = drive.clock().number();
         self.window = drive.window();
         self.floor = drive.floor().number();
-        if self.room >= LITTLE_ROOM {
+        if self.clients_room() >= LITTLE_ROOM {
             self.roomy = self.clock;
             self.reserve = RESERVE_BLOCKS as u64;
         }
         self.call_copier();
+    }
+
+    /// How many blocks changes of clients may still take.
+    fn clients_room(&self) -> u64 {
+        self.room.saturating_sub(self.kept)
+    }
+
+    /// How many blocks the copier may still take: it leaves half of what clients leave.
+    fn copiers_room(&self) -> u64 {
+        self.room.saturating_sub(self.kept / 2)
     }
 
     /// This many frames are free, and of the reserve no more is left.
@@ -211,7 +224,7 @@ impl Progress {
         self.asked = self.asked.saturating_add(1);
         self.stir(1);
         let is_ripe = self.is_ripe();
-        let is_wanting = self.room < self.blocks / 4 || is_nearly_full;
+        let is_wanting = self.clients_room() < self.blocks / 4 || is_nearly_full;
         if self.asked >= self.due && is_ripe && is_wanting {
             self.due = u64::MAX;
             self.want(self.begun.saturating_add(1));
@@ -228,7 +241,7 @@ impl Progress {
 
     /// Whether so little room is left that a change begins to wait for the cleaner.
     fn is_short(&self) -> bool {
-        self.room < self.blocks / 8
+        self.clients_room() < self.blocks / 8
     }
 
     /// Whether so little room is left that a change waits on which does so for room: less than that,
@@ -240,7 +253,7 @@ impl Progress {
     /// Whether so little room is left that a walk over all objects is to end first, which may make
     /// some: what it writes takes room, too.
     fn needs_walk(&self) -> bool {
-        let is_scant = self.room < self.blocks / 16 || self.is_tight();
+        let is_scant = self.clients_room() < self.blocks / 16 || self.is_tight();
         self.agenda.is_walking() && is_scant
     }
 
@@ -359,14 +372,14 @@ impl Progress {
 
     /// Whether there is too little room for the copier's moves.
     pub(crate) fn is_tight(&self) -> bool {
-        self.room < MOVE_BLOCKS as u64
+        self.copiers_room() < MOVE_BLOCKS as u64
     }
 
     /// Whether the copier is to make room: it has enough for a move, and beside that less than a
     /// quarter of the drive is left.
     fn is_scarce(&self) -> bool {
         let scarce = (self.blocks / 4).saturating_add(MOVE_BLOCKS as u64);
-        !self.is_tight() && self.room < scarce
+        !self.is_tight() && self.clients_room() < scarce
     }
 
     /// Whether the copier has a step to take.

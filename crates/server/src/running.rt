@@ -64,7 +64,7 @@ fn attend<J: Running, C: Clock, R: Wait, G: Gate, S: Source, W: Sink>(
     requires part { client.old.part ≡ Some one_part }
     requires reader { S.failures client.old.reader + 1 < 2 ^ 64 }
     requires writer { W.failures client.old.writer + 1 < 2 ^ 64 }
-    ensures attended { IsAttendedClient S.remaining W.passed S.failures W.failures J.base J.moments
+    ensures attended { IsAttendedClient S.remaining W.passed S.failures W.failures J.base J.reserve J.moments
         client.old client.new }
 {
     histories_go_on_record_by_record();
@@ -136,7 +136,7 @@ pub fn run_sessions<
     // Each session was answered by steps of histories that begin with the drive's base, each after
     // all that the session had seen; or the drive had no seat for it.
     ensures attended { (i : ℕ) (d : _) → i < length clients.old
-        → IsAttendedClient S.remaining W.passed S.failures W.failures J.base J.moments
+        → IsAttendedClient S.remaining W.passed S.failures W.failures J.base J.reserve J.moments
         (slice_index_or clients.old i d) (slice_index_or clients.new i d) }
 {
     run_beside(rt, alloc, drive, None, gate, clients)
@@ -165,14 +165,14 @@ pub(crate) fn run_beside<
     // Each session was answered by steps of histories that begin with the drive's base, each after
     // all that the session had seen; or the drive had no seat for it.
     ensures attended { (i : ℕ) (d : _) → i < length clients.old
-        → IsAttendedClient S.remaining W.passed S.failures W.failures J.base J.moments
+        → IsAttendedClient S.remaining W.passed S.failures W.failures J.base J.reserve J.moments
         (slice_index_or clients.old i d) (slice_index_or clients.new i d) }
 {
     let serve_one = |index: usize, client: &mut Client<J, S, W>|
         requires { (client.now.part ≡ Some one_part)
             × (S.failures client.now.reader + 1 < 2 ^ 64)
             × (W.failures client.now.writer + 1 < 2 ^ 64) }
-        ensures attended { IsAttendedClient S.remaining W.passed S.failures W.failures J.base
+        ensures attended { IsAttendedClient S.remaining W.passed S.failures W.failures J.base J.reserve
             J.moments client.entry.now client.exit.now }
     {
         attend(

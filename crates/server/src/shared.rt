@@ -16,6 +16,7 @@ ghost use Rattle.server.specs.Sequence.{HasCome};
 ghost use Rattle.server.specs.Sharing.{SharedAnswer, HasMet};
 
 use crate::accounts::{Blanks, Books, Part, Running};
+use crate::reserves::{Reserve, least_of};
 use crate::showing::Visit;
 use drive::{Drive, Session};
 use s4_model::laws::histories_go_on_record_by_record;
@@ -57,6 +58,8 @@ pub struct SharedDrive<J: Running, C: Clock> {
     /// How many changes were accepted in the drive's history. It stops at the last number.
     accepted: u64,
     books: Books<J>,
+    /// What clients leave of its room.
+    reserve: Reserve<J>,
 }
 
 // Written by hand, so that an owner lets it go by one call.
@@ -67,6 +70,7 @@ impl<J: Running, C: Clock + Drop> Drop for SharedDrive<J, C> {
             clock: _,
             accepted: _,
             books: _,
+            reserve: _,
         } = self;
     }
 }
@@ -87,9 +91,9 @@ impl<J: Running, C: Clock> Model for SharedDrive<J, C> {
 
 impl<J: Running, C: Clock> SharedDrive<J, C> {
     /// A drive that a run begins with, in whose history nothing was accepted yet, the clock that
-    /// gives each request its moment, and books in which nothing is counted yet. Gives all parts of
-    /// these, too.
-    pub fn new(drive: Drive<J>, clock: C, blanks: Blanks) -> (Self, Part<J>)
+    /// gives each request its moment, books in which nothing is counted yet, and how many blocks of
+    /// room clients leave to administrators. Gives all parts of the books, too.
+    pub fn new(drive: Drive<J>, clock: C, blanks: Blanks, reserve: usize) -> (Self, Part<J>)
         requires begins { J.begins drive }
         requires moments { (moments : List ℕ) (later : _) → Drawn C.draws clock moments later
             → J.moments moments }
@@ -97,6 +101,7 @@ impl<J: Running, C: Clock> SharedDrive<J, C> {
         requires requests { blanks.requests ≡ J.asked }
         requires changes { blanks.changes ≡ J.name }
         requires parts { blanks.parts ≡ J.parts }
+        requires reserve { reserve ≡ J.reserve }
         ensures drive { result.0 ≡ drive }
         ensures part { result.1 ≡ record { parts = J.parts; requests = 0; changes = 0 } }
     {
@@ -106,6 +111,7 @@ impl<J: Running, C: Clock> SharedDrive<J, C> {
             clock,
             accepted: 0,
             books,
+            reserve: Reserve::new(reserve),
         };
         (shared, all)
     }
@@ -116,6 +122,13 @@ impl<J: Running, C: Clock> SharedDrive<J, C> {
         ensures same { self.new ≡ self.old }
     {
         visit.visit(&mut self.drive, session, self.accepted)
+    }
+
+    /// How many blocks of its room clients leave to administrators.
+    pub(crate) fn clients_leave(&self) -> usize
+        ensures { result ≡ J.reserve }
+    {
+        self.reserve.blocks()
     }
 
     /// How many changes were accepted, and the drive's clock.
@@ -159,7 +172,7 @@ impl<J: Running, C: Clock> SharedDrive<J, C> {
         request: Request,
     ) -> Reply
         requires { 0 < part.old.parts }
-        ensures step { SharedAnswer J.base J.moments part.old.requests session.old request result
+        ensures step { SharedAnswer J.base J.reserve J.moments part.old.requests session.old request result
             session.new (state_in self.new).clock }
         ensures seen { session.new.told.seen ≡ accepted (history_of self.new) }
         ensures part { part.new ≡ counted part.old (is_acceptance result) }
@@ -168,7 +181,8 @@ impl<J: Running, C: Clock> SharedDrive<J, C> {
         histories_go_on_record_by_record();
         self.drive.rules();
         let now = self.clock.draw();
-        let reply = self.drive.request(session, request, now);
+        let least = least_of(&self.drive, self.reserve.blocks(), session.role(), &request);
+        let reply = self.drive.request_leaving(session, request, now, least);
         let is_accepted = accepts(&reply);
         let more = number_of(is_accepted);
         self.accepted = self.accepted.saturating_add(more);
@@ -188,7 +202,7 @@ impl<J: Running, C: Clock> SharedDrive<J, C> {
         at: Option<Moment>,
     ) -> Result<ReadPlan, Refusal>
         requires { 0 < part.old.parts }
-        ensures step { SharedAnswer J.base J.moments part.old.requests session.old
+        ensures step { SharedAnswer J.base J.reserve J.moments part.old.requests session.old
             (Query (Read object offset length at)) (reply_planned result) session.new
             (state_in self.new).clock }
         ensures seen { session.new.told.seen ≡ accepted (history_of self.new) }
@@ -217,6 +231,7 @@ impl<J: Running, C: Clock + Drop> SharedDrive<J, C> {
             clock: _,
             accepted: _,
             mut books,
+            reserve: _,
         } = self;
         let mut all = all;
         books.audit(&mut all);

@@ -243,7 +243,7 @@ pub fn run_with_upkeep<
     // Each session was answered by steps of histories that begin with the drive's base, each after
     // all that the session had seen; or the drive had no seat for it.
     ensures attended { (i : ℕ) (d : _) → i < vec_len clients
-        → IsAttendedClient S.remaining W.passed S.failures W.failures J.base J.moments
+        → IsAttendedClient S.remaining W.passed S.failures W.failures J.base J.reserve J.moments
         (slice_index_or clients.items i d) (slice_index_or result.0.items i d) }
 {
     let pace = Pace::new(rt, alloc, drive);
@@ -259,7 +259,7 @@ pub fn run_with_upkeep<
         requires writers { All (λ c. W.failures c.writer + 1 < 2 ^ 64) clients.items }
         ensures count { vec_len result ≡ vec_len clients }
         ensures attended { (i : ℕ) (d : _) → i < vec_len clients
-            → IsAttendedClient S.remaining W.passed S.failures W.failures J.base J.moments
+            → IsAttendedClient S.remaining W.passed S.failures W.failures J.base J.reserve J.moments
             (slice_index_or clients.items i d) (slice_index_or result.items i d) }
     {
         let mut clients = clients;

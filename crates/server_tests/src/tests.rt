@@ -118,9 +118,10 @@ fn play_named<
     requires upkeep { J.has_upkeep ≡ true }
     requires ledgers { (blanks.requests ≡ J.asked) × (blanks.changes ≡ J.name) }
     requires parts { (blanks.parts ≡ J.parts) × (J.parts ≡ 100) }
+    requires reserve { J.reserve ≡ 0 }
 {
     let drive = made.named::<J>();
-    let (shared, mut rest) = SharedDrive::new(drive, clock, blanks);
+    let (shared, mut rest) = SharedDrive::new(drive, clock, blanks, 0);
     let shared = Mutex::new(shared);
     let drive = &shared;
     let played = play_over_drive(&Stage { rt, alloc, drive }, &mut rest, scene);

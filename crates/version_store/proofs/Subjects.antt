@@ -1,7 +1,7 @@
 -- What a change of an object begins with, and when there is room for what it comes to.
 use Rattle.std.proofs.Common.{◌≡◌, ℕ, ◌+◌, ◌-◌, ◌≤◌, ltb, Bool, true, false, cond, List, [], ◌∷◌, length, map, drop, sum, Option, Some, None, refl, sym, ap, subst, ◌∙◌, inl, inr, arith}
 use Rattle.std.specs.List.{AllByRecursion}
-use Rattle.std.proofs.lemmas.Bool.{cases_Bool, cond-false, ltb-false, true≢false}
+use Rattle.std.proofs.lemmas.Bool.{cases_Bool, cond-false, ltb-false, le-ltb, true≢false}
 use Rattle.std.proofs.lemmas.List.{length-drop}
 use Rattle.std.proofs.lemmas.Option.{none-some}
 use Rattle.s4_types.specs.Pointer.{Place}
@@ -25,7 +25,7 @@ use Rattle.object_map.specs.Rows.{row_of}
 use Rattle.time_read.specs.Rows.{chain_of, inode_of}
 use Rattle.version_store.specs.Store.{StoreFields, IsStore}
 use Rattle.version_store.specs.Versions.{inode_by, version_by, version_in}
-use Rattle.version_store.specs.Costs.{row_or_fresh, subject_row, subject_inode, pointers_moved, data_blocks, attribute_by, sizes_by, refusal_by}
+use Rattle.version_store.specs.Costs.{row_or_fresh, subject_row, subject_inode, pointers_moved, data_blocks, attribute_by, sizes_by, refusal_by, room, short_of}
 use Rattle.version_store.specs.Taking.{IsThere}
 use Rattle.version_store.specs.private.Below.{EntriesHaveSizes, SizesAddUp}
 
@@ -89,6 +89,27 @@ free_of space change row i none =
       chain = ltb-false CHAIN_ENTRY_BYTES (row.journal_bytes + sum (sizes_by change i)) both.0;
       blocks = ltb-false space (data_blocks change i + blocks_needed row.head_bytes (sizes_by change i)) both.1;
     }
+
+-- where neither test applies, nothing is refused
+none_by : (a b : Bool) → a ≡ false → b ≡ false → cond a (Some ChainFull) (cond b (Some NoSpace) None) ≡ None
+none_by a b first second = ap (λ (x : Bool). cond x (Some ChainFull) (cond b (Some NoSpace) None)) first ∙ ap (λ (x : Bool). cond x (Some NoSpace) None) second
+
+-- what isn't refused with less room isn't with more
+pub free_with_more : (less space : ℕ) (change : Change) (row : Row) (i : Inode) → less ≤ space → refusal_by less change row i ≡ None → refusal_by space change row i ≡ None
+free_with_more less space change row i more none =
+    let free = free_of less change row i none in
+    let blocks = free.blocks in
+    none_by (ltb CHAIN_ENTRY_BYTES (row.journal_bytes + sum (sizes_by change i))) (ltb space (data_blocks change i + blocks_needed row.head_bytes (sizes_by change i)))
+    (le-ltb CHAIN_ENTRY_BYTES (row.journal_bytes + sum (sizes_by change i)) free.chain)
+    (le-ltb space (data_blocks change i + blocks_needed row.head_bytes (sizes_by change i)) (omega (arith, blocks, more)))
+
+-- a store with fewer places ahead has that much less room, down to none
+pub room_short : (least : ℕ) (s : StoreFields) → room (short_of least s) ≡ room s - least
+room_short least s = let left = length-drop least s.log.ahead in omega (arith, left)
+
+-- with none fewer it is the store itself
+pub short_of_none : (s : StoreFields) → short_of 0 s ≡ s
+short_of_none s = refl
 
 -- the entries of a change have the sizes that were counted
 pub counted : EntriesHaveSizes → (change : Change) (i j : Inode) (m : ℕ) → length (triples_between i j) ≡ pointers_moved change i → j.attribute ≡ attribute_by change i

@@ -1,5 +1,5 @@
 -- What a change of an object takes of a store, told from its inode before any block is written; and when it is refused.
-use Rattle.std.specs.Prelude.{ℕ, ◌+◌, ◌-◌, ◌*◌, ◌&&◌, Bool, nat_le, nat_lt, if◌then◌else◌, List, length, sum, Option, Some, None, is_some}
+use Rattle.std.specs.Prelude.{ℕ, ◌+◌, ◌-◌, ◌*◌, ◌&&◌, Bool, nat_le, nat_lt, if◌then◌else◌, List, length, drop, sum, Option, Some, None, is_some}
 use Rattle.std.specs.List.{count_by, range_with_len}
 use Rattle.s4_types.specs.declared.changes.Change.{Change}
 use Rattle.s4_types.specs.declared.changes.Change.TheVariants.{Create, Delete, Write, Truncate, SetAttr, SetWindow, Flush, FlushO}
@@ -80,6 +80,11 @@ sizes_by change i = entry_sizes (pointers_moved change i) (pair_length (pair_bet
 -- how many blocks changes of objects may still append: the reserve is not theirs
 abbrev pub room : StoreFields → ℕ
 room s = length s.log.ahead - RESERVE_BLOCKS
+
+-- A store as it would be with so many fewer places ahead: what is judged by its room is judged by the room less these, down to
+-- none. With 0 it is the store itself.
+abbrev pub short_of : ℕ → StoreFields → StoreFields
+short_of least s = record s { log = record s.log { ahead = drop least s.log.ahead } }
 
 -- how many blocks a change of an inode appends, where the object has this row
 abbrev pub blocks_by : Change → Row → Inode → ℕ

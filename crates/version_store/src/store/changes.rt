@@ -12,6 +12,7 @@ ghost use Rattle.object_map.specs.Rows.{row_of, with_row, fresh_row};
 ghost use Rattle.version_store.specs.Store.{fields_of, IsStore};
 ghost use Rattle.version_store.specs.Versions.{version_in, version_taken};
 ghost use Rattle.version_store.specs.Costs.{subject_row, subject_inode, sizes_by, change_refusal};
+ghost use Rattle.version_store.specs.Costs.{short_of};
 ghost use Rattle.codec.specs.Entry.{entries_length};
 ghost use Rattle.std.specs.List.{AllByRecursion};
 ghost use Rattle.s4_types.specs.declared.limits.TheConstants.{JOURNAL_ENTRY_BYTES, OBJECT_BLOCKS};
@@ -84,13 +85,14 @@ impl<B: Blocks> Store<B> {
     }
 
     /// How many bytes the journal entries of a change at a moment have, which begins with this row
-    /// and this inode. ChainFull or NoSpace, where it is refused.
+    /// and this inode. ChainFull or NoSpace, where it is refused: NoSpace by the room less `least`.
     fn count(
         &self,
         change: &Change,
         row: &Row,
         inode: &Inode,
         moment: Moment,
+        least: usize,
     ) -> Result<usize, Refusal>
         requires laws { ChangesStand }
         requires store { IsStore (fields_of B.log self.now) }
@@ -102,10 +104,14 @@ impl<B: Blocks> Store<B> {
         ensures bytes { IfOk result (λ bytes. bytes ≡ sum (sizes_by change.now inode.now)) }
         ensures fit { OnOk result
             (AllByRecursion (λ size. size ≤ JOURNAL_ENTRY_BYTES) (sizes_by change.now inode.now)) }
-        ensures answer { MatchResult result (λ _. change_refusal (fields_of B.log self.now) change.now moment ≡ None)
-            (λ e. change_refusal (fields_of B.log self.now) change.now moment ≡ Some e) }
+        ensures answer { MatchResult result
+            (λ _. change_refusal (short_of least (fields_of B.log self.now)) change.now moment ≡ None)
+            (λ e. change_refusal (short_of least (fields_of B.log self.now)) change.now moment
+            ≡ Some e) }
+        ensures free { OnOk result (change_refusal (fields_of B.log self.now) change.now moment ≡ None) }
     {
-        bytes_of_entries(self.room(), change, row, inode)
+        let space = self.room().saturating_sub(least);
+        bytes_of_entries(space, change, row, inode)
     }
 
     /// From a moment on an object has another inode: the entries that lead there are appended to
@@ -337,6 +343,7 @@ impl<B: Blocks> Store<B> {
         row: &Row,
         inode: &Inode,
         moment: Moment,
+        least: usize,
     ) -> Result<(), Refusal>
         requires store { IsStore (fields_of B.log self.old) }
         requires later { self.old.latest < moment }
@@ -348,24 +355,26 @@ impl<B: Blocks> Store<B> {
         ensures taken { OnOk result
             (IsTaken (fields_of B.log self.old) change.now moment inode.now
             (fields_of B.log self.new)) }
-        ensures answer { MatchResult result (λ _. change_refusal (fields_of B.log self.old) change.now moment ≡ None)
+        ensures answer { MatchResult result
+            (λ _. change_refusal (short_of least (fields_of B.log self.old)) change.now moment ≡ None)
             (λ e. (e ≡ NoMemory)
-            ⊎ (change_refusal (fields_of B.log self.old) change.now moment ≡ Some e)) }
+            ⊎ (change_refusal (short_of least (fields_of B.log self.old)) change.now moment
+            ≡ Some e)) }
         ensures memory { IfErr result
             (λ e. e ≡ NoMemory
-            → (change_refusal (fields_of B.log self.old) change.now moment ≡ None)
+            → (change_refusal (short_of least (fields_of B.log self.old)) change.now moment ≡ None)
             × (row_of self.old.rows (object_of change.now) ≡ None)) }
         ensures unchanged { OnErr result (fields_of B.log self.new ≡ fields_of B.log self.old) }
     {
         // Here alone: all that a change calls from here on has these laws as a premise.
         what_changes_rest_on();
-        let bytes = self.count(change, row, inode, moment)?;
+        let bytes = self.count(change, row, inode, moment, least)?;
         let plan = PlannedChange { row, inode, bytes };
         self.perform(change, &plan, moment)
     }
 
     /// Takes a change of an object without a row, as [`Store::take`] says.
-    fn take_first(&mut self, change: &Change, moment: Moment) -> Result<(), Refusal>
+    fn take_first(&mut self, change: &Change, moment: Moment, least: usize) -> Result<(), Refusal>
         requires store { IsStore (fields_of B.log self.old) }
         requires later { self.old.latest < moment }
         requires takes { Takes (fields_of B.log self.old) change.now }
@@ -376,18 +385,20 @@ impl<B: Blocks> Store<B> {
         ensures taken { OnOk result
             (IsTaken (fields_of B.log self.old) change.now moment (blank moment)
             (fields_of B.log self.new)) }
-        ensures answer { MatchResult result (λ _. change_refusal (fields_of B.log self.old) change.now moment ≡ None)
+        ensures answer { MatchResult result
+            (λ _. change_refusal (short_of least (fields_of B.log self.old)) change.now moment ≡ None)
             (λ e. (e ≡ NoMemory)
-            ⊎ (change_refusal (fields_of B.log self.old) change.now moment ≡ Some e)) }
+            ⊎ (change_refusal (short_of least (fields_of B.log self.old)) change.now moment
+            ≡ Some e)) }
         ensures memory { IfErr result
             (λ e. e ≡ NoMemory
-            → (change_refusal (fields_of B.log self.old) change.now moment ≡ None)
+            → (change_refusal (short_of least (fields_of B.log self.old)) change.now moment ≡ None)
             × (row_of self.old.rows (object_of change.now) ≡ None)) }
         ensures unchanged { OnErr result (fields_of B.log self.new ≡ fields_of B.log self.old) }
     {
         let row = Row::fresh(moment);
         let inode = blank(moment);
-        self.take_from(change, &row, &inode, moment)
+        self.take_from(change, &row, &inode, moment, least)
     }
 
     /// Takes a change of an object at a moment later than that of each change before; a creation is
@@ -397,9 +408,9 @@ impl<B: Blocks> Store<B> {
     ///
     /// ChainFull exactly where the journal's entries would have more than `CHAIN_ENTRY_BYTES`; else
     /// NoSpace exactly where the change appends more blocks than there is room for beside the
-    /// reserve; else NoMemory where a creation's row and its inode couldn't be stored. Then nothing
+    /// reserve and `least` blocks more; else NoMemory where a creation's row and its inode couldn't be stored. Then nothing
     /// has changed.
-    pub fn take(&mut self, change: &Change, moment: Moment) -> Result<(), Refusal>
+    pub fn take(&mut self, change: &Change, moment: Moment, least: usize) -> Result<(), Refusal>
         requires store { IsStore (fields_of B.log self.old) }
         requires later { self.old.latest < moment }
         requires takes { Takes (fields_of B.log self.old) change.now }
@@ -417,12 +428,14 @@ impl<B: Blocks> Store<B> {
             (RowChanges (fields_of B.log self.old) (object_of change.now) moment self.new.rows) }
         ensures blocks { OnOk result
             (AppendsBy (fields_of B.log self.old) change.now moment (B.log self.new.table)) }
-        ensures answer { MatchResult result (λ _. change_refusal (fields_of B.log self.old) change.now moment ≡ None)
+        ensures answer { MatchResult result
+            (λ _. change_refusal (short_of least (fields_of B.log self.old)) change.now moment ≡ None)
             (λ e. (e ≡ NoMemory)
-            ⊎ (change_refusal (fields_of B.log self.old) change.now moment ≡ Some e)) }
+            ⊎ (change_refusal (short_of least (fields_of B.log self.old)) change.now moment
+            ≡ Some e)) }
         ensures memory { IfErr result
             (λ e. e ≡ NoMemory
-            → (change_refusal (fields_of B.log self.old) change.now moment ≡ None)
+            → (change_refusal (short_of least (fields_of B.log self.old)) change.now moment ≡ None)
             × (row_of self.old.rows (object_of change.now) ≡ None)) }
         ensures unchanged { OnErr result (fields_of B.log self.new ≡ fields_of B.log self.old) }
     {
@@ -431,8 +444,8 @@ impl<B: Blocks> Store<B> {
             // for it first.
             let row = kept.row;
             let inode = kept.value.inode;
-            return self.take_from(change, &row, &inode, moment);
+            return self.take_from(change, &row, &inode, moment, least);
         }
-        self.take_first(change, moment)
+        self.take_first(change, moment, least)
     }
 }

@@ -45,6 +45,7 @@ pub returns : goal.returns
 returns g c =
     let base = g.J.Naming.base in
     let clock : ClockFields = record { start = c.args.begun.manner.start; tick = c.args.begun.manner.tick } in
+    let reserve = g.J.Running.reserve in
     let moments = g.J.Running.moments in
     let upkeep = c.args.begun.manner.upkeep in
     let law = c.a_run_is_what_was_asked.ensures in
@@ -87,11 +88,11 @@ returns g c =
     let opened : base.clock ≡ c.args.begun.opened.timeline.clock = ap (λ (b : Base). b.clock) (sym c.requires.base) in
     let start = c.requires.start in
     let within : base.clock ≤ clock.start = omega (arith, opened, start) in
-    let Leaves : Option (List ℕ) → Bool → Type 0 = λ has is_ended. LeavesDrive base (RunsSessions base moments clock upkeep opens a f sessions is_ended) (IsSavedIn has) in
+    let Leaves : Option (List ℕ) → Bool → Type 0 = λ has is_ended. LeavesDrive base (RunsSessions base reserve moments clock upkeep opens a f sessions is_ended) (IsSavedIn has) in
     let leaves : (has : Option (List ℕ)) → All (λ s. Keeps (e s.output.now) (f s.output.now)) sessions → MatchResult saved (λ bytes. AreKnown has bytes.items) (λ _. ⊥) → Leaves has ended = λ has on holds.
-    left_for base _ (RunsSessions base moments clock upkeep opens a f sessions ended) _ (IsSavedIn has) left
-    (λ are. subst (λ (u : Bool). RunsSessions base moments clock u opens a f sessions ended left.drive) c.requires.upkeep
-    (sessions_ran _ _ _ _ base g.J.Running.begins moments g.J.Running.has_upkeep opens a f are_there left.drive clock c.requires.moments sessions clients.items served.items are_ended asked count are
+    left_for base _ (RunsSessions base reserve moments clock upkeep opens a f sessions ended) _ (IsSavedIn has) left
+    (λ are. subst (λ (u : Bool). RunsSessions base reserve moments clock u opens a f sessions ended left.drive) c.requires.upkeep
+    (sessions_ran _ _ _ _ base g.J.Running.reserve g.J.Running.begins moments g.J.Running.has_upkeep opens a f are_there left.drive clock c.requires.moments sessions clients.items served.items are_ended asked count are
     (zip_all (λ (s : RunSession). Keeps (e s.output.now) (f s.output.now)) (λ s x. IsTrue are_there → Keeps (written x.writer.writer) (e s.output.now))
     (λ s x. IsTrue are_there → Keeps (written x.writer.writer) (f s.output.now)) (λ s x last so_far is. Keeps-trans _ _ _ (so_far is) last) sessions served.items on there)
     ends c.requires.begins law.changes law.clock within))

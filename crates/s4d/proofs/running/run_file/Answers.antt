@@ -27,14 +27,14 @@ returns-in-Ok-open g c =
     let all = c.as_slice.ensures.value in
     let told = c.in-Ok-open.ensures.base verified.bytes (image_in verified.bytes) verified.spelled verified.told in
     let image : (saved : Option (List ℕ)) (ended : Bool)
-    → LeavesDrive base (RunsSessions base (AreTicks (record { start = c.clock.result; tick = c.args.asked.now.tick })) (record { start = c.clock.result; tick = c.args.asked.now.tick }) c.args.asked.now.upkeep opens a f c.as_slice.result.now ended) (IsSavedIn saved)
+    → LeavesDrive base (RunsSessions base 0 (AreTicks (record { start = c.clock.result; tick = c.args.asked.now.tick })) (record { start = c.clock.result; tick = c.args.asked.now.tick }) c.args.asked.now.upkeep opens a f c.as_slice.result.now ended) (IsSavedIn saved)
     → RunsImage opens c.args.asked.now a f saved ended = λ saved ended left. record {
       image = c.in-Ok.image;
       verified = verified;
       base = base;
       told = told;
-      leaves = subst (λ (start : ℕ). LeavesDrive base (RunsSessions base (AreTicks (record { start = start; tick = c.args.asked.now.tick })) (record { start = start; tick = c.args.asked.now.tick }) c.args.asked.now.upkeep opens a f sessions ended) (IsSavedIn saved)) c.clock.ensures
-          (subst (λ (ss : List RunSession). LeavesDrive base (RunsSessions base (AreTicks (record { start = c.clock.result; tick = c.args.asked.now.tick })) (record { start = c.clock.result; tick = c.args.asked.now.tick }) c.args.asked.now.upkeep opens a f ss ended) (IsSavedIn saved)) all left);
+      leaves = subst (λ (start : ℕ). LeavesDrive base (RunsSessions base 0 (AreTicks (record { start = start; tick = c.args.asked.now.tick })) (record { start = start; tick = c.args.asked.now.tick }) c.args.asked.now.upkeep opens a f sessions ended) (IsSavedIn saved)) c.clock.ensures
+          (subst (λ (ss : List RunSession). LeavesDrive base (RunsSessions base 0 (AreTicks (record { start = c.clock.result; tick = c.args.asked.now.tick })) (record { start = c.clock.result; tick = c.args.asked.now.tick }) c.args.asked.now.upkeep opens a f ss ended) (IsSavedIn saved)) all left);
     } in
     let runs : IfOk result (λ ran. RunsImage opens c.args.asked.now a f (f path) ran.is_ended) = IfOk-weaker result _ _ (λ ran left. image (f path) ran.is_ended left) c.run_begun.ensures.left in
     record {
@@ -45,8 +45,8 @@ returns-in-Ok-open g c =
       unsaved = on_err_weaker result (λ kept other unwritten. kept other (subst (λ (ss : List RunSession). IsUnwritten g.F.Files.apart ss other) (sym all) unwritten)) c.run_begun.ensures.unsaved;
       unserved = c.run_begun.ensures.unserved;
       fault = IfErr-weaker result _ _
-          (λ fault says. unrun_on (a path) path sessions (λ saved. (ended : Bool) × LeavesDrive base (RunsSessions base (AreTicks (record { start = c.clock.result; tick = c.args.asked.now.tick })) (record { start = c.clock.result; tick = c.args.asked.now.tick }) c.args.asked.now.upkeep opens a f c.as_slice.result.now ended) (IsSavedIn saved)) (λ saved. (ended : Bool) × RunsImage opens c.args.asked.now a f saved ended) f (λ saved left. (left.0, image saved left.0 left.1)) fault
+          (λ fault says. unrun_on (a path) path sessions (λ saved. (ended : Bool) × LeavesDrive base (RunsSessions base 0 (AreTicks (record { start = c.clock.result; tick = c.args.asked.now.tick })) (record { start = c.clock.result; tick = c.args.asked.now.tick }) c.args.asked.now.upkeep opens a f c.as_slice.result.now ended) (IsSavedIn saved)) (λ saved. (ended : Bool) × RunsImage opens c.args.asked.now a f saved ended) f (λ saved left. (left.0, image saved left.0 left.1)) fault
           (subst (λ (ss : List RunSession). SaysUnrun (a path) path ss (λ saved. (ended : Bool) × LeavesDrive base
-          (RunsSessions base (AreTicks (record { start = c.clock.result; tick = c.args.asked.now.tick })) (record { start = c.clock.result; tick = c.args.asked.now.tick }) c.args.asked.now.upkeep opens a f c.as_slice.result.now ended) (IsSavedIn saved)) f fault) all (says (a path))))
+          (RunsSessions base 0 (AreTicks (record { start = c.clock.result; tick = c.args.asked.now.tick })) (record { start = c.clock.result; tick = c.args.asked.now.tick }) c.args.asked.now.upkeep opens a f c.as_slice.result.now ended) (IsSavedIn saved)) f fault) all (says (a path))))
           c.run_begun.ensures.fault;
     }

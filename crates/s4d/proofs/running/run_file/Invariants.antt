@@ -20,4 +20,5 @@ ghosts-run_begun-J-Running g a = record {
   moments = AreTicks (record { start = a.begun.manner.start; tick = a.begun.manner.tick });
   has_upkeep = a.begun.manner.upkeep;
   asked = a.begun.blanks.requests;
+  reserve = 0;
 }

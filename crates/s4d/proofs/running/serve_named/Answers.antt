@@ -44,9 +44,9 @@ settle-drive-requires g c =
     let given_count = c.with_parts-clients.ensures.count in
     let served_count = c.serve_all-served.ensures.count in
     let size : length c.as_mut_slice.result.now ≡ length given = omega (arith, many, served_count, c.with_parts-clients.result.ok.0) in
-    let Attend : List A → List A → Type 0 = λ xs ys. (i : ℕ) (d : A) → i < length given → IsAttendedClient g.S.Source.remaining g.W.Sink.passed g.S.Source.failures g.W.Sink.failures g.J.Naming.base g.J.Running.moments (get_or xs i d) (get_or ys i d) in
+    let Attend : List A → List A → Type 0 = λ xs ys. (i : ℕ) (d : A) → i < length given → IsAttendedClient g.S.Source.remaining g.W.Sink.passed g.S.Source.failures g.W.Sink.failures g.J.Naming.base g.J.Running.reserve g.J.Running.moments (get_or xs i d) (get_or ys i d) in
     let here : Attend given served = λ i d lt. c.serve_all-served.ensures.attended i d (omega (arith, lt, c.with_parts-clients.result.ok.0)) in
-    let parts = parts_served _ _ _ _ g.J.Naming.base g.J.Running.begins g.J.Running.moments g.J.Running.has_upkeep given c.as_mut_slice.result.now size
+    let parts = parts_served _ _ _ _ g.J.Naming.base g.J.Running.reserve g.J.Running.begins g.J.Running.moments g.J.Running.has_upkeep given c.as_mut_slice.result.now size
     (subst (λ (ys : List A). Attend given ys) (sym c.as_mut_slice.ensures.value) here) in
     let rest = ap (λ (p : PartFields). p.parts) c.with_parts-clients.ensures.rest in
     let first = ap (λ (p : PartFields). p.parts) c.new-shared.ensures.part in
@@ -68,15 +68,15 @@ returns-clause-left g c =
     let sound = c.args.clients.ok.0 in
     let last = written_over c.serve_all-served.result.len after served (c.settle-drive.auto.clients ∙ many) in
     let size : length c.as_mut_slice.result.now ≡ length clients = omega (arith, many, given_count, served_count, sound) in
-    let Attend : List A → List A → Type 0 = λ xs ys. (i : ℕ) (d : A) → i < length clients → IsAttendedClient g.S.Source.remaining g.W.Sink.passed g.S.Source.failures g.W.Sink.failures g.J.Naming.base g.J.Running.moments (get_or xs i d) (get_or ys i d) in
+    let Attend : List A → List A → Type 0 = λ xs ys. (i : ℕ) (d : A) → i < length clients → IsAttendedClient g.S.Source.remaining g.W.Sink.passed g.S.Source.failures g.W.Sink.failures g.J.Naming.base g.J.Running.reserve g.J.Running.moments (get_or xs i d) (get_or ys i d) in
     let here : Attend given served = λ i d lt. c.serve_all-served.ensures.attended i d (omega (arith, lt, given_count, sound)) in
     let attended = subst (λ (ys : List A). Attend given ys) (sym c.as_mut_slice.ensures.value) here in
     let rest = c.with_parts-clients.ensures.rest in
     let first = c.new-shared.ensures.part in
-    let are = are_served _ _ _ _ g.J.Naming.base g.J.Running.begins g.J.Running.moments g.J.Running.has_upkeep clients given c.as_mut_slice.result.now after c.with_parts-clients.new.rest c.settle-drive.result
+    let are = are_served _ _ _ _ g.J.Naming.base g.J.Running.reserve g.J.Running.begins g.J.Running.moments g.J.Running.has_upkeep clients given c.as_mut_slice.result.now after c.with_parts-clients.new.rest c.settle-drive.result
     (ap (λ (p : PartFields). p.requests) rest ∙ ap (λ (p : PartFields). p.requests) first) (ap (λ (p : PartFields). p.changes) rest ∙ ap (λ (p : PartFields). p.changes) first)
     size c.with_parts-clients.ensures.given attended (λ i d lt. c.settle-drive.ensures.settled i d (omega (arith, lt, size))) c.settle-drive.ensures.come in
-    let Are : List A → DriveFields → Type 0 = λ xs d. AreServed g.S.Source.remaining g.W.Sink.passed g.S.Source.failures g.W.Sink.failures g.J.Naming.base g.J.Running.begins g.J.Running.moments g.J.Running.has_upkeep clients xs d in
+    let Are : List A → DriveFields → Type 0 = λ xs d. AreServed g.S.Source.remaining g.W.Sink.passed g.S.Source.failures g.W.Sink.failures g.J.Naming.base g.J.Running.reserve g.J.Running.begins g.J.Running.moments g.J.Running.has_upkeep clients xs d in
     let drive = c.save-saved.new.drive in
     let rules = c.rules.ensures in
     record {

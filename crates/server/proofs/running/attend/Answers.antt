@@ -11,6 +11,7 @@ pub returns : goal.returns
 returns g c =
     let law = c.histories_go_on_record_by_record.ensures in
     let base = g.J.Naming.base in
+    let reserve = g.J.Running.reserve in
     let moments = g.J.Running.moments in
     let role = c.args.client.now.role in
     let input = g.S.Source.remaining c.args.client.now.reader in
@@ -19,9 +20,9 @@ returns g c =
     let written = g.W.Sink.passed c.serve-end.new.writer in
     let first : SeatFields = record { session = c.in-Ok.had.0; requests = 0; clock = c.in-Ok.had.1.clock } in
     let last : SeatFields = c.serve-end.new.backend in
-    let IsLast : SessionFields → PartFields → Type 0 = λ session part. IsServed base moments role c.serve-end.result session part input output unread written in
-    let serves = subst (λ (first : SeatFields). Serves (SeatSteps base moments) DrawsNothing [] c.serve-end.result first _ input output last _ unread written) c.seated-session.ensures c.serve-end.ensures.session in
-    let own = all_own law.by_moments law.by_changes base moments role serves.finishes.items serves.finishes.answered.moments serves.finishes.replies first last c.in-Ok.ensures.session serves.finishes.answered.run in
+    let IsLast : SessionFields → PartFields → Type 0 = λ session part. IsServed base reserve moments role c.serve-end.result session part input output unread written in
+    let serves = subst (λ (first : SeatFields). Serves (SeatSteps base reserve moments) DrawsNothing [] c.serve-end.result first _ input output last _ unread written) c.seated-session.ensures c.serve-end.ensures.session in
+    let own = all_own law.by_moments law.by_changes base reserve moments role serves.finishes.items serves.finishes.answered.moments serves.finishes.replies first last c.in-Ok.ensures.session serves.finishes.answered.run in
     let ended = c.into_parts-session.ensures in
     record {
       attended = record {

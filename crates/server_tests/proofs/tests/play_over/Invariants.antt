@@ -12,4 +12,4 @@ ghosts-play_named-J-Ledger g a = record { name = a.blanks.changes; parts = a.bla
 
 -- a run that begins with any drive, draws any moments, and may have upkeep
 abbrev pub ghosts-play_named-J-Running : goal.ghosts-play_named-J-Running
-ghosts-play_named-J-Running g a = record { begins = λ _. ⊤; moments = λ _. ⊤; has_upkeep = true; asked = a.blanks.requests }
+ghosts-play_named-J-Running g a = record { begins = λ _. ⊤; moments = λ _. ⊤; has_upkeep = true; asked = a.blanks.requests; reserve = 0 }

@@ -14,6 +14,7 @@ use Rattle.segment_table.specs.Room.{log_of}
 use Rattle.version_store.specs.Store.{StoreFields, fields_of}
 use Rattle.version_store.specs.Taking.{Takes}
 use Rattle.drive.specs.Later.{later_refusal}
+use Rattle.version_store.specs.Costs.{short_of}
 use Rattle.drive.specs.Fields.{DriveFields, SessionFields, state_in, store_of}
 use Rattle.drive.specs.Keeping.{IsKeptDrive}
 use Rattle.drive.proofs.Parts.{can_count}
@@ -53,12 +54,12 @@ invariant_of-self-2 g c =
 pub returns-in_err-change : goal.returns-in_err-change
 returns-in_err-change g c =
     let p = err_from_is_err_and c.from_residual.result c.from_residual.ensures.1 in
-    rw (p.1, p.2) (refuses_checked (later_refusal (state_in c.args.self.now) (Update c.args.update)) c.args.self.now c.args.session.now (Update c.args.update) c.args.now _ c.in_err-change.ensures.refused)
+    rw (p.1, p.2) (refuses_checked (short_of c.args.least (store_of c.args.self.now)) (later_refusal (state_in c.args.self.now) (Update c.args.update)) c.args.self.now c.args.session.now (Update c.args.update) c.args.now _ c.in_err-change.ensures.refused)
 
 pub returns-in_err-reserve : goal.returns-in_err-reserve
 returns-in_err-reserve g c =
     let p = err_from_is_err_and c.from_residual-in_err-reserve.result c.from_residual-in_err-reserve.ensures.1 in
-    rw (p.1, p.2) (refuses_roomless (later_refusal (state_in c.args.self.now) (Update c.args.update)) c.args.self.now _ c.args.session.now c.args.update c.args.now _
+    rw (p.1, p.2) (refuses_roomless (short_of c.args.least (store_of c.args.self.now)) (later_refusal (state_in c.args.self.now) (Update c.args.update)) c.args.self.now _ c.args.session.now c.args.update c.args.now _
     (ap (λ (d : DriveFields). d.ledger) c.self.view_is) (ap (λ (d : DriveFields). store_of d) c.self.view_is) c.in_ok-change.ensures.free c.in_err-reserve.ensures.err)
 
 pub push-requires-clause-later : goal.push-requires-clause-later
@@ -76,7 +77,7 @@ returns-in_err-take g c =
     let change : Change = c.in_ok-change.field-0.change in
     let ledger : c.self.inside.history ≡ c.args.self.now.ledger = ap (λ (d : DriveFields). d.ledger) c.self.view_is in
     let held : fields_of log_of c.self.inside.store ≡ store_of c.args.self.now = ap (λ (d : DriveFields). store_of d) c.self.view_is in
-    rw (p.1, p.2) (refuses_untaken (later_refusal (state_in c.args.self.now) (Update c.args.update)) c.args.self.now _ c.args.session.now (Update c.args.update) c.args.now c.in_ok-change.field-0.moment change _ (fields_of log_of c.self.inside.store)
+    rw (p.1, p.2) (refuses_untaken c.args.least (later_refusal (state_in c.args.self.now) (Update c.args.update)) c.args.self.now _ c.args.session.now (Update c.args.update) c.args.now c.in_ok-change.field-0.moment change _ (fields_of log_of c.self.inside.store)
     ledger (c.in_err-take.ensures.unchanged ∙ held) held c.in_ok-change.ensures.asked c.in_ok-change.ensures.takes.ready c.in_ok-change.ensures.free
     c.in_ok-change.ensures.moment c.in_err-take.ensures.answer c.in_err-take.ensures.memory)
 
@@ -84,7 +85,7 @@ pub returns : goal.returns
 returns g c =
     let inside : SessionFields = record { told = c.session.inside.seat; role = c.session.inside.role } in
     let after : SessionFields = record { told = c.accept.new.session; role = c.session.inside.role } in
-    takes_stored (later_refusal (state_in c.args.self.now) (Update c.args.update)) c.args.self.now _ c.args.session.now after (Update c.args.update) c.args.now c.in_ok-change.field-0.moment c.in_ok-change.field-0.change c.reply_at.result
+    takes_stored c.args.least (later_refusal (state_in c.args.self.now) (Update c.args.update)) c.args.self.now _ c.args.session.now after (Update c.args.update) c.args.now c.in_ok-change.field-0.moment c.in_ok-change.field-0.change c.reply_at.result
     c.self.inside.history inside (fields_of log_of c.self.inside.store)
     (ap (λ (d : DriveFields). store_of d) c.self.view_is) (ap (λ (d : DriveFields). d.ledger) c.self.view_is) c.session.view_is
     c.in_ok-change.ensures.asked c.in_ok-change.ensures.takes.ready c.in_ok-change.ensures.free c.in_ok-change.ensures.moment c.in_ok-take.ensures.answer

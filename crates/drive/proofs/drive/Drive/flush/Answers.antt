@@ -27,7 +27,7 @@ returns-in_err-check_span g c =
     let p = err_from_is_err_and c.from_residual.result c.from_residual.ensures.1 in
     let kept : IsKeptDrive (state_in c.args.self.now) (store_of c.args.self.now) c.self.inside.window c.self.inside.next = kept_of c.args.self.now g.J.Naming.base c.self.inside.history c.self.inside.store c.self.inside.audit.rows c.self.inside.window c.self.inside.next c.self.view_is c.self.invariant in
     let bad = c.in_err-check_span.ensures.of_all (state_in c.args.self.now) kept.window in
-    rw (p.1, p.2) (refuses_bad (later_refusal (state_in c.args.self.now) (Control (Flush c.args.first c.args.last))) c.args.self.now c.args.session.now (Control (Flush c.args.first c.args.last)) c.args.now _ (span_bad (state_in c.args.self.now) c.args.first c.args.last bad.1) bad.0)
+    rw (p.1, p.2) (refuses_bad (store_of c.args.self.now) (later_refusal (state_in c.args.self.now) (Control (Flush c.args.first c.args.last))) c.args.self.now c.args.session.now (Control (Flush c.args.first c.args.last)) c.args.now _ (span_bad (state_in c.args.self.now) c.args.first c.args.last bad.1) bad.0)
 
 pub accept-requires : goal.accept-requires
 accept-requires g c = can_count c.self.inside.history c.self.invariant.1.sound (subst (λ (t : ℕ). t < last_number) c.self.invariant.1.window.clock c.in_ok-plan.ensures.clock)
@@ -40,7 +40,7 @@ returns-in_err-reserve g c =
     let zero : c.new.result ≡ 0 = c.new.ensures in
     let free : later_refusal s (Control (Flush c.args.first c.args.last)) ≡ None =
     flush_free s c.new.result c.args.first c.args.last zero (c.in_ok-check_span.ensures.of_all s kept.window) (c.in_ok-plan.ensures.judged s kept.window (let low = kept.sound.numbered in omega (arith, zero))) in
-    rw (p.1, p.2) (refuses_roomless_control (later_refusal s (Control (Flush c.args.first c.args.last))) c.args.self.now _ c.args.session.now (Control (Flush c.args.first c.args.last)) c.args.now _
+    rw (p.1, p.2) (refuses_roomless_control (store_of c.args.self.now) (later_refusal s (Control (Flush c.args.first c.args.last))) c.args.self.now _ c.args.session.now (Control (Flush c.args.first c.args.last)) c.args.now _
     tt (ap (λ (r : Option Refusal). or_then r None) free) (ap (λ (d : DriveFields). d.ledger) c.self.view_is) (ap (λ (d : DriveFields). store_of d) c.self.view_is) c.in_err-reserve.ensures.err)
 
 pub push-requires-clause-later : goal.push-requires-clause-later

@@ -29,7 +29,7 @@ returns-in_err-check_span g c =
     let kept : IsKeptDrive (state_in c.args.self.now) (store_of c.args.self.now) c.self.inside.window c.self.inside.next = kept_of c.args.self.now g.J.Naming.base c.self.inside.history c.self.inside.store c.self.inside.audit.rows c.self.inside.window c.self.inside.next c.self.view_is c.self.invariant in
     let bad = c.in_err-check_span.ensures.of_all (state_in c.args.self.now) kept.window in
     let of_one = c.in_err-check_span.ensures.of_one (state_in c.args.self.now) c.args.object kept.window in
-    rw (p.1, p.2) (refuses_bad (later_refusal (state_in c.args.self.now) (Control (FlushO c.args.object c.args.first c.args.last))) c.args.self.now c.args.session.now (Control (FlushO c.args.object c.args.first c.args.last)) c.args.now _ (object_bad (state_in c.args.self.now) (span_at c.args.object c.args.first c.args.last) (of_one ∙ bad.1)) bad.0)
+    rw (p.1, p.2) (refuses_bad (store_of c.args.self.now) (later_refusal (state_in c.args.self.now) (Control (FlushO c.args.object c.args.first c.args.last))) c.args.self.now c.args.session.now (Control (FlushO c.args.object c.args.first c.args.last)) c.args.now _ (object_bad (state_in c.args.self.now) (span_at c.args.object c.args.first c.args.last) (of_one ∙ bad.1)) bad.0)
 
 pub accept-requires : goal.accept-requires
 accept-requires g c = can_count c.self.inside.history c.self.invariant.1.sound (subst (λ (t : ℕ). t < last_number) c.self.invariant.1.window.clock c.in_ok-plan.ensures.clock)
@@ -45,7 +45,7 @@ returns-in_err-reserve g c =
     let free : later_refusal s (Control (FlushO c.args.object c.args.first c.args.last)) ≡ None =
     object_later s (span_at c.args.object c.args.first c.args.last) c.self.inside.next next (c.in_ok-check_span.ensures.of_one s c.args.object kept.window ∙ c.in_ok-check_span.ensures.of_all s kept.window) low lt
     ∙ c.in_ok-plan.ensures.judged s kept.window (omega arith) in
-    rw (p.1, p.2) (refuses_roomless_control (later_refusal s (Control (FlushO c.args.object c.args.first c.args.last))) c.args.self.now _ c.args.session.now (Control (FlushO c.args.object c.args.first c.args.last)) c.args.now _
+    rw (p.1, p.2) (refuses_roomless_control (store_of c.args.self.now) (later_refusal s (Control (FlushO c.args.object c.args.first c.args.last))) c.args.self.now _ c.args.session.now (Control (FlushO c.args.object c.args.first c.args.last)) c.args.now _
     tt (ap (λ (r : Option Refusal). or_then r None) free) (ap (λ (d : DriveFields). d.ledger) c.self.view_is) (ap (λ (d : DriveFields). store_of d) c.self.view_is) c.in_err-reserve.ensures.err)
 
 pub push-requires-clause-later : goal.push-requires-clause-later

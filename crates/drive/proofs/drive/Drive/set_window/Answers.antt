@@ -36,7 +36,7 @@ returns-in_err-reserve g c =
     let lt : c.clock.result < last_number = c.in_ok-check_clock.ensures in
     let is : c.clock.result ≡ c.self.inside.window.clock = c.clock.ensures in
     let free : later_refusal (state_in c.args.self.now) (Control (SetWindow c.args.window)) ≡ None = window_free c.self.inside.window.clock (state_in c.args.self.now).clock kept.window.clock (omega arith) in
-    rw (p.1, p.2) (refuses_roomless_control (later_refusal (state_in c.args.self.now) (Control (SetWindow c.args.window))) c.args.self.now _ c.args.session.now (Control (SetWindow c.args.window)) c.args.now _
+    rw (p.1, p.2) (refuses_roomless_control (store_of c.args.self.now) (later_refusal (state_in c.args.self.now) (Control (SetWindow c.args.window))) c.args.self.now _ c.args.session.now (Control (SetWindow c.args.window)) c.args.now _
     refl (ap (λ (r : Option Refusal). or_then r None) free) (ap (λ (d : DriveFields). d.ledger) c.self.view_is) (ap (λ (d : DriveFields). store_of d) c.self.view_is) c.in_err-reserve.ensures.err)
 
 pub push-requires-clause-later : goal.push-requires-clause-later

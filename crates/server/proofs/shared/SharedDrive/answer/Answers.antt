@@ -1,6 +1,9 @@
-use Rattle.std.proofs.Common.{◌≡◌, ◌+◌, ℕ, Bool, cond, subst, sym}
+use Rattle.std.proofs.Common.{◌≡◌, ◌+◌, ℕ, Bool, ap, ◌∙◌, cond, subst, sym}
+use Rattle.s4_types.specs.declared.requests.Role.{Role}
 use Rattle.segment_word.specs.AcceptViews.{count_of}
-use Rattle.drive.specs.Fields.{history_of}
+use Rattle.drive.specs.Fields.{history_of, state_in}
+use Rattle.drive.specs.Refusing.{RefusesLeaving}
+use Rattle.server.specs.Reserve.{least_of}
 use Rattle.server.specs.Accounts.{BookFields}
 use Rattle.server.specs.Drawing.{MayGoOn}
 use Rattle.server.specs.Sequence.{HasCome, IsAnswered}
@@ -14,7 +17,7 @@ pub invariant_of-self : goal.invariant_of-self
 invariant_of-self g c =
     let held = c.self.invariant in
     let inside = c.self.inside in
-    let asked = c.request-reply in
+    let asked = c.request_leaving-reply in
     let draw = c.draw-now in
     let law = c.histories_go_on_record_by_record.ensures in
     let books = inside.books in
@@ -35,15 +38,19 @@ invariant_of-self g c =
 pub returns-clause-step : goal.returns-clause-step
 returns-clause-step g c =
     let inside = c.self.inside in
-    let asked = c.request-reply in
+    let asked = c.request_leaving-reply in
     let draw = c.draw-now in
     let session = c.args.session.now in
     let rules = c.rules.ensures in
     let one : IsAnswered inside.drive session.told.seat session.role c.args.request draw.result asked.result asked.new.self = record { step = asked.ensures.step; stored = asked.ensures.stored; owners = asked.ensures.owners } in
-    let step = shared_step g.J.Naming.base g.J.Naming.frames inside.drive asked.new.self session asked.new.session c.args.request draw.result asked.result
-    rules.base rules.decodes rules.frames rules.sound rules.store rules.past rules.unborn asked.ensures.before one asked.ensures.refused asked.ensures.memory asked.ensures.session asked.ensures.after in
-    shared_answer g.C.Clock.draws g.J.Running.begins g.J.Running.moments g.J.Running.has_upkeep inside.books.requests inside.books.changes c.args.part.now.requests g.J.Naming.base inside.clock draw.new.self draw.result session asked.new.session c.args.request asked.result inside.drive
+    let least : c.least_of-least.result ≡ least_of g.J.Running.reserve (state_in inside.drive) session.role c.args.request =
+    c.least_of-least.ensures
+    ∙ ap (λ (n : ℕ). least_of n (state_in inside.drive) c.role.result c.args.request) c.blocks-2.ensures
+    ∙ ap (λ (r : Role). least_of g.J.Running.reserve (state_in inside.drive) r c.args.request) c.role.ensures in
+    let step = shared_step g.J.Naming.base g.J.Running.reserve g.J.Naming.frames inside.drive asked.new.self session asked.new.session c.args.request draw.result asked.result
+    rules.base rules.decodes rules.frames rules.sound rules.store rules.past rules.unborn asked.ensures.before one (subst (λ (n : ℕ). RefusesLeaving n inside.drive session.role c.args.request draw.result asked.result asked.new.self) least asked.ensures.refused) asked.ensures.memory asked.ensures.session asked.ensures.after in
+    shared_answer g.C.Clock.draws g.J.Running.begins g.J.Running.moments g.J.Running.has_upkeep inside.books.requests inside.books.changes c.args.part.now.requests g.J.Naming.base g.J.Running.reserve inside.clock draw.new.self draw.result session asked.new.session c.args.request asked.result inside.drive
     c.self.invariant.0 draw.ensures c.count.ensures.bound step
 
 pub returns-clause-seen : goal.returns-clause-seen
-returns-clause-seen g c = seen_after c.request-reply.result c.request-reply.new.self.ledger c.args.session.now c.request-reply.new.session c.request-reply.ensures.session
+returns-clause-seen g c = seen_after c.request_leaving-reply.result c.request_leaving-reply.new.self.ledger c.args.session.now c.request_leaving-reply.new.session c.request_leaving-reply.ensures.session

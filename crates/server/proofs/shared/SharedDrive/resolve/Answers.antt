@@ -47,9 +47,9 @@ returns-clause-step g c =
     let rules = c.rules.ensures in
     let one = planned_answered asked.result inside.drive asked.new.self session.told.seat session.role read draw.result asked.ensures.step asked.ensures.store asked.ensures.ledger in
     let told = asked.ensures.session ∙ ap (λ (t : Told). record session { told = t }) (sym (planned_told asked.result asked.new.self.ledger session.told)) in
-    let step = shared_step g.J.Naming.base g.J.Naming.frames inside.drive asked.new.self session asked.new.session read draw.result (reply_planned asked.result)
+    let step = shared_step g.J.Naming.base g.J.Running.reserve g.J.Naming.frames inside.drive asked.new.self session asked.new.session read draw.result (reply_planned asked.result)
     rules.base rules.decodes rules.frames rules.sound rules.store rules.past rules.unborn asked.ensures.before one asked.ensures.refused asked.ensures.memory told asked.ensures.after in
-    shared_answer g.C.Clock.draws g.J.Running.begins g.J.Running.moments g.J.Running.has_upkeep inside.books.requests inside.books.changes c.args.part.now.requests g.J.Naming.base inside.clock draw.new.self draw.result session asked.new.session read (reply_planned asked.result) inside.drive
+    shared_answer g.C.Clock.draws g.J.Running.begins g.J.Running.moments g.J.Running.has_upkeep inside.books.requests inside.books.changes c.args.part.now.requests g.J.Naming.base g.J.Running.reserve inside.clock draw.new.self draw.result session asked.new.session read (reply_planned asked.result) inside.drive
     c.self.invariant.0 draw.ensures c.count.ensures.bound step
 
 pub returns-clause-seen : goal.returns-clause-seen
