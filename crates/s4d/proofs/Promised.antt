@@ -162,7 +162,7 @@ came_to base left clock role (Served end) (Some last) (Some part) input output i
 came_to base left clock role (Refused refusal) session part input output input' output' is told = (is.0, ap requests_in is.2, ap changes_in is.2, is.3, is.4)
 
 session_of : (base : Base) (drive : DriveFields) (clock : ClockFields) (opens : List ℕ → Option (List ℕ) → Type 0) (files files' : List ℕ → Option (List ℕ)) (there : Bool) (asked : RunSession) (came : Came)
-    → RunsSession base (AreTicks clock) opens files files' there drive asked came → IsSessionOf base (history_of drive) clock opens files files' there asked came
+    → RunsSession base 0 (AreTicks clock) opens files files' there drive asked came → IsSessionOf base (history_of drive) clock opens files files' there asked came
 session_of base drive clock opens files files' there asked came is =
     let Comes : ℕ → ℕ → Type 0 = λ requests changes. ComesTo base (history_of drive) clock asked.role came.outcome requests changes is.input is.output is.unread is.written in
     let here : Comes (requests_in is.part) (changes_in is.part) = came_to base drive.ledger clock asked.role came.outcome is.session is.part is.input is.output is.unread is.written is.attended is.told in
@@ -244,7 +244,7 @@ promised law opens run files files' ended is =
       left = history_of drive;
       came = settled.came;
       there = settled.there;
-      each = subst Each start (zip_weaker (RunsSession is.base (AreTicks clock) opens files files' settled.there drive) (IsSessionOf is.base (history_of drive) clock opens files files' settled.there)
+      each = subst Each start (zip_weaker (RunsSession is.base 0 (AreTicks clock) opens files files' settled.there drive) (IsSessionOf is.base (history_of drive) clock opens files files' settled.there)
           (session_of is.base drive clock opens files files' settled.there) run.sessions.items settled.came settled.each);
       ends = settled.ends;
       exchanges = exchanges;
