@@ -29,7 +29,7 @@ use restore_orders::{
     Moments, Order, aims_by, asked_at, changes_ahead, check_left, compact_for, prepare, readable,
 };
 use restore_search::{Lack, Lacking, Room, Survey};
-use s4_images::Failure;
+use s4_images::{CommandOutput, Failure};
 use s4_types::{Moment, Refusal, Role};
 use segment_word::Naming;
 use std::alloc::Global;
@@ -39,13 +39,15 @@ use verifier::open;
 
 /// What a trial over the image finds; none where room can't be made by the order's means. Where
 /// nothing is lacking, all that the order chooses was restored in it. Its failures have moments as
-/// dates where the image's are.
-pub fn survey_image<T: Threads, F: Files>(
+/// dates where the image's are. The writer hears of the drive before it is tried, and nothing is
+/// written.
+pub fn survey_image<T: Threads, F: Files, W: CommandOutput>(
     rt: &T,
     alloc: Global,
     files: &F,
     image: &str,
     order: &Order<'_>,
+    writer: &mut W,
 ) -> Result<Option<Survey>, Failure>
     ensures finds { IfOk result
         (λ found. OverImage (F.contents files.now image.now) (λ d. Finds d order.now found)) }
@@ -54,17 +56,20 @@ pub fn survey_image<T: Threads, F: Files>(
     ensures style { IfErr result
         (FailsOver (F.contents files.now image.now)
         (λ d. IsInStyle (styles.style_of (state_in d).clock false))) }
+    ensures passed { W.passed writer.new ≡ W.passed writer.old }
+    ensures failures { W.failures writer.new ≡ W.failures writer.old }
 {
     let image = read_image(rt, alloc, files, image)?;
     let opened = open(alloc, image)?;
-    survey_opened::<Brand>(alloc, opened, order)
+    survey_opened::<Brand, W>(alloc, opened, order, writer)
 }
 
 // The same of a drive that was just opened.
-fn survey_opened<J: Naming>(
+fn survey_opened<J: Naming, W: CommandOutput>(
     alloc: Global,
     opened: OpenedDrive,
     order: &Order<'_>,
+    writer: &mut W,
 ) -> Result<Option<Survey>, Failure>
     requires accepts { opened.accepts ≡ J.accepts }
     requires frames { opened.store.table.seat.table ≡ J.frames }
@@ -75,8 +80,11 @@ fn survey_opened<J: Naming>(
     ensures style { IfErr result
         (λ failure. OverOpened opened
         (λ d. IsInStyle (styles.style_of (state_in d).clock false) failure)) }
+    ensures passed { W.passed writer.new ≡ W.passed writer.old }
+    ensures failures { W.failures writer.new ≡ W.failures writer.old }
 {
     let mut drive = opened.named::<J>();
+    writer.drive_opened(drive.clock());
     survey_in_style(alloc, &mut drive, order)
 }
 
