@@ -22,9 +22,7 @@ use Rattle.history_restore.specs.Restoring.{Restores, IsStopped, number_after, n
 use Rattle.history_restore.specs.Aims.{targets_of}
 use Rattle.history_restore.specs.Rows.{AscendBelow}
 use Rattle.history_restore.specs.Whole.{IsRestored, AreNumbered, LeavesRest, RestoresEach, StopsAll, AtObject}
-use Rattle.history_restore.specs.Planning.{IsUnplanned}
 use Rattle.history_restore.proofs.Chained.{past_same, past_on}
-use Rattle.history_restore.proofs.Readable.{unread_has_no_flush}
 use Rattle.history_restore.proofs.Back.{number_planned}
 
 -- ---- lists
@@ -47,13 +45,9 @@ all_both P Q [] p q = tt
 all_both P Q (x ∷ xs) p q = ((p.0, q.0), all_both P Q xs p.1 q.1)
 
 -- what holds of all images
-pub all_map : {X Y : Type 0} (P : Y → Type 0) (f : X → Y) (xs : List X) → AllByRecursion P (map f xs) → AllByRecursion (λ x. P (f x)) xs
+all_map : {X Y : Type 0} (P : Y → Type 0) (f : X → Y) (xs : List X) → AllByRecursion P (map f xs) → AllByRecursion (λ x. P (f x)) xs
 all_map P f [] all = tt
 all_map P f (x ∷ xs) all = (all.0, all_map P f xs all.1)
-
-pub map_all : {X Y : Type 0} (P : Y → Type 0) (f : X → Y) (xs : List X) → AllByRecursion (λ x. P (f x)) xs → AllByRecursion P (map f xs)
-map_all P f [] all = tt
-map_all P f (x ∷ xs) all = (all.0, map_all P f xs all.1)
 
 -- ---- numbers that ascend
 
@@ -247,17 +241,6 @@ goes_whole s later at aims all goes = record { aims_are = goes.aims_are; each = 
 -- an object that wasn't restored stops all
 pub stops_at : (s middle later : State) (a : Aim) (at : ℕ) (f : Failure) → LeavesPast s middle → IsStopped middle later a at f → StopsAll s later at f
 stops_at s middle later a at f before stopped = AtObject middle (record { before = before; stopped = subst (λ (x : Aim). IsStopped middle later x at f) (sym stopped.aim_is) stopped })
-
--- what couldn't be planned stops all
-pub stops_unplanned : (s later : State) (at : ℕ) (f : Failure) → later ≡ s → IsUnplanned s at f → StopsAll s later at f
-stops_unplanned s later at f same un = AtObject s (record {
-  before = past_same s s refl;
-  stopped = record {
-    aim_is = refl;
-    why = inl (un.why, same);
-    flush = un.flush ∙ sym (unread_has_no_flush s f.aim.object f.aim.target at (present s f.aim.target) f.refusal un.why);
-  };
-})
 
 -- one more of a list
 pub one_more : (aims : List Aim) (i : ℕ) (a : Aim) → i < length aims → a ≡ get_or aims i a → take (i + 1) aims ≡ take i aims ++ a ∷ []

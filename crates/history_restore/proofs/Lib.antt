@@ -12,7 +12,6 @@ pub mod Each
 pub mod Flushing
 pub mod Denying
 pub mod There
-pub mod AllBack
 pub mod Asked
 pub mod Storing
 pub mod Planned

@@ -1,17 +1,16 @@
 -- Versions that can be read.
-use Rattle.std.proofs.Common.{◌≡◌, ◌⊎◌, ◌∙◌, ℕ, Bool, true, false, cond, None, Some, inl, inr, sym, ap, subst, arith}
+use Rattle.std.proofs.Common.{◌≡◌, ◌⊎◌, ◌∙◌, ℕ, false, cond, None, Some, inl, inr, sym, ap, subst, arith}
 use Rattle.std.specs.Prelude.{nat_lt}
 use Rattle.std.proofs.lemmas.Bool.{le-ltb, cond-false}
 use Rattle.std.proofs.lemmas.Option.{none-some}
 use Rattle.s4_types.specs.declared.refusals.Refusal.{Refusal}
 use Rattle.s4_types.specs.declared.refusals.Refusal.TheVariants.{Future, Expired, Flushed, NoMemory, Busy}
-use Rattle.s4_types.specs.declared.versions.Version.{Version}
 use Rattle.s4_model.specs.State.{State}
 use Rattle.s4_model.specs.Visible.{is_hidden, spans_of}
 use Rattle.s4_model.specs.Refusals.{moment_refusal}
 use Rattle.s4_model.specs.Sound.{IsSound}
 use Rattle.s4_model.proofs.ClockLaws.{none_hides}
-use Rattle.history_restore.specs.Restoring.{IsUnread, flush_for}
+use Rattle.history_restore.specs.Restoring.{IsUnread}
 
 -- and isn't refused
 clock_is_free : (s : State) (o : ℕ) → IsSound s → moment_refusal s o s.clock ≡ None
@@ -28,16 +27,3 @@ unread_now s middle o n at e same sound (inr other) = inr other
 pub unread_at : (s middle : State) (o n at clock : ℕ) (e : Refusal) → clock ≡ s.clock → middle ≡ s → IsSound s → (moment_refusal middle n clock ≡ Some e) ⊎ ((e ≡ NoMemory) ⊎ (e ≡ Busy)) → IsUnread s o at e
 unread_at s middle o n at clock e is same sound unread =
     unread_now s middle o n at e same sound (subst (λ (t : ℕ). (moment_refusal middle n t ≡ Some e) ⊎ ((e ≡ NoMemory) ⊎ (e ≡ Busy))) is unread)
-
--- a moment is refused for three reasons
-flush_of_tests : (a b c : Bool) (n at : ℕ) (v : Version) (e : Refusal) → cond a (Some Future) (cond b (Some Expired) (cond c (Some Flushed) None)) ≡ Some e → flush_for n at v e ≡ None
-flush_of_tests true b c n at v e is = let same : e ≡ Future = cc in ap (flush_for n at v) same
-flush_of_tests false true c n at v e is = let same : e ≡ Expired = cc in ap (flush_for n at v) same
-flush_of_tests false false true n at v e is = let same : e ≡ Flushed = cc in ap (flush_for n at v) same
-flush_of_tests false false false n at v e is = absurd (none-some e is)
-
--- none of what isn't read is for a full journal
-pub unread_has_no_flush : (s : State) (o n at : ℕ) (v : Version) (e : Refusal) → IsUnread s o at e → flush_for n at v e ≡ None
-unread_has_no_flush s o n at v e (inl is) = flush_of_tests (nat_lt s.clock at) (nat_lt at s.floor) (is_hidden s o at) n at v e is
-unread_has_no_flush s o n at v e (inr (inl is)) = ap (flush_for n at v) is
-unread_has_no_flush s o n at v e (inr (inr is)) = ap (flush_for n at v) is

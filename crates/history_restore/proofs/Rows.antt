@@ -1,43 +1,9 @@
 -- The objects that have a row.
-use Rattle.std.proofs.Common.{◌≡◌, ◌≢◌, ◌∙◌, ◌+◌, ◌<◌, ◌≤◌, ℕ, zero, suc, List, [], ◌∷◌, length, drop, get_or, Option, None, inl, inr, sym, ap, subst, arith}
-use Rattle.std.specs.List.{AllByRecursion}
+use Rattle.std.proofs.Common.{◌≡◌, ◌+◌, ◌<◌, ◌≤◌, ℕ, zero, suc, List, [], ◌∷◌, length, drop, get_or, sym, subst, arith}
 use Rattle.std.proofs.lemmas.List.{drop_all}
-use Rattle.std.proofs.lemmas.Bool.{cases_lt}
-use Rattle.s4_types.specs.declared.versions.Version.TheVariants.{Absent}
-use Rattle.lemmas.proofs.Option.{none_not_some}
-use Rattle.s4_model.specs.State.{State}
-use Rattle.s4_model.specs.VersionAt.{version_of}
-use Rattle.s4_model.specs.Visible.{IsVisible}
-use Rattle.object_map.specs.declared.map.Row.{Row}
-use Rattle.object_map.specs.Rows.{row_of}
-use Rattle.version_store.specs.Store.{StoreFields}
-use Rattle.version_store.specs.Versions.{inode_by, version_by}
-use Rattle.drive.specs.Keeping.{DecodesWhereVisible}
-use Rattle.drive.specs.Opened.{NoneFrom}
-use Rattle.history_view.specs.Logs.{AreRowsFrom}
 use Rattle.history_restore.specs.declared.aims.Aim.{Aim}
 use Rattle.history_restore.specs.Aims.{targets_of}
 use Rattle.history_restore.specs.Rows.{AscendBelow}
-
--- they ascend, below a number from which on there are none
-pub rows_ascend : (store : StoreFields) (next after : ℕ) (objects : List ℕ) → NoneFrom next store → AreRowsFrom store after objects → AscendBelow after next objects
-rows_ascend store next after [] none are = tt
-rows_ascend store next after (o ∷ objects) none are =
-    let below : o < next = elim (cases_lt o next) [ inl lt ↦ lt | inr ge ↦ absurd (none_not_some (row_of store.rows o) (none o ge) are.0.there) ] in
-    (are.0.above, below, rows_ascend store next o objects none are.1)
-
--- an object that isn't among them has none
-pub no_row : (store : StoreFields) (after : ℕ) (objects : List ℕ) (q : ℕ) → AreRowsFrom store after objects → after < q → AllByRecursion (λ (o : ℕ). q ≢ o) objects → row_of store.rows q ≡ None
-no_row store after [] q are above apart = are q above
-no_row store after (o ∷ objects) q are above apart =
-    elim (cases_lt q o) [
-      | inl lt ↦ are.0.least q above lt
-      | inr ge ↦ no_row store o objects q are.1 (omega (arith, apart.0)) apart.1
-    ]
-
--- and so it isn't there at a moment that can be read
-pub rowless_is_absent : (store : StoreFields) (s : State) (q t : ℕ) → DecodesWhereVisible store s → row_of store.rows q ≡ None → IsVisible s q t → version_of s q t ≡ Absent
-rowless_is_absent store s q t decodes none visible = sym (decodes q t visible) ∙ ap (λ (r : Option Row). version_by store.log.held (inode_by store.log.held q t r)) none
 
 -- ---- numbers that ascend, one by one
 

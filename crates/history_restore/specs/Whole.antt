@@ -1,15 +1,12 @@
 -- What restoring all objects of a drive comes to.
-use Rattle.std.specs.Prelude.{◌≡◌, ◌≢◌, ℕ, ◌+◌, ◌<◌, List, [], ◌∷◌, map, false, true, ◌||◌, not, Bool, None}
+use Rattle.std.specs.Prelude.{◌≡◌, ◌≢◌, ℕ, ◌+◌, ◌<◌, List, [], ◌∷◌, map, ◌||◌, not, Bool, None}
 use Rattle.std.specs.List.{AllByRecursion}
 use Rattle.s4_types.specs.declared.refusals.Refusal.TheVariants.{NoMemory}
-use Rattle.s4_types.specs.declared.versions.Version.TheVariants.{Absent}
 use Rattle.s4_model.specs.State.{State}
 use Rattle.s4_model.specs.VersionAt.{version_of}
 use Rattle.s4_model.specs.Visible.{IsVisible}
 use Rattle.s4_model.specs.Refusals.{present}
-use Rattle.version_store.specs.Store.{StoreFields}
 use Rattle.history_restore.specs.declared.aims.Aim.{Aim}
-use Rattle.history_restore.specs.declared.aims.StandIn.{StandIn}
 use Rattle.history_restore.specs.declared.failures.Failure.{Failure}
 use Rattle.history_restore.specs.declared.restoring.Restored.{Restored}
 use Rattle.history_restore.specs.Content.{content_of}
@@ -17,10 +14,8 @@ use Rattle.history_restore.specs.Asking.{IsMovedBy}
 use Rattle.history_restore.specs.declared.planning.ObjectPlan.{ObjectPlan}
 use Rattle.history_restore.specs.declared.plans.Plan.{Plan}
 use Rattle.history_restore.specs.declared.plans.Plan.TheVariants.{Keep}
-use Rattle.history_restore.specs.Aims.{AreAims, AreAskedAims, counting, has_stand_in, object_for, targets_of}
-use Rattle.history_restore.specs.Rows.{AscendBelow, is_among}
 use Rattle.history_restore.specs.Plans.{IsPlan, number_by, next_by_plan}
-use Rattle.history_restore.specs.Planning.{IsPlanned, aims_planned, changes_planned, is_older}
+use Rattle.history_restore.specs.Planning.{changes_planned, is_older}
 use Rattle.history_restore.specs.Keeping.{IsDatedFrom, LeavesPast}
 use Rattle.history_restore.specs.Restoring.{IsStopped}
 
@@ -73,42 +68,9 @@ pub record RestoresEach (s later : State) (at : ℕ) (aims : List Aim) (all : Li
 abbrev pub LeavesRest : State → State → List Aim → Type 0
 LeavesRest s later aims = (q : ℕ) → q < s.next → AllByRecursion (λ (a : Aim). q ≢ a.target) aims → present later q ≡ present s q
 
--- All objects of a drive were restored: those that are listed are now what they were at the moment, and any other that has no stand-in isn't
--- there, as it wasn't then and before.
-pub record RestoresAll (s later : State) (at : ℕ) (stand_ins : List StandIn) (all : List Restored) : Type 0 where
-  pub each : AllByRecursion (IsRestored s later at) all
-  pub ascend : AscendBelow 0 s.next (targets_of (aims_of all))
-  pub numbered : AreNumbered s.next all
-  pub rest : (q : ℕ) → q < s.next → AllByRecursion (λ (a : Aim). q ≢ a.target) (aims_of all) → has_stand_in (counting s at stand_ins) q ≡ false
-      → (present later q ≡ Absent) × (present s q ≡ Absent) × (IsVisible s q at → version_of s q at ≡ Absent)
-
 -- whether a plan is carried out: where newer objects are kept, of one that wasn't made since
 abbrev pub is_chosen : Bool → ObjectPlan → Bool
 is_chosen keep_newer p = not keep_newer || is_older p.plan
-
--- These are the plans of all objects of a drive that have a row, by the ascending numbers under which they are restored.
-pub record PlansAll (s : State) (store : StoreFields) (at : ℕ) (stand_ins : List StandIn) (plans : List ObjectPlan) : Type 0 where
-  pub aims : AreAims s store at stand_ins (aims_planned plans)
-  pub each : AllByRecursion (IsPlanned s at) plans
-
--- These are the plans of those that are asked for.
-pub record PlansAsked (s : State) (store : StoreFields) (at : ℕ) (stand_ins : List StandIn) (asked : List ℕ) (plans : List ObjectPlan) : Type 0 where
-  pub aims : AreAskedAims s store at stand_ins asked (aims_planned plans)
-  pub each : AllByRecursion (IsPlanned s at) plans
-
--- An object that isn't asked for is what it was, unless it is the stand-in of one that is.
-abbrev pub LeavesUnasked : State → State → ℕ → List StandIn → List ℕ → Type 0
-LeavesUnasked s later at stand_ins asked = (q : ℕ) → q < s.next → is_among asked (object_for (counting s at stand_ins) q) ≡ false → present later q ≡ present s q
-
--- The objects that are asked for were restored: those that are listed are now what they were at the moment, and any other that is asked for
--- and has no stand-in isn't there, as it wasn't then and before.
-pub record RestoresAsked (s later : State) (at : ℕ) (stand_ins : List StandIn) (asked : List ℕ) (all : List Restored) : Type 0 where
-  pub each : AllByRecursion (IsRestored s later at) all
-  pub among : AllByRecursion (λ (r : Restored). is_among asked r.aim.object ≡ true) all
-  pub ascend : AscendBelow 0 s.next (targets_of (aims_of all))
-  pub numbered : AreNumbered s.next all
-  pub rest : (q : ℕ) → q < s.next → is_among asked (object_for (counting s at stand_ins) q) ≡ true → AllByRecursion (λ (a : Aim). q ≢ a.target) (aims_of all) → has_stand_in (counting s at stand_ins) q ≡ false
-      → (present later q ≡ Absent) × (present s q ≡ Absent) × (IsVisible s q at → version_of s q at ≡ Absent)
 
 -- Why not all objects were restored: one of them wasn't, over the drive as it was then, to which the objects before it had led; or there was no
 -- memory for a list.

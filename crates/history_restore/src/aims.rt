@@ -173,7 +173,7 @@ fn object_at<J: Naming>(
 /// What a number is restored as: the object that it is the stand-in of, where that counts, or by
 /// itself. Nothing is done.
 ///
-/// An error as of [`plan_objects`](crate::plan_objects).
+/// An error as of [`all_aims`].
 pub fn aim_at<J: Naming>(
     alloc: Global,
     drive: &mut Drive<J>,

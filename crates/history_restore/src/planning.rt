@@ -5,14 +5,14 @@ ghost use Rattle.drive.specs.Fields.{state_in, store_of};
 ghost use Rattle.history_restore.specs.Plans.{change_count, count_of};
 ghost use Rattle.history_restore.specs.Planning.{IsPlanned, IsUnplanned, PlansEach, aims_planned};
 ghost use Rattle.history_restore.specs.Planning.{changes_planned, is_older};
-ghost use Rattle.history_restore.specs.Whole.{PlansAll, PlansAsked, is_chosen};
+ghost use Rattle.history_restore.specs.Whole.{is_chosen};
 
-use crate::aims::{Aim, StandIn, all_aims, asked_aims};
+use crate::aims::Aim;
 use crate::failures::{Failure, unread};
 use crate::plans::{Changes, Plan};
 use crate::restoring::plan_object;
 use drive::{Drive, Session};
-use s4_types::{Moment, ObjectId, Refusal};
+use s4_types::{Moment, Refusal};
 use segment_word::Naming;
 use std::alloc::{AllocError, Global};
 
@@ -45,7 +45,8 @@ fn plan_one<J: Naming>(
 
 /// What would be done under these numbers, in their order. Nothing is done.
 ///
-/// An error as of [`plan_objects`].
+/// Future, Expired or Flushed where the moment can't be read of one of these objects, with its
+/// number; NoMemory where memory was refused, Busy where a read would have needed a pin.
 pub fn plan_each<J: Naming>(
     alloc: Global,
     drive: &mut Drive<J>,
@@ -67,52 +68,6 @@ pub fn plan_each<J: Naming>(
         };
     }
     Ok(plans)
-}
-
-/// What [`restore_objects`](crate::restore_objects) would do to the objects that are asked for.
-/// Nothing is done. An object that was made anew by an earlier restore is planned under the number
-/// of what was made, its stand-in, as long as that is there; a stand-in isn't planned by itself.
-///
-/// Future, Expired or Flushed where the moment can't be read of one of them, with its number;
-/// NoMemory where memory was refused, Busy where a read would have needed a pin.
-pub fn plan_objects<J: Naming>(
-    alloc: Global,
-    drive: &mut Drive<J>,
-    session: &mut Session<J>,
-    stand_ins: &[StandIn],
-    asked: &[ObjectId],
-    at: Moment,
-) -> Result<Vec<ObjectPlan>, Failure>
-    ensures planned { IfOk result
-        (λ plans. PlansAsked (state_in drive.old) (store_of drive.old) at stand_ins.now asked.now
-        plans.items) }
-    ensures unplanned { IfErr result (IsUnplanned (state_in drive.old) at) }
-    ensures state { state_in drive.new ≡ state_in drive.old }
-    ensures store { store_of drive.new ≡ store_of drive.old }
-{
-    let aims = asked_aims(alloc, drive, session, stand_ins, asked, at)?;
-    plan_each(alloc, drive, session, aims.as_slice(), at)
-}
-
-/// What [`restore_all`](crate::restore_all) would do to each object that has a row, with stand-ins
-/// as [`plan_objects`] has them. Nothing is done.
-///
-/// An error as of [`plan_objects`], of object 0 where there was no memory for a list of the rows.
-pub fn plan_all<J: Naming>(
-    alloc: Global,
-    drive: &mut Drive<J>,
-    session: &mut Session<J>,
-    stand_ins: &[StandIn],
-    at: Moment,
-) -> Result<Vec<ObjectPlan>, Failure>
-    ensures planned { IfOk result
-        (λ plans. PlansAll (state_in drive.old) (store_of drive.old) at stand_ins.now plans.items) }
-    ensures unplanned { IfErr result (IsUnplanned (state_in drive.old) at) }
-    ensures state { state_in drive.new ≡ state_in drive.old }
-    ensures store { store_of drive.new ≡ store_of drive.old }
-{
-    let aims = all_aims(alloc, drive, session, stand_ins, at)?;
-    plan_each(alloc, drive, session, aims.as_slice(), at)
 }
 
 fn count_of<T: Copy>(part: Option<T>) -> u64

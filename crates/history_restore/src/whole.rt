@@ -1,14 +1,12 @@
 //! All objects of a drive are made what they were at a moment.
 ghost use Rattle.std.specs.Prelude.{◌≡◌, ◌<◌, IfOk, IfErr, MatchBool};
-ghost use Rattle.drive.specs.Fields.{state_in, store_of};
+ghost use Rattle.drive.specs.Fields.{state_in};
 ghost use Rattle.history_restore.specs.Keeping.{LeavesPast};
 ghost use Rattle.history_restore.specs.Aims.{targets_of};
 ghost use Rattle.history_restore.specs.Rows.{AscendBelow, is_among};
-ghost use Rattle.history_restore.specs.Whole.{RestoresEach, RestoresAsked, RestoresAll, StopsAll};
-ghost use Rattle.history_restore.specs.Whole.{IsCounted, LeavesRest, LeavesUnasked, PlansAll};
-ghost use Rattle.history_restore.specs.Whole.{PlansAsked, plans_of};
+ghost use Rattle.history_restore.specs.Whole.{IsCounted, LeavesRest, RestoresEach, StopsAll};
 
-use crate::aims::{Aim, StandIn, all_aims, asked_aims, own_aim};
+use crate::aims::{Aim, own_aim};
 use crate::failures::{Failure, unread};
 use crate::restoring::{Restored, restore_object};
 use drive::{Drive, Session};
@@ -81,8 +79,10 @@ fn ascends_below(aims: &[Aim], next: ObjectId) -> bool
 /// clock, and says of each what was done, in their order. The numbers under which they are restored
 /// ascend, and were given.
 ///
-/// A refusal says of which object and why, as [`restore_all`] does; NoObject of object 0 where the
-/// numbers aren't such, and then nothing was done.
+/// A refusal says of which object and why, as [`Failure`] tells. What was done before it stays;
+/// Expired comes where the floor has passed the moment by the changes that were made. NoObject of
+/// object 0 where the numbers aren't such, and then nothing was done. An object that is made anew is
+/// a new one and isn't visited again.
 pub fn restore_these<J: Naming>(
     alloc: Global,
     drive: &mut Drive<J>,
@@ -105,68 +105,4 @@ pub fn restore_these<J: Naming>(
         return Err(unread(&none, Refusal::NoObject));
     }
     restore_each(alloc, drive, session, aims, at, now)
-}
-
-/// Makes the objects that are asked for what they were at a moment, by requests at the moment `now`
-/// of the server's clock, and tells of each that has a row what was done, by the ascending numbers
-/// under which they are restored and once, in whatever order and how often it is asked for: exactly
-/// what [`plan_objects`](crate::plan_objects) plans.
-///
-/// A refusal says of which object and why, as [`restore_all`] does.
-pub fn restore_objects<J: Naming>(
-    alloc: Global,
-    drive: &mut Drive<J>,
-    session: &mut Session<J>,
-    stand_ins: &[StandIn],
-    asked: &[ObjectId],
-    at: Moment,
-    now: Moment,
-) -> Result<Vec<Restored>, Failure>
-    ensures asked { IfOk result
-        (λ all. RestoresAsked (state_in drive.old) (state_in drive.new) at stand_ins.now asked.now
-        all.items) }
-    ensures planned { IfOk result
-        (λ all. PlansAsked (state_in drive.old) (store_of drive.old) at stand_ins.now asked.now
-        (plans_of all.items)) }
-    ensures counted { IfOk result
-        (λ all. IsCounted (state_in drive.old) (state_in drive.new) now all.items) }
-    ensures stopped { IfErr result (StopsAll (state_in drive.old) (state_in drive.new) at) }
-    ensures unasked { LeavesUnasked (state_in drive.old) (state_in drive.new) at stand_ins.now
-        asked.now }
-    ensures past { LeavesPast (state_in drive.old) (state_in drive.new) }
-{
-    drive.rules();
-    let aims = asked_aims(alloc, drive, session, stand_ins, asked, at)?;
-    restore_each(alloc, drive, session, aims.as_slice(), at, now)
-}
-
-/// Makes all objects of a drive what they were at a moment, by requests at the moment `now` of the
-/// server's clock, and tells of each object that has a row what was done to it, by ascending
-/// number: exactly what [`plan_all`](crate::plan_all) plans. An object that is made anew is a new
-/// one and isn't visited again.
-///
-/// A refusal says of which object and why, as [`Failure`] tells, of object 0 where there was no
-/// memory for a list of the rows. What was done before it stays; Expired comes where the floor has
-/// passed the moment by the changes that were made.
-pub fn restore_all<J: Naming>(
-    alloc: Global,
-    drive: &mut Drive<J>,
-    session: &mut Session<J>,
-    stand_ins: &[StandIn],
-    at: Moment,
-    now: Moment,
-) -> Result<Vec<Restored>, Failure>
-    ensures all { IfOk result
-        (λ all. RestoresAll (state_in drive.old) (state_in drive.new) at stand_ins.now all.items) }
-    ensures planned { IfOk result
-        (λ all. PlansAll (state_in drive.old) (store_of drive.old) at stand_ins.now
-        (plans_of all.items)) }
-    ensures counted { IfOk result
-        (λ all. IsCounted (state_in drive.old) (state_in drive.new) now all.items) }
-    ensures stopped { IfErr result (StopsAll (state_in drive.old) (state_in drive.new) at) }
-    ensures past { LeavesPast (state_in drive.old) (state_in drive.new) }
-{
-    drive.rules();
-    let aims = all_aims(alloc, drive, session, stand_ins, at)?;
-    restore_each(alloc, drive, session, aims.as_slice(), at, now)
 }

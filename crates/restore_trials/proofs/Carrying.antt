@@ -17,6 +17,10 @@ pub tried_more : (d : DriveFields) (moments : Moments) (aims : List Aim) (aim : 
 tried_more d moments [] aim middle later tried here = (later, subst (λ (e : DriveFields). IsTried e moments aim later) tried here, refl)
 tried_more d moments (first ∷ aims) aim middle later tried here = (tried.0, tried.1, tried_more tried.0 moments aims aim middle later tried.2 here)
 
+-- nothing was tried
+pub carries_none : (moments : Moments) (d : DriveFields) (lacking : List Lacking) → Carries moments d lacking d lacking
+carries_none moments d lacking base earlier tried all = (all, earlier, tried)
+
 -- one trial after the other
 pub carries_on : (moments : Moments) (d middle later : DriveFields) (old between new : List Lacking) → Carries moments d old middle between → Carries moments middle between later new → Carries moments d old later new
 carries_on moments d middle later old between new first second base earlier tried all =

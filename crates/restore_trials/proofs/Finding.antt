@@ -1,16 +1,18 @@
 -- What a trial finds of the drive that it is made over.
-use Rattle.std.proofs.Common.{◌≡◌, ◌∙◌, ◌⊎◌, ℕ, List, [], Option, Some, inl, inr, refl, ap, subst}
+use Rattle.std.proofs.Common.{◌≡◌, ◌∙◌, ◌⊎◌, ℕ, Bool, true, false, List, [], Option, Some, inl, inr, refl, ap, subst}
+use Rattle.std.specs.Prelude.{MatchBool}
 use Rattle.std.specs.List.{AllByRecursion}
 use Rattle.lemmas.proofs.List.{all_weaker}
 use Rattle.s4_model.specs.State.{State}
 use Rattle.drive.specs.Fields.{DriveFields, state_in, store_of}
 use Rattle.history_restore.specs.Planning.{IsPlanned}
+use Rattle.history_restore.specs.Presence.{HasNone, HasObject}
 use Rattle.history_restore.specs.Widening.{Widens}
 use Rattle.history_restore.specs.declared.planning.ObjectPlan.{ObjectPlan}
 use Rattle.s4_images.specs.Moments.{moment_said}
 use Rattle.restore_search.specs.declared.surveys.Lacking.{Lacking}
 use Rattle.restore_search.specs.declared.surveys.Survey.{Survey}
-use Rattle.restore_orders.specs.Dating.{asked_at}
+use Rattle.restore_orders.specs.Dating.{LeavesObject, asked_at}
 use Rattle.restore_orders.specs.Means.{IsCompactedBy, IsSameDrive}
 use Rattle.restore_orders.specs.Reaching.{changes_ahead}
 use Rattle.restore_orders.specs.declared.orders.Order.{Order}
@@ -45,3 +47,8 @@ finds_lacking d seen cleared order moments chosen survey said same planned compa
       all_weaker _ _ survey.hidden.items (λ one here. inl here) hidden,
       all_weaker _ _ survey.refused.items (λ one here. inr (record { seen = seen; same = same; cleared = cleared; compacted = compacted; chosen = chosen; planned = planned; refused = here })) refused,
     )
+
+-- where there was an object one is left, unless none has to be
+pub leaves_one : (s begun later : State) (had to_nothing : Bool) → begun ≡ s → MatchBool had (HasObject begun) (HasNone begun) → (had ≡ true → to_nothing ≡ false → HasObject later) → to_nothing ≡ false → LeavesObject s later
+leaves_one s begun later true to_nothing same before left unasked = inl (left refl unasked)
+leaves_one s begun later false to_nothing same before left unasked = inr (subst HasNone same before)

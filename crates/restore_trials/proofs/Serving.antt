@@ -1,16 +1,11 @@
 -- What is restored where nothing is listed as lacking.
-use Rattle.std.proofs.Common.{◌≡◌, ◌∙◌, ◌⊎◌, ℕ, Bool, true, List, [], ◌∷◌, ◌++◌, Result, Ok, Err, IfOk, OnOk, inl, inr, ap, append_assoc, sym, refl, subst}
-use Rattle.std.specs.List.{AllByRecursion}
-use Rattle.std.proofs.SliceLists.{all_by_recursion_push}
-use Rattle.lemmas.proofs.List.{all_weaker}
+use Rattle.std.proofs.Common.{◌≡◌, ℕ, Bool, true, List, [], ◌∷◌, ◌++◌, Result, Ok, Err, IfOk, IsPermutation, OnOk, inl, inr, append_assoc, sym, refl, subst}
+use Rattle.std.proofs.lemmas.List.Sorted.{IsPermutation-append_comm, IsPermutation-append_left, IsPermutation-append_right, IsPermutation-refl, IsPermutation-trans}
 use Rattle.drive.specs.Fields.{DriveFields}
-use Rattle.history_restore.specs.declared.aims.Aim.{Aim}
 use Rattle.history_restore.specs.declared.planning.ObjectPlan.{ObjectPlan}
-use Rattle.restore_search.specs.Searching.{IsOneOf}
 use Rattle.restore_search.specs.declared.surveys.Lacking.{Lacking}
-use Rattle.restore_search.proofs.Each.{all_one}
 use Rattle.restore_orders.specs.declared.dating.Moments.{Moments}
-use Rattle.restore_trials.specs.Trying.{AreTried, Carries, IsRefusedAfter, IsRestoredAfter, IsRestoredOver, PassesFine, RestoresAll, TriesFine}
+use Rattle.restore_trials.specs.Trying.{AreRestoredOver, IsRestoredOver, PassesFine, RestoresAll, TriesFine}
 
 -- a list that something was added to has something
 pub some_pushed : {X : Type 0} (xs ys : List X) (x : X) → ys ≡ xs ++ x ∷ [] → ys ≡ [] → ⊥
@@ -22,67 +17,80 @@ pub never_fine : {E : Type 0} (result : Result Bool E) (old new : List Lacking) 
 never_fine (Ok b) old new one P pushed = λ none. absurd (some_pushed old new one pushed none)
 never_fine (Err e) old new one P pushed = tt
 
--- an object is restored after what was tried before
-pub restored_after : (base d middle later : DriveFields) (moments : Moments) (earlier : List Aim) (old lacking : List Lacking) (aim : Aim) → AreTried base moments earlier d → Carries moments d old middle lacking → old ≡ [] → IsRestoredOver middle moments aim later → IsRestoredAfter base moments aim
-restored_after base d middle later moments earlier old lacking aim tried carries none over =
-    let went = carries base earlier tried (subst (AllByRecursion (IsRefusedAfter base moments)) (sym none) tt) in
-    record { earlier = went.1; before = middle; tried = went.2; later = later; restored = over }
+-- one more was restored
+pub restored_more : (d middle later : DriveFields) (moments : Moments) (plans : List ObjectPlan) (p : ObjectPlan) → AreRestoredOver d moments plans middle → IsRestoredOver middle moments p.aim later → AreRestoredOver d moments (plans ++ p ∷ []) later
+restored_more d middle later moments [] p before here = (later, subst (λ (e : DriveFields). IsRestoredOver e moments p.aim later) before here, refl)
+restored_more d middle later moments (q ∷ plans) p before here = (before.0, before.1, restored_more before.0 middle later moments plans p before.2 here)
 
--- an object was put off, or restored
-abbrev IsDone : DriveFields → Moments → List ObjectPlan → ObjectPlan → Type 0
-IsDone base moments put_off p = IsOneOf p put_off ⊎ IsRestoredAfter base moments p.aim
+-- and others after them
+restored_then : (d middle later : DriveFields) (moments : Moments) (plans others : List ObjectPlan) → AreRestoredOver d moments plans middle → AreRestoredOver middle moments others later → AreRestoredOver d moments (plans ++ others) later
+restored_then d middle later moments [] others before after = subst (λ (e : DriveFields). AreRestoredOver e moments others later) before after
+restored_then d middle later moments (q ∷ plans) others before after = (before.0, before.1, restored_then before.0 middle later moments plans others before.2 after)
 
--- so it is of these, whatever was tried before, and nothing is listed
-pub record AreDone (d : DriveFields) (moments : Moments) (old : List Lacking) (wasted : ℕ) (put_off plans : List ObjectPlan) : Type 0 where
+-- ---- what is put off
+
+-- one more is put off
+put_off_more : {X : Type 0} (plans done off : List X) (p : X) → IsPermutation plans (done ++ off) → IsPermutation (plans ++ p ∷ []) (done ++ (off ++ p ∷ []))
+put_off_more plans done off p same = subst (IsPermutation (plans ++ p ∷ [])) (append_assoc done off (p ∷ [])) (IsPermutation-append_left (p ∷ []) plans (done ++ off) same)
+
+-- one more is done
+done_more : {X : Type 0} (plans done off : List X) (p : X) → IsPermutation plans (done ++ off) → IsPermutation (plans ++ p ∷ []) ((done ++ p ∷ []) ++ off)
+done_more plans done off p same =
+    subst (IsPermutation (plans ++ p ∷ [])) (sym (append_assoc done (p ∷ []) off))
+    (IsPermutation-trans (plans ++ p ∷ []) (done ++ (off ++ p ∷ [])) (done ++ ((p ∷ []) ++ off)) (put_off_more plans done off p same) (IsPermutation-append_right done (off ++ p ∷ []) ((p ∷ []) ++ off) (IsPermutation-append_comm off (p ∷ []))))
+
+-- Nothing is listed so far: of these, some were restored, each once and nothing else, and the others were put off.
+pub record AreDone (d : DriveFields) (moments : Moments) (old : List Lacking) (wasted : ℕ) (put_off plans : List ObjectPlan) (later : DriveFields) : Type 0 where
   pub before : old ≡ []
   pub wasted_none : wasted ≡ 0
-  pub done : (base : DriveFields) (earlier : List Aim) → AreTried base moments earlier d → AllByRecursion (IsDone base moments put_off) plans
+  pub restored : List ObjectPlan
+  pub chain : AreRestoredOver d moments restored later
+  pub all : IsPermutation plans (restored ++ put_off)
 
--- what is one of a list is so with one more
-one_more : {X : Type 0} (xs : List X) (x y : X) → IsOneOf x xs → IsOneOf x (xs ++ y ∷ [])
-one_more xs x y one = record { front = one.front; back = one.back ++ y ∷ []; is = ap (λ l. l ++ y ∷ []) one.is ∙ append_assoc one.front (x ∷ one.back) (y ∷ []) }
-
-more_done : (base : DriveFields) (moments : Moments) (put_off : List ObjectPlan) (p q : ObjectPlan) → IsDone base moments put_off q → IsDone base moments (put_off ++ p ∷ []) q
-more_done base moments put_off p q (inl one) = inl (one_more put_off q p one)
-more_done base moments put_off p q (inr over) = inr over
+pub done_none : (d : DriveFields) (moments : Moments) (old : List Lacking) (put_off : List ObjectPlan) → put_off ≡ [] → old ≡ [] → AreDone d moments old 0 put_off [] d
+done_none d moments old put_off empty none = record {
+  before = none;
+  wasted_none = refl;
+  restored = [];
+  chain = refl;
+  all = subst (IsPermutation []) (sym empty) (IsPermutation-refl []);
+}
 
 -- one more was passed
-pub done_on : (d middle later : DriveFields) (moments : Moments) (old lacking lacking' : List Lacking) (put_off put_off' : List ObjectPlan) (wasted wasted' : ℕ) (plans : List ObjectPlan) (p : ObjectPlan) → Carries moments d old middle lacking → (lacking ≡ [] → AreDone d moments old wasted put_off plans)
-    → (lacking' ≡ [] → PassesFine middle moments p lacking put_off put_off' wasted wasted' later) → lacking' ≡ [] → AreDone d moments old wasted' put_off' (plans ++ p ∷ [])
-done_on d middle later moments old lacking lacking' put_off put_off' wasted wasted' plans p carries before fine none =
+pub done_on : (d middle later : DriveFields) (moments : Moments) (old lacking lacking' : List Lacking) (put_off put_off' : List ObjectPlan) (wasted wasted' : ℕ) (plans : List ObjectPlan) (p : ObjectPlan) → (lacking ≡ [] → AreDone d moments old wasted put_off plans middle)
+    → (lacking' ≡ [] → PassesFine middle moments p lacking put_off put_off' wasted wasted' later) → lacking' ≡ [] → AreDone d moments old wasted' put_off' (plans ++ p ∷ []) later
+done_on d middle later moments old lacking lacking' put_off put_off' wasted wasted' plans p before fine none =
     let passes = fine none in
     let so = before passes.before in
-    record {
-      before = so.before;
-      wasted_none = passes.wasted_none so.wasted_none;
-      done = λ base earlier tried.
-          elim (passes.passed so.wasted_none) [
-            | inl put ↦ subst (λ (off : List ObjectPlan). AllByRecursion (IsDone base moments off) (plans ++ p ∷ [])) (sym put)
-                (all_by_recursion_push (IsDone base moments (put_off ++ p ∷ [])) plans p (all_weaker _ _ plans (λ q here. more_done base moments put_off p q here) (so.done base earlier tried)) (inl (record { front = put_off; back = []; is = refl })))
-            | inr over ↦ subst (λ (off : List ObjectPlan). AllByRecursion (IsDone base moments off) (plans ++ p ∷ [])) (sym over.0)
-                (all_by_recursion_push (IsDone base moments put_off) plans p (so.done base earlier tried) (inr (restored_after base d middle later moments earlier old lacking p.aim tried carries so.before over.1)))
-          ];
-    }
+    elim (passes.passed so.wasted_none) [
+      | inl put ↦ record {
+        before = so.before;
+        wasted_none = passes.wasted_none so.wasted_none;
+        restored = so.restored;
+        chain = subst (AreRestoredOver d moments so.restored) (sym put.1) so.chain;
+        all = subst (λ (off : List ObjectPlan). IsPermutation (plans ++ p ∷ []) (so.restored ++ off)) (sym put.0) (put_off_more plans so.restored put_off p so.all);
+      }
+      | inr over ↦ record {
+        before = so.before;
+        wasted_none = passes.wasted_none so.wasted_none;
+        restored = so.restored ++ p ∷ [];
+        chain = restored_more d middle later moments so.restored p so.chain over.1;
+        all = subst (λ (off : List ObjectPlan). IsPermutation (plans ++ p ∷ []) ((so.restored ++ p ∷ []) ++ off)) (sym over.0) (done_more plans so.restored put_off p so.all);
+      }
+    ]
 
 -- one more of what was put off was tried
-pub deferred_on : (d middle later : DriveFields) (moments : Moments) (old lacking lacking' : List Lacking) (plans : List ObjectPlan) (p : ObjectPlan) (is_restored : Bool) → Carries moments d old middle lacking → (lacking ≡ [] → (old ≡ []) × RestoresAll moments d plans)
-    → (lacking' ≡ [] → TriesFine middle moments p.aim lacking true is_restored later) → lacking' ≡ [] → (old ≡ []) × RestoresAll moments d (plans ++ p ∷ [])
-deferred_on d middle later moments old lacking lacking' plans p is_restored carries before fine none =
+pub deferred_on : (d middle later : DriveFields) (moments : Moments) (old lacking lacking' : List Lacking) (plans : List ObjectPlan) (p : ObjectPlan) (is_restored : Bool) → (lacking ≡ [] → (old ≡ []) × AreRestoredOver d moments plans middle)
+    → (lacking' ≡ [] → TriesFine middle moments p.aim lacking true is_restored later) → lacking' ≡ [] → (old ≡ []) × AreRestoredOver d moments (plans ++ p ∷ []) later
+deferred_on d middle later moments old lacking lacking' plans p is_restored before fine none =
     let tries = fine none in
-    let so = before tries.before in (
-      so.0,
-      λ base earlier tried.
-          all_by_recursion_push (λ (q : ObjectPlan). IsRestoredAfter base moments q.aim) plans p (so.1 base earlier tried) (restored_after base d middle later moments earlier old lacking p.aim tried carries so.0 (tries.restored refl).1),
-    )
+    let so = before tries.before in
+    (so.0, restored_more d middle later moments plans p so.1 (tries.restored refl).1)
 
 -- all were restored, once what was put off was
-pub all_restored : (d middle : DriveFields) (moments : Moments) (old lacking : List Lacking) (wasted : ℕ) (put_off plans : List ObjectPlan) → Carries moments d old middle lacking → AreDone d moments old wasted put_off plans → RestoresAll moments middle put_off → RestoresAll moments d plans
-all_restored d middle moments old lacking wasted put_off plans carries done rest base earlier tried =
-    let went = carries base earlier tried (subst (AllByRecursion (IsRefusedAfter base moments)) (sym done.before) tt) in
-    let last = rest base went.1 went.2 in
-    all_weaker _ _ plans (λ p here.
-    elim here [
-      | inl one ↦ all_one (λ (q : ObjectPlan). IsRestoredAfter base moments q.aim) one.front p one.back (subst (AllByRecursion (λ (q : ObjectPlan). IsRestoredAfter base moments q.aim)) one.is last)
-      | inr over ↦ over
-    ])
-    (done.done base earlier tried)
+pub all_restored : (d middle later : DriveFields) (moments : Moments) (old : List Lacking) (wasted : ℕ) (put_off plans : List ObjectPlan) → AreDone d moments old wasted put_off plans middle → AreRestoredOver middle moments put_off later → RestoresAll d moments plans later
+all_restored d middle later moments old wasted put_off plans done rest = record {
+  ordered = done.restored ++ put_off;
+  same = done.all;
+  restored = restored_then d middle later moments done.restored put_off done.chain rest;
+}

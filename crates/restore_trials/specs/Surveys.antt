@@ -1,5 +1,5 @@
 -- What trials to restore by an order find, of which nothing is kept.
-use Rattle.std.specs.Prelude.{◌≡◌, ◌⊎◌, ⊤, ℕ, List, [], ◌∷◌, Option, None, Some}
+use Rattle.std.specs.Prelude.{◌≡◌, ◌⊎◌, ⊤, ℕ, false, List, [], ◌∷◌, Option, None, Some}
 use Rattle.std.specs.List.{AllByRecursion}
 use Rattle.s4_types.specs.declared.spans.Span.{Span}
 use Rattle.s4_model.specs.State.{State}
@@ -11,7 +11,7 @@ use Rattle.history_restore.specs.declared.aims.Aim.{Aim}
 use Rattle.history_restore.specs.declared.planning.ObjectPlan.{ObjectPlan}
 use Rattle.s4_images.specs.Moments.{moment_said}
 use Rattle.restore_orders.specs.Choosing.{AreChosen}
-use Rattle.restore_orders.specs.Dating.{asked_at}
+use Rattle.restore_orders.specs.Dating.{LeavesObject, asked_at}
 use Rattle.restore_orders.specs.MakingRoom.{MakesRoom}
 use Rattle.restore_orders.specs.Means.{HasNoMeans, IsCompactedBy, IsSameDrive}
 use Rattle.restore_orders.specs.Reaching.{changes_ahead}
@@ -23,7 +23,7 @@ use Rattle.restore_orders.specs.declared.dating.Moments.{Moments}
 use Rattle.restore_search.specs.declared.surveys.Lack.TheVariants.{Version}
 use Rattle.restore_search.specs.declared.surveys.Lacking.{Lacking}
 use Rattle.restore_search.specs.declared.surveys.Survey.{Survey}
-use Rattle.restore_trials.specs.Trying.{IsRefusedAfter, IsRestoredAfter}
+use Rattle.restore_trials.specs.Trying.{IsRefusedAfter, RestoresAll}
 
 -- Room was made in these journals, one after the other.
 abbrev pub AreMade : DriveFields → Moments → List Room → DriveFields → Type 0
@@ -78,17 +78,18 @@ Finds d order None = LacksMeans order.means d
 Finds d order (Some survey) = AllByRecursion (IsLackingBy d order) survey.hidden.items × AllByRecursion (IsLackingBy d order) survey.refused.items
 
 -- What these plans are of was restored over a drive in which room was made by an order's means: once the moment was brought in reach for their
--- changes, and room was made in all journals that the order has.
-pub record IsServedFrom (d : DriveFields) (order : Order) (moments : Moments) (chosen : List ObjectPlan) : Type 0 where
+-- changes, and room was made in all journals that the order has. Nothing else was done.
+pub record IsServedFrom (d : DriveFields) (order : Order) (moments : Moments) (chosen : List ObjectPlan) (later : DriveFields) : Type 0 where
   pub widened : Option ℕ
   pub wide : DriveFields
   pub widens : Widens (state_in d) moments.asked moments.at (changes_ahead chosen order.full.now) widened (state_in wide)
   pub store_stays : store_of wide ≡ store_of d
   pub ready : DriveFields
   pub made : AreMade wide moments order.full.now ready
-  pub restored : AllByRecursion (λ (p : ObjectPlan). IsRestoredAfter ready moments p.aim) chosen
+  pub restored : RestoresAll ready moments chosen later
 
--- An order serves at its moments: all that it chooses was restored in a trial, once room was made by its means.
+-- An order serves at its moments: all that it chooses was restored in a trial, once room was made by its means. An object is left by that where
+-- one was there, unless none has to be.
 pub record IsServedAt (d : DriveFields) (order : Order) (moments : Moments) : Type 0 where
   pub seen : DriveFields
   pub same : IsSameDrive d seen
@@ -96,7 +97,9 @@ pub record IsServedAt (d : DriveFields) (order : Order) (moments : Moments) : Ty
   pub compacted : IsCompactedBy order.means seen cleared
   pub chosen : List ObjectPlan
   pub choice : AreChosen (state_in d) (store_of d) order moments.at chosen
-  pub serves : IsServedFrom cleared order moments chosen
+  pub later : DriveFields
+  pub serves : IsServedFrom cleared order moments chosen later
+  pub left : order.to_nothing ≡ false → LeavesObject (state_in d) (state_in later)
 
 -- So it is where a trial found nothing lacking.
 abbrev pub Serves : DriveFields → Order → Option Survey → Type 0

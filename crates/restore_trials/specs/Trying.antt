@@ -1,13 +1,13 @@
 -- What trying objects of a drive finds, one after the other.
-use Rattle.std.specs.Prelude.{◌≡◌, ◌⊎◌, ℕ, Bool, true, List, [], ◌∷◌, ◌++◌, Option, None, Some}
+use Rattle.std.specs.Prelude.{◌≡◌, ◌⊎◌, ℕ, Bool, true, List, [], ◌∷◌, ◌++◌, Option, None, Some, IsPermutation}
 use Rattle.std.specs.List.{AllByRecursion}
 use Rattle.s4_types.specs.declared.refusals.Refusal.{Refusal}
 use Rattle.s4_types.specs.declared.refusals.Refusal.TheVariants.{ChainFull, NoSpace}
 use Rattle.drive.specs.Fields.{DriveFields, state_in, store_of}
 use Rattle.history_restore.specs.Asking.{IsMovedBy}
-use Rattle.history_restore.specs.Keeping.{IsDatedFrom}
+use Rattle.history_restore.specs.Keeping.{IsDatedFrom, LeavesOthers, LeavesPast}
 use Rattle.history_restore.specs.Plans.{change_count}
-use Rattle.history_restore.specs.Restoring.{IsStopped, IsTooFull, Restores}
+use Rattle.history_restore.specs.Restoring.{IsStopped, IsTooFull, Restores, number_after}
 use Rattle.history_restore.specs.declared.aims.Aim.{Aim}
 use Rattle.history_restore.specs.declared.failures.Failure.{Failure}
 use Rattle.history_restore.specs.declared.planning.ObjectPlan.{ObjectPlan}
@@ -23,12 +23,14 @@ lack_of ChainFull = Some Journal
 lack_of NoSpace = Some Blocks
 lack_of _ = None
 
--- An object was restored over a drive, by changes that were asked for at a moment.
+-- An object was restored over a drive, by changes that were asked for at a moment. Every other object is what it was, and the past stays.
 pub record IsRestoredOver (d : DriveFields) (moments : Moments) (aim : Aim) (later : DriveFields) : Type 0 where
   pub restored : Restored
   pub restores : Restores (state_in d) (state_in later) aim moments.at restored
   pub moved : IsMovedBy (state_in d) moments.asked (change_count restored.plan) (state_in later)
   pub dated : IsDatedFrom moments.asked (state_in d) (state_in later)
+  pub others : LeavesOthers (number_after (state_in d) aim moments.at) (state_in d) (state_in later)
+  pub past : LeavesPast (state_in d) (state_in later)
 
 -- An object was tried over a drive: it was restored, or refused.
 abbrev pub IsTried : DriveFields → Moments → Aim → DriveFields → Type 0
@@ -66,26 +68,25 @@ Carries moments d old later new =
 
 -- ---- where nothing is listed as lacking
 
--- It was, once others were tried.
-pub record IsRestoredAfter (d : DriveFields) (moments : Moments) (aim : Aim) : Type 0 where
-  pub earlier : List Aim
-  pub before : DriveFields
-  pub tried : AreTried d moments earlier before
-  pub later : DriveFields
-  pub restored : IsRestoredOver before moments aim later
+-- What these plans are of was restored over a drive, one after the other, and nothing else was done.
+abbrev pub AreRestoredOver : DriveFields → Moments → List ObjectPlan → DriveFields → Type 0
+AreRestoredOver d moments [] later = later ≡ d
+AreRestoredOver d moments (p ∷ plans) later = (middle : DriveFields) × IsRestoredOver d moments p.aim middle × AreRestoredOver middle moments plans later
 
--- What these plans are of was restored over a drive, whatever was tried before.
-abbrev pub RestoresAll : Moments → DriveFields → List ObjectPlan → Type 0
-RestoresAll moments d plans = (base : DriveFields) (earlier : List Aim) → AreTried base moments earlier d → AllByRecursion (λ (p : ObjectPlan). IsRestoredAfter base moments p.aim) plans
+-- It was in some order, each once.
+pub record RestoresAll (d : DriveFields) (moments : Moments) (plans : List ObjectPlan) (later : DriveFields) : Type 0 where
+  pub ordered : List ObjectPlan
+  pub same : IsPermutation plans ordered
+  pub restored : AreRestoredOver d moments ordered later
 
 -- An object was tried, and nothing is listed: nothing was before, and where it is sure what it lacked it was restored.
 pub record TriesFine (d : DriveFields) (moments : Moments) (aim : Aim) (old : List Lacking) (is_sure is_restored : Bool) (later : DriveFields) : Type 0 where
   pub before : old ≡ []
   pub restored : is_sure ≡ true → (is_restored ≡ true) × IsRestoredOver d moments aim later
 
--- An object was put off, or restored.
+-- An object was put off, and nothing was done; or it was restored.
 abbrev pub IsPassed : DriveFields → Moments → ObjectPlan → List ObjectPlan → List ObjectPlan → DriveFields → Type 0
-IsPassed d moments p put_off put_off' later = (put_off' ≡ put_off ++ p ∷ []) ⊎ ((put_off' ≡ put_off) × IsRestoredOver d moments p.aim later)
+IsPassed d moments p put_off put_off' later = ((put_off' ≡ put_off ++ p ∷ []) × (later ≡ d)) ⊎ ((put_off' ≡ put_off) × IsRestoredOver d moments p.aim later)
 
 -- It was, and nothing is listed: nothing was before, and as long as no blocks were wasted none are.
 pub record PassesFine (d : DriveFields) (moments : Moments) (p : ObjectPlan) (old : List Lacking) (put_off put_off' : List ObjectPlan) (wasted wasted' : ℕ) (later : DriveFields) : Type 0 where

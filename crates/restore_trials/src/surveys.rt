@@ -1,6 +1,7 @@
 //! Trials to restore by an order, of which nothing is kept: each goes on after an object that can't
 //! be restored.
-ghost use Rattle.std.specs.Prelude.{◌≡◌, ◌++◌, ◌∷◌, [], false, None, Option, IfErr, IfOk, OnOk};
+ghost use Rattle.std.specs.Prelude.{◌≡◌, ◌++◌, ◌∷◌, [], true, false, None, Option, IfErr, IfOk};
+ghost use Rattle.std.specs.Prelude.{OnOk};
 ghost use Rattle.std.specs.List.{AllByRecursion};
 ghost use Rattle.s4_types.specs.declared.spans.Span.{Span};
 ghost use Rattle.segment_table.specs.Room.{log_of};
@@ -8,24 +9,27 @@ ghost use Rattle.version_store.specs.Store.{fields_of};
 ghost use Rattle.drive.specs.Fields.{state_in, store_of};
 ghost use Rattle.drive.specs.Opened.{base_of};
 ghost use Rattle.history_restore.specs.Planning.{IsPlanned, aims_planned};
+ghost use Rattle.history_restore.specs.Presence.{HasNone, HasObject};
 ghost use Rattle.moment_words.specs.Texts as styles;
 ghost use Rattle.s4_images.specs.Commands.{FailsOver, OverImage, OverOpened};
 ghost use Rattle.s4_images.specs.Failures.{IsInStyle};
+ghost use Rattle.s4_images.specs.declared.faults.Failure.TheVariants.{LeavesNothing};
 ghost use Rattle.restore_orders.specs.Choosing.{AreChosen};
 ghost use Rattle.restore_orders.specs.MakingRoom.{MakesRoom};
+ghost use Rattle.restore_search.specs.Searching.{IsFine};
 ghost use Rattle.restore_trials.specs.Surveys.{AreMade, Finds, IsHiddenAlone, IsRefusedFrom};
 ghost use Rattle.restore_trials.specs.Surveys.{IsServedFrom, Serves};
 
 use crate::trying::{lacking_of, push, try_all};
 use drive::{Drive, OpenedDrive, Session};
-use history_restore::{Aim, ObjectPlan, Plan, chosen_plans, plan_object, widen_window};
+use history_restore::{Aim, ObjectPlan, chosen_plans, has_object, plan_object, widen_window};
 use image_commands::{Files, read_image};
 use moment_words::style_of;
 use restore_orders::{
     Moments, Order, aims_by, asked_at, changes_ahead, check_left, compact_for, prepare, readable,
 };
 use restore_search::{Lack, Lacking, Room, Survey};
-use s4_images::Failure;
+use s4_images::{CommandOutput, Failure};
 use s4_types::{Moment, Refusal, Role};
 use segment_word::Naming;
 use std::alloc::Global;
@@ -35,13 +39,15 @@ use verifier::open;
 
 /// What a trial over the image finds; none where room can't be made by the order's means. Where
 /// nothing is lacking, all that the order chooses was restored in it. Its failures have moments as
-/// dates where the image's are.
-pub fn survey_image<T: Threads, F: Files>(
+/// dates where the image's are. The writer hears of the drive before it is tried, and nothing is
+/// written.
+pub fn survey_image<T: Threads, F: Files, W: CommandOutput>(
     rt: &T,
     alloc: Global,
     files: &F,
     image: &str,
     order: &Order<'_>,
+    writer: &mut W,
 ) -> Result<Option<Survey>, Failure>
     ensures finds { IfOk result
         (λ found. OverImage (F.contents files.now image.now) (λ d. Finds d order.now found)) }
@@ -50,17 +56,20 @@ pub fn survey_image<T: Threads, F: Files>(
     ensures style { IfErr result
         (FailsOver (F.contents files.now image.now)
         (λ d. IsInStyle (styles.style_of (state_in d).clock false))) }
+    ensures passed { W.passed writer.new ≡ W.passed writer.old }
+    ensures failures { W.failures writer.new ≡ W.failures writer.old }
 {
     let image = read_image(rt, alloc, files, image)?;
     let opened = open(alloc, image)?;
-    survey_opened::<Brand>(alloc, opened, order)
+    survey_opened::<Brand, W>(alloc, opened, order, writer)
 }
 
 // The same of a drive that was just opened.
-fn survey_opened<J: Naming>(
+fn survey_opened<J: Naming, W: CommandOutput>(
     alloc: Global,
     opened: OpenedDrive,
     order: &Order<'_>,
+    writer: &mut W,
 ) -> Result<Option<Survey>, Failure>
     requires accepts { opened.accepts ≡ J.accepts }
     requires frames { opened.store.table.seat.table ≡ J.frames }
@@ -71,8 +80,11 @@ fn survey_opened<J: Naming>(
     ensures style { IfErr result
         (λ failure. OverOpened opened
         (λ d. IsInStyle (styles.style_of (state_in d).clock false) failure)) }
+    ensures passed { W.passed writer.new ≡ W.passed writer.old }
+    ensures failures { W.failures writer.new ≡ W.failures writer.old }
 {
     let mut drive = opened.named::<J>();
+    writer.drive_opened(drive.clock());
     survey_in_style(alloc, &mut drive, order)
 }
 
@@ -107,6 +119,7 @@ fn survey_drive<J: Naming>(
     let at = readable(drive, order.at)?;
     let mut hidden = Vec::new(alloc);
     let chosen = plans_found(alloc, drive, &mut session, order, at, &mut hidden)?;
+    let had = has_object(drive);
     match compact_for(alloc, drive, &mut session, order.means) {
         Ok(()) => {}
         Err(Refusal::NoRoom) => return Ok(None),
@@ -115,25 +128,31 @@ fn survey_drive<J: Naming>(
     let chosen = chosen.as_slice();
     let moments = Moments { at, asked: now };
     let found = survey_cleared(alloc, drive, &mut session, order, &moments, chosen, hidden)?;
-    check_found(drive, order, chosen, &found)?;
+    check_found(drive, order, had, &found)?;
     Ok(Some(found))
 }
 
-// An error where a trial that found nothing lacking left no object, and the order has to leave one.
-// Where none is left some were there exactly where one was deleted.
+// An error exactly where a trial that found nothing lacking left no object, some were there, and the
+// order has to leave one.
 fn check_found<J: Naming>(
     drive: &mut Drive<J>,
     order: &Order<'_>,
-    chosen: &[ObjectPlan],
+    had: bool,
     found: &Survey,
-) -> Result<(), Failure> {
+) -> Result<(), Failure>
+    ensures left { OnOk result
+        (IsFine found.now → had ≡ true → order.now.to_nothing ≡ false
+        → HasObject (state_in drive.old)) }
+    ensures none { IfErr result
+        (λ failure. (failure ≡ LeavesNothing) × IsFine found.now
+        × (had ≡ true) × (order.now.to_nothing ≡ false) × HasNone (state_in drive.old)) }
+    ensures state { state_in drive.new ≡ state_in drive.old }
+    ensures store { store_of drive.new ≡ store_of drive.old }
+{
     if !found.is_fine() {
         return Ok(());
     }
-    let deletes = chosen
-        .iter()
-        .any(|planned| matches!(planned.plan, Plan::Delete));
-    check_left(drive, deletes, order.to_nothing)
+    check_left(drive, had, order.to_nothing)
 }
 
 // What a trial finds over a drive in which room was made by the order's means.
@@ -152,7 +171,7 @@ fn survey_cleared<J: Naming>(
     ensures hidden { IfOk result (λ found. found.hidden ≡ hidden) }
     ensures serves { IfOk result
         (λ found. found.refused.items ≡ [] → found.unmade.items ≡ []
-        → IsServedFrom drive.old order.now moments.now chosen.now) }
+        → IsServedFrom drive.old order.now moments.now chosen.now drive.new) }
 {
     let changes = changes_ahead(chosen, order.full);
     let _widened = widen_window(drive, session, moments.at, changes, moments.asked)?;

@@ -1,7 +1,8 @@
 //! Objects are tried one after the other, also after one that can't be restored.
 ghost use Rattle.std.specs.Prelude.{◌≡◌, ◌++◌, ◌∷◌, [], IfErr, IfOk, OnOk};
 ghost use Rattle.s4_images.specs.Failures.{HasNoMoments};
-ghost use Rattle.restore_trials.specs.Trying.{Carries, PassesFine, RestoresAll, TriesFine};
+ghost use Rattle.restore_trials.specs.Trying.{AreRestoredOver, Carries, PassesFine, RestoresAll};
+ghost use Rattle.restore_trials.specs.Trying.{TriesFine};
 
 use drive::{Drive, Session};
 use history_restore::{Aim, ObjectPlan, Plan, restore_object};
@@ -58,7 +59,8 @@ pub(crate) fn try_all<J: Naming>(
 ) -> Result<(), Failure>
     ensures carries { OnOk result
         (Carries moments.now drive.old lacking.old.items drive.new lacking.new.items) }
-    ensures fine { OnOk result (lacking.new.items ≡ [] → RestoresAll moments.now drive.old chosen.now) }
+    ensures fine { OnOk result
+        (lacking.new.items ≡ [] → RestoresAll drive.old moments.now chosen.now drive.new) }
 {
     let mut progress = Progress {
         deferred: Vec::new(alloc),
@@ -92,7 +94,7 @@ fn try_deferred<J: Naming>(
         (Carries moments.now drive.old lacking.old.items drive.new lacking.new.items) }
     ensures fine { OnOk result
         (lacking.new.items ≡ []
-        → (lacking.old.items ≡ []) × RestoresAll moments.now drive.old deferred.now) }
+        → (lacking.old.items ≡ []) × AreRestoredOver drive.old moments.now deferred.now drive.new) }
 {
     for planned in deferred {
         let _is_restored = try_aim(alloc, drive, session, moments, &planned.aim, true, lacking)?;

@@ -37,7 +37,7 @@ pub fn dry_run_image<T: Threads, F: Files, W: CommandOutput>(
         (WouldRestoreImage (F.contents files.now asked.entry.now.image.now) asked.entry.now stand_ins.now
         (W.passed writer.old) (W.passed writer.new)) }
 {
-    let made = prepare_image(rt, alloc, files, asked, stand_ins)?;
+    let made = prepare_image(rt, alloc, files, asked, stand_ins, writer)?;
     let order = order_of(files, asked, stand_ins, &made);
     let counted = Counted { order: &order };
     over_image(rt, alloc, files, asked.image, &counted, writer)
@@ -71,7 +71,7 @@ pub fn restore_image<T: Threads, F: Files, W: CommandOutput>(
     ensures kept { OnErr result
         ((path : List ℕ) → Keeps (F.contents files.old path) (F.contents files.new path)) }
 {
-    let made = prepare_image(rt, alloc, files, asked, stand_ins)?;
+    let made = prepare_image(rt, alloc, files, asked, stand_ins, writer)?;
     let order = order_of(files, asked, stand_ins, &made);
     put_restored(rt, alloc, files, asked.image, &order, writer)
 }

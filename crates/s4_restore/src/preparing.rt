@@ -11,7 +11,7 @@ use image_commands::Files;
 use restore_orders::{Means, Order};
 use restore_search::{Lack, Lacking, Room, numbers_of};
 use s4_command::RestoreAsked;
-use s4_images::Failure;
+use s4_images::{CommandOutput, Failure};
 use s4_types::{ObjectId, Refusal};
 use std::alloc::{AllocError, Global};
 use std::thread::Threads;
@@ -77,19 +77,22 @@ pub(crate) fn order_with<'a>(
 }
 
 /// What is needed to restore the drive of an image. A failure where an object can't be restored,
-/// with all such objects.
-pub(crate) fn prepare_image<T: Threads, F: Files>(
+/// with all such objects. The writer hears of the drive before it is tried, and nothing is written.
+pub(crate) fn prepare_image<T: Threads, F: Files, W: CommandOutput>(
     rt: &T,
     alloc: Global,
     files: &F,
     asked: &RestoreAsked<'_>,
     stand_ins: &[StandIn],
+    writer: &mut W,
 ) -> Result<Preparation, Failure>
     ensures prepared { IfOk result
         (λ made. IsPrepared (F.contents files.now asked.entry.now.image.now) asked.entry.now stand_ins.now
         made.means made.full.items made.skipped.items) }
     ensures style { IfErr result
         (FailsInStyle (F.contents files.now asked.entry.now.image.now)) }
+    ensures passed { W.passed writer.new ≡ W.passed writer.old }
+    ensures failures { W.failures writer.new ≡ W.failures writer.old }
 {
     let trials = Trials {
         rt,
@@ -98,7 +101,7 @@ pub(crate) fn prepare_image<T: Threads, F: Files>(
         asked,
         stand_ins,
     };
-    let findings = find_needed(&trials)?;
+    let findings = find_needed(&trials, writer)?;
     if is_allowed(asked.skip, findings.lacking.as_slice()) {
         return prepared(alloc, findings);
     }
@@ -134,43 +137,53 @@ fn prepared(alloc: Global, findings: Findings) -> Result<Preparation, Failure>
 
 // Finds what is needed to restore all objects that can be restored. First nothing is hidden or
 // skipped.
-fn find_needed<T: Threads, F: Files>(trials: &Trials<'_, T, F>) -> Result<Findings, Failure>
+fn find_needed<T: Threads, F: Files, W: CommandOutput>(
+    trials: &Trials<'_, T, F>,
+    writer: &mut W,
+) -> Result<Findings, Failure>
     ensures found { IfOk result
         (IsFound (F.contents trials.now.files.now trials.now.asked.now.image.now)
         trials.now.asked.now trials.now.stand_ins.now) }
     ensures style { IfErr result
         (FailsInStyle (F.contents trials.now.files.now trials.now.asked.now.image.now)) }
+    ensures passed { W.passed writer.new ≡ W.passed writer.old }
+    ensures failures { W.failures writer.new ≡ W.failures writer.old }
 {
-    if let Some(found) = found_plainly(trials, Means::Nothing)? {
+    if let Some(found) = found_plainly(trials, Means::Nothing, writer)? {
         return Ok(found);
     }
-    if let Some(found) = found_plainly(trials, Means::Cleaning)? {
+    if let Some(found) = found_plainly(trials, Means::Cleaning, writer)? {
         return Ok(found);
     }
-    if let Some(found) = found_plainly(trials, Means::Moves)? {
+    if let Some(found) = found_plainly(trials, Means::Moves, writer)? {
         return Ok(found);
     }
-    found_leaving(trials)
+    found_leaving(trials, writer)
 }
 
 // What is needed where no means serve alone: those by which the fewest objects can't be restored.
-fn found_leaving<T: Threads, F: Files>(trials: &Trials<'_, T, F>) -> Result<Findings, Failure>
+fn found_leaving<T: Threads, F: Files, W: CommandOutput>(
+    trials: &Trials<'_, T, F>,
+    writer: &mut W,
+) -> Result<Findings, Failure>
     ensures found { IfOk result
         (λ found. IsFoundBy (F.contents trials.now.files.now trials.now.asked.now.image.now)
         trials.now.asked.now trials.now.stand_ins.now found.means found) }
     ensures style { IfErr result
         (FailsInStyle (F.contents trials.now.files.now trials.now.asked.now.image.now)) }
+    ensures passed { W.passed writer.new ≡ W.passed writer.old }
+    ensures failures { W.failures writer.new ≡ W.failures writer.old }
 {
-    let cleaned = found_by(trials, Means::Cleaning)?;
+    let cleaned = found_by(trials, Means::Cleaning, writer)?;
     if serves_all(&cleaned) {
         return found_or_none(cleaned);
     }
-    let moved = found_by(trials, Means::Moves)?;
+    let moved = found_by(trials, Means::Moves, writer)?;
     if serves_all(&moved) {
         return found_or_none(moved);
     }
     // room isn't made where as much can be restored without
-    let plain = found_by(trials, Means::Nothing)?;
+    let plain = found_by(trials, Means::Nothing, writer)?;
     found_or_none(better(plain, better(cleaned, moved)))
 }
 

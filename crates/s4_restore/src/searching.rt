@@ -16,7 +16,7 @@ use restore_search::{
 };
 use restore_trials::survey_image;
 use s4_command::RestoreAsked;
-use s4_images::Failure;
+use s4_images::{CommandOutput, Failure};
 use s4_types::Refusal;
 use std::alloc::Global;
 use std::thread::Threads;
@@ -44,9 +44,10 @@ pub struct Findings {
 
 /// What is needed where room is made by these means and nothing is hidden or left out; none where
 /// something can't be restored then.
-pub(crate) fn found_plainly<T: Threads, F: Files>(
+pub(crate) fn found_plainly<T: Threads, F: Files, W: CommandOutput>(
     trials: &Trials<'_, T, F>,
     means: Means,
+    writer: &mut W,
 ) -> Result<Option<Findings>, Failure>
     ensures found { IfOk result
         (λ found. MatchOption found
@@ -56,10 +57,13 @@ pub(crate) fn found_plainly<T: Threads, F: Files>(
         trials.now.asked.now trials.now.stand_ins.now means)) }
     ensures style { IfErr result
         (FailsInStyle (F.contents trials.now.files.now trials.now.asked.now.image.now)) }
+    ensures passed { W.passed writer.new ≡ W.passed writer.old }
+    ensures failures { W.failures writer.new ≡ W.failures writer.old }
 {
     let (asked, stand_ins) = (trials.asked, trials.stand_ins);
     let order = order_with(asked, stand_ins, means, &[], &[]);
-    let found = survey_image(trials.rt, trials.alloc, trials.files, asked.image, &order)?;
+    let (files, image) = (trials.files, asked.image);
+    let found = survey_image(trials.rt, trials.alloc, files, image, &order, writer)?;
     let Some(survey) = found else {
         return Ok(None);
     };
@@ -87,9 +91,10 @@ fn lacks_nothing(survey: &Survey) -> bool
 /// What is needed where room is made by these means, found trial by trial: the last of them finds
 /// that all else is restored. None where no room can be made by these means, or where the trials
 /// weren't enough.
-pub(crate) fn found_by<T: Threads, F: Files>(
+pub(crate) fn found_by<T: Threads, F: Files, W: CommandOutput>(
     trials: &Trials<'_, T, F>,
     means: Means,
+    writer: &mut W,
 ) -> Result<Option<Findings>, Failure>
     ensures found { IfOk result
         (λ found. IfSome found
@@ -97,10 +102,12 @@ pub(crate) fn found_by<T: Threads, F: Files>(
         trials.now.asked.now trials.now.stand_ins.now means)) }
     ensures style { IfErr result
         (FailsInStyle (F.contents trials.now.files.now trials.now.asked.now.image.now)) }
+    ensures passed { W.passed writer.new ≡ W.passed writer.old }
+    ensures failures { W.failures writer.new ≡ W.failures writer.old }
 {
     let mut search = Search::new(trials.alloc);
     for _ in 0..MOST_SURVEYS {
-        let found = survey_with(trials, means, &search)?;
+        let found = survey_with(trials, means, &search, writer)?;
         let Some(survey) = found else {
             return Ok(None);
         };
@@ -136,10 +143,11 @@ fn findings_of(alloc: Global, means: Means, search: Search) -> Result<Findings, 
 }
 
 // A trial with what is known to be needed.
-fn survey_with<T: Threads, F: Files>(
+fn survey_with<T: Threads, F: Files, W: CommandOutput>(
     trials: &Trials<'_, T, F>,
     means: Means,
     search: &Search,
+    writer: &mut W,
 ) -> Result<Option<Survey>, Failure>
     ensures shows { IfOk result
         (λ found. IfSome found
@@ -151,10 +159,13 @@ fn survey_with<T: Threads, F: Files>(
         (numbers_of search.now.lacking.items))) }
     ensures style { IfErr result
         (FailsInStyle (F.contents trials.now.files.now trials.now.asked.now.image.now)) }
+    ensures passed { W.passed writer.new ≡ W.passed writer.old }
+    ensures failures { W.failures writer.new ≡ W.failures writer.old }
 {
     let full = rooms_tried(trials.alloc, search.hidings.as_slice())?;
     let skipped = numbers_of(trials.alloc, search.lacking.as_slice())?;
     let (asked, stand_ins) = (trials.asked, trials.stand_ins);
     let order = order_with(asked, stand_ins, means, full.as_slice(), skipped.as_slice());
-    survey_image(trials.rt, trials.alloc, trials.files, asked.image, &order)
+    let (files, image) = (trials.files, asked.image);
+    survey_image(trials.rt, trials.alloc, files, image, &order, writer)
 }

@@ -6,7 +6,7 @@ use Rattle.drive.specs.Fields.{state_in}
 use Rattle.restore_search.specs.declared.surveys.Lacking.{Lacking}
 use Rattle.restore_orders.specs.Reaching.{changes_ahead}
 use Rattle.restore_trials.specs.Surveys.{IsRefusedFrom}
-use Rattle.restore_trials.specs.Trying.{Carries}
+use Rattle.restore_trials.specs.Trying.{Carries, RestoresAll}
 use Rattle.restore_trials.proofs.Finding.{refused_from, widens_ahead}
 use Rattle.restore_trials.proofs.surveys.survey_cleared.Goals as goal
 use Rattle.restore_trials.proofs.surveys.survey_cleared.Goals.{then-is_empty+in_ok-try_all, else-is_empty}
@@ -36,7 +36,7 @@ returns-clause-serves g c =
         store_stays = c.widen_window.ensures.store;
         ready = c.make_rooms.new.drive;
         made = c.in_ok-unmade.ensures.made unmade;
-        restored = w.in_ok-try_all.ensures.fine (sym (ap (λ v. v.items) w.refused-is) ∙ none) c.make_rooms.new.drive [] refl;
+        restored = subst (RestoresAll c.make_rooms.new.drive c.args.moments.now c.args.chosen.now) (sym w.drive-is) (w.in_ok-try_all.ensures.fine (sym (ap (λ v. v.items) w.refused-is) ∙ none));
       }
       | else-is_empty w ↦ λ none unmade.
           let len : vec_len c.in_ok-unmade.unmade ≡ 0 = omega (arith, c.in_ok-unmade.unmade.ok.0, ap (λ (l : List Lacking). length l) unmade) in

@@ -11,4 +11,6 @@ returns g c =
       finds = IfOk-weaker c.survey_opened.result _ _ (λ found done. over_opened _ _ _ _ verified parts done) c.survey_opened.ensures.finds;
       serves = IfOk-weaker c.survey_opened.result _ _ (λ found done. over_opened _ _ _ _ verified parts done) c.survey_opened.ensures.serves;
       style = IfErr-weaker c.survey_opened.result _ _ (λ failure done. inr (over_opened _ _ _ _ verified parts done)) c.survey_opened.ensures.style;
+      passed = c.survey_opened.ensures.passed;
+      failures = c.survey_opened.ensures.failures;
     }

@@ -11,4 +11,6 @@ returns g c =
       finds = IfOk-weaker c.survey_in_style.result _ _ (λ found done. record { drive = c.named-drive.result; named = named; holds = done }) c.survey_in_style.ensures.finds;
       serves = IfOk-weaker c.survey_in_style.result _ _ (λ found done. record { drive = c.named-drive.result; named = named; holds = done }) c.survey_in_style.ensures.serves;
       style = IfErr-weaker c.survey_in_style.result _ _ (λ failure done. record { drive = c.named-drive.result; named = named; holds = done }) c.survey_in_style.ensures.style;
+      passed = c.drive_opened.ensures.passed;
+      failures = c.drive_opened.ensures.failures;
     }

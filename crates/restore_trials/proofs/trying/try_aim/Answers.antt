@@ -1,15 +1,26 @@
 use Rattle.std.proofs.Common.{◌∙◌, inl, inr, refl, sym}
 use Rattle.std.proofs.lemmas.Bool.{true≢false}
 use Rattle.std.proofs.lemmas.Result.{on_ok_weaker}
+use Rattle.restore_trials.specs.Trying.{IsRestoredOver}
 use Rattle.restore_trials.proofs.Carrying.{carries_full, carries_spaceless, carries_tried}
 use Rattle.restore_trials.proofs.Serving.{never_fine}
 use Rattle.restore_trials.proofs.trying.try_aim.Goals as goal
 
 pub returns-in-Ok : goal.returns-in-Ok
-returns-in-Ok g c = record {
-  carries = carries_tried c.args.moments.now c.args.drive.now c.restore_object.new.drive c.args.aim.now c.args.lacking.now.items (inl (record { restored = c.in-Ok.field-0; restores = c.in-Ok.ensures.restored; moved = c.in-Ok.ensures.moved; dated = c.restore_object.ensures.dated }));
-  fine = λ none. record { before = none; restored = λ _. (refl, record { restored = c.in-Ok.field-0; restores = c.in-Ok.ensures.restored; moved = c.in-Ok.ensures.moved; dated = c.restore_object.ensures.dated }) };
-}
+returns-in-Ok g c =
+    let over : IsRestoredOver c.args.drive.now c.args.moments.now c.args.aim.now c.restore_object.new.drive =
+    record {
+      restored = c.in-Ok.field-0;
+      restores = c.in-Ok.ensures.restored;
+      moved = c.in-Ok.ensures.moved;
+      dated = c.restore_object.ensures.dated;
+      others = c.restore_object.ensures.others;
+      past = c.restore_object.ensures.past;
+    } in
+    record {
+      carries = carries_tried c.args.moments.now c.args.drive.now c.restore_object.new.drive c.args.aim.now c.args.lacking.now.items (inl over);
+      fine = λ none. record { before = none; restored = λ _. (refl, over) };
+    }
 
 pub returns-in-ChainFull : goal.returns-in-ChainFull
 returns-in-ChainFull g c = record {

@@ -7,5 +7,5 @@ use Rattle.restore_trials.proofs.trying.try_all.Given as goal
 abbrev pub invariant-loop-planned : goal.invariant-loop-planned
 invariant-loop-planned g l = record {
   carries : Carries l.moments l.fn.drive l.fn.lacking.items l.drive l.lacking.items;
-  fine : l.lacking.items ≡ [] → AreDone l.fn.drive l.moments l.fn.lacking.items l.progress.wasted l.progress.deferred.items (take l.planned-index l.chosen);
+  fine : l.lacking.items ≡ [] → AreDone l.fn.drive l.moments l.fn.lacking.items l.progress.wasted l.progress.deferred.items (take l.planned-index l.chosen) l.drive;
 }
