@@ -6,3 +6,4 @@ pub mod Sharing
 pub mod Rounding
 pub mod Stepping
 pub mod Windows
+pub mod Visiting

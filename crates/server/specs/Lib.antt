@@ -9,3 +9,5 @@ pub mod Upkeep
 pub mod Moving
 pub mod Laws
 pub mod Gathering
+pub mod Agenda
+pub mod Rounds

@@ -1,5 +1,5 @@
 -- What the cleaner does to a drive that sessions share.
-use Rattle.std.specs.Prelude.{◌≡◌, ℕ, Bool, true, false, List, [], ◌∷◌, Result, length, All}
+use Rattle.std.specs.Prelude.{◌≡◌, ℕ, ◌<◌, Bool, true, false, List, [], ◌∷◌, Result, length, slice_index_or, All}
 use Rattle.s4_types.specs.History.{Base}
 use Rattle.s4_types.specs.declared.refusals.Refusal.{Refusal}
 use Rattle.s4_model.specs.Audit.{audit_of}
@@ -61,6 +61,13 @@ pub record IsRound (base : Base) (round : Round) : Type 0 where
   pub ended : SharedTurn base last Ended 0
   pub going : All (λ turn. ends_round turn ≡ false) turns
   pub counted : length turns ≡ round.turns
+
+-- A round over these objects: each had its turn, frames were emptied, and it isn't the last.
+pub record IsRoundOver (base : Base) (objects : List ℕ) (round : Round) : Type 0 where
+  pub visited : (i : ℕ) (d : _) → i < length objects → SharedVisit base (slice_index_or objects i d)
+  pub swept : SharedSweep base
+  pub counted : round.turns ≡ length objects
+  pub early : round.is_last ≡ false
 
 -- a whole round that began when all sessions had ended
 abbrev pub IsLastRound : Base → Round → Type 0

@@ -1,5 +1,12 @@
 //! Which objects the cleaner is to visit. Nothing that is answered rests on it.
-ghost use Rattle.std.specs.Prelude.{◌≡◌};
+ghost use Rattle.std.specs.Prelude.{◌≡◌, ◌≢◌, [], true, false, IfOk, MatchOption};
+ghost use Rattle.std.specs.List.{list_any};
+ghost use Rattle.std.specs.List.Sorted.{IsStrictlySortedBy};
+ghost use Rattle.std.specs.Ordering.{nat_cmp};
+ghost use Rattle.server.specs.Agenda.{PutsFloor, AddsFloor, PutsDeleted, PutsHistory, Deletes};
+ghost use Rattle.server.specs.Agenda.{Forgets, has_key, due_from, due_objects, removable, above};
+ghost use Rattle.server.specs.Agenda.{is_removal};
+ghost use Rattle.server.specs.Rounds.{BeginsRound, BeginsRemovals, writing};
 
 use drive::Drive;
 use s4_types::limits::JOURNAL_ENTRY_BYTES;
@@ -24,7 +31,9 @@ pub(crate) struct History {
 impl History {
     /// The floor from which on a turn frees more than it writes. A deleted object with few entries
     /// has a checkpoint and a journal block less only once it is removed.
-    fn due(&self) -> Moment {
+    fn due(&self) -> Moment
+        ensures { result ≡ due_from self.now }
+    {
         match self.deleted {
             Some(deleted) if self.is_short => deleted,
             _ => self.oldest,
@@ -52,7 +61,11 @@ pub(crate) struct Agenda {
 
 impl Agenda {
     /// Nothing is known of any object.
-    pub(crate) fn new(alloc: Global) -> Self {
+    pub(crate) fn new(alloc: Global) -> Self
+        ensures known { (result.floors.entries ≡ []) × (result.deleted.entries ≡ []) }
+        ensures gaps { result.has_gaps ≡ true }
+        ensures rounds { (result.is_walking ≡ false) × (result.is_hidden ≡ false) }
+    {
         Agenda {
             alloc,
             floors: BTreeMap::new(alloc),
@@ -64,12 +77,16 @@ impl Agenda {
     }
 
     /// How many objects are known to have history of which a turn may write something.
-    pub(crate) fn count(&self) -> u64 {
+    pub(crate) fn count(&self) -> u64
+        ensures { result ≡ writing self.now }
+    {
         (self.floors.len() as u64).saturating_sub(self.deleted.len() as u64)
     }
 
     /// Whether at this floor an object can be removed.
-    pub(crate) fn has_removal(&self, floor: u64) -> bool {
+    pub(crate) fn has_removal(&self, floor: u64) -> bool
+        ensures { result ≡ list_any (is_removal floor) self.now.deleted.entries }
+    {
         match self.deleted.first_key_value() {
             Some((moment, _)) => *moment <= floor,
             None => false,
@@ -77,14 +94,18 @@ impl Agenda {
     }
 
     /// A turn of this object may free something from a floor on.
-    fn put(&mut self, object: ObjectId, floor: Moment) {
+    fn put(&mut self, object: ObjectId, floor: Moment)
+        ensures { PutsFloor self.old object floor self.new }
+    {
         if self.floors.insert(object.number(), floor.number()).is_err() {
             self.has_gaps = true;
         }
     }
 
     /// An object was deleted at this moment.
-    fn put_deleted(&mut self, object: ObjectId, deleted: Moment) {
+    fn put_deleted(&mut self, object: ObjectId, deleted: Moment)
+        ensures { PutsDeleted self.old object deleted self.new }
+    {
         if self
             .deleted
             .insert(deleted.number(), object.number())
@@ -95,14 +116,18 @@ impl Agenda {
     }
 
     /// An object was changed at this moment.
-    pub(crate) fn add(&mut self, object: ObjectId, moment: Moment) {
+    pub(crate) fn add(&mut self, object: ObjectId, moment: Moment)
+        ensures { AddsFloor self.old object moment self.new }
+    {
         if !self.floors.contains_key(&object.number()) {
             self.put(object, moment);
         }
     }
 
     /// An object was deleted at this moment, whose entries may fit one journal block.
-    pub(crate) fn delete(&mut self, object: ObjectId, moment: Moment, is_short: bool) {
+    pub(crate) fn delete(&mut self, object: ObjectId, moment: Moment, is_short: bool)
+        ensures { Deletes self.old object moment is_short self.new }
+    {
         self.put_deleted(object, moment);
         if is_short {
             self.put(object, moment);
@@ -112,25 +137,41 @@ impl Agenda {
     }
 
     /// An object had its turn, and has this history left, or none.
-    pub(crate) fn settle(&mut self, object: ObjectId, left: Option<History>) {
+    pub(crate) fn settle(&mut self, object: ObjectId, left: Option<History>)
+        ensures { MatchOption left (Forgets self.old object self.new)
+            (λ history. PutsHistory self.old object history self.new) }
+    {
         match left {
-            Some(history) => {
-                self.put(object, history.due());
-                if let Some(deleted) = history.deleted {
-                    self.put_deleted(object, deleted);
-                }
-            }
+            Some(history) => self.put_history(object, history),
             None => drop(self.floors.remove(&object.number())),
         }
     }
 
+    /// An object has this history left.
+    fn put_history(&mut self, object: ObjectId, history: History)
+        ensures { PutsHistory self.old object history self.new }
+    {
+        self.put(object, history.due());
+        if let Some(deleted) = history.deleted {
+            self.put_deleted(object, deleted);
+        }
+    }
+
     /// An object could not be cleaned, and has another turn in the next round.
-    pub(crate) fn keep(&mut self, object: ObjectId) {
+    pub(crate) fn keep(&mut self, object: ObjectId)
+        ensures { PutsFloor self.old object 0 self.new }
+    {
         self.put(object, Moment::new(0));
     }
 
     /// Moments of an object were hidden, or of all where its number is 0.
-    pub(crate) fn hide(&mut self, object: ObjectId) {
+    pub(crate) fn hide(&mut self, object: ObjectId)
+        ensures all { object ≡ 0 → self.new ≡ record self.old { is_hidden = true } }
+        ensures known { object ≢ 0 → has_key self.old.floors.entries object ≡ true
+            → PutsFloor self.old object 0 self.new }
+        ensures unknown { object ≢ 0 → has_key self.old.floors.entries object ≡ false
+            → self.new ≡ self.old }
+    {
         if object.number() == 0 {
             self.is_hidden = true;
         } else if self.floors.contains_key(&object.number()) {
@@ -139,18 +180,25 @@ impl Agenda {
     }
 
     /// Whether rounds go on with a walk over all objects.
-    pub(crate) fn is_walking(&self) -> bool {
+    pub(crate) fn is_walking(&self) -> bool
+        ensures { result ≡ self.now.is_walking }
+    {
         self.is_walking
     }
 
     /// All objects were visited.
-    pub(crate) fn end_walk(&mut self) {
+    pub(crate) fn end_walk(&mut self)
+        ensures { self.new ≡ record self.old { is_walking = false } }
+    {
         self.is_walking = false;
     }
 
     /// A round begins at this floor: the objects that it is to visit, by ascending number, beside
-    /// some more of a walk. None where it is to visit all: what is hidden is freed in one round.
-    pub(crate) fn begin_round(&mut self, floor: Moment) -> Option<Vec<ObjectId>> {
+    /// some more of a walk. None where it is to visit all: what is hidden is freed in one round, and
+    /// a list may be refused memory.
+    pub(crate) fn begin_round(&mut self, floor: Moment) -> Option<Vec<ObjectId>>
+        ensures { BeginsRound self.old floor result self.new }
+    {
         let is_hidden = replace(&mut self.is_hidden, false);
         if !self.is_walking {
             self.is_walking = replace(&mut self.has_gaps, false);
@@ -163,39 +211,54 @@ impl Agenda {
         self.due(last).ok()
     }
 
-    /// A round begins at this floor that writes nothing: the objects that can be removed.
-    pub(crate) fn begin_removals(&mut self, floor: Moment) -> Option<Vec<ObjectId>> {
-        let mut objects = Vec::new(self.alloc);
-        for (moment, object) in self.deleted.iter() {
-            if *moment > floor.number() || objects.push(ObjectId::new(*object)).is_err() {
-                break;
-            }
-        }
+    /// A round begins at this floor that writes nothing: the objects that can be removed, by
+    /// ascending number. None where it is to visit all: a list may be refused memory.
+    pub(crate) fn begin_removals(&mut self, floor: Moment) -> Option<Vec<ObjectId>>
+        ensures { BeginsRemovals self.old floor result self.new }
+    {
+        let removable = self.removable(floor.number());
         self.forget_removed(floor.number());
+        let mut objects = removable.ok()?;
         objects.sort().ok()?;
         Some(objects)
     }
 
     /// The objects whose Deletes have passed the floor have their turn now. One that can't be
     /// removed is visited again as others are.
-    fn forget_removed(&mut self, floor: u64) {
-        for _ in 0..u64::MAX {
-            if !self.has_removal(floor) {
-                return;
-            }
-            drop(self.deleted.pop_first());
-        }
+    fn forget_removed(&mut self, floor: u64)
+        ensures deleted { self.new.deleted.entries ≡ above floor self.old.deleted.entries }
+        ensures kept { self.new ≡ record self.old { deleted = self.new.deleted } }
+    {
+        self.deleted.retain(|moment, _| floor < *moment);
     }
 
-    /// The objects whose floor is at most this one.
-    fn due(&self, last: u64) -> Result<Vec<ObjectId>, AllocError> {
-        let mut objects = Vec::new(self.alloc);
-        for (object, floor) in self.floors.iter() {
-            if *floor <= last {
-                objects.push(ObjectId::new(*object))?;
+    /// The objects whose Deletes have passed the floor, in the order of these.
+    fn removable(&self, floor: u64) -> Result<Vec<ObjectId>, AllocError>
+        ensures { IfOk result (λ objects. objects.items
+            ≡ removable floor self.now.deleted.entries) }
+    {
+        let mut removable = Vec::new(self.alloc);
+        for (moment, object) in self.deleted.iter() {
+            if *moment <= floor {
+                removable.push(ObjectId::new(*object))?;
             }
         }
-        Ok(objects)
+        Ok(removable)
+    }
+
+    /// The objects whose floor is at most this one, each once, by ascending number.
+    fn due(&self, last: u64) -> Result<Vec<ObjectId>, AllocError>
+        ensures due { IfOk result (λ objects. objects.items
+            ≡ due_objects last self.now.floors.entries) }
+        ensures ordered { IfOk result (λ objects. IsStrictlySortedBy nat_cmp objects.items) }
+    {
+        let mut due = Vec::new(self.alloc);
+        for (object, floor) in self.floors.iter() {
+            if *floor <= last {
+                due.push(ObjectId::new(*object))?;
+            }
+        }
+        Ok(due)
     }
 }
 

@@ -1,4 +1,8 @@
 //! What sessions, cleaner and copier wait for: one struct, which one lock guards.
+ghost use Rattle.std.specs.Prelude.{◌≡◌, ◌≢◌, ◌-◌, ◌/◌, ◌&&◌, true, false, MatchOption};
+ghost use Rattle.server.specs.Agenda.{PutsFloor, AddsFloor, PutsHistory, Deletes, Forgets, has_key};
+ghost use Rattle.server.specs.Rounds.{Begins, GivesDue, is_of_removals, is_pinched, is_tight};
+
 use crate::agenda::{Agenda, History};
 use drive::Drive;
 use s4_types::limits::{MOVE_BLOCKS, PAYLOAD_BLOCKS, RESERVE_BLOCKS};
@@ -174,7 +178,9 @@ impl Progress {
     }
 
     /// How many blocks the copier may still take: it leaves half of what clients leave.
-    fn copiers_room(&self) -> u64 {
+    fn copiers_room(&self) -> u64
+        ensures { result ≡ self.now.room - self.now.kept / 2 }
+    {
         self.room.saturating_sub(self.kept / 2)
     }
 
@@ -194,7 +200,9 @@ impl Progress {
     /// Whether there is too little room for the copier, and too few blocks are left for the objects
     /// that have history. Then all of that is to have aged before a round visits them: such a round
     /// writes least and frees most. Deleted objects alone may be removed, which writes nothing.
-    fn is_pinched(&self) -> bool {
+    fn is_pinched(&self) -> bool
+        ensures { result ≡ is_pinched self.now }
+    {
         let written = self.agenda.count().saturating_mul(ROUND_BLOCKS);
         self.is_tight()
             && written > self.reserve.saturating_add(self.room)
@@ -258,36 +266,53 @@ impl Progress {
     }
 
     /// All objects were visited.
-    pub(crate) fn end_walk(&mut self) {
+    pub(crate) fn end_walk(&mut self)
+        ensures { self.new.agenda ≡ record self.old.agenda { is_walking = false } }
+    {
         self.agenda.end_walk();
         self.is_news = true;
     }
 
     /// An object was changed at this moment.
-    pub(crate) fn note_change(&mut self, object: ObjectId, moment: Moment) {
+    pub(crate) fn note_change(&mut self, object: ObjectId, moment: Moment)
+        ensures { AddsFloor self.old.agenda object moment self.new.agenda }
+    {
         self.agenda.add(object, moment);
     }
 
     /// Moments of an object were hidden, or of all where its number is 0. The round that begins
     /// next frees what they held.
-    pub(crate) fn hide(&mut self, object: ObjectId) {
+    pub(crate) fn hide(&mut self, object: ObjectId)
+        ensures all { object ≡ 0 → self.new.agenda ≡ record self.old.agenda { is_hidden = true } }
+        ensures known { object ≢ 0 → has_key self.old.agenda.floors.entries object ≡ true
+            → PutsFloor self.old.agenda object 0 self.new.agenda }
+        ensures unknown { object ≢ 0 → has_key self.old.agenda.floors.entries object ≡ false
+            → self.new.agenda ≡ self.old.agenda }
+    {
         self.agenda.hide(object);
         self.frees = self.begun.saturating_add(1);
         self.want(self.frees);
     }
 
     /// An object was deleted at this moment, whose entries may fit one journal block.
-    pub(crate) fn note_delete(&mut self, object: ObjectId, moment: Moment, is_short: bool) {
+    pub(crate) fn note_delete(&mut self, object: ObjectId, moment: Moment, is_short: bool)
+        ensures { Deletes self.old.agenda object moment is_short self.new.agenda }
+    {
         self.agenda.delete(object, moment, is_short);
     }
 
     /// An object had its turn, and has this history left, or none.
-    pub(crate) fn settle(&mut self, object: ObjectId, left: Option<History>) {
+    pub(crate) fn settle(&mut self, object: ObjectId, left: Option<History>)
+        ensures { MatchOption left (Forgets self.old.agenda object self.new.agenda)
+            (λ history. PutsHistory self.old.agenda object history self.new.agenda) }
+    {
         self.agenda.settle(object, left);
     }
 
     /// An object could not be cleaned.
-    pub(crate) fn keep(&mut self, object: ObjectId) {
+    pub(crate) fn keep(&mut self, object: ObjectId)
+        ensures { PutsFloor self.old.agenda object 0 self.new.agenda }
+    {
         self.agenda.keep(object);
     }
 
@@ -312,12 +337,16 @@ impl Progress {
     }
 
     /// Sessions and copier have ended.
-    fn is_over(&self) -> bool {
+    fn is_over(&self) -> bool
+        ensures { result ≡ self.now.is_served && self.now.is_moved }
+    {
         self.is_served && self.is_moved
     }
 
     /// A round begins.
-    pub(crate) fn begin_round(&mut self) -> Begun {
+    pub(crate) fn begin_round(&mut self) -> Begun
+        ensures { Begins self.old result self.new }
+    {
         let is_last = self.is_over();
         self.is_going = true;
         self.is_news = true;
@@ -331,7 +360,10 @@ impl Progress {
     }
 
     /// The objects of a round that begins now, by ascending number; None where it is to visit all.
-    fn objects(&mut self) -> Option<Vec<ObjectId>> {
+    fn objects(&mut self) -> Option<Vec<ObjectId>>
+        ensures due { GivesDue self.old result self.new.agenda }
+        ensures kept { self.new ≡ record self.old { agenda = self.new.agenda } }
+    {
         let floor = Moment::new(self.floor);
         if self.is_pinched() && self.ended >= self.frees && !self.agenda.is_walking() {
             self.agenda.begin_removals(floor)
@@ -371,7 +403,9 @@ impl Progress {
     }
 
     /// Whether there is too little room for the copier's moves.
-    pub(crate) fn is_tight(&self) -> bool {
+    pub(crate) fn is_tight(&self) -> bool
+        ensures { result ≡ is_tight self.now }
+    {
         self.copiers_room() < MOVE_BLOCKS as u64
     }
 

@@ -1,12 +1,14 @@
 //! Sessions with the history cleaner and the segment copier beside them. The cleaner has the lock
 //! for one object at a time.
 ghost use Rattle.std.specs.Prelude.{◌≡◌, ℕ, ◌+◌, ◌^◌, ◌<◌, ◌≤◌, All, MatchResult, Some, length};
+ghost use Rattle.std.specs.Prelude.{IfSome, IfNone};
 ghost use Rattle.std.specs.Prelude.{slice_index_or, true, vec_len};
 ghost use Rattle.s4_types.specs.declared.refusals.Refusal.TheVariants.{Busy};
 ghost use Rattle.server.specs.Accounts.{one_part};
 ghost use Rattle.server.specs.Attending.{IsAttendedClient};
 ghost use Rattle.server.specs.Moving.{IsMoving};
-ghost use Rattle.server.specs.Upkeep.{IsRound, IsLastRound, SharedVisit, SharedSweep, ends_round};
+ghost use Rattle.server.specs.Upkeep.{IsRound, IsLastRound, IsRoundOver, SharedVisit, SharedSweep};
+ghost use Rattle.server.specs.Upkeep.{ends_round};
 
 use crate::accounts::Running;
 use crate::gate::{Gate, UpkeepStep};
@@ -124,6 +126,42 @@ fn go_over<J: Running, C: Clock>(
     gather_all(rt, alloc, drive, pace, seat);
 }
 
+/// A round that has begun, in the same way: over the objects that are due, after some turns more of
+/// a walk where it is to go on with one; or over all, which ends a walk.
+fn go_as_begun<J: Running, C: Clock>(
+    rt: &impl Wait,
+    alloc: Global,
+    drive: &Mutex<SharedDrive<J, C>>,
+    pace: &Pace,
+    seat: &mut Option<Session<J>>,
+    walk: &mut Rounds,
+    begun: Begun,
+) -> Round
+    requires { J.has_upkeep ≡ true }
+    ensures due { IfSome begun.objects (λ objects. IsRoundOver J.base objects.items result) }
+    ensures all { IfNone begun.objects
+        (IsRound J.base result × (result.is_last ≡ begun.is_last)) }
+    ensures last { result.is_last ≡ true → IsLastRound J.base result }
+{
+    let Begun {
+        is_last,
+        objects,
+        walks,
+    } = begun;
+    let Some(objects) = objects else {
+        *walk = Rounds::new();
+        return go_round(rt, alloc, drive, pace, seat, is_last);
+    };
+    if walks {
+        go_on(rt, alloc, drive, pace, seat, walk);
+    }
+    go_over(rt, alloc, drive, pace, seat, objects.as_slice());
+    Round {
+        is_last: false,
+        turns: objects.len() as u64,
+    }
+}
+
 /// The cleaner beside sessions, on a thread of its own: it goes round again and again, over the
 /// objects of which a turn may free something. While some of these are unknown, each round takes
 /// some turns more of a walk over all objects. Ends with a whole round that began when all others
@@ -143,30 +181,13 @@ pub fn keep_up<J: Running, C: Clock, R: Wait, G: Gate>(
     let mut walk = Rounds::new();
     for _ in rt.forever() {
         gate.upkeep(UpkeepStep::RoundBegins);
-        let Begun {
-            is_last,
-            objects,
-            walks,
-        } = pace.begin_round(rt);
+        let begun = pace.begin_round(rt);
         gate.upkeep(UpkeepStep::FirstTurn);
-        match objects {
-            Some(objects) => {
-                if walks {
-                    go_on(rt, alloc, drive, pace, &mut seat, &mut walk);
-                }
-                go_over(rt, alloc, drive, pace, &mut seat, objects.as_slice());
-                gate.upkeep(UpkeepStep::RoundEnds);
-                pace.end_round(rt, objects.len() as u64, false);
-            }
-            None => {
-                walk = Rounds::new();
-                let round = go_round(rt, alloc, drive, pace, &mut seat, is_last);
-                gate.upkeep(UpkeepStep::RoundEnds);
-                pace.end_round(rt, round.turns, is_last);
-                if round.is_last {
-                    return round;
-                }
-            }
+        let round = go_as_begun(rt, alloc, drive, pace, &mut seat, &mut walk, begun);
+        gate.upkeep(UpkeepStep::RoundEnds);
+        pace.end_round(rt, round.turns, round.is_last);
+        if round.is_last {
+            return round;
         }
         gate.upkeep(UpkeepStep::CleanerRests);
         pace.await_call(rt);
