@@ -1,5 +1,5 @@
 -- Which objects a round of the cleaner that begins is to visit.
-use Rattle.std.specs.Prelude.{◌≡◌, ℕ, ◌+◌, ◌-◌, ◌*◌, ◌/◌, ◌^◌, ◌&&◌, not, nat_le, nat_lt, min, true, false, if◌then◌else◌, Bool, Option, Some, None, IfSome, length}
+use Rattle.std.specs.Prelude.{◌≡◌, ◌⊎◌, ℕ, [], ◌+◌, ◌-◌, ◌*◌, ◌/◌, ◌^◌, ◌&&◌, not, nat_le, nat_lt, min, true, false, if◌then◌else◌, Bool, Option, Some, None, IfSome, length}
 use Rattle.std.specs.Global.{Vec}
 use Rattle.std.specs.List.Sorted.{IsPermutation, IsSorted}
 use Rattle.std.specs.Ordering.{nat_cmp}
@@ -19,13 +19,16 @@ pub record BeginsRound (old : Agenda) (floor : ℕ) (objects : Option (Vec ℕ))
   pub deleted : new.deleted.entries ≡ (if visits_all old then old.deleted.entries else above floor old.deleted.entries)
   pub kept : new ≡ record old { deleted = new.deleted; has_gaps = old.has_gaps && old.is_walking; is_walking = walks old; is_hidden = false }
 
--- A round begins that writes nothing. Its objects are exactly those that can be removed, by ascending numbers, or none are given and it
--- is to visit all. The agenda forgets their Deletes alone.
-pub record BeginsRemovals (old : Agenda) (floor : ℕ) (objects : Option (Vec ℕ)) (new : Agenda) : Type 0 where
-  pub removed : IfSome objects (λ list. IsPermutation (removable floor old.deleted.entries) list.items)
-  pub sorted : IfSome objects (λ list. IsSorted nat_cmp list.items)
+-- A round's objects are exactly those that can be removed, by ascending numbers, and the agenda forgets their Deletes alone.
+pub record TakesRemovals (old : Agenda) (floor : ℕ) (objects : Vec ℕ) (new : Agenda) : Type 0 where
+  pub removed : IsPermutation (removable floor old.deleted.entries) objects.items
+  pub sorted : IsSorted nat_cmp objects.items
   pub deleted : new.deleted.entries ≡ above floor old.deleted.entries
   pub kept : new ≡ record old { deleted = new.deleted }
+
+-- A round begins that writes nothing. It has what can be removed; or no object, and the agenda stays: then a list was refused memory.
+abbrev pub BeginsRemovals : Agenda → ℕ → Vec ℕ → Agenda → Type 0
+BeginsRemovals old floor objects new = TakesRemovals old floor objects new ⊎ ((objects.items ≡ []) × (new ≡ old))
 
 -- whether there is too little room for the copier's moves
 abbrev pub is_tight : Progress → Bool
@@ -47,7 +50,7 @@ is_of_removals progress = is_pinched progress && nat_le progress.frees progress.
 
 -- The objects of a round that begins, which is not the last.
 pub record GivesDue (old : Progress) (objects : Option (Vec ℕ)) (new : Agenda) : Type 0 where
-  pub removals : is_of_removals old ≡ true → BeginsRemovals old.agenda old.floor objects new
+  pub removals : is_of_removals old ≡ true → (list : Vec ℕ) × (objects ≡ Some list) × BeginsRemovals old.agenda old.floor list new
   pub round : is_of_removals old ≡ false → BeginsRound old.agenda old.floor objects new
 
 -- A round begins: the last one visits all objects, each before it those that are due.

@@ -1,7 +1,7 @@
 //! Which objects the cleaner is to visit. Nothing that is answered rests on it.
 ghost use Rattle.std.specs.Prelude.{◌≡◌, ◌≢◌, [], true, false, IfOk, MatchOption};
 ghost use Rattle.std.specs.List.{list_any};
-ghost use Rattle.std.specs.List.Sorted.{IsStrictlySortedBy};
+ghost use Rattle.std.specs.List.Sorted.{IsPermutation, IsSorted};
 ghost use Rattle.std.specs.Ordering.{nat_cmp};
 ghost use Rattle.server.specs.Agenda.{PutsFloor, AddsFloor, PutsDeleted, PutsHistory, Deletes};
 ghost use Rattle.server.specs.Agenda.{Forgets, has_key, due_from, due_objects, removable, above};
@@ -212,15 +212,15 @@ impl Agenda {
     }
 
     /// A round begins at this floor that writes nothing: the objects that can be removed, by
-    /// ascending number. None where it is to visit all: a list may be refused memory.
-    pub(crate) fn begin_removals(&mut self, floor: Moment) -> Option<Vec<ObjectId>>
+    /// ascending number. Where a list is refused memory it has no objects, and a later one has these.
+    pub(crate) fn begin_removals(&mut self, floor: Moment) -> Vec<ObjectId>
         ensures { BeginsRemovals self.old floor result self.new }
     {
-        let removable = self.removable(floor.number());
+        let Ok(objects) = self.removable(floor.number()) else {
+            return Vec::new(self.alloc);
+        };
         self.forget_removed(floor.number());
-        let mut objects = removable.ok()?;
-        objects.sort().ok()?;
-        Some(objects)
+        objects
     }
 
     /// The objects whose Deletes have passed the floor have their turn now. One that can't be
@@ -232,10 +232,11 @@ impl Agenda {
         self.deleted.retain(|moment, _| floor < *moment);
     }
 
-    /// The objects whose Deletes have passed the floor, in the order of these.
+    /// The objects whose Deletes have passed the floor, by ascending number.
     fn removable(&self, floor: u64) -> Result<Vec<ObjectId>, AllocError>
-        ensures { IfOk result (λ objects. objects.items
-            ≡ removable floor self.now.deleted.entries) }
+        ensures removed { IfOk result (λ objects. IsPermutation (removable floor self.now.deleted.entries)
+            objects.items) }
+        ensures sorted { IfOk result (λ objects. IsSorted nat_cmp objects.items) }
     {
         let mut removable = Vec::new(self.alloc);
         for (moment, object) in self.deleted.iter() {
@@ -243,14 +244,14 @@ impl Agenda {
                 removable.push(ObjectId::new(*object))?;
             }
         }
+        removable.sort()?;
         Ok(removable)
     }
 
     /// The objects whose floor is at most this one, each once, by ascending number.
     fn due(&self, last: u64) -> Result<Vec<ObjectId>, AllocError>
-        ensures due { IfOk result (λ objects. objects.items
+        ensures { IfOk result (λ objects. objects.items
             ≡ due_objects last self.now.floors.entries) }
-        ensures ordered { IfOk result (λ objects. IsStrictlySortedBy nat_cmp objects.items) }
     {
         let mut due = Vec::new(self.alloc);
         for (object, floor) in self.floors.iter() {

@@ -1,10 +1,11 @@
 //! Sessions that share one drive under a lock.
 //!
-//! The layer above may rely on this: each request is answered as [`drive::Drive::request`] answers
-//! it over a drive whose history begins with all that the session had seen before: by a step of the
-//! model, and with a refusal exactly where that drive has one. What was accepted in that history is
-//! what the session has seen afterwards. A read holds the lock while it is planned, and not while
-//! its bytes are fetched.
+//! The layer above may rely on this: each request is answered as [`drive::Drive::request_leaving`]
+//! answers it over a drive whose history begins with all that the session had seen before: by a step
+//! of the model, and with a refusal exactly where that drive has one. What is left of its room is the
+//! run's reserve for a client, half of it for a Delete and a Truncate to less, and nothing for an
+//! administrator. What was accepted in that history is what the session has seen afterwards. A read
+//! holds the lock while it is planned, and not while its bytes are fetched.
 //!
 //! The drive that all sessions leave is what their requests have made of the one before, and nobody
 //! else's: [`SharedDrive`] keeps books of them, whose parts the sessions have, and [`settle`] puts

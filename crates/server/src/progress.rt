@@ -190,7 +190,9 @@ impl Progress {
     }
 
     /// A round is needed.
-    fn want(&mut self, round: u64) {
+    fn want(&mut self, round: u64)
+        ensures { self.new.agenda ≡ self.old.agenda }
+    {
         if self.wanted < round {
             self.wanted = round;
             self.is_news = true;
@@ -366,7 +368,7 @@ impl Progress {
     {
         let floor = Moment::new(self.floor);
         if self.is_pinched() && self.ended >= self.frees && !self.agenda.is_walking() {
-            self.agenda.begin_removals(floor)
+            Some(self.agenda.begin_removals(floor))
         } else {
             self.agenda.begin_round(floor)
         }
