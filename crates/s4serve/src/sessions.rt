@@ -101,7 +101,8 @@ pub fn serve_seat<
 ) -> BatchEnd
     requires reader { S.failures reader.old + 1 < 2 ^ 64 }
     requires writer { W.failures writer.old + 1 < 2 ^ 64 }
-    ensures session { (before after : Nothing) × Serves (ServedSteps J.base J.reserve J.moments) DrawsNothing
+    ensures session { (before after : Nothing)
+        × Serves (ServedSteps J.base J.reserve J.moments) DrawsNothing
         (λ from seat is_kept to. HasWaited IsSeatAt T.number T.reach is_kept seat from.receipt to.receipt) [] result
         seat.old before keeping.old (S.remaining reader.old) (W.passed writer.old)
         seat.new after keeping.new (S.remaining reader.new) (W.passed writer.new) }

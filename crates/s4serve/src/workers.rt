@@ -131,7 +131,7 @@ fn serve_line<
     ensures covered { IfSome result (λ end. (seat now : ServedFields)
         × IsSeated J.base door.now.role seat.seat
         × (before after : Nothing) × (steps : List ServedFields)
-        × Serves (TracedSteps J.base J.moments) DrawsNothing
+        × Serves (TracedSteps J.base J.reserve J.moments) DrawsNothing
         (λ from seat is_kept to. HasWaitedForAll T.number T.reach is_kept seat
         from.receipt to.receipt) [] end
         (untraced seat) before keeping.old (S.remaining reader.old) (W.passed writer.old)
