@@ -16,7 +16,7 @@ _s4serve_read() {
             option=''
         elif [[ ! $is_ended && $part == -- ]]; then
             is_ended=1
-        elif [[ ! $is_ended && $part == --@(create|keep|leap|patience|door) ]]; then
+        elif [[ ! $is_ended && $part == --@(create|keep|leap|patience|reserve|door) ]]; then
             option=$part
         elif [[ ! $is_ended && $part == -* ]]; then
             continue
@@ -27,7 +27,7 @@ _s4serve_read() {
         fi
     done
     is_past_options=$is_ended
-    if [[ ! $option && ! $is_ended && $whole == --@(create|keep|leap|patience|door)=* ]]; then
+    if [[ ! $option && ! $is_ended && $whole == --@(create|keep|leap|patience|reserve|door)=* ]]; then
         option=${whole%%=*} whole=${whole#*=}
     fi
     word=${whole##*[=:]}
@@ -55,7 +55,7 @@ _s4serve_then() {
 
 _s4serve_options() {
     case "$command" in
-        '') echo --create --keep --leap --patience --door --help --version ;;
+        '') echo --create --keep --leap --patience --reserve --door --help --version ;;
     esac
 }
 

@@ -13,7 +13,7 @@ function __s4serve_is
             set is_value ''
         else if test -z "$is_ended"; and test "$word" = --
             set is_ended 1
-        else if test -z "$is_ended"; and contains -- "$word" --create --keep --leap --patience --door
+        else if test -z "$is_ended"; and contains -- "$word" --create --keep --leap --patience --reserve --door
             set is_value 1
         else if test -z "$is_ended"; and string match -q -- '-*' "$word"
             continue
@@ -48,6 +48,7 @@ complete -c s4serve -n "__s4serve_is ''" -l create -r -f -d 'Makes a new drive o
 complete -c s4serve -n "__s4serve_is ''" -l keep -r -f -d 'How long a drive that is made keeps the past'
 complete -c s4serve -n "__s4serve_is ''" -l leap -r -f -d 'Begins though the image\'s clock is this much earlier'
 complete -c s4serve -n "__s4serve_is ''" -l patience -r -f -d 'How long a service that is stopped tries to keep its drive'
+complete -c s4serve -n "__s4serve_is ''" -l reserve -r -f -d 'Blocks of the drive\'s room that clients leave to administrators'
 complete -c s4serve -n "__s4serve_is ''" -l door -r -f -a '(__s4serve_then folder client= admin=)' -d 'A folder at whose FIFO clients or administrators come'
 complete -c s4serve -n "__s4serve_is ''" -l help -d 'Prints what the program does, or a command'
 complete -c s4serve -n "__s4serve_is ''" -l version -d 'Prints the version'

@@ -5,3 +5,4 @@ pub mod Seats
 pub mod Traces
 pub mod Collecting
 pub mod Starts
+pub mod Reserves

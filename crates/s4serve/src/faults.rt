@@ -56,6 +56,9 @@ pub enum ServeFault<'a> {
     /// No service begins over an image with this clock.
     #[error("cannot serve {0}: {1}")]
     Start(&'a str, StartFault),
+    /// Clients are to leave so many blocks of the drive's room, and so many are the most.
+    #[error("a reserve of {0} blocks is more than half of an empty drive's room; give --reserve {1} at most")]
+    Reserve(u64, u64),
     /// The machine's clocks can't be read.
     #[error("the time cannot be read; set the machine's clock")]
     NoTime,

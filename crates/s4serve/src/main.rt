@@ -26,6 +26,7 @@ mod opening;
 mod own_thread;
 mod parts;
 mod performing;
+mod reserves;
 mod service;
 mod sessions;
 mod spawning;

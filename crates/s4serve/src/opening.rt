@@ -1,5 +1,5 @@
 //! The drive that a service serves: the one in its image, which is made before where that is asked.
-ghost use Rattle.std.specs.Prelude.{◌≡◌, [], IfOk, IfSome, OnOk};
+ghost use Rattle.std.specs.Prelude.{◌≡◌, ◌≤◌, ◌<◌, [], IfOk, IfSome, OnOk, length};
 ghost use Rattle.std.specs.List.{All};
 ghost use Rattle.s4_types.specs.Sizes.{IsFrameCount};
 ghost use Rattle.image_commands.specs.Files.{AreKnown};
@@ -7,10 +7,12 @@ ghost use Rattle.image_commands.specs.Leaving.{AreAllSpent, AreNoImages, IsLeftF
 ghost use Rattle.image_commands.specs.Making.{HasNew};
 ghost use Rattle.image_commands.specs.Verifying.{IsVerified};
 ghost use Rattle.image_commands.specs.declared.beside.TheConstants.{MOST_LEFT};
+ghost use Rattle.s4serve.specs.Reserves.{most_reserve, reserve_of};
 ghost use Rattle.s4serve.specs.Starts.{IsStart};
 
 use crate::faults::ServeFault;
 use crate::leaving::{claim_left, refuse_making, unread_beside};
+use crate::reserves::reserve_over;
 use crate::telling::{News, Telling};
 use drive::OpenedDrive;
 use image_commands::{Fault, Files, Obstacle, Placed, make_file, read_image, writing};
@@ -45,6 +47,8 @@ pub struct Opened<T: Clock, F: Files> {
     /// What services left beside the image: it can be removed once the drive is kept.
     pub left: Vec<F::Leftover>,
     pub drive: OpenedDrive,
+    /// How many blocks of its room clients leave to administrators.
+    pub reserve: usize,
     pub begun: Begun<T>,
 }
 
@@ -82,9 +86,15 @@ pub fn open_image<'a, T: Threads + Wait + Clock + Copy + Drop, F: Files, D: Tell
         asked.now.leap opened.begun.system opened.begun.start) }
     ensures began { IfOk result (λ opened. opened.begun.clock.began ≡ opened.begun.start) }
     ensures last { IfOk result (λ opened. opened.begun.clock.last ≡ opened.begun.start) }
+    // As many as were asked for, or as a drive of so many frames has where that isn't said.
+    ensures reserve { IfOk result (λ opened. opened.reserve
+        ≡ reserve_of asked.now.reserve (length opened.drive.store.table.seat.frames)) }
+    ensures half { IfOk result (λ opened. opened.reserve
+        ≤ most_reserve (length opened.drive.store.table.seat.frames)) }
 {
     make_asked(rt, alloc, files, asked)?;
     let (claim, image) = claim_image(rt, alloc, files, asked.image)?;
+    let reserve = reserve_over(asked.reserve, image.frames())?;
     let (clock, window) = (image.clock(), image.window());
     let (claim, left) = claim_left(rt, alloc, files, asked.image, claim, clock)?;
     await_time(rt, outside, asked.image, clock);
@@ -97,11 +107,13 @@ pub fn open_image<'a, T: Threads + Wait + Clock + Copy + Drop, F: Files, D: Tell
         claim,
         left,
         drive,
+        reserve,
         begun,
     })
 }
 
-/// Makes an image where that is asked.
+/// Makes an image where that is asked. Where clients are to leave more of its room than may be,
+/// nothing is made.
 fn make_asked<'a, T: Threads, F: Files>(
     rt: &T,
     alloc: Global,
@@ -112,9 +124,15 @@ fn make_asked<'a, T: Threads, F: Files>(
     ensures made { OnOk result
         (IfSome asked.now.create (λ creation. AreNoImages MOST_LEFT
         (F.lies files.old asked.now.image.now) (F.contents files.old))) }
+    ensures reserve { OnOk result (IfSome asked.now.create
+        (λ creation. reserve_of asked.now.reserve creation.frames ≤ most_reserve creation.frames)) }
+    ensures refused { IfSome asked.now.create (λ creation.
+        most_reserve creation.frames < reserve_of asked.now.reserve creation.frames
+        → files.new ≡ files.old) }
 {
     match asked.create {
         Some(creation) => {
+            reserve_over(asked.reserve, creation.frames as u16)?;
             refuse_making(rt, alloc, files, asked.image)?;
             create(alloc, files, asked.image, creation)
         }

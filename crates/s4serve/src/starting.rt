@@ -1,5 +1,5 @@
 //! How a service begins, and how it ends.
-ghost use Rattle.std.specs.Prelude.{◌≡◌, ◌++◌, ℕ, List, [], ◌∷◌, false, length, map, true};
+ghost use Rattle.std.specs.Prelude.{◌≡◌, ◌≤◌, ◌++◌, ℕ, List, [], ◌∷◌, false, length, map, true};
 ghost use Rattle.std.specs.Prelude.{IfOk, IfSome, IsTrue, OnErr, OnOk, string_bytes};
 ghost use Rattle.std.specs.List.{AllZip};
 ghost use Rattle.image_keeping.specs.Leaving.{IsKept};
@@ -13,6 +13,7 @@ ghost use Rattle.door_files.specs.Paths.{door_path};
 ghost use Rattle.kept_drive.specs.Collecting.{WasHad};
 ghost use Rattle.kept_drive.specs.Images.{IsFlushed};
 ghost use Rattle.s4serve.specs.Doors.{ReadsDoor, asked_door, opened_door};
+ghost use Rattle.s4serve.specs.Reserves.{most_reserve, reserve_of};
 ghost use Rattle.s4serve.specs.Starts.{IsStart};
 
 use crate::collecting::{Closing, UnderLock, flusher};
@@ -54,6 +55,8 @@ const SECOND: u64 = 1_000_000;
 struct Ready<K, C> {
     keeper: K,
     drive: OpenedDrive,
+    /// How many blocks of its room clients leave to administrators.
+    reserve: usize,
     /// The machine's time, in microseconds since 1970.
     system: u64,
     /// When it begins, and the clock that draws moments from then on.
@@ -94,6 +97,7 @@ pub fn serve_image<
         claim,
         left,
         drive,
+        reserve,
         begun,
     } = opened;
     let Begun {
@@ -104,6 +108,7 @@ pub fn serve_image<
     let ready = Ready {
         keeper: own.keeper(alloc, claim, left),
         drive,
+        reserve,
         system,
         start,
         clock,
@@ -139,7 +144,6 @@ fn serve_ready<
     requires moments { (moments : List ℕ) (later : _) → Drawn C.draws ready.clock moments later
         → J.moments moments }
     requires upkeep { J.has_upkeep ≡ true }
-    requires reserve { J.reserve ≡ 0 }
     requires ledgers { (ready.blanks.requests ≡ J.asked) × (ready.blanks.changes ≡ J.name) }
     requires parts { (ready.blanks.parts ≡ J.parts) × (J.parts ≡ ALL_PARTS) }
     requires usable { IsTrue (K.is_usable ready.keeper) }
@@ -147,10 +151,17 @@ fn serve_ready<
     requires start { IsStart ready.drive.timeline.clock ready.drive.timeline.window asked.now.leap
         ready.system ready.start }
     requires doors { map opened_door ready.doors.items ≡ map asked_door asked.now.doors.items }
+    // Clients leave as many blocks of this drive's room as were asked for, or as a drive of so many
+    // frames has where that isn't said: no more than half of it where nothing is held.
+    requires reserve { J.reserve
+        ≡ reserve_of asked.now.reserve (length ready.drive.store.table.seat.frames) }
+    requires half { J.reserve ≤ most_reserve (length ready.drive.store.table.seat.frames) }
+    requires left { ready.reserve ≡ J.reserve }
 {
     let Ready {
         keeper,
         drive,
+        reserve,
         system: _,
         start,
         clock,
@@ -159,7 +170,7 @@ fn serve_ready<
     } = ready;
     let image = asked.image;
     let patience = asked.patience.unwrap_or(PATIENCE) / SECOND;
-    let (shared, rest) = SharedDrive::new(drive.named::<J>(), clock, blanks, 0);
+    let (shared, rest) = SharedDrive::new(drive.named::<J>(), clock, blanks, reserve);
     let drive = Mutex::new(shared);
     let first = keep_first(rt, alloc, &drive, keeper, start, image)?;
     let lines = Lines::new(alloc, rest)?;

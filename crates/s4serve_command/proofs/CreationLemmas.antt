@@ -8,7 +8,8 @@ use Rattle.moment_words.specs.Words.{IsAgeIn, letter_of, micros_of}
 use Rattle.moment_words.specs.declared.words.AgeUnit.{AgeUnit}
 use Rattle.moment_words.specs.declared.words.AgeUnit.TheVariants.{Second, Minute, Hour, Day, Week}
 use Rattle.service_time.specs.Durations.{IsDuration}
-use Rattle.s4serve_command.specs.CommandLine.{IsCreatedAt, IsCreation, IsDurationAsked, IsDurationAt}
+use Rattle.s4d_command.specs.CommandLine.{IsNumber}
+use Rattle.s4serve_command.specs.CommandLine.{IsCreatedAt, IsCreation, IsDurationAsked, IsDurationAt, IsNumberAsked}
 use Rattle.s4serve_command.specs.declared.creating.Creation.{Creation}
 
 -- the microseconds of a unit, by its letter
@@ -74,6 +75,12 @@ pub no_duration : (name : Text) (rows : List Row) (word : Text) → first_of nam
     → (duration : Option ℕ) → IsDurationAsked name rows duration → ⊥
 no_duration name rows word is never None h = let e : Some word ≡ None = sym is ∙ h in absurd cc
 no_duration name rows word is never (Some micros) h = never micros (subst (λ (x : Option Text). IsDurationAt x micros) is h)
+
+-- the same of a text that says no number
+pub no_number : (name : Text) (rows : List Row) (word : Text) → first_of name rows ≡ Some word → ((n : ℕ) → IsNumber (Some word) n → ⊥)
+    → (number : Option ℕ) → IsNumberAsked name rows number → ⊥
+no_number name rows word is never None h = let e : Some word ≡ None = sym is ∙ h in absurd cc
+no_number name rows word is never (Some n) h = never n (subst (λ (x : Option Text). IsNumber x n) is h)
 
 module _ {E : Type 0} where
   pub asked_at : (o p q s : Option Text) (r : Result (Option Creation) E) → o ≡ q → p ≡ s → IfOk r (IsCreatedAt o p) → IfOk r (IsCreatedAt q s)

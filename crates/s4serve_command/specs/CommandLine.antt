@@ -23,13 +23,14 @@ needed_values_rule name =
 abbrev pub program : App
 program = on_top (λ s. record s { has_version = true }) (new_app (codes "s4serve"))
 
--- `[--create FRAMES] [--keep DURATION] [--leap DURATION] [--patience DURATION] --door ROLE=DIR.. IMAGE`
+-- `[--create FRAMES] [--keep DURATION] [--leap DURATION] [--patience DURATION] [--reserve BLOCKS] --door ROLE=DIR.. IMAGE`
 abbrev pub line : App
-line = with_rule (with_rule (with_rule (with_rule (with_rule (with_rule program
+line = with_rule (with_rule (with_rule (with_rule (with_rule (with_rule (with_rule program
     (value_rule (codes "create")))
     (value_rule (codes "keep")))
     (value_rule (codes "leap")))
     (value_rule (codes "patience")))
+    (value_rule (codes "reserve")))
     (needed_values_rule (codes "door")))
     (needed_rule (codes "image"))
 
@@ -42,6 +43,11 @@ IsDurationAt (Some text) micros = IsDuration text micros
 abbrev pub IsDurationAsked : Text → List Row → Option ℕ → Type 0
 IsDurationAsked name rows None = first_of name rows ≡ None
 IsDurationAsked name rows (Some micros) = IsDurationAt (first_of name rows) micros
+
+-- a number that is given is what the text says; none is where no text is there
+abbrev pub IsNumberAsked : Text → List Row → Option ℕ → Type 0
+IsNumberAsked name rows None = first_of name rows ≡ None
+IsNumberAsked name rows (Some n) = IsNumber (first_of name rows) n
 
 -- The texts say how many frames a drive has, which is in range, and for how long it keeps the past, which is some time.
 pub record IsCreation (frames keep : Text) (creation : Creation) : Type 0 where
@@ -92,12 +98,13 @@ pub record AreDoors (words : List Text) (doors : List Door) : Type 0 where
 abbrev pub texts_of : Text → List Row → List Text
 texts_of name rows = unwrap_or (all_of name rows) []
 
--- The matches ask for this service: they have its texts, its durations and its doors, in the order of the words.
+-- The matches ask for this service: they have its texts, its durations, its reserve and its doors, in the order of the words.
 pub record Spells (rows : List Row) (service : ServiceAsked) : Type 0 where
   pub image : first_of (codes "image") rows ≡ Some service.image.now
   pub create : IsCreatedAt (first_of (codes "create") rows) (first_of (codes "keep") rows) service.create
   pub leap : IsDurationAsked (codes "leap") rows service.leap
   pub patience : IsDurationAsked (codes "patience") rows service.patience
+  pub reserve : IsNumberAsked (codes "reserve") rows service.reserve
   pub doors : AreDoors (texts_of (codes "door") rows) service.doors.items
 
 -- They ask for none.

@@ -10,6 +10,9 @@ pub enum WordFault<'a> {
     /// The word for this is no duration.
     #[error("{word} is no duration for {name}; give one as 90s, 15m, 2h, 30d or 4w")]
     NoDuration { name: &'static str, word: &'a str },
+    /// The word for this is no number of blocks.
+    #[error("{word} is no number of blocks for {name}; give one as 60, or 0 for none")]
+    NoBlocks { name: &'static str, word: &'a str },
     /// A drive that keeps nothing.
     #[error("a drive that keeps the past for no time isn't made; give --keep more than 0s")]
     NoWindow,

@@ -13,7 +13,8 @@ ghost use Rattle.clap.specs.Faults.{fault_of};
 ghost use Rattle.clap.specs.Matches.{found_of};
 ghost use Rattle.clap.specs.Simple.{matches_of};
 ghost use Rattle.refused_lines.specs.Refusals.{IsAskedAmong, IsOwn, IsRefusedBy};
-ghost use Rattle.s4serve_command.specs.CommandLine.{line, IsCreatedAt, IsDurationAsked, Spells};
+ghost use Rattle.s4serve_command.specs.CommandLine.{line, IsCreatedAt, IsDurationAsked};
+ghost use Rattle.s4serve_command.specs.CommandLine.{IsNumberAsked, Spells};
 ghost use Rattle.s4serve_command.specs.CommandLine.{SpellsNone};
 
 mod creating;
@@ -29,7 +30,7 @@ use doors::doors_in;
 pub use doors::{Door, MOST_DOORS};
 pub use faults::WordFault;
 use line::command_line;
-use reading::duration_in;
+use reading::{blocks_in, duration_in};
 pub use refused_lines::NoCommand;
 use refused_lines::refused;
 use s4d_command::reading::text_in;
@@ -49,6 +50,9 @@ pub struct ServiceAsked<'a> {
     /// How long it tries to keep its drive, once it is stopped, where memory or room is short, in
     /// microseconds. None where that isn't said.
     pub patience: Option<u64>,
+    /// How many blocks of the drive's room clients leave to administrators. None where that isn't
+    /// said.
+    pub reserve: Option<u64>,
     /// Where sessions are asked for, in the order of the words: one door at least, and `MOST_DOORS`
     /// at most, each with a folder of its own. That two folders with different names are two isn't
     /// known.
@@ -85,7 +89,7 @@ fn asked_in<'a>(
         → SpellsNone (rows_of (found_of matches.now))) }
     ensures own { IfErr result IsOwn }
 {
-    let (image, create, leap, patience) = match words_in(matches) {
+    let (image, create, leap, patience, reserve) = match words_in(matches) {
         Ok(words) => words,
         Err(fault) => return Err(NoCommand::Fault(fault)),
     };
@@ -95,14 +99,25 @@ fn asked_in<'a>(
         create,
         leap,
         patience,
+        reserve,
         doors,
     })
 }
 
-// What is asked for beside doors: the image, the drive that is made, the leap, and the patience.
+// What is asked for beside doors: the image, the drive that is made, the leap, the patience, and
+// the reserve.
 fn words_in<'a>(
     matches: &ArgMatches<'a>,
-) -> Result<(&'a str, Option<Creation>, Option<u64>, Option<u64>), WordFault<'a>>
+) -> Result<
+    (
+        &'a str,
+        Option<Creation>,
+        Option<u64>,
+        Option<u64>,
+        Option<u64>,
+    ),
+    WordFault<'a>,
+>
     ensures image { IfOk result
         (λ words. first_of (codes "image") (rows_of (found_of matches.now)) ≡ Some words.0.now) }
     ensures create { IfOk result (λ words. IsCreatedAt
@@ -112,11 +127,14 @@ fn words_in<'a>(
         (λ words. IsDurationAsked (codes "leap") (rows_of (found_of matches.now)) words.2) }
     ensures patience { IfOk result
         (λ words. IsDurationAsked (codes "patience") (rows_of (found_of matches.now)) words.3) }
+    ensures reserve { IfOk result
+        (λ words. IsNumberAsked (codes "reserve") (rows_of (found_of matches.now)) words.4) }
     ensures usage { OnErr result (SpellsNone (rows_of (found_of matches.now))) }
 {
     let image = text_in(matches, "image").ok_or(WordFault::Unspelled)?;
     let create = creation_in(matches)?;
     let leap = duration_in(matches, "leap")?;
     let patience = duration_in(matches, "patience")?;
-    Ok((image, create, leap, patience))
+    let reserve = blocks_in(matches, "reserve")?;
+    Ok((image, create, leap, patience, reserve))
 }

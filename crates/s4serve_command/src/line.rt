@@ -35,6 +35,11 @@ const ARGUMENTS: &[Argument] = &[
         "DURATION",
         "How long a service that is stopped tries to keep what isn't, where room is short; 60s without it",
     ),
+    Value(
+        "reserve",
+        "BLOCKS",
+        "Blocks of the drive's room that clients leave to administrators; a sixteenth of all, 60 at least, without it",
+    ),
     NeededValues(
         "door",
         "ROLE=DIR",

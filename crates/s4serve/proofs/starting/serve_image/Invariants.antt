@@ -20,5 +20,5 @@ ghosts-serve_ready-J-Running g a = record {
   moments = Ascends a.ready.start;
   has_upkeep = true;
   asked = a.ready.blanks.requests;
-  reserve = 0;
+  reserve = a.ready.reserve;
 }
