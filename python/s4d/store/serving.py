@@ -1,6 +1,7 @@
 """What serves an open store to clients: a gateway for now, one for each moment that is named, and the status."""
 from __future__ import annotations
 
+import asyncio
 import ssl
 from dataclasses import dataclass
 from typing import List, NamedTuple, Optional, Sequence
@@ -101,8 +102,7 @@ class Serving:
         """Accepts no more, and waits for the requests that are worked on."""
         if self._status is not None:
             self._status.close()
-        for server in self._servers:
-            await server.close(GRACE)
+        await asyncio.gather(*[server.close(GRACE) for server in self._servers])
 
 
 def tls_of(wanted: Wanted) -> Optional[ssl.SSLContext]:
