@@ -1,7 +1,7 @@
 """Kills a store's gateway, or the service of one of its drives, amid puts, copies, deletions and uploads of several threads.
 
-After each kill, and the next start, each version that was acknowledged is there to the byte, none is there in part, and the drives have
-the objects that versions need, and no more.
+After each kill, and the next start, each version that was acknowledged is there to the byte, none is there in part, what was there at
+earlier moments is found so, and the drives have the objects that versions need, and no more.
 """
 import hashlib
 import http.client
@@ -15,6 +15,7 @@ import threading
 import time
 
 from s4d.image import Image
+from s4d.moments import machine_time
 from s4d.s3.keys import keys_in
 from s4d.store import Settings, make_store
 from s4d.store.layout import INLINE_BYTES, LISTED_PIECES, NAMED_PIECES, PIECE_BYTES
@@ -152,7 +153,8 @@ class Worker(threading.Thread):
 
     def contents(self):
         longest = self.draw.choice((INLINE_BYTES, INLINE_BYTES, 20_000, 250_000))
-        return self.draw.randbytes(self.draw.randrange(longest))
+        length = self.draw.randrange(longest)
+        return self.draw.getrandbits(8 * length + 8).to_bytes(length + 1, "big")[1:]
 
     def put(self, key):
         data = self.contents()
@@ -229,6 +231,7 @@ class Trial:
     def __init__(self, folder, programs, draw, drives=2, frames=1_024):
         self.folder, self.programs, self.draw, self.drives = folder, programs, draw, drives
         self.known, self.read = Known(), set()  # ids of versions whose bytes were looked at
+        self.moments = []  # after kills, and the keys with their digests that were there at each
         make_store(folder, Settings(drives, frames, "30d"), programs)
         self.serving = Serving(folder, programs)
         self.serving.start()
@@ -296,6 +299,7 @@ class Trial:
                 self.faults.append(f"version {id} of {key} is {there.get(id)}, not {right}")
         for row in rows:
             self.look_at(client, row)
+        self.look_back(client, {key: etag for key, _, etag, _, is_latest in rows if is_latest and etag is not None})
         client.close()
         if kind != "service":
             self.look_for_leftovers(rows)
@@ -310,6 +314,15 @@ class Trial:
         data = self.known.versions.get(id, (key, reply.body))[1]
         if (reply.status, len(reply.body), etag_of(reply.body, etag)) != (200, size, etag) or reply.body != data:
             self.faults.append(f"version {id} of {key} has {len(reply.body)} bytes, status {reply.status}: {reply.body[:300]!r}")
+
+    def look_back(self, client, now):
+        """What was there after earlier kills is found so at their moments."""
+        for moment, then in self.draw.sample(self.moments, min(2, len(self.moments))):
+            reply = client.ask("GET", "/one", query=[("list-type", "2")], x_s4_at=str(moment))
+            found = dict(zip(reply.all("Key"), (it.replace("&quot;", "").strip('"') for it in reply.all("ETag"))))
+            if reply.status != 200 or found != then:
+                self.faults.append(f"at {moment} there are {found}, status {reply.status}, not {then}")
+        self.moments.append((machine_time(), now))
 
     def look_for_leftovers(self, rows):
         """After a start the drives have a head for each key, the pieces of the current versions, and the bucket."""

@@ -68,7 +68,7 @@ class Store:
         self._locks = Locks()
         self._doubts: Dict[Tuple[str, str], Doubt] = {}
         self._tasks: Set[asyncio.Future[None]] = set()
-        self._writing: Dict[asyncio.Future[None], int] = {}  # heads on their way, and when each was begun
+        self._writing: Dict[asyncio.Future[None], int] = {}  # heads and buckets on their way, and when each was begun
 
     def bucket(self, name: str, at: Optional[int] = None) -> Bucket:
         """The bucket of a name, now or at a moment; NoBucket where there is none, Passed where the moment has left the window."""
@@ -80,7 +80,7 @@ class Store:
         return found
 
     async def cut(self, at: int, bucket: str) -> None:
-        """Returns once no head that isn't in the index can have this moment, or an earlier one: what is then found of a bucket at the
+        """Returns once nothing that isn't in the index can have this moment, or an earlier one: what is then found of a bucket at the
         moment is the same each time.
         """
         late = (at + APART - machine_time()) / 1e6
@@ -105,8 +105,9 @@ class Store:
                 made = await drive.ask(lambda session: session.create(attribute))
                 return Bucket(name, Place(drive.number, made.object), made.moment)
 
-            bucket = await self.pieces.anywhere(first_drive(name, "", len(self.pieces.drives)), make)
-            self.index.buckets[name] = bucket
+            with self._written_soon():
+                bucket = await self.pieces.anywhere(first_drive(name, "", len(self.pieces.drives)), make)
+                self.index.buckets[name] = bucket
             return bucket
 
     async def delete_bucket(self, name: str) -> None:
@@ -188,7 +189,7 @@ class Store:
 
     @contextlib.contextmanager
     def _written_soon(self) -> Iterator[None]:
-        """A head is on its way in the block, and in the index, or refused, or in doubt, at its end."""
+        """A head, or a bucket, is on its way in the block, and in the index, or refused, or in doubt, at its end."""
         done: asyncio.Future[None] = asyncio.get_running_loop().create_future()
         self._writing[done] = machine_time()
         try:
