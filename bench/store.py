@@ -140,7 +140,8 @@ def pages(counts):
 def fill(serving, clients=16):
     """Puts small objects by several clients until no drive has room: how many."""
     counts = multiprocessing.Queue()
-    children = [multiprocessing.Process(target=put_until_full, args=(serving.port, serving.key, number, counts)) for number in range(clients)]
+    children = [multiprocessing.Process(target=put_until_full, args=(serving.port, serving.key, number, counts))
+                for number in range(clients)]
     for it in children:
         it.start()
     found = sum(counts.get() for _ in children)

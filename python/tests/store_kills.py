@@ -222,7 +222,8 @@ def listed(client):
             rows.append((text["Key"], text["VersionId"], etag, int(text["Size"] or 0), text["IsLatest"] == "true"))
         if reply.all("IsTruncated") != ["true"]:
             return rows
-        query = [("versions", ""), ("key-marker", reply.all("NextKeyMarker")[0]), ("version-id-marker", reply.all("NextVersionIdMarker")[0])]
+        markers = [("key-marker", "NextKeyMarker"), ("version-id-marker", "NextVersionIdMarker")]
+        query = [("versions", ""), *((name, reply.all(member)[0]) for name, member in markers)]
 
 
 class Trial:

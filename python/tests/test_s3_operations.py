@@ -67,8 +67,8 @@ class Operations(unittest.TestCase):
         async def work(_, it):
             await it.ask("PUT", "/two")
             await it.ask("PUT", "/one/k", b"mill")
-            for method, path, part in (("PUT", "/one/k", "renameObject"), ("PUT", "/one/k", "anything"), ("DELETE", "/two", "metadataTable"),
-                                       ("DELETE", "/one/k", "other"), ("GET", "/one", "session")):
+            for method, path, part in (("PUT", "/one/k", "renameObject"), ("PUT", "/one/k", "anything"),
+                                       ("DELETE", "/two", "metadataTable"), ("DELETE", "/one/k", "other"), ("GET", "/one", "session")):
                 self.assertEqual((await it.ask(method, path, query=[(part, "")])).code, "NotImplemented", part)
             self.assertEqual((await it.ask("GET", "/one/k", query=[("busted", "1"), ("x-id", "GetObject")])).body, b"mill")
             self.assertEqual((await it.ask("GET", "/")).all("Name"), ["one", "two"])

@@ -79,7 +79,8 @@ class Reads(unittest.TestCase):
             reply = await it.ask("GET", "/one", query=[("list-type", "2"), ("delimiter", "/"), ("max-keys", "1")], x_s4_at=moments[2])
             self.assertEqual((reply.all("Prefix")[1:], reply.all("Key"), reply.all("IsTruncated")), (["a/"], [], ["true"]))
             token, = reply.all("NextContinuationToken")
-            reply = await it.ask("GET", "/one", query=[("list-type", "2"), ("continuation-token", token), ("delimiter", "/")], x_s4_at=moments[2])
+            query = [("list-type", "2"), ("continuation-token", token), ("delimiter", "/")]
+            reply = await it.ask("GET", "/one", query=query, x_s4_at=moments[2])
             self.assertEqual((reply.all("Key"), reply.all("IsTruncated")), (["b"], ["false"]))
             self.assertEqual((await it.ask("GET", "/one", query=[("delimiter", "/")])).all("Prefix")[1:], ["a/"])
             versions = [("versions", ""), ("max-keys", "2")]
@@ -104,7 +105,8 @@ class Reads(unittest.TestCase):
     def test_what_is_refused(self):
         async def work(gateway, it):
             at = await put(it, "/one/k", b"mill")
-            for method, path, query in (("PUT", "/one/k", []), ("DELETE", "/one/k", []), ("POST", "/one", [("delete", "")]), ("PUT", "/two", [])):
+            for method, path, query in (("PUT", "/one/k", []), ("DELETE", "/one/k", []), ("POST", "/one", [("delete", "")]),
+                                        ("PUT", "/two", [])):
                 reply = await it.ask(method, path, b"moor", query, x_s4_at=at)
                 self.assertEqual((reply.status, reply.code), (405, "MethodNotAllowed"), path)
             self.assertEqual((await it.ask("GET", "/one", query=[("uploads", "")], x_s4_at=at)).status, 501)

@@ -110,7 +110,8 @@ class Tags(unittest.TestCase):
 class Stubs(unittest.TestCase):
     def test_what_is_so_anyway(self):
         async def work(_, it):
-            for part, text in (("policyStatus", "<IsPublic>false</IsPublic>"), ("publicAccessBlock", "<BlockPublicAcls>true</BlockPublicAcls>"),
+            for part, text in (("policyStatus", "<IsPublic>false</IsPublic>"),
+                               ("publicAccessBlock", "<BlockPublicAcls>true</BlockPublicAcls>"),
                                ("ownershipControls", "BucketOwnerEnforced"), ("requestPayment", "<Payer>BucketOwner</Payer>"),
                                ("logging", "BucketLoggingStatus"), ("notification", "NotificationConfiguration")):
                 reply = await it.ask("GET", "/one", query=[(part, "")])
@@ -140,7 +141,8 @@ class Stubs(unittest.TestCase):
         async def work(_, it):
             await it.ask("PUT", "/one/k", b"mill")
             reply = await it.ask("GET", "/one/k", query=[("attributes", "")], x_amz_object_attributes="ETag,ObjectSize,Checksum")
-            self.assertEqual((reply.all("ETag"), reply.all("ObjectSize"), reply.all("StorageClass")), ([md5(b"mill").strip('"')], ["4"], []))
+            found = [reply.all(name) for name in ("ETag", "ObjectSize", "StorageClass")]
+            self.assertEqual(found, [[md5(b"mill").strip('"')], ["4"], []])
 
         with_client(work)
 

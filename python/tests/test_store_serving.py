@@ -70,17 +70,18 @@ class Moments(Served):
 
     def test_moments_that_are_none(self):
         self.serve().stop()
-        for words, status, line in ((("soon", "127.0.0.1:0"), 2, "--at: 'soon' is no moment"), (("1h", "9000"), 2, "--at: '9000' is no HOST:PORT"),
-                                    (("2d", "127.0.0.1:0"), 1, "--at: The moment .* lies before the window")):
+        for moment, listen, status, line in (("soon", "127.0.0.1:0", 2, "--at: 'soon' is no moment"),
+                                             ("1h", "9000", 2, "--at: '9000' is no HOST:PORT"),
+                                             ("2d", "127.0.0.1:0", 1, "--at: The moment .* lies before the window")):
+            serving = Serving(self.folder, self.programs, "--at", moment, listen)
             with self.assertRaisesRegex(AssertionError, line):
-                self.begin("--at", *words)
-            pathlib.Path(f"{self.folder}.said").write_bytes(b"")
-        self.assertEqual((words, status), (("2d", "127.0.0.1:0"), 1))
+                serving.start()
+            self.assertEqual(serving.process.returncode, status)
 
 
 class Numbers(Served):
     def test_numbers(self):
-        serving = self.serve()
+        serving = self.serve("--log", "/dev/full")
         it = serving.client()
         for path, data in (("/one", b""), ("/one/k", b"mill"), ("/one/k", b"moor")):
             it.ask("PUT", path, data)
@@ -90,7 +91,7 @@ class Numbers(Served):
         self.assertEqual(status, 200)
         for line in ('s4_store_requests_total{method="PUT",status="200"} 3', 's4_store_errors_total{code="NoSuchKey"} 1',
                      "s4_store_taken_bytes_total 8", "s4_store_buckets 1", "s4_store_keys 1", 's4_store_drive_served{drive="01"} 1',
-                     "s4_store_answer_seconds_count 4", *self.of_images):
+                     "s4_store_answer_seconds_count 4", "s4_store_connections 1", "s4_store_log_lines_lost_total 4", *self.of_images):
             self.assertIn(f"{line}\n", text)
         self.assertEqual(serving.status("/other")[0], 404)
         serving.kill_service(1)
@@ -125,7 +126,7 @@ class Signals(Served):
         self.assertEqual({json.loads(line)["key"] for line in log.read_text(encoding="utf-8").splitlines()[-1:]}, {"another"})
         keys.write_text("none\n", encoding="utf-8")
         serving.process.send_signal(signal.SIGHUP)
-        wait_until(lambda: "not all is read again: " in serving.said(), "keys that can't be read")
+        wait_until(lambda: "the file of keys stays as it was: " in serving.said(), "keys that can't be read")
         self.assertEqual(serving.client().ask("GET", "/one").status, 200)
 
     def begin(self, *more):
@@ -138,7 +139,8 @@ class Signals(Served):
         data = bytes(range(256)) * 1_200
         headers = {**Signer(serving.key).headers("PUT", "/one/k", [], data, {}), "content-length": str(len(data))}
         with socket.create_connection(("127.0.0.1", serving.port)) as client:
-            client.sendall("".join(["PUT /one/k HTTP/1.1\r\n", *(f"{k}: {v}\r\n" for k, v in headers.items()), "\r\n"]).encode() + data[:200_000])
+            lines = ["PUT /one/k HTTP/1.1", *(f"{name}: {value}" for name, value in headers.items()), "", ""]
+            client.sendall("\r\n".join(lines).encode() + data[:200_000])
             time.sleep(0.3)
             serving.process.send_signal(signal.SIGTERM)
             wait_until(lambda: not self.is_open(serving.port), "a gateway that accepts no more")

@@ -7,6 +7,7 @@ from dataclasses import dataclass
 from typing import List, NamedTuple, Optional, Sequence
 
 from ..access_log import AccessLog
+from ..metrics import Family, Sample
 from ..s3.answers import stamp_of
 from ..s3.counts import Counts
 from ..s3.gateway import Gateway
@@ -76,7 +77,7 @@ class Serving:
         drives, store = self._opened.drives, self._opened.store
         assert store is not None
         images = [image_path(self._opened.folder, drive.number) for drive in drives]
-        self._status = StoreStatus(port, drives, images, self._s4, store.index, self._counts.families)
+        self._status = StoreStatus(port, drives, images, self._s4, store.index, self._families)
         await self._status.start()
 
     def _lines(self) -> List[str]:
@@ -86,17 +87,31 @@ class Serving:
 
     def reload(self) -> None:
         """Opens the log anew, and reads keys and certificate again. What can't be had stays as it was, and that is said."""
-        try:
-            if self._log is not None:
-                self._log.reopen()
-            keys = keys_in(self._wanted.keys)
-            if self._tls is not None:
-                load_certificate(self._tls, self._wanted)
-        except (StoreFault, OSError, ValueError) as error:
-            say(f"not all is read again: {error}")
-            return
+        for what, work in (("log", self._reopen), ("file of keys", self._read_keys), ("certificate", self._read_certificate)):
+            try:
+                work()
+            except (StoreFault, OSError, ValueError) as error:
+                say(f"the {what} stays as it was: {error}")
+
+    def _reopen(self) -> None:
+        if self._log is not None:
+            self._log.reopen()
+
+    def _read_keys(self) -> None:
+        keys = keys_in(self._wanted.keys)
         for gateway in self._gateways:
             gateway.keys = keys
+
+    def _read_certificate(self) -> None:
+        if self._tls is not None:
+            load_certificate(self._tls, self._wanted)
+
+    def _families(self) -> List[Family]:
+        """What is counted of requests, connections and the log."""
+        connections = sum(server.connections for server in self._servers)
+        lost = [] if self._log is None else [Sample("", {}, self._log.lost)]
+        return [*self._counts.families(), Family("s4_store_connections", "gauge", "Connections.", [Sample("", {}, connections)]),
+                Family("s4_store_log_lines_lost_total", "counter", "Lines of the access log that couldn't be written.", lost)]
 
     async def close(self) -> None:
         """Accepts no more, and waits for the requests that are worked on."""
