@@ -15,6 +15,7 @@ import argparse
 import http.client
 import multiprocessing
 import random
+import signal
 import sys
 import tempfile
 import time
@@ -162,16 +163,22 @@ def full(drives, frames):
         make_store(f"{folder}/store", Settings(drives, frames, "30d"), programs())
         serving = Serving(f"{folder}/store", programs())
         serving.start()
-        serving.client().ask("PUT", "/one")
+        try:
+            fill_and_start(serving, f"{drives} drives of {frames} frames")
+        finally:
+            serving.stop()
+
+
+def fill_and_start(serving, said):
+    serving.client().ask("PUT", "/one")
+    began = time.monotonic()
+    count = fill(serving)
+    print(f"{said} are full of {count:,} objects after {time.monotonic() - began:.1f} s", flush=True)
+    for how, end in (("in order", serving.stop), ("by a kill", serving.kill)):
+        end()
         began = time.monotonic()
-        count = fill(serving)
-        print(f"{drives} drives of {frames} frames are full of {count:,} objects after {time.monotonic() - began:.1f} s", flush=True)
-        for said, end in (("in order", serving.stop), ("by a kill", serving.kill)):
-            end()
-            began = time.monotonic()
-            serving.start()
-            print(f"a start after an end {said}: {time.monotonic() - began:.1f} s; {most_memory(serving.process.pid):,} KiB", flush=True)
-        serving.stop()
+        serving.start()
+        print(f"a start after an end {how}: {time.monotonic() - began:.1f} s; {most_memory(serving.process.pid):,} KiB", flush=True)
 
 
 def numbers(text):
@@ -198,4 +205,5 @@ def main(words):
 
 
 if __name__ == "__main__":
+    signal.signal(signal.SIGTERM, lambda number, _: sys.exit(128 + number))  # what was started is ended
     main(sys.argv[1:])

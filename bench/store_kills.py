@@ -9,6 +9,7 @@ has its bytes, each other one has the bytes that its digest says, and the drives
 and no other objects. After ten kills, or once it is full, another store is begun. Prints the faults, and last how many kills and acknowledged
 versions there were. Status 0: no faults; 1: some. A kill of a service takes ten seconds, which its next start waits."""
 import random
+import signal
 import sys
 import tempfile
 
@@ -36,4 +37,5 @@ def main(words):
 
 
 if __name__ == "__main__":
+    signal.signal(signal.SIGTERM, lambda number, _: sys.exit(128 + number))  # what was started is ended
     sys.exit(main(sys.argv[1:]))
