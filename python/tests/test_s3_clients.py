@@ -11,7 +11,13 @@ import tempfile
 import threading
 import time
 import unittest
+import urllib.error
+import urllib.request
 from datetime import datetime, timezone
+
+from s4d.moments import machine_time
+from s4d.s3.gateway import Gateway
+from s4d.s3.server import Server
 
 from .bridged import PATIENCE
 from .s3_client import OWNER, Gatewayed
@@ -50,14 +56,26 @@ class Clients(unittest.TestCase):
         self.loop.call_soon_threadsafe(self.ended.set)
         self.thread.join(PATIENCE)
 
-    def run_program(self, *words, status=0, **environment):
-        """What a program prints."""
+    def url_at(self, moment):
+        """Where a gateway is by which all is read as it was at a moment."""
+        async def start():
+            gateway = Gateway(self.gateway.store, {OWNER.access: OWNER}, self.gateway.stores.window, None, moment)
+            server = Server(gateway, "127.0.0.1", 0, None)
+            await server.start()
+            return server
+
+        server = asyncio.run_coroutine_threadsafe(start(), self.loop).result(PATIENCE)
+        self.addCleanup(lambda: asyncio.run_coroutine_threadsafe(server.close(1), self.loop).result(PATIENCE))
+        return f"http://127.0.0.1:{server.port}"
+
+    def run_program(self, *words, statuses=(0,), **environment):
+        """What a program prints, which ends by one of these statuses."""
         known = {"AWS_ACCESS_KEY_ID": OWNER.access, "AWS_SECRET_ACCESS_KEY": OWNER.secret, "AWS_DEFAULT_REGION": "us-east-1",
                  "AWS_EC2_METADATA_DISABLED": "true", "AWS_CONFIG_FILE": "/dev/null", "HOME": str(self.folder)}
         shared = {name: value for name, value in os.environ.items() if not name.startswith("AWS_")}
         ran = subprocess.run(list(map(str, words)), env={**shared, **known, **environment}, stdout=subprocess.PIPE,
                              stderr=subprocess.STDOUT, timeout=5 * PATIENCE, check=False)
-        self.assertEqual(ran.returncode, status, ran.stdout.decode())
+        self.assertIn(ran.returncode, statuses, ran.stdout.decode())
         return ran.stdout.decode()
 
     def make_files(self):
@@ -75,10 +93,10 @@ class Clients(unittest.TestCase):
 
 @needs_boto3
 class Boto3(Clients):
-    def client(self):
+    def client(self, **more):
         import boto3
         return boto3.client("s3", endpoint_url=self.url, aws_access_key_id=OWNER.access, aws_secret_access_key=OWNER.secret,
-                            region_name="us-east-1")
+                            region_name="us-east-1", **more)
 
     def test_objects(self):
         it = self.client()
@@ -122,8 +140,43 @@ class Boto3(Clients):
         it.complete_multipart_upload(Bucket="one", Key="parts", UploadId=upload, MultipartUpload={
             "Parts": [{"PartNumber": number, "ETag": etag} for number, etag in enumerate(etags, 1)]})
         self.assertEqual(it.get_object(Bucket="one", Key="parts")["Body"].read(), data + b"end")
-        url = it.generate_presigned_url("get_object", Params={"Bucket": "one", "Key": "0/0"}, ExpiresIn=60)
-        self.assertIn("Signature", url)
+
+    def test_presigned(self):
+        from botocore.client import Config
+        it = self.client(config=Config(signature_version="s3v4"))
+        it.create_bucket(Bucket="one")
+        url = it.generate_presigned_url("put_object", Params={"Bucket": "one", "Key": "a/ü b"}, ExpiresIn=60)
+        with urllib.request.urlopen(urllib.request.Request(url, BYTES[:1_000], method="PUT")) as reply:
+            self.assertEqual(reply.status, 200)
+        url = it.generate_presigned_url("get_object", Params={"Bucket": "one", "Key": "a/ü b", "ResponseContentType": "a/b"}, ExpiresIn=60)
+        with urllib.request.urlopen(url) as reply:
+            self.assertEqual((reply.read(), reply.headers["content-type"]), (BYTES[:1_000], "a/b"))
+        with self.assertRaises(urllib.error.HTTPError) as caught:
+            urllib.request.urlopen(url.replace("Expires=60", "Expires=61"))
+        self.assertEqual(caught.exception.code, 403)
+        caught.exception.close()
+
+    def test_files_tags_and_a_moment(self):
+        it, path = self.client(), self.folder / "long"
+        path.write_bytes(BYTES * 13)
+        it.create_bucket(Bucket="one")
+        it.upload_file(str(path), "one", "long", ExtraArgs={"Tagging": "a=b", "Metadata": {"who": "me"}})  # in parts of 8 MiB
+        it.download_file("one", "long", str(self.folder / "back"))
+        self.assertEqual((self.folder / "back").read_bytes(), BYTES * 13)
+        self.assertIn("-2", it.head_object(Bucket="one", Key="long")["ETag"])
+        it.put_object_tagging(Bucket="one", Key="long", Tagging={"TagSet": [{"Key": "c", "Value": "d"}]})
+        self.assertEqual(it.get_object_tagging(Bucket="one", Key="long")["TagSet"], [{"Key": "c", "Value": "d"}])
+        it.copy({"Bucket": "one", "Key": "long"}, "one", "copy")  # by UploadPartCopy
+        self.assertEqual(it.head_object(Bucket="one", Key="copy")["ContentLength"], len(BYTES) * 13)
+        time.sleep(0.01)
+        before = machine_time()
+        time.sleep(0.01)
+        it.delete_object(Bucket="one", Key="long")
+        past = self.client()
+        past.meta.events.register("before-sign.s3", lambda request, **_: request.headers.add_header("x-s4-at", str(before)))
+        self.assertEqual([row["Key"] for row in past.list_objects_v2(Bucket="one")["Contents"]], ["copy", "long"])
+        self.assertEqual(past.get_object(Bucket="one", Key="long", Range="bytes=-3")["Body"].read(), BYTES[-3:])
+        self.assertEqual([row["Key"] for row in it.list_objects_v2(Bucket="one")["Contents"]], ["copy"])
 
 
 @needs("aws")
@@ -140,6 +193,24 @@ class Awscli(Clients):
         self.assertEqual(len(self.aws("s3", "ls", "--recursive", "s3://one").splitlines()), 2)
         self.aws("s3", "sync", files, "s3://one/files")
         self.aws("s3", "sync", "s3://one/files", self.folder / "back")
+        self.check_files(self.folder / "back")
+
+    def test_an_intruder(self):
+        """Who has a client's key overwrites and deletes all, and each version; the owner reads as it was before."""
+        files = self.make_files()
+        self.aws("s3", "mb", "s3://one")
+        self.aws("s3", "sync", files, "s3://one/files")
+        time.sleep(0.01)
+        before = machine_time()
+        time.sleep(0.01)
+        self.aws("s3", "cp", files / "small", "s3://one/files/deep/long")
+        self.aws("s3", "rm", "--recursive", "s3://one/files")
+        id = self.aws("s3api", "list-object-versions", "--bucket", "one", "--prefix", "files/deep/long", "--query", "Versions[-1].VersionId",
+                      "--output", "text").strip()
+        said = self.aws("s3api", "delete-object", "--bucket", "one", "--key", "files/deep/long", "--version-id", id, statuses=(254, 255))
+        self.assertIn("AccessDenied", said)
+        self.assertEqual(self.aws("s3", "ls", "--recursive", "s3://one", statuses=(0, 1)), "")
+        self.run_program("aws", "--endpoint-url", self.url_at(before), "s3", "sync", "s3://one/files", self.folder / "back")
         self.check_files(self.folder / "back")
 
 
@@ -179,8 +250,11 @@ class Rclone(Remotes):
         self.rclone("copyto", files / "small", "s4:one/files/deep/long")  # overwritten
         self.rclone("delete", "s4:one/files")
         self.assertEqual(self.rclone("lsf", "-R", "--files-only", "s4:one"), "")
+        self.rclone("cleanup", "s4:one")
         self.rclone("copy", "--s3-version-at", before, "s4:one/files", self.folder / "back")
         self.check_files(self.folder / "back")
+        self.rclone("sync", self.folder / "back", "s4:one/files")  # and all is there again
+        self.rclone("check", "--download", files, "s4:one/files")
 
 
 @needs("restic")
@@ -188,11 +262,15 @@ class Restic(Clients):
     def test_a_backup(self):
         files = self.make_files()
 
-        def restic(*words):
-            return self.run_program("restic", "-r", f"s3:{self.url}/backups", *words, RESTIC_PASSWORD="mill", RESTIC_CACHE_DIR=str(self.folder / "cache"))
+        def restic(*words, url=self.url):
+            return self.run_program("restic", "-r", f"s3:{url}/backups", *words, RESTIC_PASSWORD="mill",
+                                    RESTIC_CACHE_DIR=str(self.folder / "cache"))
 
         restic("init")
         restic("backup", files)
+        time.sleep(0.01)
+        before = machine_time()
+        time.sleep(0.01)
         (files / "small").write_bytes(b"moor")
         restic("backup", files)
         restic("check", "--read-data")
@@ -200,6 +278,19 @@ class Restic(Clients):
         restic("check", "--read-data")
         restic("restore", "latest", "--target", self.folder / "back")
         self.assertEqual((self.folder / "back" / str(files)[1:] / "small").read_bytes(), b"moor")
+        self.intrude("backups")
+        url = self.url_at(before)  # before the first snapshot was forgotten
+        restic("check", "--no-lock", "--read-data", url=url)
+        restic("restore", "--no-lock", "latest", "--target", self.folder / "past", url=url)
+        self.check_files(self.folder / "past" / str(files)[1:])
+
+    def intrude(self, bucket):
+        """Deletes all that is there, by the client's key."""
+        async def delete():
+            for key in list(self.gateway.store.bucket(bucket).live):
+                await self.gateway.store.delete(bucket, key)
+
+        asyncio.run_coroutine_threadsafe(delete(), self.loop).result(PATIENCE)
 
 
 if __name__ == "__main__":

@@ -10,6 +10,7 @@ import unittest
 
 from s4d.store import OpenStore, Programs, Settings, StoreFault, make_store
 from s4d.store.drives import DriveAway
+from s4d.store.layout import first_drive
 
 from .bridged import PACKAGE, PATIENCE
 from .built import PROGRAM, S4, S4SERVE, needs_program, needs_s4, needs_s4serve
@@ -63,6 +64,18 @@ class Starts(Served):
             self.assertEqual(await got(store, entries[-1]), b"newer")
 
         self.run_store(put, get)
+
+    def test_moments_of_two_drives(self):
+        """Whatever was answered before a put was begun has an earlier moment, on whichever drive: a moment is one cut over both."""
+        async def put(store):
+            await store.create_bucket("one")
+            keys = [next(key for key in map(str, range(100)) if first_drive("one", key, 2) == number) for number in (0, 1)]
+            entries = [await store.put("one", keys[count % 2], body(b"mill"), {}) for count in range(20)]
+            self.assertEqual({it.head.drive for it in entries}, {0, 1})
+            moments = [it.moment for it in entries]
+            self.assertEqual(moments, sorted(set(moments)))
+
+        self.run_store(put)
 
     def test_a_service_that_ends_before_it_opens_a_session(self):
         """Nobody waits for it; and an end while it starts again leaves no process."""
@@ -170,6 +183,7 @@ class Real:
 @needs_s4serve
 class RealStarts(Real, Served):
     test_services_that_are_killed_start_again = Starts.test_services_that_are_killed_start_again
+    test_moments_of_two_drives = Starts.test_moments_of_two_drives
     once_served = staticmethod(Starts.once_served)
 
 

@@ -10,12 +10,13 @@ from ..moments import EPOCH
 from ..store.index import Entry
 from .errors import S3Error
 from .limits import METADATA_BYTES
+from .tags import TAGGING, tags_in, with_tags
 from .xml import Node
 
 OWNER: Node = ("Owner", [("ID", "s4"), ("DisplayName", "s4")])
 KEPT = ("content-type", "cache-control", "content-disposition", "content-encoding", "content-language", "expires")
 METADATA = "x-amz-meta-"
-REFUSED = ("x-amz-server-side-encryption", "x-amz-tagging", "x-amz-website-redirect-location", "x-amz-grant-",
+REFUSED = ("x-amz-server-side-encryption", "x-amz-website-redirect-location", "x-amz-grant-",
            "x-amz-write-offset-bytes")
 ACLS = ("private", "bucket-owner-full-control")  # that say what is so anyway: the owner has all rights, and nobody else any
 DEFAULT_TYPE = "binary/octet-stream"
@@ -64,6 +65,7 @@ def headers_to_keep(headers: Mapping[str, str]) -> Dict[str, str]:
             raise S3Error("NotImplemented", f"The header {name} is not implemented.")
     check_acl(headers)
     kept = {name: value for name, value in headers.items() if name in KEPT or name.startswith(METADATA)}
+    kept = with_tags(kept, tags_in(headers.get(TAGGING, "")))
     encodings = [it.strip() for it in kept.pop("content-encoding", "").split(",")]
     encoding = ",".join(it for it in encodings if it and it != "aws-chunked")
     if encoding:
@@ -84,6 +86,8 @@ def headers_of(entry: Entry, window: int) -> Dict[str, str]:
     version = entry.version
     found = {"Content-Type": DEFAULT_TYPE, **{name.title(): value for name, value in version.headers.items() if name in KEPT}}
     found.update({name: value for name, value in version.headers.items() if name.startswith(METADATA)})
+    if TAGGING in version.headers:
+        found[f"{TAGGING}-count"] = str(len(tags_in(version.headers[TAGGING])))
     found.update({"ETag": quoted(version.etag), "Last-Modified": date_of(version.time), "Accept-Ranges": "bytes",
                   "x-amz-version-id": version.id, "x-amz-object-lock-mode": "COMPLIANCE",
                   "x-amz-object-lock-retain-until-date": stamp_of(version.time + window)})

@@ -11,6 +11,7 @@ from .context import Context
 from .errors import S3Error
 from .http import Answer
 from .lists import list_keys, list_keys_2, list_uploads, list_versions
+from .stubs import calls_of
 from .xml import Node, document, parsed, text_in
 
 DAY = 86_400_000_000  # microseconds
@@ -31,13 +32,13 @@ class Buckets:
             ("GET", "versions"): self.versions, ("GET", "uploads"): self.uploads, ("GET", "location"): self.location,
             ("GET", "versioning"): self.versioning, ("PUT", "versioning"): self.set_versioning,
             ("GET", "object-lock"): self.lock, ("PUT", "object-lock"): self.set_lock, ("GET", "lifecycle"): self.lifecycle,
-            ("GET", "acl"): self.acl, ("GET", "policy"): self.missing("NoSuchBucketPolicy"),
-            ("GET", "cors"): self.missing("NoSuchCORSConfiguration"), ("GET", "tagging"): self.missing("NoSuchTagSet"),
+            ("GET", "acl"): self.acl, **calls_of(store),
         }
 
     async def list_all(self, context: Context) -> Answer:
         """ListBuckets: those that the key may know of."""
-        found = [it for name, it in sorted(self._store.index.buckets.items()) if context.signed.key.sees(name)]
+        found = [it for name, it in sorted(self._store.index.buckets.items())
+                 if context.signed.key.sees(name) and (context.at is None or it.created <= context.at)]
         rows: List[Node] = [("Bucket", [("Name", it.name), ("CreationDate", stamp_of(it.created))]) for it in found]
         return xml_answer(document("ListAllMyBucketsResult", [OWNER, ("Buckets", rows)]))
 
@@ -52,7 +53,7 @@ class Buckets:
         return Answer(headers={"Location": f"/{context.bucket}"})
 
     async def head(self, context: Context) -> Answer:
-        self._store.bucket(context.bucket)
+        self._store.bucket(context.bucket, context.at)
         return Answer(headers={"x-amz-bucket-region": REGION})
 
     async def delete(self, context: Context) -> Answer:
@@ -62,43 +63,44 @@ class Buckets:
         return Answer(204)
 
     async def keys(self, context: Context) -> Answer:
-        bucket, kind = self._store.bucket(context.bucket), context.request.parameter("list-type")
+        bucket, kind = self._store.bucket(context.bucket, context.at), context.request.parameter("list-type")
         if kind not in (None, "1", "2"):
             raise S3Error("InvalidArgument", "The list-type is neither 1 nor 2.")
-        return xml_answer(list_keys_2(bucket, context.request) if kind == "2" else list_keys(bucket, context.request))
+        listing = list_keys_2 if kind == "2" else list_keys
+        return xml_answer(listing(bucket, context.request, context.at))
 
     async def versions(self, context: Context) -> Answer:
-        return xml_answer(list_versions(self._store.bucket(context.bucket), context.request))
+        return xml_answer(list_versions(self._store.bucket(context.bucket, context.at), context.request, context.at))
 
     async def uploads(self, context: Context) -> Answer:
-        self._store.bucket(context.bucket)
+        self._store.bucket(context.bucket, context.at)
         return xml_answer(list_uploads(context.bucket, self._uploads.in_bucket(context.bucket), context.request))
 
     async def location(self, context: Context) -> Answer:
-        self._store.bucket(context.bucket)
+        self._store.bucket(context.bucket, context.at)
         return xml_answer(document("LocationConstraint", []))
 
     async def versioning(self, context: Context) -> Answer:
-        self._store.bucket(context.bucket)
+        self._store.bucket(context.bucket, context.at)
         return xml_answer(document("VersioningConfiguration", [("Status", "Enabled")]))
 
     async def set_versioning(self, context: Context) -> Answer:
         """Every bucket has versions: that may be said again, and nothing else."""
-        self._store.bucket(context.bucket)
+        self._store.bucket(context.bucket, context.at)
         if text_in(parsed(await context.xml(), "VersioningConfiguration"), "Status") != "Enabled":
             raise S3Error("InvalidBucketState", "Every version is kept for the store's window: versioning can't be suspended.")
         return Answer()
 
     async def lock(self, context: Context) -> Answer:
         """The window in whole days, as Object Lock says it; below a day it has no rule."""
-        self._store.bucket(context.bucket)
+        self._store.bucket(context.bucket, context.at)
         days = self._window // DAY
         rule: List[Node] = [("Rule", [("DefaultRetention", [("Mode", "COMPLIANCE"), ("Days", days)])])] if days else []
         return xml_answer(document("ObjectLockConfiguration", [("ObjectLockEnabled", "Enabled"), *rule]))
 
     async def set_lock(self, context: Context) -> Answer:
         """What the window keeps anyway may be said; nothing else can be had."""
-        self._store.bucket(context.bucket)
+        self._store.bucket(context.bucket, context.at)
         root = parsed(await context.xml(), "ObjectLockConfiguration")
         retention = root.find("Rule/DefaultRetention")
         if retention is not None:
@@ -110,24 +112,15 @@ class Buckets:
 
     async def lifecycle(self, context: Context) -> Answer:
         """Versions that were replaced leave with the window."""
-        self._store.bucket(context.bucket)
+        self._store.bucket(context.bucket, context.at)
         days = max(-(-self._window // DAY), 1)
         rule: List[Node] = [("ID", "window"), ("Filter", [("Prefix", "")]), ("Status", "Enabled"),
                             ("NoncurrentVersionExpiration", [("NoncurrentDays", days)])]
         return xml_answer(document("LifecycleConfiguration", [("Rule", rule)]))
 
     async def acl(self, context: Context) -> Answer:
-        self._store.bucket(context.bucket)
+        self._store.bucket(context.bucket, context.at)
         return xml_answer(acl_document())
-
-    def missing(self, code: str) -> Callable[[Context], Awaitable[Answer]]:
-        """Answers that the bucket has no such thing."""
-
-        async def answer(context: Context) -> Answer:
-            self._store.bucket(context.bucket)
-            raise S3Error(code)
-
-        return answer
 
 
 def acl_document() -> bytes:

@@ -13,13 +13,16 @@ from .signature import Signed
 
 @dataclass
 class Context:
-    """The bucket and the key are empty where the request names none. `said` is for the log."""
+    """The bucket and the key are empty where the request names none. `at` is the moment that is read, or None where that is now.
+    `said` is for the log.
+    """
 
     request: Request
     body: Body
     signed: Signed
     bucket: str
     key: str
+    at: Optional[int] = None
     said: Dict[str, str] = field(default_factory=dict)
 
     def payload(self) -> Payload:

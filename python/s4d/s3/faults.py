@@ -7,13 +7,13 @@ from ..errors import Refused
 from ..store.contents import Gone, StoreFull
 from ..store.drives import DriveAway
 from ..store.layout import BadHead, TooLong
-from ..store.store import BucketThere, BucketUsed, NoBucket, TooManyBuckets
+from ..store.store import BucketThere, BucketUsed, NoBucket, Passed, TooManyBuckets
 from ..store.uploads import NoPart, NoUpload, PartTooSmall, TooManyUploads, UploadTooLarge
 from .errors import S3Error
 
 FAULTS: Dict[Type[Exception], str] = {
     NoBucket: "NoSuchBucket", BucketThere: "BucketAlreadyOwnedByYou", BucketUsed: "BucketNotEmpty",
-    TooManyBuckets: "TooManyBuckets",
+    TooManyBuckets: "TooManyBuckets", Passed: "InvalidArgument",
     DriveAway: "ServiceUnavailable", StoreFull: "InsufficientStorage", Gone: "NoSuchVersion", TooLong: "MetadataTooLarge",
     NoUpload: "NoSuchUpload", NoPart: "InvalidPart", PartTooSmall: "EntityTooSmall", TooManyUploads: "SlowDown",
     UploadTooLarge: "EntityTooLarge", BadHead: "InternalError", Refused: "InternalError",

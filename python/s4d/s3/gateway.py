@@ -17,6 +17,7 @@ from ..store.uploads import Uploads
 from .answers import date_of
 from .buckets import Buckets
 from .context import Context
+from .counts import Counts
 from .errors import S3Error
 from .faults import error_of, is_known
 from .http import METHODS, Answer, Body, Request
@@ -24,7 +25,8 @@ from .keys import Key
 from .limits import KEY_REQUESTS, LOGGED_PATH, OBJECT_BYTES
 from .multipart import Multipart
 from .objects import Objects
-from .signature import verified
+from .past import moment_asked
+from .signature import AT, verified
 from .xml import error_document
 
 Call = Callable[[Context], Awaitable[Answer]]
@@ -36,13 +38,21 @@ PARTS = frozenset((
     "policyStatus", "publicAccessBlock", "replication", "requestPayment", "restore", "retention", "select", "tagging",
     "torrent", "uploadId", "uploads", "versioning", "versions", "website"))
 WRITES = ("PUT", "POST", "DELETE")
+# The other names that a query may have. One that isn't known might ask for another thing than what would be done.
+PARAMETERS = frozenset((
+    "continuation-token", "delimiter", "encoding-type", "fetch-owner", "key-marker", "list-type", "marker", "max-keys", "max-parts",
+    "max-uploads", "part-number-marker", "partNumber", "prefix", "start-after", "upload-id-marker", "version-id-marker", "versionId",
+    "x-id"))
 
 
 class Gateway:
     """Answers requests. Nothing is done before the signature is found good, and the key has the right."""
 
-    def __init__(self, store: Store, keys: Mapping[str, Key], window: int, log: Optional[AccessLog]) -> None:
-        self.keys, self._log = keys, log
+    def __init__(self, store: Store, keys: Mapping[str, Key], window: int, log: Optional[AccessLog], at: Optional[int] = None,
+                 counts: Optional[Counts] = None) -> None:
+        """With a moment `at` all is read as it was then, and nothing is changed."""
+        self.keys, self._log, self._store, self._window, self._at = keys, log, store, window, at
+        self._counts = counts or Counts()
         uploads = Uploads(store, OBJECT_BYTES)
         self._buckets, self._objects = Buckets(store, uploads, window), Objects(store, window)
         self._multipart = Multipart(store, uploads, self._objects)
@@ -65,11 +75,18 @@ class Gateway:
             answer = error_answer(error_of(fault), request, id, said)
         answer.is_signed = "key" in said
         answer.headers.update({"x-amz-request-id": id, "Server": "s4d", "Date": date_of(machine_time())})
+        seconds = time.monotonic() - began
+        self._count(request, body, answer, said.get("error"), seconds)
         if self._log is not None:
-            self._log.write(event="request", **said, status=answer.status, bytes=answer.content_length(),
-                            seconds=round(time.monotonic() - began, 6))
+            self._log.write(event="request", **said, status=answer.status, bytes=answer.content_length(), seconds=round(seconds, 6))
             await self._log.settle()
         return answer
+
+    def _count(self, request: Request, body: Body, answer: Answer, code: Optional[str], seconds: float) -> None:
+        method = request.method if request.method in METHODS else "other"
+        self._counts.add(method, answer.status, code, seconds)
+        self._counts.taken += body.taken
+        self._counts.given += answer.content_length() if method != "HEAD" else 0
 
     async def _answered(self, request: Request, body: Body, said: Dict[str, Any], held: contextlib.ExitStack) -> Answer:
         if request.method not in METHODS:
@@ -77,12 +94,28 @@ class Gateway:
         signed = verified(request, self.keys, datetime.now(timezone.utc))
         access = said["key"] = signed.key.access
         bucket, _, key = request.path[1:].partition("/")
-        context = Context(request, body, signed, bucket, key, said)
+        context = Context(request, body, signed, bucket, key, self._moment(request, said), said)
         call = self._call(context)
         if bucket and not signed.key.may(bucket, request.method in WRITES):
             raise S3Error("AccessDenied")
         held.enter_context(self._place(access))
+        if context.at is not None:
+            await self._store.cut(context.at, bucket)
         return await call(context)
+
+    def _moment(self, request: Request, said: Dict[str, Any]) -> Optional[int]:
+        """The moment that is read: of the header, or of this gateway; None where it is now. S3Error where it can't be, or where
+        something is to be changed.
+        """
+        text = request.headers.get(AT)
+        if text is None and self._at is None:
+            return None
+        at = said["at"] = moment_asked(text if text is not None else str(self._at), self._window)
+        if request.method in WRITES:
+            raise S3Error("MethodNotAllowed", "At a moment that has passed nothing can be changed.")
+        if "uploads" in request.names or "uploadId" in request.names:
+            raise S3Error("NotImplemented", "Of uploads nothing is known but what there is now.")
+        return at
 
     @contextlib.contextmanager
     def _place(self, access: str) -> Iterator[None]:
@@ -99,6 +132,8 @@ class Gateway:
         """What a request asks for; NotImplemented, or MethodNotAllowed, where it is nothing of these."""
         request = context.request
         part = next((name for name in request.names if name in PARTS), "")
+        if any(is_strange(name, value, request.method) for name, value in request.query):
+            raise S3Error("NotImplemented")
         if not context.bucket:
             if request.method == "GET" and not part:
                 return self._buckets.list_all
@@ -112,6 +147,12 @@ class Gateway:
         if found is None:
             raise S3Error("NotImplemented" if part else "MethodNotAllowed")
         return found
+
+
+def is_strange(name: str, value: str, method: str) -> bool:
+    """Whether a name of a query may ask for what isn't known here. A read may have others with a value, which say nothing."""
+    is_known = name in PARTS or name in PARAMETERS or name.lower().startswith(("x-amz-", "response-"))
+    return not is_known and (method in WRITES or not value)
 
 
 def error_answer(error: S3Error, request: Request, id: str, said: Dict[str, Any]) -> Answer:

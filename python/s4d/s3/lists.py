@@ -62,11 +62,11 @@ def contents_node(entry: Entry, encode: Encode, has_owner: bool) -> Node:
     return "Contents", members + ([OWNER] if has_owner else [])
 
 
-def list_keys(bucket: Bucket, request: Request) -> bytes:
+def list_keys(bucket: Bucket, request: Request, at: Optional[int]) -> bytes:
     """ListObjects, the first version of it: a page follows a name."""
     asked = Asked(request)
     marker = asked.given("marker")
-    page = keys_page(bucket, asked.prefix, asked.delimiter, marker, asked.most)
+    page = keys_page(bucket, asked.prefix, asked.delimiter, marker, asked.most, at)
     next_marker: List[Node] = [("NextMarker", asked.encode(page.last))] if page.is_cut and asked.delimiter else []
     return document("ListBucketResult", [
         ("Name", bucket.name), ("Prefix", asked.encode(asked.prefix)), ("Marker", asked.encode(marker)), *next_marker,
@@ -74,12 +74,12 @@ def list_keys(bucket: Bucket, request: Request) -> bytes:
         *[contents_node(it, asked.encode, True) for it in page.entries], *asked.shared(page)])
 
 
-def list_keys_2(bucket: Bucket, request: Request) -> bytes:
+def list_keys_2(bucket: Bucket, request: Request, at: Optional[int]) -> bytes:
     """ListObjectsV2: a page follows a token."""
     asked = Asked(request)
     token, start = request.parameter("continuation-token"), asked.given("start-after")
     after = start if token is None else name_in(token)
-    page = keys_page(bucket, asked.prefix, asked.delimiter, after, asked.most)
+    page = keys_page(bucket, asked.prefix, asked.delimiter, after, asked.most, at)
     said: List[Node] = [("ContinuationToken", token)] if token is not None else []
     said += [("NextContinuationToken", token_of(page.last))] if page.is_cut else []
     said += [("StartAfter", asked.encode(start))] if start else []
@@ -102,13 +102,13 @@ def name_in(token: str) -> str:
         raise S3Error("InvalidArgument", "The continuation token provided is incorrect") from None
 
 
-def list_versions(bucket: Bucket, request: Request) -> bytes:
+def list_versions(bucket: Bucket, request: Request, at: Optional[int]) -> bytes:
     """ListObjectVersions."""
     asked = Asked(request)
     after = (asked.given("key-marker"), asked.given("version-id-marker"))
     if after[1] and not after[0]:
         raise S3Error("InvalidArgument", "A version-id marker cannot be specified without a key marker.")
-    page = versions_page(bucket, asked.prefix, asked.delimiter, after, asked.most)
+    page = versions_page(bucket, asked.prefix, asked.delimiter, after, asked.most, at)
     said: List[Node] = [("KeyMarker", asked.encode(after[0])), ("VersionIdMarker", after[1])]
     if page.is_cut:
         said.append(("NextKeyMarker", asked.encode(page.last)))
@@ -117,12 +117,12 @@ def list_versions(bucket: Bucket, request: Request) -> bytes:
     return document("ListVersionsResult", [
         ("Name", bucket.name), ("Prefix", asked.encode(asked.prefix)), *said, asked.most_said, *asked.has_delimiter(),
         ("IsTruncated", page.is_cut), *asked.encoding,
-        *[version_node(it, asked.encode) for it in page.entries], *asked.shared(page)])
+        *[version_node(it, asked.encode, at) for it in page.entries], *asked.shared(page)])
 
 
-def version_node(entry: Entry, encode: Encode) -> Node:
+def version_node(entry: Entry, encode: Encode, at: Optional[int]) -> Node:
     version = entry.version
-    shared: List[Node] = [("Key", encode(version.key)), ("VersionId", version.id), ("IsLatest", entry.until is None),
+    shared: List[Node] = [("Key", encode(version.key)), ("VersionId", version.id), ("IsLatest", entry.is_latest(at)),
                           ("LastModified", stamp_of(version.time)), OWNER]
     if version.is_marker:
         return "DeleteMarker", shared

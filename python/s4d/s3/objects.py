@@ -16,6 +16,8 @@ from .errors import S3Error
 from .faults import error_of, is_known
 from .http import Answer, decoded
 from .limits import DELETES, PAGE
+from .stubs import check_acl_request
+from .tags import TAGGING, tags_document, tags_in, tags_of_xml, with_tags
 from .xml import Node, document, parsed, text_in
 
 OVERRIDES = ("content-type", "content-language", "expires", "cache-control", "content-disposition", "content-encoding")
@@ -31,14 +33,15 @@ class Objects:
             ("GET", ""): self.get, ("HEAD", ""): self.get, ("PUT", ""): self.put, ("DELETE", ""): self.delete,
             ("GET", "retention"): self.retention, ("PUT", "retention"): self.set_retention,
             ("GET", "legal-hold"): self.legal_hold, ("PUT", "legal-hold"): self.set_legal_hold, ("GET", "acl"): self.acl,
-            ("GET", "tagging"): self.tagging,
+            ("PUT", "acl"): self.set_acl, ("GET", "tagging"): self.tagging, ("PUT", "tagging"): self.set_tagging,
+            ("DELETE", "tagging"): self.set_tagging, ("GET", "attributes"): self.attributes,
         }
 
-    async def entry(self, bucket: str, key: str, id: Optional[str]) -> Entry:
-        """The version that is asked for, which is no marker; S3Error where there is none."""
+    async def entry(self, bucket: str, key: str, id: Optional[str], at: Optional[int] = None) -> Entry:
+        """The version that is asked for, now or at a moment, which is no marker; S3Error where there is none."""
         await self._store.settle(bucket, key)
-        found = self._store.bucket(bucket)
-        entry = found.current(key) if id is None else found.version(key, id)
+        found = self._store.bucket(bucket, at)
+        entry = found.current(key, at) if id is None else found.version(key, id, at)
         if entry is None:
             raise S3Error("NoSuchKey" if id is None else "NoSuchVersion")
         if entry.version.is_marker:
@@ -50,7 +53,7 @@ class Objects:
 
     async def asked(self, context: Context) -> Entry:
         """The version that a request names by its path."""
-        return await self.entry(context.bucket, context.key, context.version())
+        return await self.entry(context.bucket, context.key, context.version(), context.at)
 
     async def get(self, context: Context) -> Answer:
         """GetObject and HeadObject."""
@@ -112,15 +115,17 @@ class Objects:
 
     async def copy(self, context: Context) -> Answer:
         entry, headers = await self.source(context), self.kept(context)
-        directive = context.request.headers.get("x-amz-metadata-directive", "COPY")
-        if directive not in ("COPY", "REPLACE"):
-            raise S3Error("InvalidArgument", "Unknown metadata directive.")
+        directive, tagging = (context.request.headers.get(f"x-amz-{name}-directive", "COPY") for name in ("metadata", "tagging"))
+        if {directive, tagging} - {"COPY", "REPLACE"}:
+            raise S3Error("InvalidArgument", "Unknown directive.")
+        tags = (headers if tagging == "REPLACE" else entry.version.headers).get(TAGGING, "")
+        headers = with_tags(headers if directive == "REPLACE" else entry.version.headers, tags_in(tags))
         is_itself = (entry.version.bucket, entry.version.key, entry.until) == (context.bucket, context.key, None)
         if is_itself and directive == "COPY":
             raise S3Error("InvalidRequest", "This copy request is illegal because it is trying to copy an object to itself "
                                             "without changing the object's metadata.")
         body = self._store.stream(entry, 0, entry.version.size - 1)
-        made = await self._store.put(context.bucket, context.key, body, headers if directive == "REPLACE" else entry.version.headers,
+        made = await self._store.put(context.bucket, context.key, body, headers,
                                      lambda before: check_write(context.request.headers, before))
         context.said["version"] = made.version.id
         answer = xml_answer(document("CopyObjectResult", [("ETag", quoted(made.version.etag)),
@@ -203,10 +208,41 @@ class Objects:
         await self.asked(context)
         return xml_answer(acl_document())
 
-    async def tagging(self, context: Context) -> Answer:
-        """No object has tags."""
+    async def set_acl(self, context: Context) -> Answer:
         await self.asked(context)
-        return xml_answer(document("Tagging", [("TagSet", "")]))
+        await check_acl_request(context)
+        return Answer()
+
+    async def tagging(self, context: Context) -> Answer:
+        """GetObjectTagging."""
+        entry = await self.asked(context)
+        answer = xml_answer(tags_document(entry.version.headers))
+        answer.headers["x-amz-version-id"] = entry.version.id
+        return answer
+
+    async def set_tagging(self, context: Context) -> Answer:
+        """PutObjectTagging and DeleteObjectTagging: a version of the same contents, since a version never changes."""
+        entry, is_put = await self.asked(context), context.request.method == "PUT"
+        tags = tags_of_xml(await context.xml()) if is_put else {}
+        if entry.until is not None:
+            raise S3Error("InvalidRequest", "A version that was replaced keeps the tags that it has.")
+
+        def unchanged(before: Optional[Entry]) -> None:
+            if before is not entry:
+                raise S3Error("OperationAborted")
+
+        made = await self._store.relabel(entry, with_tags(entry.version.headers, tags), unchanged)
+        context.said["version"] = made.version.id
+        return Answer(200 if is_put else 204, headers={"x-amz-version-id": made.version.id})
+
+    async def attributes(self, context: Context) -> Answer:
+        """GetObjectAttributes, but for parts and checksums, which aren't kept."""
+        entry = await self.asked(context)
+        wanted = {it.strip() for it in context.request.headers.get("x-amz-object-attributes", "").split(",")}
+        known: List[Node] = [("ETag", entry.version.etag), ("StorageClass", "STANDARD"), ("ObjectSize", entry.version.size)]
+        answer = xml_answer(document("GetObjectAttributesResponse", [node for node in known if node[0] in wanted]))
+        answer.headers.update({"x-amz-version-id": entry.version.id, "Last-Modified": date_of(entry.version.time)})
+        return answer
 
 
 async def begun(body: AsyncIterator[bytes]) -> AsyncIterator[bytes]:

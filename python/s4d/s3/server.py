@@ -33,6 +33,10 @@ class Server:
     def port(self) -> int:
         return int(self._listener.getsockname()[1])
 
+    @property
+    def connections(self) -> int:
+        return len(self._tasks)
+
     async def start(self) -> None:
         handshake = HEAD_SECONDS if self._tls is not None else None
         self._server = await asyncio.start_server(self._attend, sock=self._listener, limit=HEAD_BYTES, ssl=self._tls,

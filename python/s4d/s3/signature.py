@@ -18,6 +18,7 @@ SKEW = timedelta(minutes=15)
 LONGEST_EXPIRY = 604_800  # seconds that a presigned request may be good for
 STAMP = "%Y%m%dT%H%M%SZ"
 UNSIGNED = "UNSIGNED-PAYLOAD"
+AT = "x-s4-at"  # the header that says at which moment all is read
 
 HEADER = re.compile(r"AWS4-HMAC-SHA256 +Credential=([^, ]+), *SignedHeaders=([^, ]+), *Signature=([0-9a-f]{64})")
 SPACES = re.compile("[ \t]+")
@@ -119,7 +120,7 @@ def time_of(stamp: str) -> datetime:
 def check_signed_headers(request: Request, claim: Claim) -> None:
     """AccessDenied where a header that says what is to be done isn't signed."""
     needed = {name for name in request.headers if name.startswith("x-amz-")} | {"host"}
-    needed |= {name for name in ("content-md5",) if name in request.headers}
+    needed |= {name for name in ("content-md5", AT) if name in request.headers}
     if claim.payload == UNSIGNED:
         needed.discard("x-amz-content-sha256")
     missing = sorted(needed.difference(claim.headers))

@@ -5,19 +5,16 @@ import argparse
 import asyncio
 import resource
 import signal
-import ssl
 import sys
 from typing import NoReturn, Optional, Sequence, Tuple
 
 from ..access_log import AccessLog
-from ..s3.gateway import Gateway
-from ..s3.keys import keys_in
-from ..s3.server import Server
+from ..s3.past import moment_in
 from .opening import OpenStore
 from .service import say
+from .serving import Past, Serving, Wanted
 from .settings import DRIVES, FRAMES, Programs, Settings, StoreFault, keys_path, make_store, microseconds
 
-GRACE = 30.0  # seconds that requests may take to end at SIGTERM
 OPEN_FILES = 4_096  # that 64 drives with all their sessions, and all connections, have, with room
 
 
@@ -58,6 +55,10 @@ def host_and_port(text: str) -> Tuple[str, int]:
     return host.strip("[]"), int(port)
 
 
+def port(text: str) -> int:
+    return number_in(range(65_536), text)
+
+
 def parser() -> Parser:
     """The options of both commands."""
     made = Parser(prog="python3 -m s4d.store", allow_abbrev=False, description="A store over many drives.")
@@ -72,6 +73,9 @@ def parser() -> Parser:
     serve.add_argument("folder", metavar="DIR")
     serve.add_argument("--listen", metavar="HOST:PORT", type=host_and_port, default=("127.0.0.1", 9000),
                        help="where clients come (127.0.0.1:9000)")
+    serve.add_argument("--at", nargs=2, metavar=("MOMENT", "HOST:PORT"), action="append", default=[],
+                       help="where clients come that read all as it was at a moment; more than one may be given")
+    serve.add_argument("--local", metavar="PORT", type=port, help="a port of 127.0.0.1 for /health and /metrics")
     serve.add_argument("--cert", metavar="FILE", help="a certificate, for TLS")
     serve.add_argument("--key", metavar="FILE", help="its key")
     serve.add_argument("--keys", metavar="FILE", help="the file of access keys (DIR/keys)")
@@ -89,30 +93,6 @@ def fault_of(error: Exception) -> str:
     return str(error)
 
 
-def tls_of(found: argparse.Namespace) -> Optional[ssl.SSLContext]:
-    """The context of the certificate that is given, if one is; StoreFault where it can't be had."""
-    if found.cert is None:
-        return None
-    context = ssl.SSLContext(ssl.PROTOCOL_TLS_SERVER)
-    context.minimum_version = ssl.TLSVersion.TLSv1_2
-    try:
-        context.load_cert_chain(found.cert, found.key)
-    except (OSError, ValueError) as error:  # which name no file
-        raise StoreFault(f"{found.cert} and {found.key} are no certificate with its key: {error}") from error
-    return context
-
-
-async def begun(opened: OpenStore, found: argparse.Namespace, log: Optional[AccessLog]) -> Server:
-    """The drives are served, and then the gateway."""
-    keys, context = keys_in(found.keys or keys_path(found.folder)), tls_of(found)
-    gateway = Gateway(await opened.start(), keys, opened.settings.window, log)
-    host, port = found.listen
-    server = Server(gateway, host, port, context)
-    await server.start()
-    print(f"ready: {'https' if context else 'http'}://{found.listen[0]}:{server.port}", flush=True)
-    return server
-
-
 def allow_open_files() -> None:
     """Lets this program have as many files open as it may need, or as it may have."""
     soft, hard = resource.getrlimit(resource.RLIMIT_NOFILE)
@@ -121,21 +101,30 @@ def allow_open_files() -> None:
         resource.setrlimit(resource.RLIMIT_NOFILE, (wanted, hard))
 
 
+def wanted_of(found: argparse.Namespace) -> Wanted:
+    """What serves the store, as the options say it."""
+    past = [Past(moment_in(moment), *host_and_port(listen)) for moment, listen in found.at]
+    host, number = found.listen
+    return Wanted(host, number, found.keys or keys_path(found.folder), found.cert, found.key, found.local, past)
+
+
 async def serve(found: argparse.Namespace) -> int:
     """Serves until a signal ends it: the status."""
     allow_open_files()
     log = AccessLog(found.log) if found.log is not None else None
     opened = OpenStore(found.folder, Programs(s4=found.s4, s4serve=found.s4serve), found.leap)
+    serving = Serving(opened, wanted_of(found), log, found.s4)
     ended, loop = asyncio.Event(), asyncio.get_running_loop()
     for number in (signal.SIGTERM, signal.SIGINT):
         loop.add_signal_handler(number, ended.set)
-    starting, waiting = asyncio.ensure_future(begun(opened, found, log)), asyncio.ensure_future(ended.wait())
+    loop.add_signal_handler(signal.SIGHUP, serving.reload)
+    starting, waiting = asyncio.ensure_future(serving.start()), asyncio.ensure_future(ended.wait())
     try:
         await asyncio.wait({starting, waiting}, return_when=asyncio.FIRST_COMPLETED)
         if starting.done():
-            server = starting.result()
+            print("\n".join(starting.result()), flush=True)
             await waiting
-            await server.close(GRACE)
+            await serving.close()
         return 0
     finally:
         for task in (starting, waiting):
@@ -160,6 +149,11 @@ def main(words: Optional[Sequence[str]] = None) -> int:
     found = options.parse_args(words)
     if found.command == "serve" and (found.cert is None) != (found.key is None):
         options.error("--cert and --key need each other")
+    if found.command == "serve":
+        try:
+            wanted_of(found)
+        except (argparse.ArgumentTypeError, ValueError, OverflowError) as error:
+            options.error(f"--at: {error}")
     try:
         return init(found) if found.command == "init" else asyncio.run(serve(found))
     except (StoreFault, OSError, ValueError) as error:

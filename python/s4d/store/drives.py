@@ -27,11 +27,11 @@ class DriveAway(Exception):
 
 
 class StoreDrive:
-    """`ask` lends one of the sessions for one request."""
+    """`ask` lends one of the sessions for one request. `is_served` says whether one may be had now."""
 
     def __init__(self, number: int, service: Service) -> None:
         self.number, self._service = number, service
-        self._is_served, self._is_stopping = False, False
+        self.is_served, self._is_stopping = False, False
         self._idle: List[AsyncDrive] = []
         self._places = asyncio.Semaphore(SESSIONS)
         self._watching: Optional[asyncio.Future[None]] = None
@@ -39,7 +39,7 @@ class StoreDrive:
     async def start(self) -> None:
         """Returns once it is served. StoreFault where it can't be."""
         await self._service.start()
-        self._is_served = True
+        self.is_served = True
         self._watching = asyncio.ensure_future(self._watch())
 
     async def _watch(self) -> None:
@@ -49,7 +49,7 @@ class StoreDrive:
             loop = asyncio.get_running_loop()
             since = loop.time()
             said = await self._service.ended()
-            self._is_served = False
+            self.is_served = False
             wait = FIRST_WAIT if loop.time() - since > LONGEST_WAIT else min(2 * wait, LONGEST_WAIT)
             say(f"drive {self.number} isn't served any more: {said}; it is started again in {wait:g} s")
             await asyncio.sleep(wait)
@@ -61,7 +61,7 @@ class StoreDrive:
         except (StoreFault, OSError) as error:  # it is said, and tried again
             say(f"{error}")
             return
-        self._is_served = True
+        self.is_served = True
         say(f"drive {self.number} is served again")
 
     async def stop(self) -> None:
@@ -71,7 +71,7 @@ class StoreDrive:
             self._watching.cancel()
             with contextlib.suppress(asyncio.CancelledError):
                 await self._watching
-        if not self._is_served:
+        if not self.is_served:
             self._service.kill()  # it starts still, and has replied nothing
         for session in self._idle:
             await session.close()
@@ -102,13 +102,13 @@ class StoreDrive:
 
     def _give_up(self) -> None:
         """Ends a service that has lost a reply, so that what was asked isn't done after somebody has looked whether it was."""
-        self._is_served, self._idle = False, []
+        self.is_served, self._idle = False, []
         self._service.kill()
 
     async def _session(self) -> AsyncDrive:
         if self._idle:
             return self._idle.pop()
-        if not self._is_served or self._is_stopping:
+        if not self.is_served or self._is_stopping:
             raise DriveAway(self.number, was_asked=False)
         try:
             return await self._service.session(REPLY_SECONDS)

@@ -25,6 +25,14 @@ class Entry:
     moment: int
     until: Optional[int] = None
 
+    def was_there(self, at: Optional[int]) -> bool:
+        """Whether it was written by a moment; without one, it was."""
+        return at is None or self.moment <= at
+
+    def is_latest(self, at: Optional[int]) -> bool:
+        """Whether nothing has replaced it, now or at a moment."""
+        return self.until is None or (at is not None and self.until > at)
+
 
 @dataclass
 class Bucket:
@@ -40,14 +48,18 @@ class Bucket:
     live: List[str] = field(default_factory=list)
     puts: int = 0
 
-    def current(self, key: str) -> Optional[Entry]:
-        """The newest version of a key, which may be a marker."""
-        found = self.keys.get(key)
-        return found[-1] if found else None
+    def current(self, key: str, at: Optional[int] = None) -> Optional[Entry]:
+        """The newest version of a key, now or at a moment, which may be a marker."""
+        return next((it for it in reversed(self.keys.get(key, ())) if it.was_there(at)), None)
 
-    def version(self, key: str, id: str) -> Optional[Entry]:
-        """The version of this id, where it can be read still."""
-        return next((it for it in self.keys.get(key, ()) if it.version.id == id), None)
+    def version(self, key: str, id: str, at: Optional[int] = None) -> Optional[Entry]:
+        """The version of this id, where it can be read still, and was there at a moment."""
+        return next((it for it in self.keys.get(key, ()) if it.version.id == id and it.was_there(at)), None)
+
+    def live_version(self, key: str, at: Optional[int]) -> Optional[Entry]:
+        """The same as `current`, where that is no marker."""
+        found = self.current(key, at)
+        return None if found is None or found.version.is_marker else found
 
 
 def nobody(_bucket: str, _key: str) -> bool:
@@ -56,11 +68,14 @@ def nobody(_bucket: str, _key: str) -> bool:
 
 
 class Index:
-    """Versions are added in the order of their sequence for each key. They leave when nobody can read them any more."""
+    """Versions are added in the order of their sequence for each key. They leave when nobody can read them any more: from the moment
+    `floor` on, each that was the newest of its key at some moment is there.
+    """
 
     def __init__(self, window: int) -> None:
         self._window = window
         self.buckets: Dict[str, Bucket] = {}
+        self.floor = 0
         self._ends: List[Tuple[int, int, Entry]] = []  # a heap: when a version leaves, a number in their order, and it
         self._count = 0
 
@@ -93,6 +108,7 @@ class Index:
         """
         heads: List[Place] = []
         later: List[Tuple[int, int, Entry]] = []
+        self.floor = max(self.floor, now - self._window)
         while self._ends and self._ends[0][0] < now:
             end = heapq.heappop(self._ends)
             if is_used(end[2].version.bucket, end[2].version.key):

@@ -50,18 +50,22 @@ def first_place(names: List[str], prefix: str, delimiter: str, after: str) -> in
     return max(bisect_right(names, after) if after else 0, bisect_left(names, prefix))
 
 
-def keys_page(bucket: Bucket, prefix: str, delimiter: str, after: str, most: int) -> Page:
-    """The current versions of the keys that are there, those after a name."""
-    page, names = Page(), bucket.live
+def keys_page(bucket: Bucket, prefix: str, delimiter: str, after: str, most: int, at: Optional[int] = None) -> Page:
+    """The current versions of the keys that are there, those after a name. At a moment it passes over those that weren't then."""
+    page, names = Page(), bucket.live if at is None else bucket.names
     place = first_place(names, prefix, delimiter, after)
     while place < len(names) and names[place].startswith(prefix):
+        name = names[place]
+        entry = bucket.live_version(name, at)
+        if entry is None:
+            place += 1
+            continue
         if len(page) >= most:
             page.is_cut = most > 0
             break
-        name = names[place]
         shared = shared_prefix(name, prefix, delimiter)
         if shared is None:
-            page.entries.append(bucket.keys[name][-1])
+            page.entries.append(entry)
             page.last, place = name, place + 1
         else:
             page.prefixes.append(shared)
@@ -69,19 +73,22 @@ def keys_page(bucket: Bucket, prefix: str, delimiter: str, after: str, most: int
     return page
 
 
-def versions_page(bucket: Bucket, prefix: str, delimiter: str, after: Tuple[str, str], most: int) -> Page:
-    """All versions that can be read, those after a key, or after a version of it."""
+def versions_page(bucket: Bucket, prefix: str, delimiter: str, after: Tuple[str, str], most: int, at: Optional[int] = None) -> Page:
+    """All versions that can be read, and were there at a moment: those after a key, or after a version of it."""
     page, names = Page(), bucket.names
     key, id = after
-    if id and bucket.version(key, id) is not None and key.startswith(prefix):
+    if id and bucket.version(key, id, at) is not None and key.startswith(prefix):
         place = bisect_left(names, key)
     else:
         place, id = first_place(names, prefix, delimiter, key), ""
     while place < len(names) and names[place].startswith(prefix):
         name = names[place]
+        entries = [it for it in bucket.keys[name] if it.was_there(at)]
         shared = shared_prefix(name, prefix, delimiter)
-        if shared is None:
-            take_versions(page, bucket.keys[name], id, most)
+        if not entries:
+            place += 1
+        elif shared is None:
+            take_versions(page, entries, id, most)
             id, place = "", place + 1
         elif len(page) < most:
             page.prefixes.append(shared)

@@ -17,34 +17,34 @@ from .store import Store
 
 
 class OpenStore:
-    """`store` is there from `start` to `stop`."""
+    """`store` and `drives` are there from `start` to `stop`."""
 
     def __init__(self, folder: str, programs: Programs, leap: Optional[str] = None) -> None:
-        self._folder, self._programs, self._leap = folder, programs, leap
+        self.folder, self._programs, self._leap = folder, programs, leap
         self.settings: Settings = settings_in(folder)
         self._lock = locked(folder)
-        self._drives: List[StoreDrive] = []
+        self.drives: List[StoreDrive] = []
         self._looking: Optional[asyncio.Future[None]] = None
         self.store: Optional[Store] = None
 
     async def start(self) -> Store:
         """Starts the drives, makes the index, and deletes what puts left that were cut. StoreFault where one can't be served."""
         numbers = range(self.settings.drives)
-        services = [Service(self._folder, number, self._programs.s4serve, self._leap) for number in numbers]
-        self._drives = [StoreDrive(number, service) for number, service in enumerate(services)]
+        services = [Service(self.folder, number, self._programs.s4serve, self._leap) for number in numbers]
+        self.drives = [StoreDrive(number, service) for number, service in enumerate(services)]
         for service in services:
             service.take()
         await asyncio.gather(*[service.end_earlier() for service in services])
         limit = asyncio.Semaphore(IMAGES_AT_ONCE)
-        paths = [image_path(self._folder, number) for number in numbers]
+        paths = [image_path(self.folder, number) for number in numbers]
         found = await asyncio.gather(*[found_in(path, self._programs.s4, limit) for path in paths])
-        await all_done([drive.start() for drive in self._drives])
+        await all_done([drive.start() for drive in self.drives])
         self.store = await self._loaded(found)
         self._looking = asyncio.ensure_future(self.store.look_after())
         return self.store
 
     async def _loaded(self, found: List[Found]) -> Store:
-        pieces = Pieces(self._drives)
+        pieces = Pieces(self.drives)
         loading = Loading(pieces, found, self.settings.window)
         try:
             index = await loading.load()
@@ -63,7 +63,7 @@ class OpenStore:
                 await self._looking
         if self.store is not None:
             await self.store.close()
-        await asyncio.gather(*[drive.stop() for drive in self._drives])
+        await asyncio.gather(*[drive.stop() for drive in self.drives])
         os.close(self._lock)
 
 

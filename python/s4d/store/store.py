@@ -5,7 +5,7 @@ import asyncio
 import contextlib
 import secrets
 from dataclasses import replace
-from typing import AsyncIterator, Callable, Coroutine, Dict, NamedTuple, Optional, Set, Tuple, Type
+from typing import AsyncIterator, Callable, Coroutine, Dict, Iterator, NamedTuple, Optional, Set, Tuple, Type
 
 from ..errors import ChainFull, NoMemory, NoSpace, Refused
 from ..moments import machine_time
@@ -25,6 +25,10 @@ HEAD_FULL: Tuple[Type[Refused], ...] = (ChainFull, NoSpace, NoMemory)  # then th
 
 class NoBucket(Exception):
     """There is no such bucket."""
+
+
+class Passed(Exception):
+    """The moment lies before the window."""
 
 
 class BucketThere(Exception):
@@ -64,13 +68,29 @@ class Store:
         self._locks = Locks()
         self._doubts: Dict[Tuple[str, str], Doubt] = {}
         self._tasks: Set[asyncio.Future[None]] = set()
+        self._writing: Dict[asyncio.Future[None], int] = {}  # heads and buckets on their way, and when each was begun
 
-    def bucket(self, name: str) -> Bucket:
-        """The bucket of a name; NoBucket where there is none."""
+    def bucket(self, name: str, at: Optional[int] = None) -> Bucket:
+        """The bucket of a name, now or at a moment; NoBucket where there is none, Passed where the moment has left the window."""
         found = self.index.buckets.get(name)
-        if found is None:
+        if at is not None and at < self.index.floor:
+            raise Passed(f"moment {at}")
+        if found is None or (at is not None and found.created > at):
             raise NoBucket(name)
         return found
+
+    async def cut(self, at: int, bucket: str) -> None:
+        """Returns once nothing that isn't in the index can have this moment, or an earlier one: what is then found of a bucket at the
+        moment is the same each time.
+        """
+        late = (at + APART - machine_time()) / 1e6
+        if late > 0:
+            await asyncio.sleep(min(late, MOST_WAIT))
+        writing = [done for done, begun in self._writing.items() if begun <= at + APART]
+        if writing:
+            await asyncio.wait(writing)
+        for doubtful, key in [it for it in self._doubts if it[0] == bucket]:
+            await self.settle(doubtful, key)
 
     async def create_bucket(self, name: str) -> Bucket:
         """Makes a bucket; BucketThere where it is there, TooManyBuckets where no more may be."""
@@ -85,8 +105,9 @@ class Store:
                 made = await drive.ask(lambda session: session.create(attribute))
                 return Bucket(name, Place(drive.number, made.object), made.moment)
 
-            bucket = await self.pieces.anywhere(first_drive(name, "", len(self.pieces.drives)), make)
-            self.index.buckets[name] = bucket
+            with self._written_soon():
+                bucket = await self.pieces.anywhere(first_drive(name, "", len(self.pieces.drives)), make)
+                self.index.buckets[name] = bucket
             return bucket
 
     async def delete_bucket(self, name: str) -> None:
@@ -135,6 +156,13 @@ class Store:
         """
         return await self._commit(version_with(bucket, key, contents, headers), check)
 
+    async def relabel(self, entry: Entry, headers: Dict[str, str], check: Check) -> Entry:
+        """Makes a version of the contents of the current one, in the same pieces, with other headers."""
+        version = entry.version
+        made = await self._commit(version_with(version.bucket, version.key, contents_of(version), headers), check)
+        await self.passed(made)
+        return made
+
     async def delete(self, bucket: str, key: str) -> Entry:
         """Puts a marker, so that the key isn't there any more, though its versions can be read."""
         entry = await self._commit(Version(bucket, key, 0, "", 0, is_marker=True))
@@ -150,13 +178,25 @@ class Store:
             check(before)
             bucket.puts += 1
             try:
-                entry = await self._write(following(version, before), None if before is None else before.head)
+                with self._written_soon():
+                    entry = await self._write(following(version, before), None if before is None else before.head)
+                    self.index.add(entry)
             finally:
                 bucket.puts -= 1
-            self.index.add(entry)
-        if before is not None:
+        if before is not None and before.version.pieces != version.pieces:
             self._later(self._delete_pieces(before))
         return entry
+
+    @contextlib.contextmanager
+    def _written_soon(self) -> Iterator[None]:
+        """A head, or a bucket, is on its way in the block, and in the index, or refused, or in doubt, at its end."""
+        done: asyncio.Future[None] = asyncio.get_running_loop().create_future()
+        self._writing[done] = machine_time()
+        try:
+            yield
+        finally:
+            del self._writing[done]
+            done.set_result(None)
 
     async def _write(self, version: Version, head: Optional[Place]) -> Entry:
         """Writes a head: the key's own, or where that has no room a new one on any drive."""

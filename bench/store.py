@@ -1,0 +1,209 @@
+#!/usr/bin/env python3
+"""How fast a store over many drives puts, gets, lists and starts, and what memory it takes.
+
+    store.py [--seconds N] [--drives N,..] [--clients N,..] [--sizes N,..] [--frames N]    puts and gets a second
+    store.py --pages [KEYS ..]              a page of 1,000 keys among so many
+    store.py --full [DRIVES [FRAMES]]       a start over drives without room
+
+S4D, S4 and S4SERVE name the programs. Puts and gets: each client is a process with one connection, which signs each request; the store keeps a
+second of its past, so that room comes back. A store is made for each number of drives (1 and 4), of so many frames (1,024); each line is N seconds
+(5) of puts, and then of gets, by so many clients (1 and 16) of so many bytes (1,000 and 100,000). Refused is what was answered by an error. Memory is the most that the
+gateway took, and the most that one service took. Pages: the seconds of the processor that a list takes in the gateway, the least of several,
+at the start and in the midst of the bucket, without connections and signatures; among 8,000 and 80,000 keys. A start: small objects are put
+until no drive has room, then the program is ended and begun, in order and after a kill."""
+import argparse
+import http.client
+import multiprocessing
+import random
+import signal
+import sys
+import tempfile
+import time
+
+sys.dont_write_bytecode = True
+import service  # noqa: E402
+from s4d.s3.http import Request  # noqa: E402
+from s4d.s3.lists import list_keys_2, list_versions, token_of  # noqa: E402
+from s4d.store import Programs, Settings, make_store  # noqa: E402
+from s4d.store.index import Bucket, Entry, Index, Place  # noqa: E402
+from s4d.store.layout import Version  # noqa: E402
+from tests.s3_blocking import BlockingClient  # noqa: E402
+from tests.store_kills import Serving  # noqa: E402
+
+KEYS = 20  # of each client at most
+LIVE_BYTES = 1_700_000  # of all keys together, so that what a second keeps beside them has room on one drive
+TRIES = 7  # of a page
+SMALL = 100  # bytes of the objects that fill drives
+MICROSECOND = 1_000_000
+
+
+def programs():
+    return Programs(*map(service.program, ("s4d", "s4", "s4serve")))
+
+
+def keys_of_each(clients, size):
+    return max(1, min(KEYS, LIVE_BYTES // (clients * size)))
+
+
+def work(port, key, name, keys, kind, size, until, counts):
+    """A client's requests of its keys until a time: how many were done, and how many refused."""
+    client, draw, done, refused = BlockingClient(port, key), random.Random(name), 0, 0
+    data = draw.randbytes(size)
+    try:
+        while time.monotonic() < until:
+            reply = client.ask(kind, f"/one/{name}-{draw.randrange(keys)}", data if kind == "PUT" else b"")
+            done, refused = done + (reply.status == 200), refused + (reply.status != 200)
+    except (OSError, http.client.HTTPException) as error:
+        print(f"client {name}: {error!r}", file=sys.stderr)
+    counts.put((done, refused))
+
+
+def run_clients(serving, kind, count, size, seconds):
+    """Requests a second of so many clients, and how many were refused."""
+    counts, until, keys = multiprocessing.Queue(), time.monotonic() + seconds, keys_of_each(count, size)
+    children = [multiprocessing.Process(target=work, args=(serving.port, serving.key, number, keys, kind, size, until, counts))
+                for number in range(count)]
+    for it in children:
+        it.start()
+    found = [counts.get() for _ in children]
+    for it in children:
+        it.join()
+    return sum(done for done, _ in found) / seconds, sum(refused for _, refused in found)
+
+
+def most_memory(pid):
+    """The most KiB that a process has taken."""
+    with open(f"/proc/{pid}/status", encoding="ascii") as lines:
+        return next((int(line.split()[1]) for line in lines if line.startswith("VmHWM")), 0)
+
+
+def fill_keys(serving, clients, size):
+    """Puts each key that clients will get."""
+    client = serving.client()
+    for number in range(clients):
+        for key in range(keys_of_each(clients, size)):
+            client.ask("PUT", f"/one/{number}-{key}", bytes(size))
+
+
+def measure(drives, found):
+    with tempfile.TemporaryDirectory() as folder:
+        make_store(f"{folder}/store", Settings(drives, found.frames, "1s"), programs())
+        serving = Serving(f"{folder}/store", programs())
+        serving.start()
+        try:
+            serving.client().ask("PUT", "/one")
+            for size in found.sizes:
+                for clients in found.clients:
+                    fill_keys(serving, clients, size)
+                    puts, refused = run_clients(serving, "PUT", clients, size, found.seconds)
+                    gets, missed = run_clients(serving, "GET", clients, size, found.seconds)
+                    print(f"{drives} drives, {clients} clients, {size:,} bytes: {puts:,.1f} puts, {gets:,.1f} gets a second; "
+                          f"{refused + missed} refused", flush=True)
+            services = [most_memory(pid) for number in range(drives) for pid in serving.services(number)]
+            print(f"{drives} drives: the gateway took {most_memory(serving.process.pid):,} KiB, a service {max(services):,} KiB")
+        finally:
+            serving.stop()
+
+
+def bucket_of(keys):
+    """A bucket of an index that has so many keys, of two versions each."""
+    index, names = Index(30 * 86_400 * MICROSECOND), [f"folder-{number % 97}/file-{number}" for number in range(keys)]
+    index.buckets["one"] = Bucket("one", Place(0, 1), 0)
+    for moment, name in enumerate(sorted(names * 2), 1):
+        version = Version("one", name, 1, f"{moment:032x}", moment, SMALL, "0" * 32, contents=bytes(SMALL))
+        index.add(Entry(version, Place(0, moment), moment))
+    return index.buckets["one"]
+
+
+def seconds_of(call, *words):
+    """The least seconds of the processor that a call takes, of several."""
+    found = []
+    for _ in range(TRIES):
+        began = time.process_time()
+        call(*words)
+        found.append(time.process_time() - began)
+    return min(found)
+
+
+def pages(counts):
+    for keys in counts:
+        bucket = bucket_of(keys)
+        middle, last = bucket.names[keys // 2], 2 * keys
+        for said, query in (("at the start", []), ("in the midst", [("continuation-token", token_of(middle))]),
+                            ("joined by a delimiter", [("delimiter", "/")])):
+            request = Request("GET", "/one", "/one", [("list-type", "2"), *query], {}, True)
+            print(f"{keys:,} keys, a page {said}: {1e3 * seconds_of(list_keys_2, bucket, request, None):.1f} ms, "
+                  f"at the last moment {1e3 * seconds_of(list_keys_2, bucket, request, last):.1f} ms")
+        request = Request("GET", "/one", "/one", [("versions", ""), ("key-marker", middle)], {}, True)
+        print(f"{keys:,} keys, a page of versions: {1e3 * seconds_of(list_versions, bucket, request, None):.1f} ms", flush=True)
+
+
+def fill(serving, clients=16):
+    """Puts small objects by several clients until no drive has room: how many."""
+    counts = multiprocessing.Queue()
+    children = [multiprocessing.Process(target=put_until_full, args=(serving.port, serving.key, number, counts))
+                for number in range(clients)]
+    for it in children:
+        it.start()
+    found = sum(counts.get() for _ in children)
+    for it in children:
+        it.join()
+    return found
+
+
+def put_until_full(port, key, name, counts):
+    client, done = BlockingClient(port, key), 0
+    while client.ask("PUT", f"/one/{name}/{done}", bytes(SMALL)).status == 200:
+        done += 1
+    counts.put(done)
+
+
+def full(drives, frames):
+    with tempfile.TemporaryDirectory() as folder:
+        make_store(f"{folder}/store", Settings(drives, frames, "30d"), programs())
+        serving = Serving(f"{folder}/store", programs())
+        serving.start()
+        try:
+            fill_and_start(serving, f"{drives} drives of {frames} frames")
+        finally:
+            serving.stop()
+
+
+def fill_and_start(serving, said):
+    serving.client().ask("PUT", "/one")
+    began = time.monotonic()
+    count = fill(serving)
+    print(f"{said} are full of {count:,} objects after {time.monotonic() - began:.1f} s", flush=True)
+    for how, end in (("in order", serving.stop), ("by a kill", serving.kill)):
+        end()
+        began = time.monotonic()
+        serving.start()
+        print(f"a start after an end {how}: {time.monotonic() - began:.1f} s; {most_memory(serving.process.pid):,} KiB", flush=True)
+
+
+def numbers(text):
+    return [int(it) for it in text.split(",")]
+
+
+def main(words):
+    options = argparse.ArgumentParser(description=__doc__, formatter_class=argparse.RawDescriptionHelpFormatter)
+    options.add_argument("--seconds", type=float, default=5.0)
+    options.add_argument("--drives", type=numbers, default=[1, 4])
+    options.add_argument("--clients", type=numbers, default=[1, 16])
+    options.add_argument("--sizes", type=numbers, default=[1_000, 100_000])
+    options.add_argument("--frames", type=int, default=1_024)
+    options.add_argument("--pages", type=int, nargs="*", metavar="KEYS")
+    options.add_argument("--full", type=int, nargs="*", metavar="N")
+    found = options.parse_args(words)
+    if found.pages is not None:
+        pages(found.pages or [8_000, 80_000])
+    elif found.full is not None:
+        full(*(found.full + [16, 1_024][len(found.full):]))
+    else:
+        for drives in found.drives:
+            measure(drives, found)
+
+
+if __name__ == "__main__":
+    signal.signal(signal.SIGTERM, lambda number, _: sys.exit(128 + number))  # what was started is ended
+    main(sys.argv[1:])
