@@ -1,4 +1,4 @@
-"""The table of operations in STORE.md, beside what the gateway answers to each operation that botocore knows."""
+"""The list of operations in STORE.md, beside what the gateway answers to each operation that botocore knows."""
 import importlib.util
 import pathlib
 import re
@@ -16,9 +16,9 @@ needs_botocore = unittest.skipUnless(importlib.util.find_spec("botocore"), "boto
 
 
 def table():
-    """The names of the operations in each row of the table."""
-    rows = re.findall(r"^\| (Served|Stubs) \| (.*) \|$", STORE.read_text(encoding="utf-8"), re.M)
-    return {kind: set(names.split(", ")) for kind, names in rows}
+    """The names of the operations in each item of the list."""
+    items = re.findall(r"^- \*\*(Served|Stubs)\*\*: (.*\n(?:  .*\n)*)", STORE.read_text(encoding="utf-8"), re.M)
+    return {kind: set(re.split(r",\s+", names.strip())) for kind, names in items}
 
 
 def model():
