@@ -417,7 +417,7 @@ class Sessions(unittest.TestCase):
         async def ask():
             service = mock.Mock(session=mock.AsyncMock(return_value="a session"))
             drive = StoreDrive(0, service)
-            drive._is_served = True
+            drive.is_served = True
 
             async def wrong(_session):
                 raise ValueError("what is asked for is no request")
