@@ -444,7 +444,8 @@ class Lists(unittest.TestCase):
                 self.assertIn(text, (await it.ask("GET", "/one", query=[(part, "")])).body.decode())
             with mock.patch("s4d.store.store.BUCKETS", 1):
                 self.assertEqual((await it.ask("PUT", "/more")).code, "TooManyBuckets")
-            for part, code in (("policy", "NoSuchBucketPolicy"), ("cors", "NoSuchCORSConfiguration"), ("website", "NotImplemented")):
+            for part, code in (("policy", "NoSuchBucketPolicy"), ("cors", "NoSuchCORSConfiguration"),
+                               ("website", "NoSuchWebsiteConfiguration"), ("torrent", "NotImplemented")):
                 self.assertEqual((await it.ask("GET", "/one", query=[(part, "")])).code, code)
 
         with_client(work)
