@@ -445,7 +445,7 @@ class Lists(unittest.TestCase):
             with mock.patch("s4d.store.store.BUCKETS", 1):
                 self.assertEqual((await it.ask("PUT", "/more")).code, "TooManyBuckets")
             for part, code in (("policy", "NoSuchBucketPolicy"), ("cors", "NoSuchCORSConfiguration"),
-                               ("inventory", "NotImplemented")):
+                               ("website", "NoSuchWebsiteConfiguration"), ("torrent", "NotImplemented")):
                 self.assertEqual((await it.ask("GET", "/one", query=[(part, "")])).code, code)
 
         with_client(work)
