@@ -1,0 +1,162 @@
+-- What loops come to, one step on and at their ends.
+use Rattle.std.proofs.Common.{◌≡◌, ◌≢◌, ◌⊎◌, inl, inr, ℕ, zero, suc, ◌+◌, ◌-◌, ◌*◌, ◌^◌, ◌<◌, ◌≤◌, nat_lt, ◌||◌, Bool, true, false, cond, List, [], ◌∷◌, ◌++◌, length, take, drop, get_or, Option, Some, None, refl, sym, ap, subst, ◌∙◌, arith, append_assoc}
+use Rattle.std.specs.Option.{option_map}
+use Rattle.std.proofs.lemmas.Bool.{cond-true, cond-false, or_from, or_left, or_right, le-ltb, lt-ltb}
+use Rattle.std.proofs.lemmas.List.{append-nil, drop_all, drop_more}
+use Rattle.image_update.specs.declared.kinds.Kind.{Kind}
+use Rattle.image_update.specs.declared.steps.Step.{Step}
+use Rattle.image_update.specs.Changes.{applied, fits}
+use Rattle.image_update.specs.Encoding.{count_put, step_in, steps_in}
+use Rattle.image_update.specs.declared.kinds.Kind.TheVariants.{Block, Word}
+use Rattle.image_update.specs.Layout.{behind_frames, contents_in, facing, frame_pairs, pairs_in, part_pairs, size_of}
+use Rattle.image_update.specs.Pairs.{Built, Pair, after, built}
+
+-- ---- what steps give
+
+-- bytes in front of what is given
+abbrev pub with_front : List ℕ → Option (List ℕ) → Option (List ℕ)
+with_front front r = option_map (λ (rest : List ℕ). front ++ rest) r
+
+front_joined : (x y z : List ℕ) (r : Option (List ℕ)) → with_front x (option_map (λ (rest : List ℕ). y ++ (z ++ rest)) r) ≡ with_front ((x ++ y) ++ z) r
+front_joined x y z None = refl
+front_joined x y z (Some r) = ap (λ (q : List ℕ). Some q) (sym (append_assoc (x ++ y) z r ∙ append_assoc x y (z ++ r)))
+
+pub front_none : (r : Option (List ℕ)) → r ≡ with_front [] r
+front_none None = refl
+front_none (Some r) = refl
+
+-- a step that fits
+pub applied_more : (steps : List Step) (i : ℕ) (s : Step) (old put new : List ℕ) (all : Option (List ℕ)) → i < length steps → s ≡ get_or steps i s → fits s old put ≡ true → with_front new (applied (drop i steps) old put) ≡ all
+    → with_front ((new ++ take s.keep old) ++ take s.put put) (applied (drop (i + 1) steps) (drop s.skip (drop s.keep old)) (drop s.put put)) ≡ all
+applied_more steps i s old put new all lt is fit so_far =
+    let next : drop i steps ≡ s ∷ drop (i + 1) steps = drop_more steps i s lt ∙ ap (λ q. q ∷ drop (i + 1) steps) (sym is) in
+    let one : applied (s ∷ drop (i + 1) steps) old put ≡ option_map (λ (rest : List ℕ). take s.keep old ++ (take s.put put ++ rest)) (applied (drop (i + 1) steps) (drop s.skip (drop s.keep old)) (drop s.put put)) = rw fit refl in
+    sym (front_joined new (take s.keep old) (take s.put put) _) ∙ ap (with_front new) (sym one) ∙ ap (λ (q : List Step). with_front new (applied q old put)) (sym next) ∙ so_far
+
+-- a step that doesn't
+pub applied_never : (steps : List Step) (i : ℕ) (s : Step) (old put new : List ℕ) (all : Option (List ℕ)) → i < length steps → s ≡ get_or steps i s → fits s old put ≡ false → with_front new (applied (drop i steps) old put) ≡ all → all ≡ None
+applied_never steps i s old put new all lt is fit so_far =
+    let next : drop i steps ≡ s ∷ drop (i + 1) steps = drop_more steps i s lt ∙ ap (λ q. q ∷ drop (i + 1) steps) (sym is) in
+    let one : applied (s ∷ drop (i + 1) steps) old put ≡ None = rw fit refl in
+    sym so_far ∙ ap (λ (q : List Step). with_front new (applied q old put)) next ∙ ap (with_front new) one
+
+left_none : (old put new : List ℕ) → (old ≡ [] → put ≡ [] → ⊥) → with_front new (applied [] old put) ≡ None
+left_none [] [] new not_both = absurd (not_both refl refl)
+left_none [] (b ∷ put) new not_both = refl
+left_none (b ∷ old) put new not_both = refl
+
+-- no step more, and bytes are left
+pub applied_left : (steps : List Step) (i : ℕ) (old put new : List ℕ) (all : Option (List ℕ)) → length steps ≤ i → (old ≡ [] → put ≡ [] → ⊥) → with_front new (applied (drop i steps) old put) ≡ all → all ≡ None
+applied_left steps i old put new all end not_both so_far =
+    sym so_far ∙ ap (λ (q : List Step). with_front new (applied q old put)) (drop_all i steps end) ∙ left_none old put new not_both
+
+-- no step more, and nothing is left
+pub applied_all : (steps : List Step) (i : ℕ) (old put new : List ℕ) (all : Option (List ℕ)) → length steps ≤ i → old ≡ [] → put ≡ [] → with_front new (applied (drop i steps) old put) ≡ all → all ≡ Some new
+applied_all steps i old put new all end a b so_far =
+    sym so_far ∙ ap (λ (q : List Step). with_front new (applied q old put)) (drop_all i steps end) ∙ rw (a, b) (ap (λ (q : List ℕ). Some q) (append-nil new))
+
+-- ---- what is read
+
+pub count_put_more : (steps : List Step) (s : Step) → count_put (steps ++ s ∷ []) ≡ count_put steps + s.put
+count_put_more [] s = omega arith
+count_put_more (t ∷ steps) s = omega (arith, count_put_more steps s)
+
+pub count_put_both : (steps more : List Step) → count_put (steps ++ more) ≡ count_put steps + count_put more
+count_put_both [] more = omega arith
+count_put_both (t ∷ steps) more = omega (arith, count_put_both steps more)
+
+steps_next : (n : ℕ) (rest : List ℕ) → 0 < n → steps_in n rest ≡ step_in rest ∷ steps_in (n - 1) (drop 24 rest)
+steps_next zero rest lt = absurd (omega (arith, lt))
+steps_next (suc n) rest lt = let k : suc n - 1 ≡ n = omega arith in rw k refl
+
+pub steps_more : (items all : List Step) (n i : ℕ) (rest behind : List ℕ) (s : Step) → i < n → s ≡ step_in rest → behind ≡ drop 24 rest → items ++ steps_in (n - i) rest ≡ all → (items ++ s ∷ []) ++ steps_in (n - (i + 1)) behind ≡ all
+steps_more items all n i rest behind s lt is back so_far =
+    let k : n - i - 1 ≡ n - (i + 1) = omega arith in
+    let next : steps_in (n - i) rest ≡ s ∷ steps_in (n - (i + 1)) behind = steps_next (n - i) rest (omega arith) ∙ rw (is, back, k) refl in
+    append_assoc items (s ∷ []) (steps_in (n - (i + 1)) behind) ∙ ap (λ q. items ++ q) (sym next) ∙ so_far
+
+-- a step that puts more than is left
+pub puts_more : (items all : List Step) (n i left put : ℕ) (rest : List ℕ) (s : Step) → i < n → s ≡ step_in rest → items ++ steps_in (n - i) rest ≡ all → count_put items + left ≡ put → left < s.put → count_put all ≢ put
+puts_more items all n i left put rest s lt is so_far even more =
+    let next : steps_in (n - i) rest ≡ s ∷ steps_in (n - i - 1) (drop 24 rest) = steps_next (n - i) rest (omega arith) ∙ rw is refl in
+    let sum : count_put all ≡ count_put items + (s.put + count_put (steps_in (n - i - 1) (drop 24 rest))) = ap count_put (sym so_far) ∙ count_put_both items (steps_in (n - i) rest) ∙ ap (λ q. count_put items + count_put q) next in
+    λ e. omega arith
+
+pub steps_all : (items all : List Step) (n i : ℕ) (rest : List ℕ) → n ≤ i → items ++ steps_in (n - i) rest ≡ all → items ≡ all
+steps_all items all n i rest end so_far =
+    let k : n - i ≡ 0 = omega arith in
+    let so : items ++ [] ≡ all = subst (λ m. items ++ steps_in m rest ≡ all) k so_far in
+    sym (append-nil items) ∙ so
+
+-- ---- what is compared
+
+pub pairs_next : (k : Kind) (n : ℕ) (old new : List ℕ) → 0 < n → size_of k ≤ length old → size_of k ≤ length new
+    → pairs_in k n old new ≡ record { old = take (facing k old new).0 old; new = take (facing k old new).1 new } ∷ pairs_in k (n - 1) (drop (facing k old new).0 old) (drop (facing k old new).1 new)
+pairs_next k zero old new lt a b = absurd (omega (arith, lt))
+pairs_next k (suc n) old new lt a b =
+    let e : suc n - 1 ≡ n = omega arith in
+    let enough : (nat_lt (length old) (size_of k) || nat_lt (length new) (size_of k)) ≡ false = or_from _ _ (le-ltb _ _ a) (le-ltb _ _ b) in
+    rw e (cond-false (nat_lt (length old) (size_of k) || nat_lt (length new) (size_of k)) _ _ enough)
+
+-- two units that face each other
+pub built_more : (k : Kind) (most i m n : ℕ) (old new old_unit new_unit old_rest new_rest : List ℕ) (b c all : Built) → i < most → size_of k ≤ length old → size_of k ≤ length new → (m, n) ≡ facing k old new
+    → old_unit ≡ take m old → old_rest ≡ drop m old → new_unit ≡ take n new → new_rest ≡ drop n new → c ≡ after (record { old = old_unit; new = new_unit }) b
+    → built (pairs_in k (most - i) old new) b ≡ all → built (pairs_in k (most - (i + 1)) old_rest new_rest) c ≡ all
+built_more k most i m n old new old_unit new_unit old_rest new_rest b c all lt a d faces ou or nu nr is so_far =
+    let e : most - i - 1 ≡ most - (i + 1) = omega arith in
+    let fm : m ≡ (facing k old new).0 = ap (λ (x : ℕ × ℕ). x.0) faces in
+    let fn : n ≡ (facing k old new).1 = ap (λ (x : ℕ × ℕ). x.1) faces in
+    let next : pairs_in k (most - i) old new ≡ record { old = old_unit; new = new_unit } ∷ pairs_in k (most - (i + 1)) old_rest new_rest =
+    pairs_next k (most - i) old new (omega arith) a d ∙ rw (ou, or, nu, nr, fm, fn, e) refl in
+    ap (λ (x : Built). built (pairs_in k (most - (i + 1)) old_rest new_rest) x) is
+    ∙ ap (λ (ps : List Pair). built ps b) (sym next) ∙ so_far
+
+pub one_pair : (k : Kind) (n : ℕ) (old new : List ℕ) → (n ≡ 0) ⊎ ((length old < size_of k) ⊎ (length new < size_of k)) → pairs_in k n old new ≡ record { old = old; new = new } ∷ []
+one_pair k zero old new end = refl
+one_pair k (suc n) old new end =
+    let short : (nat_lt (length old) (size_of k) || nat_lt (length new) (size_of k)) ≡ true = elim end [
+      | inl zero ↦ absurd (omega arith)
+      | inr some ↦ elim some [
+        | inl a ↦ or_left _ _ (lt-ltb _ _ a)
+        | inr b ↦ or_right _ _ (lt-ltb _ _ b)
+      ]
+    ] in
+    cond-true (nat_lt (length old) (size_of k) || nat_lt (length new) (size_of k)) _ _ short
+
+-- what is left of both, where there are no two units more
+pub built_last : (k : Kind) (n : ℕ) (old new : List ℕ) (b c all : Built) → (n ≡ 0) ⊎ ((length old < size_of k) ⊎ (length new < size_of k)) → c ≡ after (record { old = old; new = new }) b → built (pairs_in k n old new) b ≡ all → c ≡ all
+built_last k n old new b c all end is so_far =
+    is ∙ sym (ap (λ (ps : List Pair). built ps b) (one_pair k n old new end)) ∙ so_far
+
+pub built_both : (ps qs : List Pair) (b : Built) → built (ps ++ qs) b ≡ built qs (built ps b)
+built_both [] qs b = refl
+built_both (p ∷ ps) qs b = built_both ps qs (after p b)
+
+-- ---- frames
+
+frames_next : (n : ℕ) (old new : List ℕ) → 0 < n
+    → frame_pairs n old new
+    ≡ part_pairs Word (take 8 old) (take 8 new)
+    ++ (part_pairs Block (take (contents_in old) (drop 8 old)) (take (contents_in new) (drop 8 new))
+    ++ frame_pairs (n - 1) (drop (contents_in old) (drop 8 old)) (drop (contents_in new) (drop 8 new)))
+frames_next zero old new lt = absurd (omega (arith, lt))
+frames_next (suc n) old new lt = let e : suc n - 1 ≡ n = omega arith in rw e refl
+
+-- one frame more
+pub frames_more : (count i : ℕ) (old new old_word new_word old_rest new_rest : List ℕ) (b c d all : Built) → i < count → old_word ≡ drop 8 old → new_word ≡ drop 8 new → old_rest ≡ drop (contents_in old) old_word → new_rest ≡ drop (contents_in new) new_word
+    → c ≡ built (part_pairs Word (take 8 old) (take 8 new)) b → d ≡ built (part_pairs Block (take (contents_in old) old_word) (take (contents_in new) new_word)) c
+    → built (frame_pairs (count - i) old new) b ≡ all → built (frame_pairs (count - (i + 1)) old_rest new_rest) d ≡ all
+frames_more count i old new old_word new_word old_rest new_rest b c d all lt ow nw or nr cs ds so_far =
+    let e : count - i - 1 ≡ count - (i + 1) = omega arith in
+    let words = part_pairs Word (take 8 old) (take 8 new) in
+    let blocks = part_pairs Block (take (contents_in old) old_word) (take (contents_in new) new_word) in
+    let others = frame_pairs (count - (i + 1)) old_rest new_rest in
+    let next : frame_pairs (count - i) old new ≡ words ++ (blocks ++ others) = frames_next (count - i) old new (omega arith) ∙ rw (or, nr, ow, nw, e) refl in
+    let both : built (words ++ (blocks ++ others)) b ≡ built others (built blocks (built words b)) = built_both words (blocks ++ others) b ∙ built_both blocks others (built words b) in
+    ap (λ (x : Built). built others x) (ds ∙ ap (λ (x : Built). built blocks x) cs) ∙ sym both ∙ ap (λ (ps : List Pair). built ps b) (sym next) ∙ so_far
+
+pub behind_more : (count i : ℕ) (bytes word rest : List ℕ) (all : List ℕ) → i < count → word ≡ drop 8 bytes → rest ≡ drop (contents_in bytes) word → behind_frames (count - i) bytes ≡ all → behind_frames (count - (i + 1)) rest ≡ all
+behind_more count i bytes word rest all lt is back so_far =
+    let e : count - i ≡ suc (count - (i + 1)) = omega arith in
+    let so : behind_frames (suc (count - (i + 1))) bytes ≡ all = subst (λ m. behind_frames m bytes ≡ all) e so_far in
+    rw (back, is) so
