@@ -10,6 +10,7 @@ use Rattle.image_update.specs.Encoding.{count_put, step_in, steps_in}
 use Rattle.image_update.specs.declared.kinds.Kind.TheVariants.{Block, Word}
 use Rattle.image_update.specs.Layout.{behind_frames, contents_in, facing, frame_pairs, pairs_in, part_pairs, size_of}
 use Rattle.image_update.specs.Pairs.{Built, Pair, after, built}
+use Rattle.image_update.proofs.Whole.{fits_from}
 
 -- ---- what steps give
 
@@ -32,6 +33,15 @@ applied_more steps i s old put new all lt is fit so_far =
     let next : drop i steps ≡ s ∷ drop (i + 1) steps = drop_more steps i s lt ∙ ap (λ q. q ∷ drop (i + 1) steps) (sym is) in
     let one : applied (s ∷ drop (i + 1) steps) old put ≡ option_map (λ (rest : List ℕ). take s.keep old ++ (take s.put put ++ rest)) (applied (drop (i + 1) steps) (drop s.skip (drop s.keep old)) (drop s.put put)) = rw fit refl in
     sym (front_joined new (take s.keep old) (take s.put put) _) ∙ ap (with_front new) (sym one) ∙ ap (λ (q : List Step). with_front new (applied q old put)) (sym next) ∙ so_far
+
+-- the same, by the pieces that old bytes and those to be put are split into
+pub applied_on : (steps : List Step) (i : ℕ) (s : Step) (old put new kept rest behind came put_rest first second : List ℕ) (all : Option (List ℕ)) → i < length steps → s ≡ get_or steps i s
+    → s.keep ≤ length old → s.skip ≤ length rest → s.put ≤ length put
+    → kept ≡ take s.keep old → rest ≡ drop s.keep old → behind ≡ drop s.skip rest → came ≡ take s.put put → put_rest ≡ drop s.put put → first ≡ new ++ kept → second ≡ first ++ came
+    → with_front new (applied (drop i steps) old put) ≡ all → with_front second (applied (drop (i + 1) steps) behind put_rest) ≡ all
+applied_on steps i s old put new kept rest behind came put_rest first second all lt is k sk p ke re be ce pe fe se so_far =
+    let fit : fits s old put ≡ true = fits_from s old put k (subst (λ (r : List ℕ). s.skip ≤ length r) re sk) p in
+    rw (se, fe, ke, ce, be, re, pe) (applied_more steps i s old put new all lt is fit so_far)
 
 -- a step that doesn't
 pub applied_never : (steps : List Step) (i : ℕ) (s : Step) (old put new : List ℕ) (all : Option (List ℕ)) → i < length steps → s ≡ get_or steps i s → fits s old put ≡ false → with_front new (applied (drop i steps) old put) ≡ all → all ≡ None
@@ -115,7 +125,7 @@ pub one_pair : (k : Kind) (n : ℕ) (old new : List ℕ) → (n ≡ 0) ⊎ ((len
 one_pair k zero old new end = refl
 one_pair k (suc n) old new end =
     let short : (nat_lt (length old) (size_of k) || nat_lt (length new) (size_of k)) ≡ true = elim end [
-      | inl zero ↦ absurd (omega arith)
+      | inl none ↦ absurd (omega (arith, none))
       | inr some ↦ elim some [
         | inl a ↦ or_left _ _ (lt-ltb _ _ a)
         | inr b ↦ or_right _ _ (lt-ltb _ _ b)

@@ -136,6 +136,19 @@ unfolding encoded
 encoded-length c =
     omega (arith, length-append (long (length c.steps)) (flat_map step_bytes c.steps ++ c.put), long_length (length c.steps), length-append (flat_map step_bytes c.steps) c.put, steps_length c.steps)
 
+same_changes : (steps others : List Step) (put more : List ℕ) → steps ≡ others → put ≡ more → record { steps = steps; put = put } ≡ (record { steps = others; put = more } : Changes)
+same_changes steps others put more p q = cc
+
+-- what was read, piece by piece
+pub read_so : (bytes rest behind put : List ℕ) (steps : List Step) (count : ℕ) → count ≡ long_in bytes → rest ≡ drop 8 bytes → behind ≡ drop (24 * count) rest → put ≡ behind → steps ≡ steps_in count rest
+    → record { steps = steps; put = put } ≡ changes_in bytes
+read_so bytes rest behind put steps count ce re be pe se =
+    same_changes steps (steps_in (long_in bytes) (drop 8 bytes)) put (drop (24 * long_in bytes) (drop 8 bytes)) (se ∙ rw (ce, re) refl) (pe ∙ be ∙ rw (ce, re) refl)
+
+-- so many steps are there
+pub read_within : (bytes rest : List ℕ) (count : ℕ) → count ≡ long_in bytes → rest ≡ drop 8 bytes → 8 ≤ length bytes → 24 * count ≤ length rest → 8 + 24 * long_in bytes ≤ length bytes
+read_within bytes rest count ce re eight le = omega (arith, ce, ap length re, length-drop 8 bytes, eight, le)
+
 -- ---- faults
 
 pub fault_large : (bytes : List ℕ) → 2 ^ 24 < length bytes → fault_of bytes ≡ Some TooLarge
@@ -158,6 +171,10 @@ no_fault c is =
     let n : long_in (encoded c) ≡ length c.steps = count_again c is in
     let even : count_put (changes_in (encoded c)).steps ≡ length (changes_in (encoded c)).put = subst (λ (d : Changes). count_put d.steps ≡ length d.put) (sym (changes_again c is)) is.even in
     fault_none (encoded c) (omega (arith, encoded-length c, is.small)) (omega (arith, n, encoded-length c)) even
+
+pub no_some : (o : Option Unread) (u : Unread) → o ≡ None → o ≡ Some u → ⊥
+no_some None u a b = cc
+no_some (Some v) u a b = cc
 
 pub one_encoding : (c d : Changes) → IsDifference c → IsDifference d → encoded c ≡ encoded d → c ≡ d
 one_encoding c d is other e = sym (changes_again c is) ∙ ap changes_in e ∙ changes_again d other
