@@ -100,7 +100,7 @@ behind_news n old new pairs e =
     ∙ append_assoc (news (frame_pairs n old new)) (news pairs) []
     ∙ ap (λ (q : List ℕ). news (frame_pairs n old new) ++ q) e ∙ frame_news n old new
 
-pairs_old : (old new : List ℕ) → olds (pairs_of old new) ≡ old
+pub pairs_old : (old new : List ℕ) → olds (pairs_of old new) ≡ old
 pairs_old old new =
     let n = frames_of old new in
     let rows = row_pairs (counts_in old) (counts_in new) (behind_frames n (drop 512 old)) (behind_frames n (drop 512 new)) in
@@ -108,7 +108,7 @@ pairs_old old new =
     (old_front Head 512 512 old new [] (frame_pairs n (drop 512 old) (drop 512 new) ++ rows)
     (behind_olds n (drop 512 old) (drop 512 new) rows (row_olds (counts_in old) (counts_in new) (behind_frames n (drop 512 old)) (behind_frames n (drop 512 new)))))
 
-pairs_new : (old new : List ℕ) → news (pairs_of old new) ≡ new
+pub pairs_new : (old new : List ℕ) → news (pairs_of old new) ≡ new
 pairs_new old new =
     let n = frames_of old new in
     let rows = row_pairs (counts_in old) (counts_in new) (behind_frames n (drop 512 old)) (behind_frames n (drop 512 new)) in

@@ -1,15 +1,16 @@
 -- What loops come to, one step on and at their ends.
-use Rattle.std.proofs.Common.{◌≡◌, ◌≢◌, ◌⊎◌, inl, inr, ℕ, zero, suc, ◌+◌, ◌-◌, ◌*◌, ◌^◌, ◌<◌, ◌≤◌, nat_lt, ◌||◌, Bool, true, false, cond, List, [], ◌∷◌, ◌++◌, length, take, drop, get_or, Option, Some, None, refl, sym, ap, subst, ◌∙◌, arith, append_assoc}
+use Rattle.std.proofs.Common.{◌≡◌, ◌≢◌, ◌⊎◌, inl, inr, ℕ, zero, suc, ◌+◌, ◌-◌, ◌*◌, ◌^◌, ◌<◌, ◌≤◌, nat_lt, ◌||◌, Bool, true, false, cond, List, [], ◌∷◌, ◌++◌, length, take, drop, get_or, min, Option, Some, None, refl, sym, ap, subst, ◌∙◌, arith, append_assoc}
 use Rattle.std.specs.Option.{option_map}
 use Rattle.std.proofs.lemmas.Bool.{cond-true, cond-false, or_from, or_left, or_right, le-ltb, lt-ltb}
 use Rattle.std.proofs.lemmas.List.{append-nil, drop_all, drop_more}
+use Rattle.image_update.specs.declared.counts.Counts.{Counts}
 use Rattle.image_update.specs.declared.kinds.Kind.{Kind}
 use Rattle.image_update.specs.declared.steps.Step.{Step}
 use Rattle.image_update.specs.Changes.{applied, fits}
 use Rattle.image_update.specs.Encoding.{count_put, step_in, steps_in}
-use Rattle.image_update.specs.declared.kinds.Kind.TheVariants.{Block, Word}
-use Rattle.image_update.specs.Layout.{behind_frames, contents_in, facing, frame_pairs, pairs_in, part_pairs, size_of}
-use Rattle.image_update.specs.Pairs.{Built, Pair, after, built}
+use Rattle.image_update.specs.declared.kinds.Kind.TheVariants.{AuditRow, Block, Head, Row, Span, Word}
+use Rattle.image_update.specs.Layout.{behind_frames, contents_in, counts_in, facing, frame_pairs, pairs_in, pairs_of, part_pairs, size_of}
+use Rattle.image_update.specs.Pairs.{Built, Pair, after, built, nothing_built}
 use Rattle.image_update.proofs.Whole.{fits_from}
 
 -- ---- what steps give
@@ -27,21 +28,21 @@ front_none None = refl
 front_none (Some r) = refl
 
 -- a step that fits
-pub applied_more : (steps : List Step) (i : ℕ) (s : Step) (old put new : List ℕ) (all : Option (List ℕ)) → i < length steps → s ≡ get_or steps i s → fits s old put ≡ true → with_front new (applied (drop i steps) old put) ≡ all
+applied_more : (steps : List Step) (i : ℕ) (s d : Step) (old put new : List ℕ) (all : Option (List ℕ)) → i < length steps → s ≡ get_or steps i d → fits s old put ≡ true → with_front new (applied (drop i steps) old put) ≡ all
     → with_front ((new ++ take s.keep old) ++ take s.put put) (applied (drop (i + 1) steps) (drop s.skip (drop s.keep old)) (drop s.put put)) ≡ all
-applied_more steps i s old put new all lt is fit so_far =
-    let next : drop i steps ≡ s ∷ drop (i + 1) steps = drop_more steps i s lt ∙ ap (λ q. q ∷ drop (i + 1) steps) (sym is) in
+applied_more steps i s d old put new all lt is fit so_far =
+    let next : drop i steps ≡ s ∷ drop (i + 1) steps = drop_more steps i d lt ∙ ap (λ q. q ∷ drop (i + 1) steps) (sym is) in
     let one : applied (s ∷ drop (i + 1) steps) old put ≡ option_map (λ (rest : List ℕ). take s.keep old ++ (take s.put put ++ rest)) (applied (drop (i + 1) steps) (drop s.skip (drop s.keep old)) (drop s.put put)) = rw fit refl in
     sym (front_joined new (take s.keep old) (take s.put put) _) ∙ ap (with_front new) (sym one) ∙ ap (λ (q : List Step). with_front new (applied q old put)) (sym next) ∙ so_far
 
 -- the same, by the pieces that old bytes and those to be put are split into
-pub applied_on : (steps : List Step) (i : ℕ) (s : Step) (old put new kept rest behind came put_rest first second : List ℕ) (all : Option (List ℕ)) → i < length steps → s ≡ get_or steps i s
+pub applied_on : (steps : List Step) (i : ℕ) (s d : Step) (old put new kept rest behind came put_rest first second : List ℕ) (all : Option (List ℕ)) → i < length steps → s ≡ get_or steps i d
     → s.keep ≤ length old → s.skip ≤ length rest → s.put ≤ length put
     → kept ≡ take s.keep old → rest ≡ drop s.keep old → behind ≡ drop s.skip rest → came ≡ take s.put put → put_rest ≡ drop s.put put → first ≡ new ++ kept → second ≡ first ++ came
     → with_front new (applied (drop i steps) old put) ≡ all → with_front second (applied (drop (i + 1) steps) behind put_rest) ≡ all
-applied_on steps i s old put new kept rest behind came put_rest first second all lt is k sk p ke re be ce pe fe se so_far =
+applied_on steps i s d old put new kept rest behind came put_rest first second all lt is k sk p ke re be ce pe fe se so_far =
     let fit : fits s old put ≡ true = fits_from s old put k (subst (λ (r : List ℕ). s.skip ≤ length r) re sk) p in
-    rw (se, fe, ke, ce, be, re, pe) (applied_more steps i s old put new all lt is fit so_far)
+    rw (se, fe, ke, ce, be, re, pe) (applied_more steps i s d old put new all lt is fit so_far)
 
 -- a step that doesn't
 pub applied_never : (steps : List Step) (i : ℕ) (s : Step) (old put new : List ℕ) (all : Option (List ℕ)) → i < length steps → s ≡ get_or steps i s → fits s old put ≡ false → with_front new (applied (drop i steps) old put) ≡ all → all ≡ None
@@ -170,3 +171,34 @@ behind_more count i bytes word rest all lt is back so_far =
     let e : count - i ≡ suc (count - (i + 1)) = omega arith in
     let so : behind_frames (suc (count - (i + 1))) bytes ≡ all = subst (λ m. behind_frames m bytes ≡ all) e so_far in
     rw (back, is) so
+
+-- ---- both fronts
+
+-- five lists of pairs, one after the other
+all_built : (p q r s t : List Pair) (b c d e f g : Built) → c ≡ built p b → d ≡ built q c → e ≡ built r d → f ≡ built s e → g ≡ built t f → g ≡ built (p ++ (q ++ (r ++ (s ++ t)))) b
+all_built p q r s t b c d e f g ce de ee fe ge =
+    let one = built_both p (q ++ (r ++ (s ++ t))) b in
+    let two = built_both q (r ++ (s ++ t)) (built p b) in
+    let three = built_both r (s ++ t) (built q (built p b)) in
+    let four = built_both s t (built r (built q (built p b))) in
+    ge ∙ ap (λ (x : Built). built t x) (fe ∙ ap (λ (x : Built). built s x) (ee ∙ ap (λ (x : Built). built r x) (de ∙ ap (λ (x : Built). built q x) ce)))
+    ∙ sym (one ∙ two ∙ three ∙ four)
+
+-- all parts of both fronts, by what is left of them behind each
+pub walked : (old new old1 new1 old2 new2 old3 new3 old4 new4 : List ℕ) (before now : Counts) (n : ℕ) (b c d e f g : Built) → before ≡ counts_in old → now ≡ counts_in new → n ≡ min before.frames now.frames
+    → old1 ≡ drop 512 old → new1 ≡ drop 512 new → old2 ≡ behind_frames n old1 → new2 ≡ behind_frames n new1
+    → old3 ≡ drop (40 * before.rows) old2 → new3 ≡ drop (40 * now.rows) new2 → old4 ≡ drop (24 * before.spans) old3 → new4 ≡ drop (24 * now.spans) new3
+    → b ≡ nothing_built → c ≡ built (part_pairs Head (take 512 old) (take 512 new)) b → d ≡ built (frame_pairs n old1 new1) c
+    → e ≡ built (part_pairs Row (take (40 * before.rows) old2) (take (40 * now.rows) new2)) d
+    → f ≡ built (part_pairs Span (take (24 * before.spans) old3) (take (24 * now.spans) new3)) e
+    → g ≡ built (part_pairs AuditRow old4 new4) f → g ≡ built (pairs_of old new) nothing_built
+walked old new old1 new1 old2 new2 old3 new3 old4 new4 before now n b c d e f g is_before is_now is_n o1 n1 o2 n2 o3 n3 o4 n4 be ce de ee fe ge =
+    let head = part_pairs Head (take 512 old) (take 512 new) in
+    let frames = frame_pairs n old1 new1 in
+    let rows = part_pairs Row (take (40 * before.rows) old2) (take (40 * now.rows) new2) in
+    let spans = part_pairs Span (take (24 * before.spans) old3) (take (24 * now.spans) new3) in
+    let audit = part_pairs AuditRow old4 new4 in
+    let all : head ++ (frames ++ (rows ++ (spans ++ audit))) ≡ pairs_of old new = rw (o4, n4, o3, n3, o2, n2, o1, n1, is_n, is_before, is_now) refl in
+    all_built head frames rows spans audit b c d e f g ce de ee fe ge
+    ∙ ap (λ (x : Built). built (head ++ (frames ++ (rows ++ (spans ++ audit)))) x) be
+    ∙ ap (λ (ps : List Pair). built ps nothing_built) all

@@ -136,12 +136,16 @@ unfolding encoded
 encoded-length c =
     omega (arith, length-append (long (length c.steps)) (flat_map step_bytes c.steps ++ c.put), long_length (length c.steps), length-append (flat_map step_bytes c.steps) c.put, steps_length c.steps)
 
-same_changes : (steps others : List Step) (put more : List ℕ) → steps ≡ others → put ≡ more → record { steps = steps; put = put } ≡ (record { steps = others; put = more } : Changes)
+made_changes : List Step → List ℕ → Changes
+made_changes steps put = record { steps = steps; put = put }
+
+same_changes : (steps others : List Step) (put more : List ℕ) → steps ≡ others → put ≡ more → made_changes steps put ≡ made_changes others more
 same_changes steps others put more p q = cc
 
 -- what was read, piece by piece
 pub read_so : (bytes rest behind put : List ℕ) (steps : List Step) (count : ℕ) → count ≡ long_in bytes → rest ≡ drop 8 bytes → behind ≡ drop (24 * count) rest → put ≡ behind → steps ≡ steps_in count rest
     → record { steps = steps; put = put } ≡ changes_in bytes
+unfolding made_changes
 read_so bytes rest behind put steps count ce re be pe se =
     same_changes steps (steps_in (long_in bytes) (drop 8 bytes)) put (drop (24 * long_in bytes) (drop 8 bytes)) (se ∙ rw (ce, re) refl) (pe ∙ be ∙ rw (ce, re) refl)
 
