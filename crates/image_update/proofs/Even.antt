@@ -1,10 +1,9 @@
 -- What pairs give puts as many bytes as its steps say, and its steps are no longer than the pairs.
-use Rattle.std.proofs.Common.{◌≡◌, ℕ, zero, suc, ◌+◌, ◌^◌, ◌<◌, ◌≤◌, ◌==◌, ◌&&◌, Bool, true, false, cond, List, [], ◌∷◌, ◌++◌, length, refl, sym, ap, subst, ◌∙◌, arith, length-append}
+use Rattle.std.proofs.Common.{◌≡◌, ℕ, ◌+◌, ◌^◌, ◌<◌, ◌==◌, ◌&&◌, Bool, true, false, cond, List, [], ◌∷◌, ◌++◌, length, refl, sym, ap, ◌∙◌, arith, length-append}
 use Rattle.std.specs.List.{AllByRecursion}
 use Rattle.std.specs.Str.{bytes_eq}
 use Rattle.std.proofs.lemmas.Bool.{and_parts, eqb-true}
 use Rattle.image_update.specs.declared.steps.Step.{Step}
-use Rattle.image_update.specs.Changes.{Changes}
 use Rattle.image_update.specs.Encoding.{IsEven, IsStep, count_put}
 use Rattle.image_update.specs.Layout.{difference_of, pairs_of}
 use Rattle.image_update.specs.Pairs.{Built, Grows, Pair, after, built, changes_of, keeping, news, nothing_built, olds, replacing}

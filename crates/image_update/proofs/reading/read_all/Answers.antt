@@ -1,5 +1,4 @@
 use Rattle.std.proofs.Common.{ℕ, ◌+◌, ◌*◌, ◌≤◌, List, ◌++◌, length, ◌≡◌, refl, sym, ap, subst, ◌∙◌, arith}
-use Rattle.lemmas.proofs.Bytes.{IsBytes}
 use Rattle.image_update.specs.Changes.{Changes}
 use Rattle.image_update.specs.Encoding.{IsDifference, changes_in, count_put, long_in, steps_in}
 use Rattle.image_update.proofs.Spelled.{changes_back, read_is, read_so, read_within}

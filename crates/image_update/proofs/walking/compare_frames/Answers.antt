@@ -21,7 +21,7 @@ loop-preserved c =
     ∙ ap (λ (n : ℕ). built (part_pairs Block (take (contents_in old) old_word) (take n new_word)) between) now in
     record {
       pairs = frames_more c.args.count c.loop.counter old new old_word new_word c.in_ok-old_rest.field-0-0.now c.in_ok-old_rest.field-0-1.now (built_in c.loop.out) between (built_in c.compare_part-in-loop.new.out) _
-      c.loop-test.true c.in_ok-old.ensures.old c.in_ok-old.ensures.new old_is new_is c.in_ok-old.ensures.pairs blocks c.loop.invariant.pairs;
+          c.loop-test.true c.in_ok-old.ensures.old c.in_ok-old.ensures.new old_is new_is c.in_ok-old.ensures.pairs blocks c.loop.invariant.pairs;
       old = behind_more c.args.count c.loop.counter old old_word c.in_ok-old_rest.field-0-0.now _ c.loop-test.true c.in_ok-old.ensures.old old_is c.loop.invariant.old;
       new = behind_more c.args.count c.loop.counter new new_word c.in_ok-old_rest.field-0-1.now _ c.loop-test.true c.in_ok-old.ensures.new new_is c.loop.invariant.new;
       room = c.in_ok-old_rest.ensures.room;

@@ -22,8 +22,8 @@ returns-then-old-size-clause-pairs c =
     ] in
     on_ok_weaker c.pair.result
     (λ after.
-      built_last kind left c.loop.old.now c.loop.new.now (built_in c.loop.out) (built_in c.pair.new.self) _ end after c.loop.invariant.pairs
-      ∙ ap (λ (s : ℕ). built (pairs_in kind (length old / s + length new / s) old new) (built_in c.args.out.now)) is)
+    built_last kind left c.loop.old.now c.loop.new.now (built_in c.loop.out) (built_in c.pair.new.self) _ end after c.loop.invariant.pairs
+    ∙ ap (λ (s : ℕ). built (pairs_in kind (length old / s + length new / s) old new) (built_in c.args.out.now)) is)
     c.pair.ensures.pair
 
 pub loop-preserved : goal.loop-preserved
@@ -36,8 +36,8 @@ loop-preserved c =
     let n = c.facing-before.result.1 in
     record {
       pairs = built_more c.args.kind (length c.args.old.now / size + length c.args.new.now / size) c.loop.counter m n old new c.split_at.result.0.now c.split_at-in-loop.result.0.now c.split_at.result.1.now c.split_at-in-loop.result.1.now
-      (built_in c.loop.out) (built_in c.pair-in-loop.new.self) _ c.loop-test.true (omega (arith, c.if-old-size.false, is)) (omega (arith, c.if-new-size.false, is)) c.facing-before.ensures
-      c.split_at.ensures.front c.split_at.ensures.back c.split_at-in-loop.ensures.front c.split_at-in-loop.ensures.back c.in_ok-pair.ensures.pair c.loop.invariant.pairs;
+          (built_in c.loop.out) (built_in c.pair-in-loop.new.self) _ c.loop-test.true (omega (arith, c.if-old-size.false, is)) (omega (arith, c.if-new-size.false, is)) c.facing-before.ensures
+          c.split_at.ensures.front c.split_at.ensures.back c.split_at-in-loop.ensures.front c.split_at-in-loop.ensures.back c.in_ok-pair.ensures.pair c.loop.invariant.pairs;
       old = omega (arith, c.in_ok-pair.ensures.grows.old, c.loop.invariant.old, ap length c.split_at.ensures.front, length-take m old, ap length c.split_at.ensures.back, length-drop m old);
       new = omega (arith, c.in_ok-pair.ensures.grows.new, c.loop.invariant.new, ap length c.split_at-in-loop.ensures.front, length-take n new, ap length c.split_at-in-loop.ensures.back, length-drop n new);
     }
