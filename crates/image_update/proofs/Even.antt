@@ -6,7 +6,7 @@ use Rattle.std.proofs.lemmas.Bool.{and_parts, eqb-true}
 use Rattle.image_update.specs.declared.steps.Step.{Step}
 use Rattle.image_update.specs.Encoding.{IsEven, IsStep, count_put}
 use Rattle.image_update.specs.Layout.{difference_of, pairs_of}
-use Rattle.image_update.specs.Pairs.{Built, Grows, Pair, after, built, changes_of, keeping, news, nothing_built, olds, replacing}
+use Rattle.image_update.specs.Pairs.{Built, Pair, after, built, changes_of, keeping, news, nothing_built, olds, replacing}
 use Rattle.image_update.proofs.Cuts.{pairs_new, pairs_old}
 use Rattle.image_update.proofs.Loops.{count_put_more}
 
@@ -46,32 +46,12 @@ after_even : (t : Bool) (p : Pair) (b : Built) → IsEven (changes_of b) → IsE
 after_even true p b e = keeping_even (length p.old) b e
 after_even false p b e = replacing_even p.old p.new b e
 
-pub built_even : (pairs : List Pair) (b : Built) → IsEven (changes_of b) → IsEven (changes_of (built pairs b))
+built_even : (pairs : List Pair) (b : Built) → IsEven (changes_of b) → IsEven (changes_of (built pairs b))
 built_even [] b e = e
 built_even (p ∷ pairs) b e = built_even pairs (after p b) (after_even (bytes_eq p.old p.new) p b e)
 
 pub pairs_even : (pairs : List Pair) → IsEven (changes_of (built pairs nothing_built))
 pairs_even pairs = built_even pairs nothing_built refl
-
--- ---- how long the last step is
-
-step_grows : (t : Bool) (n : ℕ) (b : Built) → Grows b (cond t (same_step n b) (new_step n b)) n 0
-step_grows true n b = record { old = omega arith; new = omega arith }
-step_grows false n b = record { old = omega arith; new = omega arith }
-
-any_grows : (t : Bool) (n : ℕ) (b : Built) → Grows b (cond t b (kept_on n b)) n 0
-any_grows true n b = record { old = omega arith; new = omega arith }
-any_grows false n b = step_grows (b.last.skip == 0 && b.last.put == 0) n b
-
-keeping_grows : (n : ℕ) (b : Built) → Grows b (keeping n b) n 0
-keeping_grows n b = any_grows (n == 0) n b
-
-grows_by : (t : Bool) (x y : List ℕ) (b : Built) → Grows b (cond t (keeping (length x) b) (replacing x y b)) (length x) (length y)
-grows_by true x y b = let k = keeping_grows (length x) b in record { old = k.old; new = omega (arith, k.new) }
-grows_by false x y b = record { old = omega arith; new = omega arith }
-
-pub after_grows : (x y : List ℕ) (b : Built) → Grows b (after (record { old = x; new = y }) b) (length x) (length y)
-after_grows x y b = grows_by (bytes_eq x y) x y b
 
 -- ---- how long each step is
 

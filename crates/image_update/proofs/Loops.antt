@@ -2,7 +2,7 @@
 use Rattle.std.proofs.Common.{◌≡◌, ◌≢◌, ◌⊎◌, inl, inr, ℕ, zero, suc, ◌+◌, ◌-◌, ◌*◌, ◌<◌, ◌≤◌, nat_lt, ◌||◌, true, false, List, [], ◌∷◌, ◌++◌, length, take, drop, get_or, min, Option, Some, None, refl, sym, ap, subst, ◌∙◌, arith, append_assoc}
 use Rattle.std.specs.Option.{option_map}
 use Rattle.std.proofs.lemmas.Bool.{cond-true, cond-false, or_from, or_left, or_right, le-ltb, lt-ltb}
-use Rattle.std.proofs.lemmas.List.{append-nil, drop_all, drop_more}
+use Rattle.std.proofs.lemmas.List.{drop_more}
 use Rattle.image_update.specs.declared.counts.Counts.{Counts}
 use Rattle.image_update.specs.declared.kinds.Kind.{Kind}
 use Rattle.image_update.specs.declared.steps.Step.{Step}
@@ -23,10 +23,6 @@ front_joined : (x y z : List ℕ) (r : Option (List ℕ)) → with_front x (opti
 front_joined x y z None = refl
 front_joined x y z (Some r) = ap (λ (q : List ℕ). Some q) (sym (append_assoc (x ++ y) z r ∙ append_assoc x y (z ++ r)))
 
-pub front_none : (r : Option (List ℕ)) → r ≡ with_front [] r
-front_none None = refl
-front_none (Some r) = refl
-
 -- a step that fits
 applied_more : (steps : List Step) (i : ℕ) (s d : Step) (old put new : List ℕ) (all : Option (List ℕ)) → i < length steps → s ≡ get_or steps i d → fits s old put ≡ true → with_front new (applied (drop i steps) old put) ≡ all
     → with_front ((new ++ take s.keep old) ++ take s.put put) (applied (drop (i + 1) steps) (drop s.skip (drop s.keep old)) (drop s.put put)) ≡ all
@@ -44,35 +40,13 @@ applied_on steps i s d old put new kept rest behind came put_rest first second a
     let fit : fits s old put ≡ true = fits_from s old put k (subst (λ (r : List ℕ). s.skip ≤ length r) re sk) p in
     rw (se, fe, ke, ce, be, re, pe) (applied_more steps i s d old put new all lt is fit so_far)
 
--- a step that doesn't
-pub applied_never : (steps : List Step) (i : ℕ) (s : Step) (old put new : List ℕ) (all : Option (List ℕ)) → i < length steps → s ≡ get_or steps i s → fits s old put ≡ false → with_front new (applied (drop i steps) old put) ≡ all → all ≡ None
-applied_never steps i s old put new all lt is fit so_far =
-    let next : drop i steps ≡ s ∷ drop (i + 1) steps = drop_more steps i s lt ∙ ap (λ q. q ∷ drop (i + 1) steps) (sym is) in
-    let one : applied (s ∷ drop (i + 1) steps) old put ≡ None = rw fit refl in
-    sym so_far ∙ ap (λ (q : List Step). with_front new (applied q old put)) next ∙ ap (with_front new) one
-
-left_none : (old put new : List ℕ) → (old ≡ [] → put ≡ [] → ⊥) → with_front new (applied [] old put) ≡ None
-left_none [] [] new not_both = absurd (not_both refl refl)
-left_none [] (b ∷ put) new not_both = refl
-left_none (b ∷ old) put new not_both = refl
-
--- no step more, and bytes are left
-pub applied_left : (steps : List Step) (i : ℕ) (old put new : List ℕ) (all : Option (List ℕ)) → length steps ≤ i → (old ≡ [] → put ≡ [] → ⊥) → with_front new (applied (drop i steps) old put) ≡ all → all ≡ None
-applied_left steps i old put new all end not_both so_far =
-    sym so_far ∙ ap (λ (q : List Step). with_front new (applied q old put)) (drop_all i steps end) ∙ left_none old put new not_both
-
--- no step more, and nothing is left
-pub applied_all : (steps : List Step) (i : ℕ) (old put new : List ℕ) (all : Option (List ℕ)) → length steps ≤ i → old ≡ [] → put ≡ [] → with_front new (applied (drop i steps) old put) ≡ all → all ≡ Some new
-applied_all steps i old put new all end a b so_far =
-    sym so_far ∙ ap (λ (q : List Step). with_front new (applied q old put)) (drop_all i steps end) ∙ rw (a, b) (ap (λ (q : List ℕ). Some q) (append-nil new))
-
 -- ---- what is read
 
 pub count_put_more : (steps : List Step) (s : Step) → count_put (steps ++ s ∷ []) ≡ count_put steps + s.put
 count_put_more [] s = omega arith
 count_put_more (t ∷ steps) s = omega (arith, count_put_more steps s)
 
-pub count_put_both : (steps more : List Step) → count_put (steps ++ more) ≡ count_put steps + count_put more
+count_put_both : (steps more : List Step) → count_put (steps ++ more) ≡ count_put steps + count_put more
 count_put_both [] more = omega arith
 count_put_both (t ∷ steps) more = omega (arith, count_put_both steps more)
 
@@ -92,12 +66,6 @@ puts_more items all n i left put rest s lt is so_far even more =
     let next : steps_in (n - i) rest ≡ s ∷ steps_in (n - i - 1) (drop 24 rest) = steps_next (n - i) rest (omega arith) ∙ rw is refl in
     let sum : count_put all ≡ count_put items + (s.put + count_put (steps_in (n - i - 1) (drop 24 rest))) = ap count_put (sym so_far) ∙ count_put_both items (steps_in (n - i) rest) ∙ ap (λ q. count_put items + count_put q) next in
     λ e. omega arith
-
-pub steps_all : (items all : List Step) (n i : ℕ) (rest : List ℕ) → n ≤ i → items ++ steps_in (n - i) rest ≡ all → items ≡ all
-steps_all items all n i rest end so_far =
-    let k : n - i ≡ 0 = omega arith in
-    let so : items ++ [] ≡ all = subst (λ m. items ++ steps_in m rest ≡ all) k so_far in
-    sym (append-nil items) ∙ so
 
 -- ---- what is compared
 
@@ -139,7 +107,7 @@ pub built_last : (k : Kind) (n : ℕ) (old new : List ℕ) (b c all : Built) →
 built_last k n old new b c all end is so_far =
     is ∙ sym (ap (λ (ps : List Pair). built ps b) (one_pair k n old new end)) ∙ so_far
 
-pub built_both : (ps qs : List Pair) (b : Built) → built (ps ++ qs) b ≡ built qs (built ps b)
+built_both : (ps qs : List Pair) (b : Built) → built (ps ++ qs) b ≡ built qs (built ps b)
 built_both [] qs b = refl
 built_both (p ∷ ps) qs b = built_both ps qs (after p b)
 

@@ -64,7 +64,8 @@ pub fn difference_between(alloc: Global, old: &[u8], new: &[u8]) -> Result<Diffe
     ensures whole { IfOk result (λ d. patched d old.now ≡ Some new.now) }
     ensures small { IfOk result (λ d. encoded_length d ≤ 2 ^ 24) }
     ensures larger { IfErr result (λ why. (why ≡ NoDifference.NoMemory)
-        ⊎ ((why ≡ NoDifference.TooLarge) × (2 ^ 24 < encoded_length (difference_of old.now new.now)))) }
+        ⊎ ((why ≡ NoDifference.TooLarge)
+        × (2 ^ 24 < encoded_length (difference_of old.now new.now)))) }
 {
     let out = walk(alloc, old, new)?;
     within_largest(out)
