@@ -129,9 +129,9 @@ changes_again c is =
     let put : drop (24 * length c.steps) (flat_map step_bytes c.steps ++ c.put) ≡ c.put = drop_at (flat_map step_bytes c.steps) c.put (24 * length c.steps) (steps_length c.steps) in
     rw (count_again c is, rest_again c, steps, put) refl
 
-encoded-length : (c : Changes) → length (encoded c) ≡ encoded_length c
+pub encoded_bytes : (c : Changes) → length (encoded c) ≡ encoded_length c
 unfolding encoded
-encoded-length c =
+encoded_bytes c =
     omega (arith, length-append (long (length c.steps)) (flat_map step_bytes c.steps ++ c.put), long_length (length c.steps), length-append (flat_map step_bytes c.steps) c.put, steps_length c.steps)
 
 made_changes : List Step → List ℕ → Changes
@@ -162,7 +162,7 @@ pub no_fault : (c : Changes) → IsDifference c → fault_of (encoded c) ≡ Non
 no_fault c is =
     let n : long_in (encoded c) ≡ length c.steps = count_again c is in
     let even : count_put (changes_in (encoded c)).steps ≡ length (changes_in (encoded c)).put = subst (λ (d : Changes). count_put d.steps ≡ length d.put) (sym (changes_again c is)) is.even in
-    fault_none (encoded c) (omega (arith, encoded-length c, is.small)) (omega (arith, n, encoded-length c)) even
+    fault_none (encoded c) (omega (arith, encoded_bytes c, is.small)) (omega (arith, n, encoded_bytes c)) even
 
 pub no_some : (o : Option Unread) (u : Unread) → o ≡ None → o ≡ Some u → ⊥
 no_some None u a b = cc
