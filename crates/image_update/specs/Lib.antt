@@ -1,0 +1,5 @@
+pub mod Changes
+pub mod Pairs
+pub mod Layout
+pub mod Encoding
+pub mod Bounds
