@@ -9,7 +9,7 @@ use Rattle.image_update.specs.declared.steps.Step.{Step}
 use Rattle.image_update.specs.Changes.{applied, fits}
 use Rattle.image_update.specs.Encoding.{count_put, step_in, steps_in}
 use Rattle.image_update.specs.declared.kinds.Kind.TheVariants.{AuditRow, Block, Head, Row, Span, Word}
-use Rattle.image_update.specs.Layout.{behind_frames, contents_in, counts_in, facing, frame_pairs, pairs_in, pairs_of, part_pairs, size_of}
+use Rattle.image_update.specs.Layout.{after_frames, contents_in, counts_in, facing, frame_pairs, pairs_in, pairs_of, part_pairs, size_of}
 use Rattle.image_update.specs.Pairs.{Built, Pair, after, built, nothing_built}
 use Rattle.image_update.proofs.Whole.{fits_from}
 
@@ -32,11 +32,11 @@ applied_more steps i s d old put new all lt is fit so_far =
     sym (front_joined new (take s.keep old) (take s.put put) _) ∙ ap (with_front new) (sym one) ∙ ap (λ (q : List Step). with_front new (applied q old put)) (sym next) ∙ so_far
 
 -- the same, by the pieces that old bytes and those to be put are split into
-pub applied_on : (steps : List Step) (i : ℕ) (s d : Step) (old put new kept rest behind came put_rest first second : List ℕ) (all : Option (List ℕ)) → i < length steps → s ≡ get_or steps i d
+pub applied_on : (steps : List Step) (i : ℕ) (s d : Step) (old put new kept rest after came put_rest first second : List ℕ) (all : Option (List ℕ)) → i < length steps → s ≡ get_or steps i d
     → s.keep ≤ length old → s.skip ≤ length rest → s.put ≤ length put
-    → kept ≡ take s.keep old → rest ≡ drop s.keep old → behind ≡ drop s.skip rest → came ≡ take s.put put → put_rest ≡ drop s.put put → first ≡ new ++ kept → second ≡ first ++ came
-    → with_front new (applied (drop i steps) old put) ≡ all → with_front second (applied (drop (i + 1) steps) behind put_rest) ≡ all
-applied_on steps i s d old put new kept rest behind came put_rest first second all lt is k sk p ke re be ce pe fe se so_far =
+    → kept ≡ take s.keep old → rest ≡ drop s.keep old → after ≡ drop s.skip rest → came ≡ take s.put put → put_rest ≡ drop s.put put → first ≡ new ++ kept → second ≡ first ++ came
+    → with_front new (applied (drop i steps) old put) ≡ all → with_front second (applied (drop (i + 1) steps) after put_rest) ≡ all
+applied_on steps i s d old put new kept rest after came put_rest first second all lt is k sk p ke re be ce pe fe se so_far =
     let fit : fits s old put ≡ true = fits_from s old put k (subst (λ (r : List ℕ). s.skip ≤ length r) re sk) p in
     rw (se, fe, ke, ce, be, re, pe) (applied_more steps i s d old put new all lt is fit so_far)
 
@@ -54,11 +54,11 @@ steps_next : (n : ℕ) (rest : List ℕ) → 0 < n → steps_in n rest ≡ step_
 steps_next zero rest lt = absurd (omega (arith, lt))
 steps_next (suc n) rest lt = let k : suc n - 1 ≡ n = omega arith in rw k refl
 
-pub steps_more : (items all : List Step) (n i : ℕ) (rest behind : List ℕ) (s : Step) → i < n → s ≡ step_in rest → behind ≡ drop 24 rest → items ++ steps_in (n - i) rest ≡ all → (items ++ s ∷ []) ++ steps_in (n - (i + 1)) behind ≡ all
-steps_more items all n i rest behind s lt is back so_far =
+pub steps_more : (items all : List Step) (n i : ℕ) (rest after : List ℕ) (s : Step) → i < n → s ≡ step_in rest → after ≡ drop 24 rest → items ++ steps_in (n - i) rest ≡ all → (items ++ s ∷ []) ++ steps_in (n - (i + 1)) after ≡ all
+steps_more items all n i rest after s lt is back so_far =
     let k : n - i - 1 ≡ n - (i + 1) = omega arith in
-    let next : steps_in (n - i) rest ≡ s ∷ steps_in (n - (i + 1)) behind = steps_next (n - i) rest (omega arith) ∙ rw (is, back, k) refl in
-    append_assoc items (s ∷ []) (steps_in (n - (i + 1)) behind) ∙ ap (λ q. items ++ q) (sym next) ∙ so_far
+    let next : steps_in (n - i) rest ≡ s ∷ steps_in (n - (i + 1)) after = steps_next (n - i) rest (omega arith) ∙ rw (is, back, k) refl in
+    append_assoc items (s ∷ []) (steps_in (n - (i + 1)) after) ∙ ap (λ q. items ++ q) (sym next) ∙ so_far
 
 -- a step that puts more than is left
 pub puts_more : (items all : List Step) (n i left put : ℕ) (rest : List ℕ) (s : Step) → i < n → s ≡ step_in rest → items ++ steps_in (n - i) rest ≡ all → count_put items + left ≡ put → left < s.put → count_put all ≢ put
@@ -134,10 +134,10 @@ frames_more count i old new old_word new_word old_rest new_rest b c d all lt ow 
     let both : built (words ++ (blocks ++ others)) b ≡ built others (built blocks (built words b)) = built_both words (blocks ++ others) b ∙ built_both blocks others (built words b) in
     ap (λ (x : Built). built others x) (ds ∙ ap (λ (x : Built). built blocks x) cs) ∙ sym both ∙ ap (λ (ps : List Pair). built ps b) (sym next) ∙ so_far
 
-pub behind_more : (count i : ℕ) (bytes word rest : List ℕ) (all : List ℕ) → i < count → word ≡ drop 8 bytes → rest ≡ drop (contents_in bytes) word → behind_frames (count - i) bytes ≡ all → behind_frames (count - (i + 1)) rest ≡ all
-behind_more count i bytes word rest all lt is back so_far =
+pub after_more : (count i : ℕ) (bytes word rest : List ℕ) (all : List ℕ) → i < count → word ≡ drop 8 bytes → rest ≡ drop (contents_in bytes) word → after_frames (count - i) bytes ≡ all → after_frames (count - (i + 1)) rest ≡ all
+after_more count i bytes word rest all lt is back so_far =
     let e : count - i ≡ suc (count - (i + 1)) = omega arith in
-    let so : behind_frames (suc (count - (i + 1))) bytes ≡ all = subst (λ m. behind_frames m bytes ≡ all) e so_far in
+    let so : after_frames (suc (count - (i + 1))) bytes ≡ all = subst (λ m. after_frames m bytes ≡ all) e so_far in
     rw (back, is) so
 
 -- ---- both fronts
@@ -152,9 +152,9 @@ all_built p q r s t b c d e f g ce de ee fe ge =
     ge ∙ ap (λ (x : Built). built t x) (fe ∙ ap (λ (x : Built). built s x) (ee ∙ ap (λ (x : Built). built r x) (de ∙ ap (λ (x : Built). built q x) ce)))
     ∙ sym (one ∙ two ∙ three ∙ four)
 
--- all parts of both fronts, by what is left of them behind each
+-- all parts of both fronts, by what is left of them after each
 pub walked : (old new old1 new1 old2 new2 old3 new3 old4 new4 : List ℕ) (before now : Counts) (n : ℕ) (b c d e f g : Built) → before ≡ counts_in old → now ≡ counts_in new → n ≡ min before.frames now.frames
-    → old1 ≡ drop 512 old → new1 ≡ drop 512 new → old2 ≡ behind_frames n old1 → new2 ≡ behind_frames n new1
+    → old1 ≡ drop 512 old → new1 ≡ drop 512 new → old2 ≡ after_frames n old1 → new2 ≡ after_frames n new1
     → old3 ≡ drop (40 * before.rows) old2 → new3 ≡ drop (40 * now.rows) new2 → old4 ≡ drop (24 * before.spans) old3 → new4 ≡ drop (24 * now.spans) new3
     → b ≡ nothing_built → c ≡ built (part_pairs Head (take 512 old) (take 512 new)) b → d ≡ built (frame_pairs n old1 new1) c
     → e ≡ built (part_pairs Row (take (40 * before.rows) old2) (take (40 * now.rows) new2)) d

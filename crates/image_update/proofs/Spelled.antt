@@ -17,9 +17,9 @@ long_again : (n : ℕ) (rest : List ℕ) → n < 2 ^ 64 → long_in (long n ++ r
 unfolding long long_in
 long_again n rest lt = from_le_bytes-to_le_bytes_8 n lt
 
-long_behind : (n : ℕ) (rest : List ℕ) → drop 8 (long n ++ rest) ≡ rest
+long_after : (n : ℕ) (rest : List ℕ) → drop 8 (long n ++ rest) ≡ rest
 unfolding long
-long_behind n rest = refl
+long_after n rest = refl
 
 long_length : (n : ℕ) → length (long n) ≡ 8
 unfolding long
@@ -48,9 +48,9 @@ unfolding step_in step_bytes long_in long made_step
 step_again s rest k =
     same_step _ _ _ s.keep s.skip s.put (from_le_bytes-to_le_bytes_8 s.keep k.keep) (from_le_bytes-to_le_bytes_8 s.skip k.skip) (from_le_bytes-to_le_bytes_8 s.put k.put)
 
-step_behind : (s : Step) (rest : List ℕ) → drop 24 (step_bytes s ++ rest) ≡ rest
+step_after : (s : Step) (rest : List ℕ) → drop 24 (step_bytes s ++ rest) ≡ rest
 unfolding step_bytes long
-step_behind s rest = refl
+step_after s rest = refl
 
 step_length : (s : Step) → length (step_bytes s) ≡ 24
 unfolding step_bytes long
@@ -71,7 +71,7 @@ steps_back : (n : ℕ) (bytes : List ℕ) → IsBytes bytes → 24 * n ≤ lengt
 steps_back = all_back 24 step_bytes step_in steps_in (λ bytes. refl) (λ n bytes. refl) step_back
 
 steps_again : (steps : List Step) (rest : List ℕ) → AllByRecursion IsStep steps → steps_in (length steps) (flat_map step_bytes steps ++ rest) ≡ steps
-steps_again = all_again 24 step_bytes step_in steps_in (λ bytes. refl) (λ n bytes. refl) IsStep step_again step_behind
+steps_again = all_again 24 step_bytes step_in steps_in (λ bytes. refl) (λ n bytes. refl) IsStep step_again step_after
 
 steps_length : (steps : List Step) → length (flat_map step_bytes steps) ≡ 24 * length steps
 steps_length = all_length 24 step_bytes step_in steps_in (λ bytes. refl) (λ n bytes. refl) step_length
@@ -120,7 +120,7 @@ count_again c is = long_again (length c.steps) _ (omega (arith, is.small))
 
 rest_again : (c : Changes) → drop 8 (encoded c) ≡ flat_map step_bytes c.steps ++ c.put
 unfolding encoded
-rest_again c = long_behind (length c.steps) _
+rest_again c = long_after (length c.steps) _
 
 -- what is encoded is read
 pub changes_again : (c : Changes) → IsDifference c → changes_in (encoded c) ≡ c
@@ -141,10 +141,10 @@ same_changes : (steps others : List Step) (put more : List ℕ) → steps ≡ ot
 same_changes steps others put more p q = cc
 
 -- what was read, piece by piece
-pub read_so : (bytes rest behind put : List ℕ) (steps : List Step) (count : ℕ) → count ≡ long_in bytes → rest ≡ drop 8 bytes → behind ≡ drop (24 * count) rest → put ≡ behind → steps ≡ steps_in count rest
+pub read_so : (bytes rest after put : List ℕ) (steps : List Step) (count : ℕ) → count ≡ long_in bytes → rest ≡ drop 8 bytes → after ≡ drop (24 * count) rest → put ≡ after → steps ≡ steps_in count rest
     → record { steps = steps; put = put } ≡ changes_in bytes
 unfolding made_changes
-read_so bytes rest behind put steps count ce re be pe se =
+read_so bytes rest after put steps count ce re be pe se =
     same_changes steps (steps_in (long_in bytes) (drop 8 bytes)) put (drop (24 * long_in bytes) (drop 8 bytes)) (se ∙ rw (ce, re) refl) (pe ∙ be ∙ rw (ce, re) refl)
 
 -- so many steps are there

@@ -66,7 +66,7 @@ changes_in bytes = record {
   put = drop (24 * long_in bytes) (drop 8 bytes);
 }
 
--- Why bytes encode nothing, if they don't: they are too many, they end before the steps do, or those behind the steps aren't as many as
+-- Why bytes encode nothing, if they don't: they are too many, they end before the steps do, or those after the steps aren't as many as
 -- these put.
 abbrev pub fault_of : List ℕ → Option Unread
 fault_of bytes =

@@ -57,7 +57,7 @@ counts_in front =
     if nat_lt (length front) 512 then record { frames = 0; rows = 0; spans = 0 }
     else record { frames = (header_in front).frames; rows = (header_in front).rows; spans = (header_in front).spans }
 
--- how many bytes are behind the word of the frame that bytes begin with, and none where there is no word
+-- how many bytes are after the word of the frame that bytes begin with, and none where there is no word
 unfoldable pub contents_in : List ℕ → ℕ
 contents_in bytes = if nat_lt (length bytes) 8 then 0 else contents_length (number_in w64 bytes)
 
@@ -69,10 +69,10 @@ frame_pairs (suc n) old new =
     ++ (part_pairs Block (take (contents_in old) (drop 8 old)) (take (contents_in new) (drop 8 new))
     ++ frame_pairs n (drop (contents_in old) (drop 8 old)) (drop (contents_in new) (drop 8 new)))
 
--- what is behind the first frames
-abbrev pub behind_frames : ℕ → List ℕ → List ℕ
-behind_frames zero bytes = bytes
-behind_frames (suc n) bytes = behind_frames n (drop (contents_in bytes) (drop 8 bytes))
+-- what is after the first frames
+abbrev pub after_frames : ℕ → List ℕ → List ℕ
+after_frames zero bytes = bytes
+after_frames (suc n) bytes = after_frames n (drop (contents_in bytes) (drop 8 bytes))
 
 -- the pairs of rows, spans and audit rows, which are all that is left
 abbrev pub row_pairs : Counts → Counts → List ℕ → List ℕ → List Pair
@@ -90,7 +90,7 @@ abbrev pub pairs_of : List ℕ → List ℕ → List Pair
 pairs_of old new =
     part_pairs Head (take 512 old) (take 512 new)
     ++ (frame_pairs (frames_of old new) (drop 512 old) (drop 512 new)
-    ++ row_pairs (counts_in old) (counts_in new) (behind_frames (frames_of old new) (drop 512 old)) (behind_frames (frames_of old new) (drop 512 new)))
+    ++ row_pairs (counts_in old) (counts_in new) (after_frames (frames_of old new) (drop 512 old)) (after_frames (frames_of old new) (drop 512 new)))
 
 -- what changed from one front to the next
 abbrev pub difference_of : List ℕ → List ℕ → Changes

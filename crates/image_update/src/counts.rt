@@ -13,7 +13,7 @@ pub(crate) const WORD_BYTES: usize = 8;
 /// Bytes of a frame's blocks.
 const CONTENTS_BYTES: usize = 8192;
 
-/// Audit rows aren't counted: they are what is behind all other parts.
+/// Audit rows aren't counted: they are what is after all other parts.
 #[derive(Clone, Copy)]
 pub(crate) struct Counts {
     pub(crate) frames: u16,
@@ -40,7 +40,7 @@ pub(crate) fn counts_of(front: &[u8]) -> Counts
     }
 }
 
-/// How many bytes are behind the word of the frame that the bytes begin with. None where there is
+/// How many bytes are after the word of the frame that the bytes begin with. None where there is
 /// no word.
 #[tactic(auto, unfolding(crate::specs::Layout::contents_in, image_parts::specs::Frames::contents_length))]
 pub(crate) fn contents_of(bytes: &[u8]) -> usize

@@ -42,8 +42,8 @@ fn read_steps(alloc: Global, count: u64, bytes: &[u8], put: usize) -> Result<Vec
         }
         left -= step.put;
         steps.push(step)?;
-        let (_, behind) = rest.split_at(STEP_BYTES);
-        rest = behind;
+        let (_, others) = rest.split_at(STEP_BYTES);
+        rest = others;
     }
     if left > 0 {
         return Err(Unread::Uneven);
@@ -78,7 +78,7 @@ fn read_all(alloc: Global, bytes: &[u8]) -> Result<Difference, Unread>
 }
 
 /// The difference that the bytes encode, all of them. Otherwise the first fault: they are more than
-/// an encoding may have, they end before the steps do, or those behind the steps aren't as many as
+/// an encoding may have, they end before the steps do, or those after the steps aren't as many as
 /// these put.
 pub fn decode(alloc: Global, bytes: &[u8]) -> Result<Difference, Unread>
     ensures found { IfOk result (λ d. bytes.now ≡ encoded d) }

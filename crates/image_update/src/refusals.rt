@@ -30,7 +30,7 @@ pub enum Unread {
     TooLarge,
     /// They end before the steps do.
     Cut,
-    /// Behind the steps are fewer or more bytes than these put.
+    /// After the steps are fewer or more bytes than these put.
     Uneven,
 }
 

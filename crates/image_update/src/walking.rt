@@ -2,7 +2,7 @@
 ghost use Rattle.std.specs.Prelude.{◌≡◌, length, take, drop, min, IfOk, OnOk};
 ghost use Rattle.std.specs.List.{AllByRecursion};
 ghost use Rattle.image_update.specs.Encoding.{IsEven, IsStep};
-ghost use Rattle.image_update.specs.Layout.{behind_frames, frame_pairs, pairs_of, part_pairs};
+ghost use Rattle.image_update.specs.Layout.{after_frames, frame_pairs, pairs_of, part_pairs};
 ghost use Rattle.image_update.specs.Pairs.{Grows, HasRoom, built, built_in};
 ghost use Rattle.image_update.specs.Pairs.{changes_of, nothing_built};
 
@@ -48,7 +48,7 @@ fn cut(bytes: &[u8], count: usize) -> (&[u8], &[u8])
     bytes.split_at(count.min(bytes.len()))
 }
 
-/// Goes over a part of both fronts, of this many bytes of each, and gives what is behind it.
+/// Goes over a part of both fronts, of this many bytes of each, and gives what is after it.
 fn compare_part<'a>(
     out: &mut Builder,
     kind: Kind,
@@ -71,7 +71,7 @@ fn compare_part<'a>(
     Ok((old_rest, new_rest))
 }
 
-/// Goes over the first frames, and gives what is behind them.
+/// Goes over the first frames, and gives what is after them.
 fn compare_frames<'a>(
     out: &mut Builder,
     count: u16,
@@ -81,8 +81,8 @@ fn compare_frames<'a>(
     requires { HasRoom (built_in out.old) (length old.now) (length new.now) }
     ensures pairs { OnOk result (built_in out.new
         ≡ built (frame_pairs count old.now new.now) (built_in out.old)) }
-    ensures old { IfOk result (λ rest. rest.0.now ≡ behind_frames count old.now) }
-    ensures new { IfOk result (λ rest. rest.1.now ≡ behind_frames count new.now) }
+    ensures old { IfOk result (λ rest. rest.0.now ≡ after_frames count old.now) }
+    ensures new { IfOk result (λ rest. rest.1.now ≡ after_frames count new.now) }
     ensures room { IfOk result
         (λ rest. HasRoom (built_in out.new) (length rest.0.now) (length rest.1.now)) }
 {

@@ -8,12 +8,12 @@ pub invariant_of-result : goal.invariant_of-result
 invariant_of-result c =
     let bytes = c.args.bytes.now in
     let rest = c.split_at.result.1.now in
-    let behind = c.split_at-2.result.1.now in
+    let after = c.split_at-2.result.1.now in
     let count = c.long_at-count.result in
     let is = c.long_at-count.ensures in
     let within : 8 + 24 * long_in bytes ≤ length bytes = read_within bytes rest count is c.split_at.ensures.back c.if-bytes-lt-COUNT_BYTES.false (omega (arith, c.if-count-rest.false)) in
-    let same = read_so bytes rest behind c.extend_from_slice.new.self.items c.in_ok-steps.steps.items count is c.split_at.ensures.back c.split_at-2.ensures.back (c.in_ok-extend_from_slice.ensures.items ∙ ap (λ (q : List ℕ). q ++ behind) c.new-put.ensures.items) c.in_ok-steps.ensures.read in
-    let all = read_so bytes rest behind behind (steps_in count rest) count is c.split_at.ensures.back c.split_at-2.ensures.back refl refl in
+    let same = read_so bytes rest after c.extend_from_slice.new.self.items c.in_ok-steps.steps.items count is c.split_at.ensures.back c.split_at-2.ensures.back (c.in_ok-extend_from_slice.ensures.items ∙ ap (λ (q : List ℕ). q ++ after) c.new-put.ensures.items) c.in_ok-steps.ensures.read in
+    let all = read_so bytes rest after after (steps_in count rest) count is c.split_at.ensures.back c.split_at-2.ensures.back refl refl in
     let even : count_put (changes_in bytes).steps ≡ length (changes_in bytes).put = subst (λ (d : Changes). count_put d.steps ≡ length d.put) all c.in_ok-steps.ensures.even in
     subst IsDifference (sym same) (read_is bytes (λ i. omega (arith, c.type_inv.bytes i)) c.if-bytes-gt-LARGEST_DIFFERENCE.false within even)
 

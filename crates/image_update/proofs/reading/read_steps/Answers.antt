@@ -15,10 +15,10 @@ returns-then-step-left-clause-uneven c =
 pub loop-preserved : goal.loop-preserved
 loop-preserved c =
     let step = c.first_step-step.result in
-    let behind = c.split_at.result.1.now in
+    let after = c.split_at.result.1.now in
     record {
-      steps = ap (λ (q : List Step). q ++ steps_in (c.args.count - (c.loop.counter + 1)) behind) c.in_ok-push.ensures.items
-          ∙ steps_more c.loop.steps.items (steps_in c.args.count c.args.bytes.now) c.args.count c.loop.counter c.loop.rest.now behind step c.loop-test.true c.first_step-step.ensures c.split_at.ensures.back c.loop.invariant.steps;
+      steps = ap (λ (q : List Step). q ++ steps_in (c.args.count - (c.loop.counter + 1)) after) c.in_ok-push.ensures.items
+          ∙ steps_more c.loop.steps.items (steps_in c.args.count c.args.bytes.now) c.args.count c.loop.counter c.loop.rest.now after step c.loop-test.true c.first_step-step.ensures c.split_at.ensures.back c.loop.invariant.steps;
       left = omega (arith, ap count_put c.in_ok-push.ensures.items, count_put_more c.loop.steps.items step, c.loop.invariant.left, c.if-step-left.false);
       room = omega (arith, c.loop.invariant.room, c.loop-test.true, ap length c.split_at.ensures.back, length-drop 24 c.loop.rest.now);
     }
