@@ -1,5 +1,5 @@
 -- The pairs of two fronts have all bytes of both, in their order.
-use Rattle.std.proofs.Common.{◌≡◌, ℕ, zero, suc, ◌+◌, ◌*◌, ◌/◌, nat_lt, ◌||◌, Bool, true, false, cond, List, [], ◌∷◌, ◌++◌, length, take, drop, Some, refl, sym, ap, subst, ◌∙◌, arith, append_assoc}
+use Rattle.std.proofs.Common.{◌≡◌, ℕ, zero, suc, ◌*◌, nat_lt, ◌||◌, List, [], ◌++◌, length, take, drop, Some, refl, sym, ap, subst, ◌∙◌, append_assoc}
 use Rattle.std.proofs.lemmas.Bool.{cond_both}
 use Rattle.std.proofs.lemmas.List.{append-nil, take-append-drop}
 use Rattle.std.proofs.lemmas.List.Concat.{flat_map-append}
@@ -100,17 +100,21 @@ behind_news n old new pairs e =
     ∙ append_assoc (news (frame_pairs n old new)) (news pairs) []
     ∙ ap (λ (q : List ℕ). news (frame_pairs n old new) ++ q) e ∙ frame_news n old new
 
-pairs_old : (old new : List ℕ) → olds (pairs_of old new) ≡ old
+pub pairs_old : (old new : List ℕ) → olds (pairs_of old new) ≡ old
 pairs_old old new =
     let n = frames_of old new in
-    whole_old _ old
-    (old_front Head 512 512 old new _ _ (behind_olds n (drop 512 old) (drop 512 new) _ (row_olds (counts_in old) (counts_in new) (behind_frames n (drop 512 old)) (behind_frames n (drop 512 new)))))
+    let rows = row_pairs (counts_in old) (counts_in new) (behind_frames n (drop 512 old)) (behind_frames n (drop 512 new)) in
+    whole_old (pairs_of old new) old
+    (old_front Head 512 512 old new [] (frame_pairs n (drop 512 old) (drop 512 new) ++ rows)
+    (behind_olds n (drop 512 old) (drop 512 new) rows (row_olds (counts_in old) (counts_in new) (behind_frames n (drop 512 old)) (behind_frames n (drop 512 new)))))
 
-pairs_new : (old new : List ℕ) → news (pairs_of old new) ≡ new
+pub pairs_new : (old new : List ℕ) → news (pairs_of old new) ≡ new
 pairs_new old new =
     let n = frames_of old new in
-    whole_new _ new
-    (new_front Head 512 512 old new _ _ (behind_news n (drop 512 old) (drop 512 new) _ (row_news (counts_in old) (counts_in new) (behind_frames n (drop 512 old)) (behind_frames n (drop 512 new)))))
+    let rows = row_pairs (counts_in old) (counts_in new) (behind_frames n (drop 512 old)) (behind_frames n (drop 512 new)) in
+    whole_new (pairs_of old new) new
+    (new_front Head 512 512 old new [] (frame_pairs n (drop 512 old) (drop 512 new) ++ rows)
+    (behind_news n (drop 512 old) (drop 512 new) rows (row_news (counts_in old) (counts_in new) (behind_frames n (drop 512 old)) (behind_frames n (drop 512 new)))))
 
 pub difference_gives : (old new : List ℕ) → patched (difference_of old new) old ≡ Some new
 difference_gives old new =

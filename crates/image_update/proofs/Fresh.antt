@@ -1,5 +1,5 @@
 -- Of parts whose units ascend no unit is put that both have.
-use Rattle.std.proofs.Common.{◌≡◌, ◌⊎◌, inl, inr, ℕ, zero, suc, ◌+◌, ◌-◌, ◌*◌, ◌/◌, ◌<◌, ◌≤◌, nat_lt, Bool, true, false, cond, List, [], ◌∷◌, length, take, drop, refl, sym, ap, subst, ◌∙◌, arith}
+use Rattle.std.proofs.Common.{◌≡◌, inl, inr, ℕ, zero, suc, ◌+◌, ◌-◌, ◌*◌, ◌/◌, ◌<◌, ◌≤◌, nat_lt, false, List, [], ◌∷◌, length, take, drop, refl, sym, ap, subst, ◌∙◌, arith}
 use Rattle.std.specs.Str.{bytes_eq}
 use Rattle.std.proofs.Math.Nat.{mul-div_cancel_left}
 use Rattle.std.proofs.lemmas.Bool.{cases_order, cond-true, cond-false, le-ltb, lt-ltb, true≢false}
@@ -9,7 +9,7 @@ use Rattle.image_parts.specs.Header.{number_in}
 use Rattle.image_update.specs.declared.kinds.Kind.{Kind}
 use Rattle.image_update.specs.declared.kinds.Kind.TheVariants.{Head, Word, Block, Row, Span, AuditRow}
 use Rattle.image_update.specs.Bounds.{Ascend, HasUnit, PutNoneOf, PutsNoUnitAgain}
-use Rattle.image_update.specs.Layout.{facing, key_in, pairs_in, part_pairs, size_of}
+use Rattle.image_update.specs.Layout.{facing, key_in, pairs_in, size_of}
 use Rattle.image_update.specs.Pairs.{Pair}
 use Rattle.image_update.proofs.Loops.{one_pair, pairs_next}
 use Rattle.image_update.proofs.Short.{some_size}

@@ -1,15 +1,17 @@
 -- What loops come to, one step on and at their ends.
-use Rattle.std.proofs.Common.{◌≡◌, ◌≢◌, ◌⊎◌, inl, inr, ℕ, zero, suc, ◌+◌, ◌-◌, ◌*◌, ◌^◌, ◌<◌, ◌≤◌, nat_lt, ◌||◌, Bool, true, false, cond, List, [], ◌∷◌, ◌++◌, length, take, drop, get_or, Option, Some, None, refl, sym, ap, subst, ◌∙◌, arith, append_assoc}
+use Rattle.std.proofs.Common.{◌≡◌, ◌≢◌, ◌⊎◌, inl, inr, ℕ, zero, suc, ◌+◌, ◌-◌, ◌*◌, ◌<◌, ◌≤◌, nat_lt, ◌||◌, true, false, List, [], ◌∷◌, ◌++◌, length, take, drop, get_or, min, Option, Some, None, refl, sym, ap, subst, ◌∙◌, arith, append_assoc}
 use Rattle.std.specs.Option.{option_map}
 use Rattle.std.proofs.lemmas.Bool.{cond-true, cond-false, or_from, or_left, or_right, le-ltb, lt-ltb}
-use Rattle.std.proofs.lemmas.List.{append-nil, drop_all, drop_more}
+use Rattle.std.proofs.lemmas.List.{drop_more}
+use Rattle.image_update.specs.declared.counts.Counts.{Counts}
 use Rattle.image_update.specs.declared.kinds.Kind.{Kind}
 use Rattle.image_update.specs.declared.steps.Step.{Step}
 use Rattle.image_update.specs.Changes.{applied, fits}
 use Rattle.image_update.specs.Encoding.{count_put, step_in, steps_in}
-use Rattle.image_update.specs.declared.kinds.Kind.TheVariants.{Block, Word}
-use Rattle.image_update.specs.Layout.{behind_frames, contents_in, facing, frame_pairs, pairs_in, part_pairs, size_of}
-use Rattle.image_update.specs.Pairs.{Built, Pair, after, built}
+use Rattle.image_update.specs.declared.kinds.Kind.TheVariants.{AuditRow, Block, Head, Row, Span, Word}
+use Rattle.image_update.specs.Layout.{behind_frames, contents_in, counts_in, facing, frame_pairs, pairs_in, pairs_of, part_pairs, size_of}
+use Rattle.image_update.specs.Pairs.{Built, Pair, after, built, nothing_built}
+use Rattle.image_update.proofs.Whole.{fits_from}
 
 -- ---- what steps give
 
@@ -21,39 +23,22 @@ front_joined : (x y z : List ℕ) (r : Option (List ℕ)) → with_front x (opti
 front_joined x y z None = refl
 front_joined x y z (Some r) = ap (λ (q : List ℕ). Some q) (sym (append_assoc (x ++ y) z r ∙ append_assoc x y (z ++ r)))
 
-pub front_none : (r : Option (List ℕ)) → r ≡ with_front [] r
-front_none None = refl
-front_none (Some r) = refl
-
 -- a step that fits
-pub applied_more : (steps : List Step) (i : ℕ) (s : Step) (old put new : List ℕ) (all : Option (List ℕ)) → i < length steps → s ≡ get_or steps i s → fits s old put ≡ true → with_front new (applied (drop i steps) old put) ≡ all
+applied_more : (steps : List Step) (i : ℕ) (s d : Step) (old put new : List ℕ) (all : Option (List ℕ)) → i < length steps → s ≡ get_or steps i d → fits s old put ≡ true → with_front new (applied (drop i steps) old put) ≡ all
     → with_front ((new ++ take s.keep old) ++ take s.put put) (applied (drop (i + 1) steps) (drop s.skip (drop s.keep old)) (drop s.put put)) ≡ all
-applied_more steps i s old put new all lt is fit so_far =
-    let next : drop i steps ≡ s ∷ drop (i + 1) steps = drop_more steps i s lt ∙ ap (λ q. q ∷ drop (i + 1) steps) (sym is) in
+applied_more steps i s d old put new all lt is fit so_far =
+    let next : drop i steps ≡ s ∷ drop (i + 1) steps = drop_more steps i d lt ∙ ap (λ q. q ∷ drop (i + 1) steps) (sym is) in
     let one : applied (s ∷ drop (i + 1) steps) old put ≡ option_map (λ (rest : List ℕ). take s.keep old ++ (take s.put put ++ rest)) (applied (drop (i + 1) steps) (drop s.skip (drop s.keep old)) (drop s.put put)) = rw fit refl in
     sym (front_joined new (take s.keep old) (take s.put put) _) ∙ ap (with_front new) (sym one) ∙ ap (λ (q : List Step). with_front new (applied q old put)) (sym next) ∙ so_far
 
--- a step that doesn't
-pub applied_never : (steps : List Step) (i : ℕ) (s : Step) (old put new : List ℕ) (all : Option (List ℕ)) → i < length steps → s ≡ get_or steps i s → fits s old put ≡ false → with_front new (applied (drop i steps) old put) ≡ all → all ≡ None
-applied_never steps i s old put new all lt is fit so_far =
-    let next : drop i steps ≡ s ∷ drop (i + 1) steps = drop_more steps i s lt ∙ ap (λ q. q ∷ drop (i + 1) steps) (sym is) in
-    let one : applied (s ∷ drop (i + 1) steps) old put ≡ None = rw fit refl in
-    sym so_far ∙ ap (λ (q : List Step). with_front new (applied q old put)) next ∙ ap (with_front new) one
-
-left_none : (old put new : List ℕ) → (old ≡ [] → put ≡ [] → ⊥) → with_front new (applied [] old put) ≡ None
-left_none [] [] new not_both = absurd (not_both refl refl)
-left_none [] (b ∷ put) new not_both = refl
-left_none (b ∷ old) put new not_both = refl
-
--- no step more, and bytes are left
-pub applied_left : (steps : List Step) (i : ℕ) (old put new : List ℕ) (all : Option (List ℕ)) → length steps ≤ i → (old ≡ [] → put ≡ [] → ⊥) → with_front new (applied (drop i steps) old put) ≡ all → all ≡ None
-applied_left steps i old put new all end not_both so_far =
-    sym so_far ∙ ap (λ (q : List Step). with_front new (applied q old put)) (drop_all i steps end) ∙ left_none old put new not_both
-
--- no step more, and nothing is left
-pub applied_all : (steps : List Step) (i : ℕ) (old put new : List ℕ) (all : Option (List ℕ)) → length steps ≤ i → old ≡ [] → put ≡ [] → with_front new (applied (drop i steps) old put) ≡ all → all ≡ Some new
-applied_all steps i old put new all end a b so_far =
-    sym so_far ∙ ap (λ (q : List Step). with_front new (applied q old put)) (drop_all i steps end) ∙ rw (a, b) (ap (λ (q : List ℕ). Some q) (append-nil new))
+-- the same, by the pieces that old bytes and those to be put are split into
+pub applied_on : (steps : List Step) (i : ℕ) (s d : Step) (old put new kept rest behind came put_rest first second : List ℕ) (all : Option (List ℕ)) → i < length steps → s ≡ get_or steps i d
+    → s.keep ≤ length old → s.skip ≤ length rest → s.put ≤ length put
+    → kept ≡ take s.keep old → rest ≡ drop s.keep old → behind ≡ drop s.skip rest → came ≡ take s.put put → put_rest ≡ drop s.put put → first ≡ new ++ kept → second ≡ first ++ came
+    → with_front new (applied (drop i steps) old put) ≡ all → with_front second (applied (drop (i + 1) steps) behind put_rest) ≡ all
+applied_on steps i s d old put new kept rest behind came put_rest first second all lt is k sk p ke re be ce pe fe se so_far =
+    let fit : fits s old put ≡ true = fits_from s old put k (subst (λ (r : List ℕ). s.skip ≤ length r) re sk) p in
+    rw (se, fe, ke, ce, be, re, pe) (applied_more steps i s d old put new all lt is fit so_far)
 
 -- ---- what is read
 
@@ -61,7 +46,7 @@ pub count_put_more : (steps : List Step) (s : Step) → count_put (steps ++ s �
 count_put_more [] s = omega arith
 count_put_more (t ∷ steps) s = omega (arith, count_put_more steps s)
 
-pub count_put_both : (steps more : List Step) → count_put (steps ++ more) ≡ count_put steps + count_put more
+count_put_both : (steps more : List Step) → count_put (steps ++ more) ≡ count_put steps + count_put more
 count_put_both [] more = omega arith
 count_put_both (t ∷ steps) more = omega (arith, count_put_both steps more)
 
@@ -81,12 +66,6 @@ puts_more items all n i left put rest s lt is so_far even more =
     let next : steps_in (n - i) rest ≡ s ∷ steps_in (n - i - 1) (drop 24 rest) = steps_next (n - i) rest (omega arith) ∙ rw is refl in
     let sum : count_put all ≡ count_put items + (s.put + count_put (steps_in (n - i - 1) (drop 24 rest))) = ap count_put (sym so_far) ∙ count_put_both items (steps_in (n - i) rest) ∙ ap (λ q. count_put items + count_put q) next in
     λ e. omega arith
-
-pub steps_all : (items all : List Step) (n i : ℕ) (rest : List ℕ) → n ≤ i → items ++ steps_in (n - i) rest ≡ all → items ≡ all
-steps_all items all n i rest end so_far =
-    let k : n - i ≡ 0 = omega arith in
-    let so : items ++ [] ≡ all = subst (λ m. items ++ steps_in m rest ≡ all) k so_far in
-    sym (append-nil items) ∙ so
 
 -- ---- what is compared
 
@@ -115,7 +94,7 @@ pub one_pair : (k : Kind) (n : ℕ) (old new : List ℕ) → (n ≡ 0) ⊎ ((len
 one_pair k zero old new end = refl
 one_pair k (suc n) old new end =
     let short : (nat_lt (length old) (size_of k) || nat_lt (length new) (size_of k)) ≡ true = elim end [
-      | inl zero ↦ absurd (omega arith)
+      | inl none ↦ absurd (omega (arith, none))
       | inr some ↦ elim some [
         | inl a ↦ or_left _ _ (lt-ltb _ _ a)
         | inr b ↦ or_right _ _ (lt-ltb _ _ b)
@@ -128,7 +107,7 @@ pub built_last : (k : Kind) (n : ℕ) (old new : List ℕ) (b c all : Built) →
 built_last k n old new b c all end is so_far =
     is ∙ sym (ap (λ (ps : List Pair). built ps b) (one_pair k n old new end)) ∙ so_far
 
-pub built_both : (ps qs : List Pair) (b : Built) → built (ps ++ qs) b ≡ built qs (built ps b)
+built_both : (ps qs : List Pair) (b : Built) → built (ps ++ qs) b ≡ built qs (built ps b)
 built_both [] qs b = refl
 built_both (p ∷ ps) qs b = built_both ps qs (after p b)
 
@@ -160,3 +139,34 @@ behind_more count i bytes word rest all lt is back so_far =
     let e : count - i ≡ suc (count - (i + 1)) = omega arith in
     let so : behind_frames (suc (count - (i + 1))) bytes ≡ all = subst (λ m. behind_frames m bytes ≡ all) e so_far in
     rw (back, is) so
+
+-- ---- both fronts
+
+-- five lists of pairs, one after the other
+all_built : (p q r s t : List Pair) (b c d e f g : Built) → c ≡ built p b → d ≡ built q c → e ≡ built r d → f ≡ built s e → g ≡ built t f → g ≡ built (p ++ (q ++ (r ++ (s ++ t)))) b
+all_built p q r s t b c d e f g ce de ee fe ge =
+    let one = built_both p (q ++ (r ++ (s ++ t))) b in
+    let two = built_both q (r ++ (s ++ t)) (built p b) in
+    let three = built_both r (s ++ t) (built q (built p b)) in
+    let four = built_both s t (built r (built q (built p b))) in
+    ge ∙ ap (λ (x : Built). built t x) (fe ∙ ap (λ (x : Built). built s x) (ee ∙ ap (λ (x : Built). built r x) (de ∙ ap (λ (x : Built). built q x) ce)))
+    ∙ sym (one ∙ two ∙ three ∙ four)
+
+-- all parts of both fronts, by what is left of them behind each
+pub walked : (old new old1 new1 old2 new2 old3 new3 old4 new4 : List ℕ) (before now : Counts) (n : ℕ) (b c d e f g : Built) → before ≡ counts_in old → now ≡ counts_in new → n ≡ min before.frames now.frames
+    → old1 ≡ drop 512 old → new1 ≡ drop 512 new → old2 ≡ behind_frames n old1 → new2 ≡ behind_frames n new1
+    → old3 ≡ drop (40 * before.rows) old2 → new3 ≡ drop (40 * now.rows) new2 → old4 ≡ drop (24 * before.spans) old3 → new4 ≡ drop (24 * now.spans) new3
+    → b ≡ nothing_built → c ≡ built (part_pairs Head (take 512 old) (take 512 new)) b → d ≡ built (frame_pairs n old1 new1) c
+    → e ≡ built (part_pairs Row (take (40 * before.rows) old2) (take (40 * now.rows) new2)) d
+    → f ≡ built (part_pairs Span (take (24 * before.spans) old3) (take (24 * now.spans) new3)) e
+    → g ≡ built (part_pairs AuditRow old4 new4) f → g ≡ built (pairs_of old new) nothing_built
+walked old new old1 new1 old2 new2 old3 new3 old4 new4 before now n b c d e f g is_before is_now is_n o1 n1 o2 n2 o3 n3 o4 n4 be ce de ee fe ge =
+    let head = part_pairs Head (take 512 old) (take 512 new) in
+    let frames = frame_pairs n old1 new1 in
+    let rows = part_pairs Row (take (40 * before.rows) old2) (take (40 * now.rows) new2) in
+    let spans = part_pairs Span (take (24 * before.spans) old3) (take (24 * now.spans) new3) in
+    let audit = part_pairs AuditRow old4 new4 in
+    let all : head ++ (frames ++ (rows ++ (spans ++ audit))) ≡ pairs_of old new = rw (o4, n4, o3, n3, o2, n2, o1, n1, is_n, is_before, is_now) refl in
+    all_built head frames rows spans audit b c d e f g ce de ee fe ge
+    ∙ ap (λ (x : Built). built (head ++ (frames ++ (rows ++ (spans ++ audit)))) x) be
+    ∙ ap (λ (ps : List Pair). built ps nothing_built) all

@@ -1,16 +1,14 @@
 -- Only what differs is put.
-use Rattle.std.proofs.Common.{◌≡◌, inl, inr, ℕ, zero, suc, ◌+◌, ◌-◌, ◌*◌, ◌/◌, ◌<◌, ◌≤◌, ◌==◌, ◌&&◌, nat_lt, Bool, true, false, cond, List, [], ◌∷◌, ◌++◌, length, take, drop, refl, sym, ap, subst, ◌∙◌, arith, length-append}
+use Rattle.std.proofs.Common.{◌≡◌, inl, inr, ℕ, zero, suc, ◌+◌, ◌-◌, ◌*◌, ◌/◌, ◌<◌, ◌≤◌, ◌==◌, ◌&&◌, Bool, true, false, cond, List, [], ◌∷◌, ◌++◌, length, take, drop, refl, sym, ap, subst, ◌∙◌, arith, length-append}
 use Rattle.std.specs.Str.{bytes_eq}
-use Rattle.std.proofs.lemmas.Bool.{and_parts, cases_Bool}
 use Rattle.std.proofs.lemmas.List.{length-drop, length-take}
 use Rattle.std.proofs.Math.Nat.{mul-div_cancel_left}
 use Rattle.image_update.specs.declared.kinds.Kind.{Kind}
 use Rattle.image_update.specs.declared.kinds.Kind.TheVariants.{Head, Word, Block, Row, Span, AuditRow}
 use Rattle.image_update.specs.Bounds.{IsPlaced, PutsUnitsApart, PutsWhatDiffers, differing, differing_bytes, units_apart}
-use Rattle.image_update.specs.Encoding.{encoded_length}
-use Rattle.image_update.specs.Layout.{difference_of, facing, key_in, pairs_in, pairs_of, part_pairs, size_of}
+use Rattle.image_update.specs.Layout.{facing, key_in, pairs_in, pairs_of, size_of}
 use Rattle.image_update.proofs.Loops.{one_pair, pairs_next}
-use Rattle.image_update.specs.Pairs.{Built, Pair, after, built, changes_of, keeping, nothing_built, replacing}
+use Rattle.image_update.specs.Pairs.{Built, Pair, after, built, keeping, nothing_built, replacing}
 
 -- whether the last step skips or puts bytes
 abbrev is_clean : Built → Bool

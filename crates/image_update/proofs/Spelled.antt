@@ -1,14 +1,12 @@
 -- Changes that are encoded are read, and what is read of them is encoded.
-use Rattle.std.proofs.Common.{◌≡◌, ◌≢◌, ℕ, zero, suc, ◌+◌, ◌-◌, ◌*◌, ◌^◌, ◌<◌, ◌≤◌, nat_lt, ◌==◌, cond, List, [], ◌∷◌, ◌++◌, length, take, drop, Option, Some, None, refl, sym, ap, subst, ◌∙◌, arith, append_assoc, length-append, length-drop}
-use Rattle.std.specs.Int.{w64}
+use Rattle.std.proofs.Common.{◌≡◌, ℕ, zero, suc, ◌+◌, ◌*◌, ◌^◌, ◌<◌, ◌≤◌, List, ◌++◌, length, take, drop, Option, Some, None, refl, sym, ap, subst, ◌∙◌, arith, length-append, length-drop}
 use Rattle.std.specs.List.{flat_map, AllByRecursion}
-use Rattle.std.proofs.lemmas.Bool.{cond-true, cond-false, eq-eqb, le-ltb, lt-ltb, ne_eqb}
+use Rattle.std.proofs.lemmas.Bool.{eq-eqb, le-ltb}
 use Rattle.std.proofs.lemmas.List.{drop_at, length-take, take-append-drop}
 use Rattle.std.proofs.lemmas.Nat.{le_bytes_8, from_le_bytes-to_le_bytes_8}
 use Rattle.lemmas.proofs.Bytes.{bytes_after, bytes_before, IsBytes}
 use Rattle.image_parts.proofs.RowLaws.{all_again, all_back, all_length, longer}
 use Rattle.image_update.specs.declared.refusals.Unread.{Unread}
-use Rattle.image_update.specs.declared.refusals.Unread.TheVariants.{TooLarge, Cut, Uneven}
 use Rattle.image_update.specs.declared.steps.Step.{Step}
 use Rattle.image_update.specs.Changes.{Changes}
 use Rattle.image_update.specs.Encoding.{IsDifference, IsStep, changes_in, count_put, encoded, encoded_length, fault_of, long, long_in, step_bytes, step_in, steps_in}
@@ -90,7 +88,7 @@ step_is bytes h = record {
   put = long_below (drop 16 bytes) (bytes_after 16 bytes h);
 }
 
-pub steps_are : (n : ℕ) (bytes : List ℕ) → IsBytes bytes → AllByRecursion IsStep (steps_in n bytes)
+steps_are : (n : ℕ) (bytes : List ℕ) → IsBytes bytes → AllByRecursion IsStep (steps_in n bytes)
 steps_are zero bytes h = tt
 steps_are (suc n) bytes h = (step_is bytes h, steps_are n (drop 24 bytes) (bytes_after 24 bytes h))
 
@@ -131,22 +129,29 @@ changes_again c is =
     let put : drop (24 * length c.steps) (flat_map step_bytes c.steps ++ c.put) ≡ c.put = drop_at (flat_map step_bytes c.steps) c.put (24 * length c.steps) (steps_length c.steps) in
     rw (count_again c is, rest_again c, steps, put) refl
 
-pub encoded-length : (c : Changes) → length (encoded c) ≡ encoded_length c
+pub encoded_bytes : (c : Changes) → length (encoded c) ≡ encoded_length c
 unfolding encoded
-encoded-length c =
+encoded_bytes c =
     omega (arith, length-append (long (length c.steps)) (flat_map step_bytes c.steps ++ c.put), long_length (length c.steps), length-append (flat_map step_bytes c.steps) c.put, steps_length c.steps)
 
+made_changes : List Step → List ℕ → Changes
+made_changes steps put = record { steps = steps; put = put }
+
+same_changes : (steps others : List Step) (put more : List ℕ) → steps ≡ others → put ≡ more → made_changes steps put ≡ made_changes others more
+same_changes steps others put more p q = cc
+
+-- what was read, piece by piece
+pub read_so : (bytes rest behind put : List ℕ) (steps : List Step) (count : ℕ) → count ≡ long_in bytes → rest ≡ drop 8 bytes → behind ≡ drop (24 * count) rest → put ≡ behind → steps ≡ steps_in count rest
+    → record { steps = steps; put = put } ≡ changes_in bytes
+unfolding made_changes
+read_so bytes rest behind put steps count ce re be pe se =
+    same_changes steps (steps_in (long_in bytes) (drop 8 bytes)) put (drop (24 * long_in bytes) (drop 8 bytes)) (se ∙ rw (ce, re) refl) (pe ∙ be ∙ rw (ce, re) refl)
+
+-- so many steps are there
+pub read_within : (bytes rest : List ℕ) (count : ℕ) → count ≡ long_in bytes → rest ≡ drop 8 bytes → 8 ≤ length bytes → 24 * count ≤ length rest → 8 + 24 * long_in bytes ≤ length bytes
+read_within bytes rest count ce re eight le = omega (arith, ce, ap length re, length-drop 8 bytes, eight, le)
+
 -- ---- faults
-
-pub fault_large : (bytes : List ℕ) → 2 ^ 24 < length bytes → fault_of bytes ≡ Some TooLarge
-fault_large bytes more = rw (lt-ltb (2 ^ 24) (length bytes) more) refl
-
-pub fault_cut : (bytes : List ℕ) → length bytes ≤ 2 ^ 24 → length bytes < 8 + 24 * long_in bytes → fault_of bytes ≡ Some Cut
-fault_cut bytes most short = rw (le-ltb (2 ^ 24) (length bytes) most, lt-ltb (length bytes) (8 + 24 * long_in bytes) short) refl
-
-pub fault_uneven : (bytes : List ℕ) → length bytes ≤ 2 ^ 24 → 8 + 24 * long_in bytes ≤ length bytes → count_put (changes_in bytes).steps ≢ length (changes_in bytes).put → fault_of bytes ≡ Some Uneven
-fault_uneven bytes most le uneven =
-    rw (le-ltb (2 ^ 24) (length bytes) most, le-ltb (length bytes) (8 + 24 * long_in bytes) le, ne_eqb (count_put (changes_in bytes).steps) (length (changes_in bytes).put) uneven) refl
 
 pub fault_none : (bytes : List ℕ) → length bytes ≤ 2 ^ 24 → 8 + 24 * long_in bytes ≤ length bytes → count_put (changes_in bytes).steps ≡ length (changes_in bytes).put → fault_of bytes ≡ None
 fault_none bytes most le even =
@@ -157,7 +162,11 @@ pub no_fault : (c : Changes) → IsDifference c → fault_of (encoded c) ≡ Non
 no_fault c is =
     let n : long_in (encoded c) ≡ length c.steps = count_again c is in
     let even : count_put (changes_in (encoded c)).steps ≡ length (changes_in (encoded c)).put = subst (λ (d : Changes). count_put d.steps ≡ length d.put) (sym (changes_again c is)) is.even in
-    fault_none (encoded c) (omega (arith, encoded-length c, is.small)) (omega (arith, n, encoded-length c)) even
+    fault_none (encoded c) (omega (arith, encoded_bytes c, is.small)) (omega (arith, n, encoded_bytes c)) even
+
+pub no_some : (o : Option Unread) (u : Unread) → o ≡ None → o ≡ Some u → ⊥
+no_some None u a b = cc
+no_some (Some v) u a b = cc
 
 pub one_encoding : (c d : Changes) → IsDifference c → IsDifference d → encoded c ≡ encoded d → c ≡ d
 one_encoding c d is other e = sym (changes_again c is) ∙ ap changes_in e ∙ changes_again d other

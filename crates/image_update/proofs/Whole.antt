@@ -1,9 +1,9 @@
 -- The steps that pairs give make the new parts of the old ones.
-use Rattle.std.proofs.Common.{◌≡◌, ℕ, zero, suc, ◌+◌, ◌<◌, ◌≤◌, nat_le, ◌==◌, ◌&&◌, Bool, true, false, cond, List, [], ◌∷◌, ◌++◌, length, take, drop, Option, Some, None, refl, sym, ap, subst, ◌∙◌, arith, append_assoc, length-append}
+use Rattle.std.proofs.Common.{◌≡◌, ℕ, ◌+◌, ◌-◌, ◌≤◌, nat_le, ◌==◌, ◌&&◌, Bool, true, false, cond, List, [], ◌∷◌, ◌++◌, length, take, drop, Option, Some, None, refl, sym, ap, subst, ◌∙◌, arith, append_assoc, length-append}
 use Rattle.std.specs.Option.{option_map}
 use Rattle.std.specs.Str.{bytes_eq}
 use Rattle.std.proofs.lemmas.Bool.{and_parts, and_from, leb-true, le-leb, eqb-true}
-use Rattle.std.proofs.lemmas.List.{append-nil, take_all, take_at, drop_all, length-drop, length-take, take-append-le, drop-append-le, nil_from_length}
+use Rattle.std.proofs.lemmas.List.{append-nil, take_all, drop_all, length-drop, take-append-le, drop-append-le, nil_from_length}
 use Rattle.std.proofs.lemmas.Slice.Eq.{bytes_eq-Decides}
 use Rattle.image_update.specs.declared.steps.Step.{Step}
 use Rattle.image_update.specs.Changes.{applied, fits, patched}
@@ -19,7 +19,7 @@ chosen false x f n e = absurd (cc)
 chosen_back : (b : Bool) (x : Option (List ℕ)) (f : List ℕ → List ℕ) (r : List ℕ) → b ≡ true → x ≡ Some r → cond b (option_map f x) None ≡ Some (f r)
 chosen_back b x f r is e = rw (is, e) refl
 
-pub fits_parts : (s : Step) (o p : List ℕ) → fits s o p ≡ true → (s.keep ≤ length o) × (s.skip ≤ length (drop s.keep o)) × (s.put ≤ length p)
+fits_parts : (s : Step) (o p : List ℕ) → fits s o p ≡ true → (s.keep ≤ length o) × (s.skip ≤ length (drop s.keep o)) × (s.put ≤ length p)
 fits_parts s o p e =
     let a = and_parts (nat_le s.keep (length o)) (nat_le s.skip (length (drop s.keep o)) && nat_le s.put (length p)) e in
     let b = and_parts (nat_le s.skip (length (drop s.keep o))) (nat_le s.put (length p)) a.1 in
@@ -155,7 +155,7 @@ after_by true p b o n is g =
     subst (λ (q : List ℕ). Gives (keeping (length p.old) b) (o ++ p.old) (n ++ q)) same (keeping_gives p.old b o n g)
 after_by false p b o n is g = replacing_gives p.old p.new b o n g
 
-pub built_gives : (pairs : List Pair) (b : Built) (o n : List ℕ) → Gives b o n → Gives (built pairs b) (o ++ olds pairs) (n ++ news pairs)
+built_gives : (pairs : List Pair) (b : Built) (o n : List ℕ) → Gives b o n → Gives (built pairs b) (o ++ olds pairs) (n ++ news pairs)
 built_gives [] b o n g = rw (append-nil o, append-nil n) g
 built_gives (p ∷ pairs) b o n g =
     let one = after_by (bytes_eq p.old p.new) p b o n refl g in

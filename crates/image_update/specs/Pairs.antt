@@ -70,11 +70,11 @@ abbrev pub built_in : Builder → Built
 built_in b = record { done = b.done.items; last = b.last; put = b.put.items }
 
 -- the steps that are being made have room for this many bytes more of both fronts
-pub record HasRoom (b : Built) (old new : ℕ) : Type 0 where
-  pub old : b.last.keep + b.last.skip + old < 2 ^ 64
-  pub new : b.last.put + new < 2 ^ 64
+pub record HasRoom (b : Built) (before now : ℕ) : Type 0 where
+  pub old : b.last.keep + b.last.skip + before < 2 ^ 64
+  pub new : b.last.put + now < 2 ^ 64
 
 -- their last step is longer by at most this many bytes of both fronts
-pub record Grows (b c : Built) (old new : ℕ) : Type 0 where
-  pub old : c.last.keep + c.last.skip ≤ b.last.keep + b.last.skip + old
-  pub new : c.last.put ≤ b.last.put + new
+pub record Grows (b c : Built) (before now : ℕ) : Type 0 where
+  pub old : c.last.keep + c.last.skip ≤ b.last.keep + b.last.skip + before
+  pub new : c.last.put ≤ b.last.put + now

@@ -1,6 +1,7 @@
 //! How steps are made, from the front.
 ghost use Rattle.std.specs.Prelude.{◌≡◌, ◌+◌, ◌^◌, ◌<◌, ◌≤◌, length, OnOk};
-ghost use Rattle.image_update.specs.Pairs.{Grows, HasRoom, after, built_in, keeping, nothing_built, replacing};
+ghost use Rattle.image_update.specs.Pairs.{Grows, HasRoom, after, built_in};
+ghost use Rattle.image_update.specs.Pairs.{keeping, nothing_built, replacing};
 
 use crate::steps::Step;
 use std::alloc::{AllocError, Global};

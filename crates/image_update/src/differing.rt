@@ -1,7 +1,8 @@
 //! What changed from one front to the next.
 ghost use Rattle.std.specs.Prelude.{◌≡◌, ◌⊎◌, ◌^◌, ◌<◌, ◌≤◌, Some, IfOk, IfErr};
+ghost use Rattle.std.specs.List.{AllByRecursion};
 ghost use Rattle.image_update.specs.Changes.{patched};
-ghost use Rattle.image_update.specs.Encoding.{IsEven, encoded_length};
+ghost use Rattle.image_update.specs.Encoding.{IsEven, IsStep, encoded_length};
 ghost use Rattle.image_update.specs.Layout.{difference_of};
 ghost use Rattle.image_update.specs.Pairs.{built_in, changes_of};
 
@@ -35,7 +36,8 @@ const MOST_STEPS: usize = (LARGEST_DIFFERENCE - COUNT_BYTES) / STEP_BYTES;
 
 /// What was built, where its encoding isn't longer than one may be.
 fn within_largest(out: Builder) -> Result<Difference, NoDifference>
-    requires { IsEven (changes_of (built_in out)) }
+    requires even { IsEven (changes_of (built_in out)) }
+    requires steps { AllByRecursion IsStep (changes_of (built_in out)).steps }
     ensures exact { IfOk result (λ d. d ≡ changes_of (built_in out)) }
     ensures small { IfOk result (λ d. encoded_length d ≤ 2 ^ 24) }
     ensures larger { IfErr result (λ why. (why ≡ NoDifference.NoMemory)
@@ -62,7 +64,8 @@ pub fn difference_between(alloc: Global, old: &[u8], new: &[u8]) -> Result<Diffe
     ensures whole { IfOk result (λ d. patched d old.now ≡ Some new.now) }
     ensures small { IfOk result (λ d. encoded_length d ≤ 2 ^ 24) }
     ensures larger { IfErr result (λ why. (why ≡ NoDifference.NoMemory)
-        ⊎ ((why ≡ NoDifference.TooLarge) × (2 ^ 24 < encoded_length (difference_of old.now new.now)))) }
+        ⊎ ((why ≡ NoDifference.TooLarge)
+        × (2 ^ 24 < encoded_length (difference_of old.now new.now)))) }
 {
     let out = walk(alloc, old, new)?;
     within_largest(out)

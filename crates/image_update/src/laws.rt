@@ -1,9 +1,9 @@
 //! Laws of differences, for the layers above: each function does nothing, and its contract is the
 //! law.
-ghost use Rattle.std.specs.Prelude.{◌≡◌, ℕ, List, Some};
+ghost use Rattle.std.specs.Prelude.{◌≡◌, ℕ, List, length, Some};
 ghost use Rattle.image_update.specs.Bounds.{PutsNoUnitAgain, PutsUnitsApart, PutsWhatDiffers};
 ghost use Rattle.image_update.specs.Changes.{Changes, patched};
-ghost use Rattle.image_update.specs.Encoding.{IsDifference, encoded};
+ghost use Rattle.image_update.specs.Encoding.{IsDifference, encoded, encoded_length};
 ghost use Rattle.image_update.specs.Layout.{difference_of};
 
 /// What changed from one front to the next makes the next one of it, whatever bytes they are.
@@ -17,6 +17,12 @@ pub fn a_difference_gives_the_new_front()
 pub fn one_difference_an_encoding()
     ensures { (one other : Changes) → IsDifference one → IsDifference other
         → encoded one ≡ encoded other → one ≡ other }
+{}
+
+/// How many bytes an encoding has.
+#[tactic(auto, using(crate::proofs::Spelled::encoded_bytes))]
+pub fn an_encoding_has_so_many_bytes()
+    ensures { (changes : Changes) → length (encoded changes) ≡ encoded_length changes }
 {}
 
 /// Only what differs is put: an encoding has the new parts of the pairs that differ, and at most a

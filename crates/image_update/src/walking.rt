@@ -1,6 +1,7 @@
 //! How two fronts are gone over, part by part.
 ghost use Rattle.std.specs.Prelude.{◌≡◌, length, take, drop, min, IfOk, OnOk};
-ghost use Rattle.image_update.specs.Encoding.{IsEven};
+ghost use Rattle.std.specs.List.{AllByRecursion};
+ghost use Rattle.image_update.specs.Encoding.{IsEven, IsStep};
 ghost use Rattle.image_update.specs.Layout.{behind_frames, frame_pairs, pairs_of, part_pairs};
 ghost use Rattle.image_update.specs.Pairs.{Grows, HasRoom, built, built_in};
 ghost use Rattle.image_update.specs.Pairs.{changes_of, nothing_built};
@@ -101,6 +102,8 @@ pub(crate) fn walk(alloc: Global, old: &[u8], new: &[u8]) -> Result<Builder, All
     ensures built { IfOk result
         (λ out. built_in out ≡ built (pairs_of old.now new.now) nothing_built) }
     ensures even { IfOk result (λ out. IsEven (changes_of (built_in out))) }
+    ensures steps { IfOk result
+        (λ out. AllByRecursion IsStep (changes_of (built_in out)).steps) }
 {
     let mut out = Builder::new(alloc);
     let before = counts_of(old);

@@ -1,6 +1,6 @@
 use Rattle.std.proofs.Common.{◌≡◌, ◌+◌, ◌-◌, ◌≤◌, length}
 use Rattle.image_update.specs.Layout.{pairs_in}
-use Rattle.image_update.specs.Pairs.{Grows, built, built_in}
+use Rattle.image_update.specs.Pairs.{built, built_in}
 use Rattle.image_update.proofs.walking.compare_units.Given as goal
 
 abbrev pub invariant-loop : goal.invariant-loop
