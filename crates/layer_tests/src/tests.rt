@@ -1,5 +1,6 @@
 //! The layers, from frames and records up to the wire and to images, and those of a service.
 mod commits;
+mod differences;
 mod fifos;
 mod file_folders;
 mod lines;
