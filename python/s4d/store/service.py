@@ -10,7 +10,7 @@ from typing import Any, Optional, Set
 
 from ..async_drive import AsyncDrive
 from ..doors import FLAGS, Door, Seats
-from ..errors import NotAsked
+from ..errors import SERVED, NotAsked
 from .sessions import session_at
 from .settings import StoreFault, drive_folder, image_path
 
@@ -18,6 +18,7 @@ SERVES = "s4serve: serves "  # how the line begins that says that sessions can b
 START_SECONDS = 600.0  # that a start may take; after a kill it waits ten seconds by itself
 STOP_SECONDS = 120.0  # that a service has to keep its drive and end
 LOOK_SECONDS = 0.05  # between looks whether an earlier service has ended
+AGAIN_SECONDS = 1.0  # between starts while an earlier service still has the image
 
 
 def say(line: str) -> None:
@@ -64,7 +65,19 @@ class Service:
             await asyncio.sleep(LOOK_SECONDS)
 
     async def start(self) -> None:
-        """Returns once sessions can be asked for. StoreFault, with the program's line, where it doesn't serve."""
+        """Returns once sessions can be asked for. StoreFault, with the program's line, where it doesn't serve.
+
+        A service that a killed program had just begun to start has the image, and its doors not yet: it is waited for and ended."""
+        loop = asyncio.get_running_loop()
+        end = loop.time() + STOP_SECONDS
+        while not await self._serves():
+            if not self._last.endswith(SERVED) or loop.time() > end:
+                raise StoreFault(f"drive {self._number} isn't served: {self._last}")
+            await asyncio.sleep(AGAIN_SECONDS)
+            await self.end_earlier()
+
+    async def _serves(self) -> bool:
+        """Starts the process, and says whether sessions can be asked for. Where they can't, it has ended."""
         words = [self._program, *self._leap]
         words += [f"--door={role}={os.path.join(self._doors, role)}" for role in ("client", "admin")]
         null, pipe = asyncio.subprocess.DEVNULL, asyncio.subprocess.PIPE
@@ -76,10 +89,11 @@ class Service:
         serves: asyncio.Future[None] = asyncio.get_running_loop().create_future()
         self._hearing = asyncio.ensure_future(self._hear(self._process, serves))
         await asyncio.wait({serves, self._hearing}, timeout=START_SECONDS, return_when=asyncio.FIRST_COMPLETED)
-        if not serves.done():
-            serves.cancel()
-            await self._stop()
-            raise StoreFault(f"drive {self._number} isn't served: {self._last}")
+        if serves.done():
+            return True
+        serves.cancel()
+        await self._stop()
+        return False
 
     async def _hear(self, process: asyncio.subprocess.Process, serves: asyncio.Future[None]) -> None:
         """Passes on what the process says, until it has ended."""
