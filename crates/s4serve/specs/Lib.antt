@@ -3,5 +3,7 @@ pub mod Lines
 pub mod Doors
 pub mod Seats
 pub mod Traces
+pub mod Owing
+pub mod Ended
 pub mod Collecting
 pub mod Starts
