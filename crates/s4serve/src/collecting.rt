@@ -165,8 +165,9 @@ pub struct Closing<'a, J: Running, C: Clock, K: Keeper, R: Wait, D: Telling> {
     pub flushing: ServiceFlush<'a, J, C, K, R, D>,
 }
 
-impl<J: Running, C: Clock, K: Keeper + Explaining + Drop, R: Wait, D: Telling> Flush<EndReceipt<J, K>>
-    for Closing<'_, J, C, K, R, D> {
+impl<J: Running, C: Clock, K: Keeper + Explaining + Drop, R: Wait, D: Telling> Flush<
+    EndReceipt<J, K>,
+> for Closing<'_, J, C, K, R, D> {
     /// Where the image was removed or replaced since it was kept, all is left in a file beside it.
     /// That is at the reach, so that it is the later one of the two.
     fn flush(&mut self) -> Result<EndReceipt<J, K>, FlushError> {

@@ -39,8 +39,7 @@ impl<
     F: Flush<KeptReceipt<J, K>>,
     P: Steps,
     O: SessionOutput<K>,
-> Outlet<Seat<'s, J, C, R, G>, Undrawn, AtMonitor<'k, KeptReceipt<J, K>, R, F, P>>
-    for Replying<O> {
+> Outlet<Seat<'s, J, C, R, G>, Undrawn, AtMonitor<'k, KeptReceipt<J, K>, R, F, P>> for Replying<O> {
     // A session of the door's role that was just had.
     ghost begins = { λ to seat. IsSeated J.base (O.role to.output) seat.seat };
 
