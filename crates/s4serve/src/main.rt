@@ -17,8 +17,10 @@
 ghost use Rattle.std.specs.Prelude.{◌+◌, ◌^◌, ◌<◌, ◌≤◌};
 ghost use Rattle.std.specs.Process.{exit_status};
 
+mod at_doors;
 mod collecting;
 mod doors;
+mod ended;
 mod faults;
 mod keeping;
 mod leaving;
@@ -26,6 +28,8 @@ mod opening;
 mod own_thread;
 mod parts;
 mod performing;
+mod reaching;
+mod replying;
 mod reserves;
 mod service;
 mod sessions;

@@ -1,5 +1,5 @@
 //! One session of a service.
-ghost use Rattle.std.specs.Prelude.{◌≡◌, ◌+◌, ◌^◌, ◌<◌, List, []};
+ghost use Rattle.std.specs.Prelude.{◌≡◌, ◌+◌, ◌^◌, ◌<◌, IfSome, List, []};
 ghost use Rattle.batch_serving.specs.Batches.{Serves, reading_failures, writing_failures};
 ghost use Rattle.batch_serving.specs.Waiting.{HasWaited};
 ghost use Rattle.server.specs.Drawing.{DrawsNothing};
@@ -7,11 +7,11 @@ ghost use Rattle.server.specs.declared.clocks.Undrawn.{Undrawn as Nothing};
 ghost use Rattle.s4serve.specs.Seats.{IsSeatAt, ServedFields, ServedSteps};
 ghost use Rattle.s4serve.specs.Traces.{HasWaitedForAll, TracedSteps, untraced};
 
-use batch_serving::{AtMonitor, BatchEnd, Step, serve_batch};
+use batch_serving::{AtMonitor, BatchEnd, Outlet, Step, serve_batch};
 use group_commit::{Flush, Receipt, Steps};
 use s4_types::{Moment, Reply, Request};
 use server::{Gate, Locked, Running, Undrawn};
-use serving::{Backend, Clock, Sink, Source};
+use serving::{Backend, Clock, Source};
 use std::alloc::Global;
 use std::marker::Model;
 use std::sync::Wait;
@@ -83,6 +83,8 @@ impl<J: Running, C: Clock, R: Wait, G: Gate> Step for Seat<'_, J, C, R, G> {
 /// history, the session has seen all changes that were accepted in it, and a receipt covers as many
 /// changes and that history's clock. So it is with each step that the session took before.
 pub fn serve_seat<
+    's,
+    'k,
     J: Running,
     C: Clock,
     R: Wait + time::Clock,
@@ -91,16 +93,18 @@ pub fn serve_seat<
     F: Flush<T>,
     P: Steps,
     S: Source,
-    W: Sink,
+    W: Outlet<Seat<'s, J, C, R, G>, Undrawn, AtMonitor<'k, T, R, F, P>>,
 >(
     alloc: Global,
     reader: &mut S,
     writer: &mut W,
-    seat: &mut Seat<'_, J, C, R, G>,
-    keeping: &mut AtMonitor<'_, T, R, F, P>,
+    seat: &mut Seat<'s, J, C, R, G>,
+    keeping: &mut AtMonitor<'k, T, R, F, P>,
 ) -> BatchEnd
     requires reader { S.failures reader.old + 1 < 2 ^ 64 }
     requires writer { W.failures writer.old + 1 < 2 ^ 64 }
+    requires begins { W.begins writer.old seat.old }
+    requires unsent { IfSome (W.passed writer.old) (λ bytes. bytes ≡ []) }
     ensures session { (before after : Nothing)
         × Serves (ServedSteps J.base J.reserve J.moments) DrawsNothing
         (λ from seat is_kept to. HasWaited IsSeatAt T.number T.reach is_kept seat from.receipt to.receipt) [] result
