@@ -84,7 +84,6 @@ impl<J: Running, C: Clock, R: Wait, G: Gate> Step for Seat<'_, J, C, R, G> {
 /// changes and that history's clock. So it is with each step that the session took before.
 pub fn serve_seat<
     's,
-    'k,
     J: Running,
     C: Clock,
     R: Wait + time::Clock,
@@ -93,13 +92,13 @@ pub fn serve_seat<
     F: Flush<T>,
     P: Steps,
     S: Source,
-    W: Outlet<Seat<'s, J, C, R, G>, Undrawn, AtMonitor<'k, T, R, F, P>>,
+    W: Outlet<Seat<'s, J, C, R, G>, Undrawn, AtMonitor<'s, T, R, F, P>>,
 >(
     alloc: Global,
     reader: &mut S,
     writer: &mut W,
     seat: &mut Seat<'s, J, C, R, G>,
-    keeping: &mut AtMonitor<'k, T, R, F, P>,
+    keeping: &mut AtMonitor<'s, T, R, F, P>,
 ) -> BatchEnd
     requires reader { S.failures reader.old + 1 < 2 ^ 64 }
     requires writer { W.failures writer.old + 1 < 2 ^ 64 }
