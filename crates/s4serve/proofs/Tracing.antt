@@ -162,7 +162,7 @@ pub owes : (base : Base) (reserve : ℕ) (moments : List ℕ → Type 0) (role :
     → HasWaited IsSeatAt (λ (r : ReceiptFields). r.number) (λ (r : ReceiptFields). r.reach) true now old (Some receipt)
     → AreOwed base reserve moments role sent bytes receipt
 owes base reserve moments role sent bytes now clock old receipt h waited =
-    let one = trace_answered {Nothing} {ReceiptFields} {ReceiptFields} base reserve moments DrawsNothing (λ (r : ReceiptFields). r.number) (λ (r : ReceiptFields). r.reach) (λ r. Some r) h.items h.replies h.first now h.before clock [] tt h.answered in
+    let one = trace_answered {C = Nothing} {T = ReceiptFields} {K = ReceiptFields} base reserve moments DrawsNothing (λ (r : ReceiptFields). r.number) (λ (r : ReceiptFields). r.reach) (λ r. Some r) h.items h.replies h.first now h.before clock [] tt h.answered in
     record {
       first = h.first;
       seated = h.begun;
@@ -173,5 +173,5 @@ owes base reserve moments role sent bytes now clock old receipt h waited =
       last = traced now one.0;
       answered = one.1;
       all = h.all;
-      covered = covers_all {Nothing} {ReceiptFields} {ReceiptFields} base reserve moments DrawsNothing (λ (r : ReceiptFields). r.number) (λ (r : ReceiptFields). r.reach) (λ r. Some r) now receipt waited one.0 one.2;
+      covered = covers_all {C = Nothing} {T = ReceiptFields} {K = ReceiptFields} base reserve moments DrawsNothing (λ (r : ReceiptFields). r.number) (λ (r : ReceiptFields). r.reach) (λ r. Some r) now receipt waited one.0 one.2;
     }

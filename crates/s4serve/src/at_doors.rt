@@ -1,11 +1,12 @@
 //! The doors of a service over FIFOs.
-ghost use Rattle.std.specs.Prelude.{◌≡◌, None, OnOk};
+ghost use Rattle.std.specs.Prelude.{◌≡◌, ◌+◌, ◌^◌, ◌<◌, None, OnOk};
 ghost use Rattle.std.specs.Io.KnownBytes.{Appends};
+ghost use Rattle.serving.specs.Streams.{failures_after};
 
 use crate::reaching::{Host, SessionOutput};
 use crate::service::Door;
 use crate::telling::{News, Telling};
-use door_files::{Fifos, open_session};
+use door_files::{Fifos, path_of_input, path_of_output};
 use door_lines::SessionName;
 use image_keeping::Keeper;
 use kept_drive::KeptReceipt;
@@ -60,7 +61,11 @@ impl<K: Keeper, F: Fifos> Host<K> for AtDoors<F> {
         let Some(door) = self.doors.as_slice().get(number) else {
             return Err(io::Error::from(ErrorKind::NotFound));
         };
-        let (input, output) = open_session(&self.fifos, alloc, door.folder.as_str(), name)?;
+        let (folder, name) = (door.folder.as_str(), name.as_str());
+        let input_path = path_of_input(alloc, folder, name)?;
+        let output_path = path_of_output(alloc, folder, name)?;
+        let input = self.fifos.open_input(input_path.as_str())?;
+        let output = self.fifos.open_output(output_path.as_str())?;
         let writer = WriteSink::new(output);
         Ok((
             input,
@@ -96,6 +101,10 @@ impl<K: Keeper, W: Write> SessionOutput<K> for ToFifo<W> {
         bytes: &[u8],
         _receipt: &KeptReceipt<J, K>,
     ) -> Result<(), StreamFailed>
+        requires failures { ⟦<WriteSink<W> as Sink>⟧.failures self.old.writer + 1 < 2 ^ 64 }
+        ensures role { self.new.role ≡ self.old.role }
+        ensures failures { ⟦<WriteSink<W> as Sink>⟧.failures self.new.writer
+            ≡ failures_after (⟦<WriteSink<W> as Sink>⟧.failures self.old.writer) result }
         // Where what the writer has taken is known, it takes just these.
         ensures written { OnOk result (Appends (⟦<WriteSink<W> as Sink>⟧.passed self.old.writer)
             (⟦<WriteSink<W> as Sink>⟧.passed self.new.writer) bytes.now) }
