@@ -60,15 +60,13 @@ fn path_of_door(alloc: Global, folder: &str) -> Result<String, AllocError>
     format!(in alloc; "{folder}/door")
 }
 
-/// The path of the stream of this name that a session reads.
-pub fn path_of_input(alloc: Global, folder: &str, name: &str) -> Result<String, AllocError>
+fn path_of_input(alloc: Global, folder: &str, name: &str) -> Result<String, AllocError>
     ensures { IfOk result (λ path. string_bytes path ≡ input_path folder.now name.now) }
 {
     format!(in alloc; "{folder}/{name}.in")
 }
 
-/// The path of the one that it writes.
-pub fn path_of_output(alloc: Global, folder: &str, name: &str) -> Result<String, AllocError>
+fn path_of_output(alloc: Global, folder: &str, name: &str) -> Result<String, AllocError>
     ensures { IfOk result (λ path. string_bytes path ≡ output_path folder.now name.now) }
 {
     format!(in alloc; "{folder}/{name}.out")

@@ -10,4 +10,4 @@
 mod fifos;
 mod host_fifos;
 
-pub use fifos::{Fifos, open_door, open_session, path_of_input, path_of_output};
+pub use fifos::{Fifos, open_door, open_session};

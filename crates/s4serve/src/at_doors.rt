@@ -1,12 +1,13 @@
-//! The doors of a service over FIFOs.
-ghost use Rattle.std.specs.Prelude.{◌≡◌, ◌+◌, ◌^◌, ◌<◌, None, OnOk};
+//! The streams of those who come by the doors of a service.
+ghost use Rattle.std.specs.Prelude.{◌≡◌, ◌+◌, ◌^◌, ◌<◌, None, IfOk, OnOk};
 ghost use Rattle.std.specs.Io.KnownBytes.{Appends};
 ghost use Rattle.serving.specs.Streams.{failures_after};
+ghost use Rattle.s4serve.specs.Doors.{AreStreamsOf, IsDoorAt};
+ghost use Rattle.s4serve.specs.declared.service.Door.{Door as DoorValue};
 
-use crate::reaching::{Host, SessionOutput};
+use crate::reaching::SessionOutput;
 use crate::service::Door;
-use crate::telling::{News, Telling};
-use door_files::{Fifos, path_of_input, path_of_output};
+use door_files::{Fifos, open_session};
 use door_lines::SessionName;
 use image_keeping::Keeper;
 use kept_drive::KeptReceipt;
@@ -16,72 +17,35 @@ use serving::{Sink, StreamFailed, WriteSink};
 use std::alloc::Global;
 use std::io::{self, ErrorKind, Write};
 
-/// The doors of a service, and the FIFOs that are opened at them.
-#[derive(Drop)]
-pub struct AtDoors<F> {
-    fifos: F,
-    doors: Vec<Door>,
-}
-
-impl<F> AtDoors<F> {
-    pub fn new(fifos: F, doors: Vec<Door>) -> Self
-        ensures { result.doors ≡ doors }
-    {
-        AtDoors { fifos, doors }
-    }
-}
-
-impl<F: Telling> Telling for AtDoors<F> {
-    fn tell(&self, news: News<'_>) {
-        self.fifos.tell(news);
-    }
-}
-
-impl<K: Keeper, F: Fifos> Host<K> for AtDoors<F> {
-    ghost doors = { λ host. host.doors.items };
-
-    ghost reads = { F.reads };
-
-    ghost writes = { λ output path. F.writes output.writer.writer path };
-
-    type Input = F::Input;
-
-    type Output = ToFifo<F::Output>;
-
-    fn door(&self, number: usize) -> Option<&Door> {
-        self.doors.as_slice().get(number)
-    }
-
-    fn open(
-        &self,
-        alloc: Global,
-        number: usize,
-        name: &SessionName,
-    ) -> io::Result<(F::Input, ToFifo<F::Output>)> {
-        let Some(door) = self.doors.as_slice().get(number) else {
-            return Err(io::Error::from(ErrorKind::NotFound));
-        };
-        let (folder, name) = (door.folder.as_str(), name.as_str());
-        let input_path = path_of_input(alloc, folder, name)?;
-        let output_path = path_of_output(alloc, folder, name)?;
-        let input = self.fifos.open_input(input_path.as_str())?;
-        let output = self.fifos.open_output(output_path.as_str())?;
-        let writer = WriteSink::new(output);
-        Ok((
-            input,
-            ToFifo {
-                writer,
-                role: door.role,
-            },
-        ))
-    }
-}
-
 /// What the replies of a session are written to, and the role of its door.
 #[derive(Drop)]
 pub struct ToFifo<W> {
     writer: WriteSink<W>,
-    role: Role,
+    pub role: Role,
+}
+
+/// Opens the two streams of a session that was asked for at the door of this number.
+pub fn open_at<D: Fifos>(
+    fifos: &D,
+    alloc: Global,
+    doors: &[Door],
+    number: usize,
+    name: &SessionName,
+) -> io::Result<(D::Input, ToFifo<D::Output>)>
+    // They are those of that door, and so is the role.
+    ensures streams { IfOk result (λ streams. (door : DoorValue)
+        × IsDoorAt doors.now number door × (streams.1.role ≡ door.role)
+        × AreStreamsOf D.reads D.writes door name.now streams.0 streams.1.writer.writer) }
+    ensures failures { IfOk result
+        (λ streams. ⟦<WriteSink<D::Output> as Sink>⟧.failures streams.1.writer ≡ 0) }
+{
+    let Some(door) = doors.get(number) else {
+        return Err(io::Error::from(ErrorKind::NotFound));
+    };
+    let (input, output) = open_session(fifos, alloc, door.folder.as_str(), name)?;
+    let role = door.role;
+    let writer = WriteSink::new(output);
+    Ok((input, ToFifo { writer, role }))
 }
 
 impl<K: Keeper, W: Write> SessionOutput<K> for ToFifo<W> {
@@ -91,10 +55,6 @@ impl<K: Keeper, W: Write> SessionOutput<K> for ToFifo<W> {
     ghost sent = { λ _. None };
 
     ghost failures = { λ output. ⟦<WriteSink<W> as Sink>⟧.failures output.writer };
-
-    fn role(&self) -> Role {
-        self.role
-    }
 
     fn send<J: Running>(
         &mut self,

@@ -2,11 +2,11 @@
 ghost use Rattle.std.specs.Prelude.{◌≡◌, ◌+◌, ◌^◌, ◌<◌};
 ghost use Rattle.s4serve.specs.Lines.{is_administrator};
 
-use crate::reaching::Host;
 use crate::service::{Door, Service};
 use crate::telling::{News, Telling};
 use crate::waiting::Line;
-use door_lines::{DoorLine, DoorReader, PieceSource};
+use door_files::{Fifos, open_session};
+use door_lines::{DoorLine, DoorReader, PieceSource, SessionName};
 use image_keeping::Keeper;
 use s4_types::Role;
 use server::Running;
@@ -15,7 +15,7 @@ use std::alloc::Global;
 use std::sync::Wait;
 
 /// Reads the lines at the door of this number from its file.
-pub fn watch_input<J: Running, C: Clock, K: Keeper, R: Wait, D: Host<K> + Telling>(
+pub fn watch_input<J: Running, C: Clock, K: Keeper, R: Wait, D: Fifos + Telling>(
     rt: &R,
     alloc: Global,
     service: &Service<J, C, K>,
@@ -34,7 +34,7 @@ pub fn watch_input<J: Running, C: Clock, K: Keeper, R: Wait, D: Host<K> + Tellin
 }
 
 /// Reads the lines at the door of this number, as long as that can be read.
-fn watch<J: Running, C: Clock, K: Keeper, R: Wait, D: Host<K> + Telling, S: PieceSource>(
+fn watch<J: Running, C: Clock, K: Keeper, R: Wait, D: Fifos + Telling, S: PieceSource>(
     rt: &R,
     alloc: Global,
     service: &Service<J, C, K>,
@@ -44,7 +44,7 @@ fn watch<J: Running, C: Clock, K: Keeper, R: Wait, D: Host<K> + Telling, S: Piec
 )
     requires { S.failures source.old + 1 < 2 ^ 64 }
 {
-    let Some(door) = outside.door(number) else {
+    let Some(door) = service.doors.as_slice().get(number) else {
         return;
     };
     let mut reader = DoorReader::new();
@@ -58,7 +58,7 @@ fn watch<J: Running, C: Clock, K: Keeper, R: Wait, D: Host<K> + Telling, S: Piec
 }
 
 /// Does what a line at a door asks for. `stop` ends the service where administrators come.
-fn heed<J: Running, C: Clock, K: Keeper, R: Wait, D: Host<K>>(
+fn heed<J: Running, C: Clock, K: Keeper, R: Wait, D: Fifos>(
     rt: &R,
     alloc: Global,
     service: &Service<J, C, K>,
@@ -71,8 +71,7 @@ fn heed<J: Running, C: Clock, K: Keeper, R: Wait, D: Host<K>>(
         DoorLine::Session(name) => {
             let line = Line { door: number, name };
             if let Err(line) = service.lines.put(rt, door.role, line) {
-                // Too many are ahead of it: its client sees the end of the streams.
-                let _ = outside.open(alloc, line.door, &line.name);
+                turn_away(outside, alloc, door, &line.name);
             }
         }
         DoorLine::Stop => {
@@ -89,4 +88,10 @@ fn may_stop(role: Role) -> bool
     ensures { result ≡ is_administrator role }
 {
     role == Role::Admin
+}
+
+/// The streams of a session that too many others are ahead of are opened and closed, so that its
+/// client sees their end.
+fn turn_away<D: Fifos>(outside: &D, alloc: Global, door: &Door, name: &SessionName) {
+    let _ = open_session(outside, alloc, door.folder.as_str(), name);
 }

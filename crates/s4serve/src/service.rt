@@ -38,6 +38,7 @@ pub struct Service<J: Running, C: Clock, K: Keeper> {
     pub kept: Mutex<KeptImage<J, K>>,
     /// The lines that no worker has taken, and the parts of the books that no session has had.
     pub lines: Lines<J>,
+    pub doors: Vec<Door>,
     /// The image's path.
     pub image: String,
 }
@@ -51,23 +52,8 @@ impl<J: Running, C: Clock + Drop, K: Keeper + Drop> Drop for Service<J, C, K> {
             monitor: _,
             kept: _,
             lines: _,
+            doors: _,
             image: _,
-        } = self;
-    }
-}
-
-/// What all threads of a service are given: the service, and what reaches outside for it.
-pub struct Shared<J: Running, C: Clock, K: Keeper, D> {
-    pub service: Service<J, C, K>,
-    pub outside: D,
-}
-
-// Written by hand, so that an owner lets it go by one call.
-impl<J: Running, C: Clock + Drop, K: Keeper + Drop, D: Drop> Drop for Shared<J, C, K, D> {
-    fn drop(self) {
-        let Shared {
-            service: _,
-            outside: _,
         } = self;
     }
 }

@@ -3,10 +3,10 @@ ghost use denote.Param.Send.{IsSend};
 ghost use Rattle.std.specs.Prelude.{◌≡◌, true};
 
 use crate::doors::watch_input;
-use crate::reaching::Host;
-use crate::service::{Service, Shared};
+use crate::service::Service;
 use crate::telling::Telling;
 use crate::workers::work;
+use door_files::Fifos;
 use image_keeping::Keeper;
 use own_stacks::spawn_with_stack;
 use s4_types::Role;
@@ -44,7 +44,8 @@ enum Duty<I> {
 pub struct Starting<'a, J: Running, C: Clock, K: Keeper, R, D> {
     pub rt: &'a R,
     pub alloc: Global,
-    pub shared: &'a Arc<Shared<J, C, K, D>, Global>,
+    pub service: &'a Arc<Service<J, C, K>, Global>,
+    pub outside: &'a D,
 }
 
 impl<
@@ -52,7 +53,7 @@ impl<
     C: Clock + Send + Drop + 'static,
     K: Keeper + Send + Drop + 'static,
     R: Threads + Wait + time::Clock + Copy + Send + Sync + Drop + 'static,
-    D: Host<K> + Telling + Send + Sync + Drop + 'static,
+    D: Fifos + Telling + Copy + Send + Sync + Drop + 'static,
 > Starting<'_, J, C, K, R, D> {
     /// Starts the threads of a service, which go on until the program ends: cleaner and copier, the
     /// workers, and those that read the doors, which come last. Sessions are served only from then
@@ -86,8 +87,8 @@ impl<
     fn start(&self, duty: Duty<D::Input>) -> Result<(), AllocError>
         requires upkeep { J.has_upkeep ≡ true }
     {
-        let (own, alloc) = (*self.rt, self.alloc);
-        let theirs = Arc::try_clone(self.shared)?;
+        let (own, alloc, outside) = (*self.rt, self.alloc, *self.outside);
+        let theirs = Arc::try_clone(self.service)?;
         spawn_with_stack(
             self.rt,
             STACK_BYTES,
@@ -95,16 +96,13 @@ impl<
                 requires upkeep { J.has_upkeep ≡ true }
                 requires input { IsSend D.Input.row }
                 requires output { IsSend D.Output.row }
-            {
-                let shared = &*theirs;
-                perform(&own, alloc, &shared.service, &shared.outside, duty)
-            },
+            { perform(&own, alloc, &*theirs, &outside, duty) },
         )
     }
 }
 
 /// Does what a duty says, for as long as that goes on.
-fn perform<J: Running, C: Clock, K: Keeper + Drop, R: Wait + time::Clock, D: Host<K> + Telling>(
+fn perform<J: Running, C: Clock, K: Keeper + Drop, R: Wait + time::Clock, D: Fifos + Telling>(
     rt: &R,
     alloc: Global,
     service: &Service<J, C, K>,

@@ -17,15 +17,13 @@ ghost use Rattle.s4serve.specs.Doors.{ReadsDoor, asked_door, opened_door};
 ghost use Rattle.s4serve.specs.Reserves.{most_reserve, reserve_of};
 ghost use Rattle.s4serve.specs.Starts.{IsStart, MayStart};
 
-use crate::at_doors::AtDoors;
 use crate::collecting::{Closing, UnderLock, flusher};
 use crate::ended::EndReceipt;
 use crate::faults::{DoorObstacle, ServeFault};
 use crate::keeping::{Explaining, KeptFiles};
 use crate::opening::{Begun, Opened, open_image};
 use crate::parts::ALL_PARTS;
-use crate::reaching::Host;
-use crate::service::{Door, Service, Shared};
+use crate::service::{Door, Service};
 use crate::spawning::Starting;
 use crate::telling::{News, Telling};
 use crate::waiting::Lines;
@@ -67,6 +65,7 @@ struct Ready<K, C> {
     start: Moment,
     clock: C,
     blanks: Blanks,
+    doors: Vec<Door>,
 }
 
 /// What a service has besides once its drive was kept a first time.
@@ -116,9 +115,9 @@ pub fn serve_image<
         start,
         clock,
         blanks: Blanks::new(ALL_PARTS),
+        doors,
     };
-    let outside = AtDoors::new(outside, doors);
-    serve_ready::<Brand, H, F::Kept, ServiceClock<Monotonic<H>>, AtDoors<D>>(
+    serve_ready::<Brand, H, F::Kept, ServiceClock<Monotonic<H>>, D>(
         rt, alloc, outside, asked, ready, inputs,
     )
 }
@@ -130,7 +129,7 @@ fn serve_ready<
     H: Threads + Wait + Clock + Copy + Send + Sync + Drop + 'static,
     K: Keeper + Explaining + Send + Drop + 'static,
     C: serving::Clock + Send + Drop + 'static,
-    D: Host<K> + Telling + Send + Sync + Drop + 'static,
+    D: Fifos + Telling + Copy + Send + Sync + Drop + 'static,
 >(
     rt: &H,
     alloc: Global,
@@ -153,7 +152,7 @@ fn serve_ready<
     // It begins where a service may begin over this drive, and has the doors that were asked for.
     requires start { IsStart ready.drive.timeline.clock ready.drive.timeline.window asked.now.leap
         ready.system ready.start }
-    requires doors { map opened_door (D.doors outside) ≡ map asked_door asked.now.doors.items }
+    requires doors { map opened_door ready.doors.items ≡ map asked_door asked.now.doors.items }
     // Clients leave as many blocks of this drive's room as were asked for, or as a drive of so many
     // frames has where that isn't said: no more than half of it where nothing is held.
     requires reserve { J.reserve
@@ -171,11 +170,14 @@ fn serve_ready<
         start,
         clock,
         blanks,
+        doors,
     } = ready;
     let (shared, rest) = SharedDrive::new(drive.named::<J>(), clock, blanks, reserve);
     let drive = Mutex::new(shared);
     let first = keep_first(rt, alloc, &drive, keeper, start, asked.image)?;
-    serve_kept(rt, alloc, outside, asked, drive, first, rest, inputs)
+    serve_kept(
+        rt, alloc, outside, asked, drive, first, rest, doors, inputs,
+    )
 }
 
 /// Serves a drive that was kept a first time, as it is once it has seen where the service begins.
@@ -185,7 +187,7 @@ fn serve_kept<
     H: Threads + Wait + Clock + Copy + Send + Sync + Drop + 'static,
     K: Keeper + Explaining + Send + Drop + 'static,
     C: serving::Clock + Send + Drop + 'static,
-    D: Host<K> + Telling + Send + Sync + Drop + 'static,
+    D: Fifos + Telling + Copy + Send + Sync + Drop + 'static,
 >(
     rt: &H,
     alloc: Global,
@@ -194,13 +196,14 @@ fn serve_kept<
     drive: Mutex<SharedDrive<J, C>>,
     first: FirstKept<J, K>,
     rest: Part<J>,
+    doors: Vec<Door>,
     inputs: Vec<D::Input>,
 ) -> Result<(), ServeFault<'a>>
     requires upkeep { J.has_upkeep ≡ true }
     requires parts { rest.parts ≡ ALL_PARTS }
     // It begins where a service may begin over this drive, and has the doors that were asked for.
     requires start { MayStart J.base.clock J.base.window asked.now.leap first.kept.start }
-    requires doors { map opened_door (D.doors outside) ≡ map asked_door asked.now.doors.items }
+    requires doors { map opened_door doors.items ≡ map asked_door asked.now.doors.items }
     // Whatever a crash leaves from now on is the drive, once it has seen what comes after that.
     requires kept { IsKept (K.may_leave first.kept.keeper)
         (IsFlushed (WasHad J.frames J.base) J.base first.kept.session.told.seen
@@ -216,22 +219,23 @@ fn serve_kept<
         monitor: Monitor::new(first.receipt, patience),
         kept: Mutex::new(first.kept),
         lines,
+        doors,
         image: first.path,
     };
-    let Ok(shared) = Arc::new(alloc, Shared { service, outside }) else {
+    let Ok(service) = Arc::new(alloc, service) else {
         return Err(ServeFault::NoMemory);
     };
     let starting = Starting {
         rt,
         alloc,
-        shared: &shared,
+        service: &service,
+        outside: &outside,
     };
     if starting.start_threads(inputs).is_err() {
         return Err(ServeFault::NoThreads);
     }
-    let all = &*shared;
-    all.outside.tell(News::Serves(image));
-    let receipt = await_end(rt, alloc, &all.service, &all.outside, image)?;
+    outside.tell(News::Serves(image));
+    let receipt = await_end(rt, alloc, &service, &outside, image)?;
     receipt.shows();
     Ok(())
 }

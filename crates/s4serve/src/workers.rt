@@ -8,14 +8,16 @@ ghost use Rattle.server.specs.declared.clocks.Undrawn.{Undrawn as Nothing};
 ghost use Rattle.s4serve.specs.Seats.{ServedFields};
 ghost use Rattle.s4serve.specs.Traces.{HasWaitedForAll, TracedSteps, untraced};
 
+use crate::at_doors::open_at;
 use crate::collecting::{ServiceFlush, flusher};
-use crate::reaching::{Host, SessionOutput};
+use crate::reaching::SessionOutput;
 use crate::replying::Replying;
 use crate::service::Service;
 use crate::sessions::{Seat, serve_seat};
 use crate::telling::Telling;
 use crate::waiting::Line;
 use batch_serving::{AtMonitor, BatchEnd, DueSource};
+use door_files::Fifos;
 use group_commit::{Flush, Open as AnyStep, Receipt, Steps};
 use image_keeping::Keeper;
 use kept_drive::KeptReceipt;
@@ -27,7 +29,7 @@ use std::sync::Wait;
 use std::time;
 
 /// Serves sessions of a role, one after another, whatever becomes of each.
-pub fn work<J: Running, C: Clock, K: Keeper + Drop, R: Wait + time::Clock, D: Host<K> + Telling>(
+pub fn work<J: Running, C: Clock, K: Keeper + Drop, R: Wait + time::Clock, D: Fifos + Telling>(
     rt: &R,
     alloc: Global,
     service: &Service<J, C, K>,
@@ -41,7 +43,7 @@ pub fn work<J: Running, C: Clock, K: Keeper + Drop, R: Wait + time::Clock, D: Ho
 }
 
 /// Serves the session that a line asks for, where its streams are there.
-fn attend<J: Running, C: Clock, K: Keeper + Drop, R: Wait + time::Clock, D: Host<K> + Telling>(
+fn attend<J: Running, C: Clock, K: Keeper + Drop, R: Wait + time::Clock, D: Fifos + Telling>(
     rt: &R,
     alloc: Global,
     service: &Service<J, C, K>,
@@ -51,10 +53,11 @@ fn attend<J: Running, C: Clock, K: Keeper + Drop, R: Wait + time::Clock, D: Host
 )
     requires { IfSome part (λ part. part ≡ one_part) }
 {
-    let Ok((input, output)) = outside.open(alloc, line.door, &line.name) else {
+    let doors = service.doors.as_slice();
+    let Ok((input, output)) = open_at(outside, alloc, doors, line.door, &line.name) else {
         return;
     };
-    let role = output.role();
+    let role = output.role;
     let reader = ReadSource::new(input);
     let mut writer = Replying::new(output);
     serve_one(rt, alloc, service, outside, role, part, reader, &mut writer);
