@@ -175,9 +175,7 @@ fn serve_ready<
     let (shared, rest) = SharedDrive::new(drive.named::<J>(), clock, blanks, reserve);
     let drive = Mutex::new(shared);
     let first = keep_first(rt, alloc, &drive, keeper, start, asked.image)?;
-    serve_kept(
-        rt, alloc, outside, asked, drive, first, rest, doors, inputs,
-    )
+    serve_kept(rt, alloc, outside, asked, drive, first, rest, doors, inputs)
 }
 
 /// Serves a drive that was kept a first time, as it is once it has seen where the service begins.

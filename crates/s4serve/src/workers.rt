@@ -103,8 +103,8 @@ fn serve_one<
     reader.end_replies();
 }
 
-/// Serves a session of this role, its door's, that was just had, with its part of the books, and says how
-/// it ended. None where the drive has no seat for it: nothing is read or written then.
+/// Serves a session of this role, its door's, that was just had, with its part of the books, and
+/// says how it ended. None where the drive has no seat for it: nothing is read or written then.
 ///
 /// What it writes are the replies of that session's steps, each of which a receipt covers first.
 fn serve_line<
