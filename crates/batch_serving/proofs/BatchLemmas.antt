@@ -23,7 +23,7 @@ nothing_said : (replies : List Reply) → said replies ≡ [] → replies ≡ []
 nothing_said [] h = refl
 nothing_said (reply ∷ replies) h = absurd (cons_none _ _ h)
 
-said_more : (bytes : List ℕ) (replies : List Reply) (reply : Reply) → bytes ≡ said replies → bytes ++ reply_frame reply ≡ said (replies ++ reply ∷ [])
+pub said_more : (bytes : List ℕ) (replies : List Reply) (reply : Reply) → bytes ≡ said replies → bytes ++ reply_frame reply ≡ said (replies ++ reply ∷ [])
 said_more bytes replies reply is =
     ap (λ x. x ++ reply_frame reply) is
     ∙ ap (λ x. said replies ++ x) (sym (append-nil (reply_frame reply)))

@@ -1,2 +1,3 @@
 pub mod BatchLemmas
+pub mod SayingLemmas
 pub mod SessionLemmas

@@ -1,4 +1,5 @@
 pub mod Batches
+pub mod Saying
 pub mod Showing
 pub mod Waiting
 pub mod private

@@ -1,20 +1,22 @@
-ghost use Rattle.std.specs.Prelude.{◌≡◌, ◌+◌, ◌^◌, ◌<◌, ◌++◌, [], ◌∷◌, MatchResult, length};
+ghost use Rattle.std.specs.Prelude.{◌≡◌, ◌+◌, ◌^◌, ◌<◌, ◌++◌, [], ◌∷◌, MatchResult, OnOk, length};
 ghost use Rattle.serving.specs.Session.{failures_by};
 ghost use Rattle.batch_serving.specs.Batches.{AllKept, writing_failures};
 ghost use Rattle.batch_serving.specs.private.Holding.{Adds, Breaks, Holds, IsWritten, NotWritten};
 ghost use Rattle.batch_serving.specs.private.Holding.{StopsAmong};
+ghost use Rattle.batch_serving.specs.Saying.{HasSaid};
 
 use crate::ends::BatchEnd;
 use crate::keeping::Keeping;
+use crate::outlet::Outlet;
 use rpc::{Item, push_reply};
 use s4_types::Request;
-use serving::{Backend, Clock, Sink, reply_to};
+use serving::{Backend, Clock, reply_to};
 
 /// Replies go out once they have this many bytes, though more requests came with them.
 pub const BATCH_BYTES: usize = 65_536;
 
 // Answers all items, and writes all replies once they are kept. `out` is where they are encoded.
-pub(crate) fn answer_all<W: Sink, B: Backend, C: Clock, K: Keeping<B>>(
+pub(crate) fn answer_all<W: Outlet<B, C, K>, B: Backend, C: Clock, K: Keeping<B>>(
     items: Vec<Item<Request>>,
     writer: &mut W,
     backend: &mut B,
@@ -22,7 +24,9 @@ pub(crate) fn answer_all<W: Sink, B: Backend, C: Clock, K: Keeping<B>>(
     keeping: &mut K,
     out: &mut Vec<u8>,
 ) -> Result<(), BatchEnd>
-    requires { W.failures writer.old + 1 < 2 ^ 64 }
+    requires room { W.failures writer.old + 1 < 2 ^ 64 }
+    requires said { HasSaid B.steps C.draws (W.begins writer.old) (W.passed writer.old) []
+        backend.old clock.old }
     ensures answers { MatchResult result
         (λ _. AllKept B.steps C.draws K.waits items.items
         backend.old clock.old keeping.old (W.passed writer.old)
@@ -30,19 +34,21 @@ pub(crate) fn answer_all<W: Sink, B: Backend, C: Clock, K: Keeping<B>>(
         (λ end. StopsAmong B.steps C.draws K.waits end items.items
         backend.old clock.old keeping.old (W.passed writer.old)
         backend.new clock.new keeping.new (W.passed writer.new)) }
+    ensures said { OnOk result (HasSaid B.steps C.draws (W.begins writer.new) (W.passed writer.new) []
+        backend.new clock.new) }
     ensures writing { W.failures writer.new
         ≡ W.failures writer.old + failures_by writing_failures result }
 {
     out.clear();
     match answer_items(items, writer, backend, clock, keeping, out) {
         Ok(()) if out.is_empty() => Ok(()),
-        Ok(()) => write_out(writer, backend, keeping, out),
+        Ok(()) => write_out(writer, backend, clock, keeping, out),
         Err(end) => Err(end),
     }
 }
 
 // Answers all items. `out` has the replies that aren't written yet.
-fn answer_items<W: Sink, B: Backend, C: Clock, K: Keeping<B>>(
+fn answer_items<W: Outlet<B, C, K>, B: Backend, C: Clock, K: Keeping<B>>(
     items: Vec<Item<Request>>,
     writer: &mut W,
     backend: &mut B,
@@ -52,6 +58,8 @@ fn answer_items<W: Sink, B: Backend, C: Clock, K: Keeping<B>>(
 ) -> Result<(), BatchEnd>
     requires room { W.failures writer.old + 1 < 2 ^ 64 }
     requires empty { out.old.items ≡ [] }
+    requires said { HasSaid B.steps C.draws (W.begins writer.old) (W.passed writer.old) []
+        backend.old clock.old }
     ensures answers { MatchResult result
         (λ _. Holds B.steps C.draws K.waits items.items
         backend.old clock.old keeping.old (W.passed writer.old)
@@ -59,6 +67,8 @@ fn answer_items<W: Sink, B: Backend, C: Clock, K: Keeping<B>>(
         (λ end. StopsAmong B.steps C.draws K.waits end items.items
         backend.old clock.old keeping.old (W.passed writer.old)
         backend.new clock.new keeping.new (W.passed writer.new)) }
+    ensures said { OnOk result (HasSaid B.steps C.draws (W.begins writer.new) (W.passed writer.new)
+        out.new.items backend.new clock.new) }
     ensures writing { W.failures writer.new
         ≡ W.failures writer.old + failures_by writing_failures result }
 {
@@ -72,7 +82,7 @@ fn answer_items<W: Sink, B: Backend, C: Clock, K: Keeping<B>>(
 }
 
 // Answers one more item. Where the replies are large by now, they are written.
-fn answer<W: Sink, B: Backend, C: Clock, K: Keeping<B>>(
+fn answer<W: Outlet<B, C, K>, B: Backend, C: Clock, K: Keeping<B>>(
     item: Item<Request>,
     writer: &mut W,
     backend: &mut B,
@@ -80,7 +90,9 @@ fn answer<W: Sink, B: Backend, C: Clock, K: Keeping<B>>(
     keeping: &mut K,
     out: &mut Vec<u8>,
 ) -> Result<(), BatchEnd>
-    requires { W.failures writer.old + 1 < 2 ^ 64 }
+    requires room { W.failures writer.old + 1 < 2 ^ 64 }
+    requires said { HasSaid B.steps C.draws (W.begins writer.old) (W.passed writer.old)
+        out.old.items backend.old clock.old }
     ensures answers { MatchResult result
         (λ _. Adds B.steps C.draws K.waits item out.old.items out.new.items
         backend.old clock.old keeping.old (W.passed writer.old)
@@ -88,6 +100,8 @@ fn answer<W: Sink, B: Backend, C: Clock, K: Keeping<B>>(
         (λ end. Breaks B.steps C.draws K.waits end item out.old.items
         backend.old clock.old keeping.old (W.passed writer.old)
         backend.new clock.new keeping.new (W.passed writer.new)) }
+    ensures said { OnOk result (HasSaid B.steps C.draws (W.begins writer.new) (W.passed writer.new)
+        out.new.items backend.new clock.new) }
     ensures writing { W.failures writer.new
         ≡ W.failures writer.old + failures_by writing_failures result }
 {
@@ -98,23 +112,28 @@ fn answer<W: Sink, B: Backend, C: Clock, K: Keeping<B>>(
     if out.len() < BATCH_BYTES {
         return Ok(());
     }
-    write_out(writer, backend, keeping, out)
+    write_out(writer, backend, clock, keeping, out)
 }
 
 // Waits until all that the backend has done is kept, and writes the replies.
-fn write_out<W: Sink, B: Backend, K: Keeping<B>>(
+fn write_out<W: Outlet<B, C, K>, B: Backend, C: Clock, K: Keeping<B>>(
     writer: &mut W,
     backend: &B,
+    clock: &C,
     keeping: &mut K,
     out: &mut Vec<u8>,
 ) -> Result<(), BatchEnd>
-    requires { W.failures writer.old + 1 < 2 ^ 64 }
+    requires room { W.failures writer.old + 1 < 2 ^ 64 }
+    requires said { HasSaid B.steps C.draws (W.begins writer.old) (W.passed writer.old)
+        out.old.items backend.now clock.now }
     ensures written { MatchResult result
         (λ _. IsWritten K.waits out.old.items
         backend.now keeping.old (W.passed writer.old) keeping.new (W.passed writer.new))
         (λ end. NotWritten K.waits end out.old.items
         backend.now keeping.old (W.passed writer.old) keeping.new (W.passed writer.new)) }
     ensures empty { out.new.items ≡ [] }
+    ensures said { OnOk result (HasSaid B.steps C.draws (W.begins writer.new) (W.passed writer.new) []
+        backend.now clock.now) }
     ensures writing { W.failures writer.new
         ≡ W.failures writer.old + failures_by writing_failures result }
 {
@@ -122,7 +141,7 @@ fn write_out<W: Sink, B: Backend, K: Keeping<B>>(
         out.clear();
         return Err(BatchEnd::NotKept);
     }
-    let wrote = writer.put(out.as_slice());
+    let wrote = writer.send(out.as_slice(), backend, clock, keeping);
     out.clear();
     match wrote {
         Ok(()) => Ok(()),

@@ -7,7 +7,9 @@
 //! without that, or memory is short, no reply is missing but those of the last batch, of which all
 //! but the last have less than `BATCH_BYTES` bytes. The backend is asked nothing else, and what was
 //! answered stays done. An end other than `NoMemory` comes only where its name says. What a wait
-//! shows is said by what waits. How many batches there are is in no clause. A `DueSource` gives bytes
+//! shows is said by what waits. What the replies go out to may require that they are the replies to
+//! all that the backend was asked, and that this is kept. How many batches there are is in no
+//! clause. A `DueSource` gives bytes
 //! only while the service isn't to stop, and has counted that their replies are due.
 #![tactic(auto)]
 
@@ -15,10 +17,12 @@ mod batches;
 mod due_source;
 mod ends;
 mod keeping;
+mod outlet;
 mod serving_batches;
 
 pub use batches::BATCH_BYTES;
 pub use due_source::DueSource;
 pub use ends::BatchEnd;
 pub use keeping::{AtMonitor, Keeping, Step};
+pub use outlet::Outlet;
 pub use serving_batches::serve_batch;

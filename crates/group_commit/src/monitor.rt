@@ -223,19 +223,20 @@ impl<T: Receipt + Drop> Monitor<T> {
     /// after that all is flushed a last time: again each second where memory or space is short, as
     /// long as the service has patience.
     ///
-    /// `Short` where it has none left, now or in a flush of before; `Failed` where a flush failed.
-    pub fn end<R: Wait + Clock, F: Flush<()>>(
+    /// Gives what that flush gave, which shows that all is kept. `Short` where the service has no
+    /// patience left, now or in a flush of before; `Failed` where a flush failed.
+    pub fn end<R: Wait + Clock, U, F: Flush<U>>(
         &self,
         rt: &R,
         last: &mut F,
-    ) -> Result<(), FlushError> {
+    ) -> Result<U, FlushError> {
         self.await_over(rt)?;
         for _ in rt.forever() {
             match last.flush() {
-                Ok(()) => return Ok(()),
+                Ok(shown) => return Ok(shown),
                 Err(FlushError::Failed) => return Err(FlushError::Failed),
                 Err(FlushError::Short) => {
-                    if !self.put_off::<R, (), F>(rt, last) {
+                    if !self.put_off::<R, U, F>(rt, last) {
                         return Err(FlushError::Short);
                     }
                 }

@@ -1,5 +1,5 @@
 -- What was collected of a drive that is shown under its lock.
-use Rattle.std.proofs.Common.{◌≡◌, ℕ, Result, Ok, Err, sym}
+use Rattle.std.proofs.Common.{ℕ, Result, Ok, Err, sym}
 use Rattle.std.specs.Prelude.{IfOk}
 use Rattle.std.specs.Global.{Vec}
 use Rattle.atomic_table.specs.Seated.{TableId}

@@ -1,6 +1,6 @@
 -- A drive that a line asks to be made has a number of frames that a drive may have.
 use Rattle.std.specs.Prelude.{IfSome, Option, Some, None}
-use Rattle.clap.specs.Walk.{Row, Text, first_of, rows_of}
+use Rattle.clap.specs.Walk.{Row, Text, first_of}
 use Rattle.std.specs.Prelude.{List, codes}
 use Rattle.s4_types.specs.Sizes.{IsFrameCount}
 use Rattle.s4serve_command.specs.CommandLine.{IsCreatedAt, Spells}

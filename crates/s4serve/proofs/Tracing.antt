@@ -1,5 +1,5 @@
 -- A receipt that covers the last step of a session covers each one before.
-use Rattle.std.proofs.Common.{◌≡◌, ◌≤◌, ◌-◌, ◌^◌, ℕ, Bool, true, false, List, [], ◌∷◌, ◌++◌, length, max, min, Option, None, Some, refl, sym, ap, subst, arith}
+use Rattle.std.proofs.Common.{◌≡◌, ◌≤◌, ◌-◌, ◌^◌, ℕ, Bool, true, false, List, [], ◌∷◌, ◌++◌, length, min, Option, None, Some, refl, sym, ap, subst, arith}
 use Rattle.std.specs.List.{AllByRecursion}
 use Rattle.s4_types.specs.History.{Base}
 use Rattle.s4_types.specs.declared.requests.Request.{Request}
@@ -9,11 +9,18 @@ use Rattle.rpc.specs.declared.items.Item.TheVariants.{Whole, BadFrame}
 use Rattle.serving.specs.Answering.{Answered, Run}
 use Rattle.batch_serving.specs.Showing.{IsShown}
 use Rattle.batch_serving.specs.Batches.{AreBatches, IsLast, LeftBy, Serves}
+use Rattle.batch_serving.specs.Saying.{HasSaid}
 use Rattle.batch_serving.specs.Waiting.{HasWaited}
 use Rattle.batch_serving.specs.declared.ends.BatchEnd.{BatchEnd}
 use Rattle.batch_serving.specs.declared.ends.BatchEnd.TheVariants.{Ended, CutFrame, Oversized, ReadFailed, WriteFailed, NotKept, NoMemory}
 use Rattle.s4serve.specs.Seats.{IsSeatAt, ServedFields, ServedSteps}
 use Rattle.s4serve.specs.Traces.{CoversStep, HasWaitedForAll, TracedFields, TracedSteps, untraced}
+use Rattle.kept_drive.specs.Receipts.{ReceiptFields}
+use Rattle.s4_types.specs.declared.requests.Role.{Role}
+use Rattle.server.specs.Attending.{IsSeated}
+use Rattle.server.specs.Drawing.{DrawsNothing}
+use Rattle.server.specs.declared.clocks.Undrawn.{Undrawn as Nothing}
+use Rattle.s4serve.specs.Owing.{AreOwed}
 use Rattle.s4serve.proofs.Growing.{seen_more}
 
 -- a session was this, and has seen as much since, and reached its clock
@@ -148,3 +155,23 @@ module _ {C T K : Type 0} (base : Base) (reserve : ℕ) (moments : List ℕ → 
           };
         },
       )
+
+-- what a session has said, which has waited since, is what it owes
+pub owes : (base : Base) (reserve : ℕ) (moments : List ℕ → Type 0) (role : Role) (sent : Option (List ℕ)) (bytes : List ℕ) (now : ServedFields) (clock : Nothing) (old : Option ReceiptFields) (receipt : ReceiptFields)
+    → HasSaid (ServedSteps base reserve moments) DrawsNothing (λ (seat : ServedFields). IsSeated base role seat.seat) sent bytes now clock
+    → HasWaited IsSeatAt (λ (r : ReceiptFields). r.number) (λ (r : ReceiptFields). r.reach) true now old (Some receipt)
+    → AreOwed base reserve moments role sent bytes receipt
+owes base reserve moments role sent bytes now clock old receipt h waited =
+    let one = trace_answered {C = Nothing} {T = ReceiptFields} {K = ReceiptFields} base reserve moments DrawsNothing (λ (r : ReceiptFields). r.number) (λ (r : ReceiptFields). r.reach) (λ r. Some r) h.items h.replies h.first now h.before clock [] tt h.answered in
+    record {
+      first = h.first;
+      seated = h.begun;
+      before = h.before;
+      after = clock;
+      items = h.items;
+      replies = h.replies;
+      last = traced now one.0;
+      answered = one.1;
+      all = h.all;
+      covered = covers_all {C = Nothing} {T = ReceiptFields} {K = ReceiptFields} base reserve moments DrawsNothing (λ (r : ReceiptFields). r.number) (λ (r : ReceiptFields). r.reach) (λ r. Some r) now receipt waited one.0 one.2;
+    }

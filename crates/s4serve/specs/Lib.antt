@@ -3,6 +3,8 @@ pub mod Lines
 pub mod Doors
 pub mod Seats
 pub mod Traces
+pub mod Owing
+pub mod Ended
 pub mod Collecting
 pub mod Starts
 pub mod Reserves

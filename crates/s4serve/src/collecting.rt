@@ -2,6 +2,7 @@
 ghost use Rattle.std.specs.Prelude.{◌≡◌};
 ghost use Rattle.s4serve.specs.Collecting.{Collects, CollectsLast};
 
+use crate::ended::EndReceipt;
 use crate::keeping::Explaining;
 use crate::service::Service;
 use crate::telling::{News, Telling};
@@ -14,6 +15,7 @@ use segment_word::Naming;
 use server::{Pace, Running, SharedDrive, Visit, show};
 use serving::Clock;
 use std::alloc::Global;
+use std::marker::PhantomData;
 use std::sync::{Mutex, Wait};
 
 /// Collects the drive that it is shown.
@@ -163,20 +165,20 @@ pub struct Closing<'a, J: Running, C: Clock, K: Keeper, R: Wait, D: Telling> {
     pub flushing: ServiceFlush<'a, J, C, K, R, D>,
 }
 
-impl<J: Running, C: Clock, K: Keeper + Explaining + Drop, R: Wait, D: Telling> Flush<()>
-    for Closing<'_, J, C, K, R, D> {
+impl<J: Running, C: Clock, K: Keeper + Explaining + Drop, R: Wait, D: Telling> Flush<
+    EndReceipt<J, K>,
+> for Closing<'_, J, C, K, R, D> {
     /// Where the image was removed or replaced since it was kept, all is left in a file beside it.
     /// That is at the reach, so that it is the later one of the two.
-    fn flush(&mut self) -> Result<(), FlushError> {
+    fn flush(&mut self) -> Result<EndReceipt<J, K>, FlushError> {
         let flushing = &self.flushing;
         let mut kept = flushing.kept.lock(flushing.rt);
         if kept.keeper().is_in_place() {
-            return kept.close(flushing.alloc, &flushing.drive);
+            kept.close(flushing.alloc, &flushing.drive)?;
+            return Ok(EndReceipt { of: PhantomData });
         }
-        match kept.flush(flushing.alloc, &flushing.drive) {
-            Ok(_) => Ok(()),
-            Err(error) => Err(error),
-        }
+        let _ = kept.flush(flushing.alloc, &flushing.drive)?;
+        Ok(EndReceipt { of: PhantomData })
     }
 
     fn announce_shortage(&mut self, left: Option<u64>) {

@@ -4,10 +4,12 @@
 //! A client writes a name at a door, and has a session over two FIFOs of that name. Each reply
 //! waits until an image that has what it shows has taken the place of the one before, on the disk.
 //! What is proved of that: each reply that a session writes is a step of the shared drive at a
-//! history all of whose accepted changes a receipt covers, and its clock too; and a flush that
+//! history all of whose accepted changes a receipt covers, and its clock too. Whatever sends replies
+//! requires that, and that they are of a session of its door's role, on every thread. A flush that
 //! makes a receipt leaves at the image's path, whatever a crash leaves there, the image of the drive
 //! with these changes at that clock. At its end no session is given a receipt any more, and then a
-//! last flush leaves there the image of the drive at its own clock.
+//! last flush leaves there the image of the drive at its own clock: a service that ends well shows
+//! that.
 //!
 //! An argument in writing, and no clause: that a thread goes on; that a crash falls between two
 //! calls, while threads run; that one lock orders what the receipts of several sessions say. The
@@ -17,8 +19,10 @@
 ghost use Rattle.std.specs.Prelude.{◌+◌, ◌^◌, ◌<◌, ◌≤◌};
 ghost use Rattle.std.specs.Process.{exit_status};
 
+mod at_doors;
 mod collecting;
 mod doors;
+mod ended;
 mod faults;
 mod keeping;
 mod leaving;
@@ -26,6 +30,8 @@ mod opening;
 mod own_thread;
 mod parts;
 mod performing;
+mod reaching;
+mod replying;
 mod reserves;
 mod service;
 mod sessions;

@@ -1,17 +1,22 @@
 //! One session of a service.
-ghost use Rattle.std.specs.Prelude.{◌≡◌, ◌+◌, ◌^◌, ◌<◌, List, []};
+ghost use Rattle.std.specs.Prelude.{◌≡◌, ◌+◌, ◌^◌, ◌<◌, IfSome, List, []};
 ghost use Rattle.batch_serving.specs.Batches.{Serves, reading_failures, writing_failures};
 ghost use Rattle.batch_serving.specs.Waiting.{HasWaited};
+ghost use Rattle.server.specs.Attending.{IsSeated};
 ghost use Rattle.server.specs.Drawing.{DrawsNothing};
 ghost use Rattle.server.specs.declared.clocks.Undrawn.{Undrawn as Nothing};
 ghost use Rattle.s4serve.specs.Seats.{IsSeatAt, ServedFields, ServedSteps};
 ghost use Rattle.s4serve.specs.Traces.{HasWaitedForAll, TracedSteps, untraced};
 
+use crate::reaching::SessionOutput;
+use crate::replying::Replying;
 use batch_serving::{AtMonitor, BatchEnd, Step, serve_batch};
 use group_commit::{Flush, Receipt, Steps};
+use image_keeping::Keeper;
+use kept_drive::KeptReceipt;
 use s4_types::{Moment, Reply, Request};
 use server::{Gate, Locked, Running, Undrawn};
-use serving::{Backend, Clock, Sink, Source};
+use serving::{Backend, Clock, Source};
 use std::alloc::Global;
 use std::marker::Model;
 use std::sync::Wait;
@@ -87,33 +92,39 @@ pub fn serve_seat<
     C: Clock,
     R: Wait + time::Clock,
     G: Gate,
-    T: Receipt + Drop,
-    F: Flush<T>,
+    K: Keeper,
+    F: Flush<KeptReceipt<J, K>>,
     P: Steps,
     S: Source,
-    W: Sink,
+    O: SessionOutput<K>,
 >(
     alloc: Global,
     reader: &mut S,
-    writer: &mut W,
+    writer: &mut Replying<O>,
     seat: &mut Seat<'_, J, C, R, G>,
-    keeping: &mut AtMonitor<'_, T, R, F, P>,
+    keeping: &mut AtMonitor<'_, KeptReceipt<J, K>, R, F, P>,
 ) -> BatchEnd
     requires reader { S.failures reader.old + 1 < 2 ^ 64 }
-    requires writer { W.failures writer.old + 1 < 2 ^ 64 }
+    requires writer { O.failures writer.old.output + 1 < 2 ^ 64 }
+    requires begins { IsSeated J.base (O.role writer.old.output) seat.old.seat }
+    requires unsent { IfSome (O.sent writer.old.output) (λ bytes. bytes ≡ []) }
     ensures session { (before after : Nothing)
         × Serves (ServedSteps J.base J.reserve J.moments) DrawsNothing
-        (λ from seat is_kept to. HasWaited IsSeatAt T.number T.reach is_kept seat from.receipt to.receipt) [] result
-        seat.old before keeping.old (S.remaining reader.old) (W.passed writer.old)
-        seat.new after keeping.new (S.remaining reader.new) (W.passed writer.new) }
+        (λ from seat is_kept to. HasWaited IsSeatAt ⟦<KeptReceipt<J, K> as Receipt>⟧.number
+        ⟦<KeptReceipt<J, K> as Receipt>⟧.reach is_kept seat from.receipt to.receipt) [] result
+        seat.old before keeping.old (S.remaining reader.old) (O.sent writer.old.output)
+        seat.new after keeping.new (S.remaining reader.new) (O.sent writer.new.output) }
     // Nothing was written before a receipt covered each step that the session had taken by then.
     ensures covered { (before after : Nothing) × (steps : List ServedFields)
         × Serves (TracedSteps J.base J.reserve J.moments) DrawsNothing
-        (λ from seat is_kept to. HasWaitedForAll T.number T.reach is_kept seat from.receipt to.receipt) [] result
-        (untraced seat.old) before keeping.old (S.remaining reader.old) (W.passed writer.old)
-        (record { now = seat.new; steps = steps }) after keeping.new (S.remaining reader.new) (W.passed writer.new) }
+        (λ from seat is_kept to. HasWaitedForAll ⟦<KeptReceipt<J, K> as Receipt>⟧.number
+        ⟦<KeptReceipt<J, K> as Receipt>⟧.reach is_kept seat from.receipt to.receipt) [] result
+        (untraced seat.old) before keeping.old (S.remaining reader.old) (O.sent writer.old.output)
+        (record { now = seat.new; steps = steps }) after keeping.new
+        (S.remaining reader.new) (O.sent writer.new.output) }
     ensures reading { S.failures reader.new ≡ S.failures reader.old + reading_failures result }
-    ensures writing { W.failures writer.new ≡ W.failures writer.old + writing_failures result }
+    ensures writing { O.failures writer.new.output
+        ≡ O.failures writer.old.output + writing_failures result }
 {
     serve_batch(alloc, reader, writer, seat, &mut Undrawn, keeping)
 }

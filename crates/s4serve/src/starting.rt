@@ -12,11 +12,13 @@ ghost use Rattle.serving.specs.Drawing.{Drawn};
 ghost use Rattle.door_files.specs.Paths.{door_path};
 ghost use Rattle.kept_drive.specs.Collecting.{WasHad};
 ghost use Rattle.kept_drive.specs.Images.{IsFlushed};
+ghost use Rattle.s4serve.specs.Ended.{HasBeenEnded};
 ghost use Rattle.s4serve.specs.Doors.{ReadsDoor, asked_door, opened_door};
 ghost use Rattle.s4serve.specs.Reserves.{most_reserve, reserve_of};
-ghost use Rattle.s4serve.specs.Starts.{IsStart};
+ghost use Rattle.s4serve.specs.Starts.{IsStart, MayStart};
 
 use crate::collecting::{Closing, UnderLock, flusher};
+use crate::ended::EndReceipt;
 use crate::faults::{DoorObstacle, ServeFault};
 use crate::keeping::{Explaining, KeptFiles};
 use crate::opening::{Begun, Opened, open_image};
@@ -34,7 +36,7 @@ use kept_drive::{KeptImage, KeptReceipt};
 use kept_files::KeepObstacle;
 use s4_types::{Moment, Role};
 use s4serve_command::ServiceAsked;
-use server::{Blanks, Pace, Running, SharedDrive, enter};
+use server::{Blanks, Pace, Part, Running, SharedDrive, enter};
 use service_time::{Monotonic, ServiceClock};
 use std::alloc::{AllocError, Global};
 use std::io;
@@ -157,6 +159,8 @@ fn serve_ready<
         ≡ reserve_of asked.now.reserve (length ready.drive.store.table.seat.frames) }
     requires half { J.reserve ≤ most_reserve (length ready.drive.store.table.seat.frames) }
     requires left { ready.reserve ≡ J.reserve }
+    // Where it was stopped, all that was accepted was kept then.
+    ensures ended { OnOk result (HasBeenEnded K.may_leave J.frames J.base) }
 {
     let Ready {
         keeper,
@@ -168,11 +172,44 @@ fn serve_ready<
         blanks,
         doors,
     } = ready;
-    let image = asked.image;
-    let patience = asked.patience.unwrap_or(PATIENCE) / SECOND;
     let (shared, rest) = SharedDrive::new(drive.named::<J>(), clock, blanks, reserve);
     let drive = Mutex::new(shared);
-    let first = keep_first(rt, alloc, &drive, keeper, start, image)?;
+    let first = keep_first(rt, alloc, &drive, keeper, start, asked.image)?;
+    serve_kept(rt, alloc, outside, asked, drive, first, rest, doors, inputs)
+}
+
+/// Serves a drive that was kept a first time, as it is once it has seen where the service begins.
+fn serve_kept<
+    'a,
+    J: Running + Send + Sync + 'static,
+    H: Threads + Wait + Clock + Copy + Send + Sync + Drop + 'static,
+    K: Keeper + Explaining + Send + Drop + 'static,
+    C: serving::Clock + Send + Drop + 'static,
+    D: Fifos + Telling + Copy + Send + Sync + Drop + 'static,
+>(
+    rt: &H,
+    alloc: Global,
+    outside: D,
+    asked: &ServiceAsked<'a>,
+    drive: Mutex<SharedDrive<J, C>>,
+    first: FirstKept<J, K>,
+    rest: Part<J>,
+    doors: Vec<Door>,
+    inputs: Vec<D::Input>,
+) -> Result<(), ServeFault<'a>>
+    requires upkeep { J.has_upkeep ≡ true }
+    requires parts { rest.parts ≡ ALL_PARTS }
+    // It begins where a service may begin over this drive, and has the doors that were asked for.
+    requires start { MayStart J.base.clock J.base.window asked.now.leap first.kept.start }
+    requires doors { map opened_door doors.items ≡ map asked_door asked.now.doors.items }
+    // Whatever a crash leaves from now on is the drive, once it has seen what comes after that.
+    requires kept { IsKept (K.may_leave first.kept.keeper)
+        (IsFlushed (WasHad J.frames J.base) J.base first.kept.session.told.seen
+        first.kept.start first.kept.reach) }
+    ensures ended { OnOk result (HasBeenEnded K.may_leave J.frames J.base) }
+{
+    let image = asked.image;
+    let patience = asked.patience.unwrap_or(PATIENCE) / SECOND;
     let lines = Lines::new(alloc, rest)?;
     let service = Service {
         pace: Pace::new(rt, alloc, &drive),
@@ -196,7 +233,9 @@ fn serve_ready<
         return Err(ServeFault::NoThreads);
     }
     outside.tell(News::Serves(image));
-    await_end(rt, alloc, &service, &outside, image)
+    let receipt = await_end(rt, alloc, &service, &outside, image)?;
+    receipt.shows();
+    Ok(())
 }
 
 /// Has a session that meets the drive at each flush, and keeps the drive a first time.
@@ -278,12 +317,12 @@ fn await_end<
     service: &Service<J, C, K>,
     outside: &D,
     image: &'a str,
-) -> Result<(), ServeFault<'a>> {
+) -> Result<EndReceipt<J, K>, ServeFault<'a>> {
     let mut last = Closing {
         flushing: flusher(rt, alloc, service, outside),
     };
     match service.monitor.end(rt, &mut last) {
-        Ok(()) => Ok(()),
+        Ok(receipt) => Ok(receipt),
         Err(_) => Err(ServeFault::NotKept(image, obstacle_of(rt, service))),
     }
 }

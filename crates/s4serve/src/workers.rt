@@ -8,19 +8,22 @@ ghost use Rattle.server.specs.declared.clocks.Undrawn.{Undrawn as Nothing};
 ghost use Rattle.s4serve.specs.Seats.{ServedFields};
 ghost use Rattle.s4serve.specs.Traces.{HasWaitedForAll, TracedSteps, untraced};
 
+use crate::at_doors::open_at;
 use crate::collecting::{ServiceFlush, flusher};
-use crate::service::{Door, Service};
+use crate::reaching::SessionOutput;
+use crate::replying::Replying;
+use crate::service::Service;
 use crate::sessions::{Seat, serve_seat};
 use crate::telling::Telling;
 use crate::waiting::Line;
 use batch_serving::{AtMonitor, BatchEnd, DueSource};
-use door_files::{Fifos, open_session};
+use door_files::Fifos;
 use group_commit::{Flush, Open as AnyStep, Receipt, Steps};
 use image_keeping::Keeper;
 use kept_drive::KeptReceipt;
 use s4_types::Role;
 use server::{Locked, Open, Part, Running};
-use serving::{Clock, ReadSource, Sink, Source, WriteSink};
+use serving::{Clock, ReadSource, Source};
 use std::alloc::Global;
 use std::sync::Wait;
 use std::time;
@@ -50,15 +53,14 @@ fn attend<J: Running, C: Clock, K: Keeper + Drop, R: Wait + time::Clock, D: Fifo
 )
     requires { IfSome part (λ part. part ≡ one_part) }
 {
-    let Some(door) = service.doors.as_slice().get(line.door) else {
+    let doors = service.doors.as_slice();
+    let Ok((input, output)) = open_at(outside, alloc, doors, line.door, &line.name) else {
         return;
     };
-    let Ok((input, output)) = open_session(outside, alloc, door.folder.as_str(), &line.name) else {
-        return;
-    };
-    let mut writer = WriteSink::new(output);
+    let role = output.role;
     let reader = ReadSource::new(input);
-    serve_one(rt, alloc, service, outside, door, part, reader, &mut writer);
+    let mut writer = Replying::new(output);
+    serve_one(rt, alloc, service, outside, role, part, reader, &mut writer);
 }
 
 /// Serves one session that was asked for at a door. Its replies are due until it has ended.
@@ -69,20 +71,22 @@ fn serve_one<
     R: Wait + time::Clock,
     D: Telling,
     S: Source + Drop,
-    W: Sink,
+    O: SessionOutput<K>,
 >(
     rt: &R,
     alloc: Global,
     service: &Service<J, C, K>,
     outside: &D,
-    door: &Door,
+    role: Role,
     part: Option<Part<J>>,
     source: S,
-    writer: &mut W,
+    writer: &mut Replying<O>,
 )
     requires part { IfSome part (λ part. part ≡ one_part) }
     requires reader { S.failures source + 1 < 2 ^ 64 }
-    requires writer { W.failures writer.old + 1 < 2 ^ 64 }
+    requires writer { O.failures writer.old.output + 1 < 2 ^ 64 }
+    requires role { role ≡ O.role writer.old.output }
+    requires unsent { IfSome (O.sent writer.old.output) (λ bytes. bytes ≡ []) }
 {
     let mut at_monitor = keeping(rt, alloc, service, outside, &AnyStep);
     let mut reader = DueSource::new(source, rt, &service.monitor);
@@ -90,7 +94,7 @@ fn serve_one<
         rt,
         alloc,
         service,
-        door,
+        role,
         part,
         &mut reader,
         writer,
@@ -99,8 +103,8 @@ fn serve_one<
     reader.end_replies();
 }
 
-/// Serves a session of the door's role that was just had, with its part of the books, and says how
-/// it ended. None where the drive has no seat for it: nothing is read or written then.
+/// Serves a session of this role, its door's, that was just had, with its part of the books, and
+/// says how it ended. None where the drive has no seat for it: nothing is read or written then.
 ///
 /// What it writes are the replies of that session's steps, each of which a receipt covers first.
 fn serve_line<
@@ -108,59 +112,60 @@ fn serve_line<
     C: Clock,
     K: Keeper + Drop,
     R: Wait + time::Clock,
-    T: Receipt + Drop,
-    F: Flush<T>,
+    F: Flush<KeptReceipt<J, K>>,
     P: Steps,
     S: Source,
-    W: Sink,
+    O: SessionOutput<K>,
 >(
     rt: &R,
     alloc: Global,
     service: &Service<J, C, K>,
-    door: &Door,
+    role: Role,
     part: Option<Part<J>>,
     reader: &mut S,
-    writer: &mut W,
-    keeping: &mut AtMonitor<'_, T, R, F, P>,
+    writer: &mut Replying<O>,
+    keeping: &mut AtMonitor<'_, KeptReceipt<J, K>, R, F, P>,
 ) -> Option<BatchEnd>
     requires part { IfSome part (λ part. part ≡ one_part) }
     requires reader { S.failures reader.old + 1 < 2 ^ 64 }
-    requires writer { W.failures writer.old + 1 < 2 ^ 64 }
+    requires writer { O.failures writer.old.output + 1 < 2 ^ 64 }
+    requires role { role ≡ O.role writer.old.output }
+    requires unsent { IfSome (O.sent writer.old.output) (λ bytes. bytes ≡ []) }
     ensures unread { IfNone result (reader.new ≡ reader.old) }
     ensures unwritten { IfNone result (writer.new ≡ writer.old) }
     ensures covered { IfSome result (λ end. (seat now : ServedFields)
-        × IsSeated J.base door.now.role seat.seat
+        × IsSeated J.base role seat.seat
         × (before after : Nothing) × (steps : List ServedFields)
         × Serves (TracedSteps J.base J.reserve J.moments) DrawsNothing
-        (λ from seat is_kept to. HasWaitedForAll T.number T.reach is_kept seat
-        from.receipt to.receipt) [] end
-        (untraced seat) before keeping.old (S.remaining reader.old) (W.passed writer.old)
+        (λ from seat is_kept to. HasWaitedForAll ⟦<KeptReceipt<J, K> as Receipt>⟧.number
+        ⟦<KeptReceipt<J, K> as Receipt>⟧.reach is_kept seat from.receipt to.receipt) [] end
+        (untraced seat) before keeping.old (S.remaining reader.old) (O.sent writer.old.output)
         (record { now = now; steps = steps }) after keeping.new
-        (S.remaining reader.new) (W.passed writer.new)) }
+        (S.remaining reader.new) (O.sent writer.new.output)) }
 {
     let gate = Open;
-    let mut seat = seat_for(rt, alloc, service, &gate, door, part?)?;
+    let mut seat = seat_for(rt, alloc, service, &gate, role, part?)?;
     Some(serve_seat(alloc, reader, writer, &mut seat, keeping))
 }
 
-/// A seat of the door's role, with this part of the books. None where the drive has no more seats.
+/// A seat of this role, with this part of the books. None where the drive has no more seats.
 fn seat_for<'a, J: Running, C: Clock, K: Keeper, R: Wait>(
     rt: &'a R,
     alloc: Global,
     service: &'a Service<J, C, K>,
     gate: &'a Open,
-    door: &Door,
+    role: Role,
     part: Part<J>,
 ) -> Option<Seat<'a, J, C, R, Open>>
     requires { part ≡ one_part }
-    ensures { IfSome result (λ s. IsSeated J.base door.now.role s.seat) }
+    ensures { IfSome result (λ s. IsSeated J.base role s.seat) }
 {
     let had = Locked::beside(
         rt,
         alloc,
         &service.drive,
         &service.pace,
-        door.role,
+        role,
         part,
         gate,
         1,

@@ -1,17 +1,20 @@
 use Rattle.std.proofs.Common.{arith, ◌∙◌, refl}
 use Rattle.serving.proofs.AnsweringLemmas.{passed_items}
 use Rattle.batch_serving.proofs.BatchLemmas.{holds_breaks, holds_more, holds_none}
+use Rattle.batch_serving.proofs.SayingLemmas.{said_none}
 use Rattle.batch_serving.proofs.batches.answer_items.Goals as goal
 
 pub loop-item-init : goal.loop-item-init
 loop-item-init g c = record {
   held = holds_none g.B.Backend.steps g.C.Clock.draws g.K.Keeping.waits c.args.out.now.items _ _ _ _ c.requires.empty;
+  said = said_none g.B.Backend.steps g.C.Clock.draws _ _ _ _ _ _ c.requires.empty c.requires.said;
   failures = refl;
 }
 
 pub loop-item-preserved : goal.loop-item-preserved
 loop-item-preserved g c = record {
   held = holds_more g.B.Backend.steps g.C.Clock.draws g.K.Keeping.waits _ _ _ _ _ _ _ _ _ _ _ _ _ _ _ _ c.loop-item.invariant.held c.in-Ok.ensures.answers;
+  said = c.in-Ok.ensures.said;
   failures = grind arith;
 }
 

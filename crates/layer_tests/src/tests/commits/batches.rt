@@ -1,11 +1,11 @@
 //! A session whose replies go out in batches: how often it waits, and what comes then.
-ghost use Rattle.std.specs.Prelude.{⊤};
+ghost use Rattle.std.specs.Prelude.{⊤, None};
 
-use batch_serving::{BatchEnd, Keeping, serve_batch};
+use batch_serving::{BatchEnd, Keeping, Outlet, serve_batch};
 use group_commit::NotKept;
 use rpc::push_request;
 use s4_types::{AdminRequest, Moment, Refusal, Reply, Request};
-use serving::{Backend, MemorySink, MemorySource, Ticking};
+use serving::{Backend, MemorySink, MemorySource, Sink, StreamFailed, Ticking};
 use std::alloc::Global;
 
 /// A backend that refuses all, and counts it.
@@ -52,6 +52,30 @@ impl Keeping<Refusing> for Counting {
     }
 }
 
+/// A sink to which anything may be sent.
+#[derive(Drop)]
+struct Anything {
+    sink: MemorySink,
+}
+
+impl Outlet<Refusing, Ticking, Counting> for Anything {
+    ghost begins = { λ to backend. ⊤ };
+
+    ghost passed = { λ to. None };
+
+    ghost failures = { λ to. ⟦<MemorySink as Sink>⟧.failures to.sink };
+
+    fn send(
+        &mut self,
+        bytes: &[u8],
+        _backend: &Refusing,
+        _clock: &Ticking,
+        _keeping: &Counting,
+    ) -> Result<(), StreamFailed> {
+        self.sink.put(bytes)
+    }
+}
+
 /// What came of a session: how it ended, how often and after how many requests it was waited for,
 /// and how many bytes it was told.
 #[derive(Clone, Copy, PartialEq, Eq)]
@@ -65,20 +89,22 @@ struct Came {
 /// Serves a session whose input comes in pieces of at most this many bytes, or 1.
 fn serve_counted(alloc: Global, frames: &[u8], piece: usize, fails: bool) -> Came {
     let mut source = MemorySource::new(frames, piece.max(1));
-    let mut sink = MemorySink::new(alloc);
+    let mut to = Anything {
+        sink: MemorySink::new(alloc),
+    };
     let mut backend = Refusing { asked: 0 };
     let mut clock = Ticking::new(Moment::new(0), 1);
     let mut keeping = Counting::new(fails);
     let end = serve_batch(
         alloc,
         &mut source,
-        &mut sink,
+        &mut to,
         &mut backend,
         &mut clock,
         &mut keeping,
     );
-    let told = sink.as_slice().len();
-    drop(sink);
+    let told = to.sink.as_slice().len();
+    drop(to);
     Came {
         end,
         waits: keeping.waits,
