@@ -36,7 +36,7 @@ impl<'a> Model for EarlierImage<'a> {
 
     ghost Value = { EarlierFields };
 
-    ghost view = { λ i. record { version = i.version; clock = i.header.clock; window = i.header.window; floor = i.header.floor; next = i.header.next; frames = i.frames; rows = i.rows.items; spans = i.spans.items } };
+    ghost view = { λ i. record { version = i.version; header = i.header; clock = i.header.clock; window = i.header.window; floor = i.header.floor; next = i.header.next; frames = i.frames; rows = i.rows.items; spans = i.spans.items } };
 }
 
 impl<'a> EarlierImage<'a> {
@@ -47,8 +47,9 @@ impl<'a> EarlierImage<'a> {
         self.version
     }
 
-    /// The numbers of its drive, in the header that it was read with.
+    /// The header that it was read with, the numbers of its drive among it.
     pub fn header(&self) -> Header
+        ensures header { result ≡ self.now.header }
         ensures clock { result.clock ≡ self.now.clock }
         ensures window { result.window ≡ self.now.window }
         ensures floor { result.floor ≡ self.now.floor }

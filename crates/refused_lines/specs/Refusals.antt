@@ -2,6 +2,7 @@
 use Rattle.std.specs.Prelude.{◌≡◌, Bool, false, true}
 use Rattle.clap.specs.Kinds.{Kinds, IsAmong}
 use Rattle.clap.specs.Values.{kind_of}
+use Rattle.clap.specs.declared.error.Error.{Error}
 use Rattle.clap.specs.declared.error.kind.ErrorKind.{ErrorKind}
 use Rattle.clap.specs.declared.error.kind.ErrorKind.TheVariants as kind
 use Rattle.refused_lines.specs.declared.NoCommand.{NoCommand}
@@ -12,6 +13,13 @@ abbrev pub is_asked_for : ErrorKind → Bool
 is_asked_for kind.DisplayHelp = true
 is_asked_for kind.DisplayVersion = true
 is_asked_for _ = false
+
+-- what is said of an error of this kind: memory was refused, or it was asked for, or it says what is wrong with the words
+abbrev pub meaning_of : {F : Type 0} → ErrorKind → Error → NoCommand F
+meaning_of kind.OutOfMemory error = refusal.NoMemory
+meaning_of kind.DisplayHelp error = refusal.Asked error
+meaning_of kind.DisplayVersion error = refusal.Asked error
+meaning_of _ error = refusal.Refused error
 
 -- The parser refuses the words for one of these reasons: help and the version were asked for, and any other says what is wrong with them.
 abbrev pub IsRefusedBy : {F : Type 0} → Kinds → NoCommand F → Type 0

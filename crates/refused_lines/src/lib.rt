@@ -7,7 +7,7 @@
 ghost use Rattle.std.specs.Prelude.{◌≡◌};
 ghost use Rattle.clap.specs.Kinds.{Kinds, HasKind};
 ghost use Rattle.clap.specs.Values.{kind_of};
-ghost use Rattle.refused_lines.specs.Refusals.{IsRefusedBy};
+ghost use Rattle.refused_lines.specs.Refusals.{IsRefusedBy, meaning_of};
 
 use clap::error::ErrorKind;
 use std::alloc::AllocError;
@@ -45,7 +45,7 @@ impl<F> From<AllocError> for NoCommand<F> {
 
 /// What a refusal of the parser means.
 pub fn refused<F>(error: clap::Error) -> NoCommand<F>
-    ensures memory { kind_of error ≡ ErrorKind.OutOfMemory → result ≡ NoCommand.NoMemory }
+    ensures meaning { result ≡ meaning_of (kind_of error) error }
     ensures refused { (kinds : Kinds) → HasKind kinds error → IsRefusedBy kinds result }
 {
     match error.kind() {
