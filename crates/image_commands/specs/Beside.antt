@@ -1,5 +1,5 @@
 -- The names of files beside an image.
-use Rattle.std.specs.Prelude.{ℕ, ◌-◌, ◌==◌, ◌++◌, nat_lt, if◌then◌else◌, List, [], ◌∷◌, Option, None, Some, codes, decimal}
+use Rattle.std.specs.Prelude.{ℕ, ◌≡◌, ◌<◌, ◌⊎◌, ◌-◌, ◌==◌, ◌++◌, nat_lt, if◌then◌else◌, List, [], ◌∷◌, Option, None, Some, codes, decimal}
 use Rattle.std.specs.Path.{path_join, path_parent}
 use Rattle.image_commands.specs.declared.beside.TheConstants.{MOST_BESIDE}
 use Rattle.image_commands.specs.declared.beside.Names.{Names}
@@ -40,3 +40,23 @@ made_path OfServices image number = part_path image number
 abbrev pub path_left : Names → (image : List ℕ) (number : ℕ) → Option (List ℕ)
 path_left OfCommands image number = if nat_lt number MOST_BESIDE then Some (command_path image number) else None
 path_left OfServices image number = if nat_lt number MOST_BESIDE then Some (whole_path image number) else Some (part_path image (number - MOST_BESIDE))
+
+-- what a number below `MOST_BESIDE` adds to a name
+pub record IsEnding (ending : List ℕ) : Type 0 where
+  pub number : ℕ
+  pub few : number < MOST_BESIDE
+  pub ends : ending ≡ numbered number
+
+-- a name that is this front and what such a number adds
+pub record IsNumbered (front name : List ℕ) : Type 0 where
+  pub number : ℕ
+  pub few : number < MOST_BESIDE
+  pub named : name ≡ front ++ numbered number
+
+-- the name of one that a service writes beside the image of this name, whole or not
+abbrev pub IsOfService : (image name : List ℕ) → Type 0
+IsOfService image name = IsNumbered (image ++ codes ".s4serve.new") name ⊎ IsNumbered (image ++ codes ".s4serve.new.part") name
+
+-- the name of a file beside the image of this name: a command's, an earlier service's or a service's
+abbrev pub IsBesideName : (image name : List ℕ) → Type 0
+IsBesideName image name = IsNumbered (codes "s4d.new") name ⊎ IsNumbered (codes "s4serve.new") name ⊎ IsOfService image name

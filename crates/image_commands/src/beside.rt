@@ -1,5 +1,6 @@
 //! The names of files beside an image.
-ghost use Rattle.std.specs.Prelude.{◌≡◌, IfOk, option_map, string_bytes};
+ghost use Rattle.std.specs.Prelude.{◌≡◌, ◌≤◌, Decides, IfOk, option_map, string_bytes};
+ghost use Rattle.image_commands.specs.Beside.{IsBesideName, IsEnding, IsNumbered, IsOfService};
 ghost use Rattle.image_commands.specs.Beside.{command_path, made_path, part_path, path_left};
 ghost use Rattle.image_commands.specs.Beside.{whole_path};
 
@@ -30,14 +31,18 @@ pub enum Names {
 }
 
 /// Whether a file of this name, in the folder of the image of that name, is one beside it.
-pub fn is_beside_name(name: &str, image: &str) -> bool {
+pub fn is_beside_name(name: &str, image: &str) -> bool
+    ensures { Decides result (IsBesideName image.now name.now) }
+{
     is_numbered(name, OF_COMMANDS)
         || is_numbered(name, OF_EARLIER_SERVICES)
         || is_of_service(name, image)
 }
 
 // Whether it is one that a service writes beside the image of that name.
-fn is_of_service(name: &str, image: &str) -> bool {
+fn is_of_service(name: &str, image: &str) -> bool
+    ensures { Decides result (IsOfService image.now name.now) }
+{
     match name.strip_prefix(image) {
         Some(ending) => {
             is_numbered(ending, ".s4serve.new") || is_numbered(ending, ".s4serve.new.part")
@@ -46,16 +51,33 @@ fn is_of_service(name: &str, image: &str) -> bool {
     }
 }
 
-// Whether a name is this one, or has a number from 1 to 99 after it.
-fn is_numbered(name: &str, front: &str) -> bool {
+// Whether a name is this one, alone or with a number from 1 to 99 after it.
+fn is_numbered(name: &str, front: &str) -> bool
+    ensures { Decides result (IsNumbered front.now name.now) }
+{
     match name.strip_prefix(front) {
-        Some("") => true,
-        Some(rest) => match rest.as_bytes() {
-            [b'.', b'1'..=b'9'] | [b'.', b'1'..=b'9', b'0'..=b'9'] => true,
-            _ => false,
-        },
+        Some(ending) => is_ending(ending.as_bytes()),
         None => false,
     }
+}
+
+// Whether it is what a number below `MOST_BESIDE` adds to a name.
+fn is_ending(ending: &[u8]) -> bool
+    ensures { Decides result (IsEnding ending.now) }
+{
+    match ending.len() {
+        0 => true,
+        2 => ending[0] == b'.' && is_digit(ending[1], b'1'),
+        3 => ending[0] == b'.' && is_digit(ending[1], b'1') && is_digit(ending[2], b'0'),
+        _ => false,
+    }
+}
+
+// Whether a byte is a digit from this one on.
+fn is_digit(byte: u8, least: u8) -> bool
+    ensures { Decides result ((least ≤ byte) × (byte ≤ 57)) }
+{
+    least <= byte && byte <= b'9'
 }
 
 /// The path of that number at which a file is made that is to take the place of the image at a
