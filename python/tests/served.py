@@ -83,13 +83,13 @@ class Served(unittest.TestCase):
     def start_bridge(self):
         """Sockets client.sock and admin.sock in the folder, for the service that runs."""
         sockets = [word for role in ("client", "admin") for word in ("--unix", f"{role}={self.folder}/{role}.sock")]
-        self.begin(words_of(self.folder, *sockets, "--log", self.folder / "access.log", "--ready-fd", 2), "ready")
+        self.begin(words_of(self.folder, *sockets, "--log", self.folder / "access.log"), "ready\n")
 
     def begin(self, words, said):
-        """Starts a program, and waits until it says something on standard error."""
+        """Starts a program, and waits until it says something."""
         path = self.folder / f"log{len(self.children)}"
         with open(path, "wb") as log:
-            child = subprocess.Popen(words, cwd=PACKAGE, stdin=subprocess.DEVNULL, stdout=subprocess.DEVNULL, stderr=log)
+            child = subprocess.Popen(words, cwd=PACKAGE, stdin=subprocess.DEVNULL, stdout=log, stderr=log)
         self.children.append(child)
         end = time.monotonic() + PATIENCE
         while said not in path.read_text(encoding="utf-8"):
@@ -113,6 +113,12 @@ class Served(unittest.TestCase):
             if child.poll() is None:
                 child.kill()
             child.wait()
+        self.children.clear()
+
+    def begin_anew(self):
+        """Nothing is served, and no image is there."""
+        self.end()
+        self.image.unlink(missing_ok=True)
 
     def copy(self, name="copy"):
         """A copy of the image as it was kept last: of all that was replied."""

@@ -199,6 +199,7 @@ class Restore:
     def _perform(self, jobs: Jobs) -> None:
         """What was made since goes first, so that there is more room for the others."""
         self._count = jobs.count
+        self._room.offer_versions([job.object for job in jobs.changed if job.target is not None])
         self._work(jobs.deleted, DELETED, self._delete)
         self._work(jobs.changed, GROUP, self._change)
 

@@ -25,9 +25,11 @@ class StandIns:
             self._by_head.setdefault(head, []).append(object)
 
     def of(self, gone: Sequence[int], at: int) -> Dict[int, int]:
-        """The stand-ins of objects as they were at a moment, by their numbers: of several the one that was made last."""
+        """The stand-ins of objects as they were at a moment, by their numbers. Of several the one that was made last, and for the last of
+        several objects that held the same: as a restore makes them.
+        """
         found: Dict[int, int] = {}
-        for object, head in self._heads([(it, at) for it in gone]):
+        for object, head in reversed(self._heads([(it, at) for it in gone])):
             candidates = self._by_head.get(head, [])
             wanted = self._digest(object, at) if candidates else None
             stand_in = next((it for it in reversed(candidates) if wanted is not None and self._known(it) == wanted), None)
