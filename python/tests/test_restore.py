@@ -278,6 +278,45 @@ class Numbers(Plain):
         self.assertEqual(self.server.drive.window, after)
         self.assertEqual(self.command("--at", at + 1)[:2], (0, []))
 
+    def test_a_window_that_no_row_has(self):
+        """The floor says it; before it rises nothing can expire."""
+        self.server.drive.window = 5_000
+        with self.connect() as it:
+            at = it.create(b"old").moment
+            it.append(1, b"mill")
+            self.assertEqual(self.command("--at", at)[:2], (0, ["         1  changed"]))
+            self.server.drive.clock = at + 4_990
+            it.truncate(1, 3)
+            it.truncate(1, 1)
+            self.server.drive.clock = at + 5_000  # as time goes on
+            it.attributes(1)
+            self.server.drive.floor = at
+        clock = self.server.drive.clock
+        status, printed, _ = self.command("--at", at, "--dry-run")
+        self.assertEqual((status, printed), (0, ["window 5000 would be widened, since the moment is near the floor", "         1  changed"]))
+        status, printed, _ = self.command("--at", at)
+        self.assertEqual((status, printed[0]), (0, f"window 5000 widened to {clock + 2 * 4_096 - at}; SetWindow 5000 puts it back"))
+
+    def test_progress(self):
+        """It is shown at a terminal alone."""
+        class Terminal(io.StringIO):
+            def isatty(self):
+                return True
+
+        at = self.story()
+        shown, plain = Terminal(), io.StringIO()
+        with self.connect() as it, mock.patch("s4d.restore.saying.PROGRESS_SECONDS", 0):
+            for errors in (shown, plain):
+                Restore(Asker(it), Wanted(at), Sayer(io.StringIO(), errors)).run()
+        states = [it.strip() for it in shown.getvalue().split("\r") if it.strip()]
+        self.assertEqual(states[0], "1 of 5 objects, 0 not restored, 0 spans of moments hidden")
+        self.assertEqual((states[-1][:6], plain.getvalue()), ("5 of 5", ""))
+
+    def test_who_is_not_there(self):
+        address = f"{self.address}-other"
+        status, _, said = self.command("--connect", address, "--at", 1)
+        self.assertEqual((status, said), (1, f"s4d.restore: {address}: No such file or directory\n"))
+
     def test_runs_near_their_end(self):
         at = self.story()
         with self.connect() as it:
@@ -416,6 +455,29 @@ class Floods(Served):
                 self.assertEqual(refusals, {s4d.NoSpace})
                 done, printed = self.check(before, at, flush=True)
                 self.assertEqual((done.failed, done.deleted, done.changed), (0, 1, 4), printed)
+
+    def test_more_than_an_administrator_has_room_for(self):
+        """What was overwritten takes more than the reserve: versions since are hidden, and none from before."""
+        self.begin_anew()
+        self.start(64)
+        with self.session() as drive:
+            draw = random.Random(5)
+            numbers = [drive.create().object for _ in range(8)]
+            for number in numbers:
+                drive.write(number, 0, draw.randbytes(12_000))
+            before, at = present_of(drive, numbers), machine_time()
+            for _ in range(3):
+                with drive.pipeline() as batch:
+                    replies = [batch.write(number, 0, draw.randbytes(12_000)) for number in numbers]
+            self.assertIsInstance(replies[-1].refusal(), s4d.NoSpace)
+        done, printed = self.check(before, at)
+        self.assertEqual(done.hidden, 0)
+        self.assertGreater(done.failed, 0)
+        done, printed = self.check(before, at, flush=True)
+        self.assertEqual(done.failed, 0, printed)
+        self.assertGreater(done.hidden, 0)
+        with self.session("admin") as admin:
+            self.assertEqual({number: it for number, it in zip(numbers, Asker(admin).versions([(it, at) for it in numbers]))}, before)
 
     def test_a_full_journal(self):
         drive, before, at = self.owned(256)

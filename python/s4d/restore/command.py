@@ -2,6 +2,7 @@
 from __future__ import annotations
 
 import argparse
+import os
 import sys
 import time
 from typing import NoReturn, Optional, Sequence
@@ -60,8 +61,12 @@ def parser() -> Parser:
 
 
 def connected(found: argparse.Namespace) -> Drive:
+    """A session, by which nothing was asked yet. Fault where none is to be had."""
     tls = None if found.ca is None and found.cert is None and found.key is None else Tls(found.ca, found.cert, found.key)
-    return Drive.connect(found.connect, tls=tls)
+    try:
+        return Drive.connect(found.connect, tls=tls)
+    except OSError as error:
+        raise Fault(f"{found.connect}: {error.strerror or error}") from error
 
 
 def moment_of(name: str, word: Word, clock: int, sayer: Sayer) -> int:
@@ -97,7 +102,7 @@ def restore(found: argparse.Namespace, drive: Drive, sayer: Sayer) -> int:
     facts: Optional[Info] = None if found.image is None else Image(found.image, s4=found.s4).info()
     try:
         done = Restore(asker, wanted, sayer, facts).run()
-    except (KeyboardInterrupt, Disconnected):
+    except (KeyboardInterrupt, Disconnected, BrokenPipeError):
         sayer.say(f"interrupted; the same command with --at {at} goes on where it was")
         raise
     sayer.say(summary_of(done, wanted, time.monotonic() - begun))
@@ -112,17 +117,14 @@ def main(words: Optional[Sequence[str]] = None) -> int:
     try:
         with connected(found) as drive:
             return restore(found, drive, sayer)
+    except BrokenPipeError:
+        os.dup2(os.open(os.devnull, os.O_WRONLY), sys.stdout.fileno())  # else what is left in its buffer is written at the exit
+        sayer.say("nobody reads standard output any more")
+        return 1
     except KeyboardInterrupt:
         return 1
     except (Fault, Error, OSError, ValueError) as error:
-        sayer.say(fault_of(error))
+        sayer.say(" ".join(str(error).split()))
         return 1
     finally:
         sayer.end()
-
-
-def fault_of(error: Exception) -> str:
-    """A line that says what failed."""
-    if isinstance(error, OSError) and error.filename is not None:
-        return f"{error.filename}: {error.strerror}"
-    return " ".join(str(error).split())

@@ -39,25 +39,20 @@ def check_moment(asker: Asker, at: int) -> None:
 
 
 class Window:
-    """The drive's window, as far as it is known, and a moment that is kept in it."""
+    """The drive's window, once that is known, and a moment that is kept in it."""
 
     def __init__(self, asker: Asker, at: int, facts: Optional[Info]) -> None:
         self._asker, self._at = asker, at
-        self._size = facts.window if facts is not None else self._found()
+        self._size = facts.window if facts is not None else asker.ledger.window
+        self._near = TIME_NEAR if at >= TIMES else COUNT_NEAR
         self.widened: Optional[Widening] = None
-
-    @property
-    def is_near(self) -> bool:
-        """Whether the moment may expire soon."""
-        near = TIME_NEAR if self._at >= TIMES else COUNT_NEAR
-        return self._size is not None and self._at + self._size < self._asker.clock + near
 
     def keep(self) -> Optional[Widening]:
         """Widens the window where the moment is near the floor, and gives what it was and is."""
-        before, near = self._size, TIME_NEAR if self._at >= TIMES else COUNT_NEAR
-        if before is None or not self.is_near:
+        before = self.near_size()
+        if before is None:
             return None
-        after = self._asker.clock + 2 * near - self._at
+        after = self._asker.clock + 2 * self._near - self._at
         _, refusal = self._asker.change([set_window(after)])[0]
         if refusal is not None:
             raise refusal
@@ -65,14 +60,18 @@ class Window:
         self.widened = Widening(before if self.widened is None else self.widened.before, after)
         return self.widened
 
-    def _found(self) -> Optional[int]:
-        """The window that was set last, or the one that the floor shows; none where the floor has never risen."""
-        if self._asker.ledger.window is not None:
-            return self._asker.ledger.window
-        floor = self._asker.drive._search(floor_below(self._asker.clock))
-        if floor == 0:
-            return None
-        size = self._asker.clock - floor
+    def near_size(self) -> Optional[int]:
+        """The window, where the moment may expire soon. It is looked for only then: what is nearer to the floor has expired."""
+        if self._size is None:
+            refusal = self._asker.all([wire.attributes(NOBODY, max(self._at - self._near, 0))])[0].refusal()
+            if not isinstance(refusal, Expired):
+                return None
+            self._size = self._found()
+        return self._size if self._at + self._size < self._asker.clock + self._near else None
+
+    def _found(self) -> int:
+        """The window that the floor shows, which has risen."""
+        size = self._asker.clock - self._asker.drive._search(floor_below(self._asker.clock))
         seconds = (size + SECOND // 2) // SECOND * SECOND
         return seconds if self._at >= TIMES and abs(seconds - size) < CLOSE else size
 

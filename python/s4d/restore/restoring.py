@@ -179,8 +179,9 @@ class Restore:
 
     def _preview(self, jobs: Jobs) -> None:
         """Prints what would be done."""
-        if self._window is not None and self._window.is_near:
-            self._sayer.line("the window would be widened first, since the moment is near the floor")
+        size = self._window.near_size() if self._window is not None else None
+        if size is not None:
+            self._sayer.line(f"window {size} would be widened, since the moment is near the floor")
         self._count = jobs.count
         for job in jobs.deleted:
             self._finish(job, "deleted")
@@ -333,7 +334,8 @@ class Restore:
             self._sayer.line(f"window {widened.before} widened to {widened.after}; SetWindow {widened.before} puts it back")
 
     def _show(self) -> None:
-        self._sayer.progress(f"{self._finished:,} of {self._count:,} objects, {self._done.failed:,} not restored, moments of {self._room.hidden:,} hidden")
+        failed, hidden = self._done.failed, self._room.hidden
+        self._sayer.progress(f"{self._finished:,} of {self._count:,} objects, {failed:,} not restored, {hidden:,} spans of moments hidden")
 
     def _say_others(self, start: int) -> None:
         """Prints which objects others changed since the start."""

@@ -60,7 +60,10 @@ class Room:
         span = self._asker.ledger.newest_hidable(object, self._at)
         if span is None:
             return "its journal is full"
-        return None if self._hide([(object, *span)]) else "its moments are hidden in 64 runs"
+        if self._hide([(object, *span)]):
+            return None
+        all_taken = self._asker.ledger.runs.count >= MOST_RUNS
+        return f"{MOST_RUNS:,} runs of moments are hidden" if all_taken else "its moments are hidden in 64 runs"
 
     def warn(self) -> None:
         """Says, once, that few more runs of moments can be hidden."""

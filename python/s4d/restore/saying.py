@@ -1,6 +1,7 @@
 """What a restore says: a line for each object on standard output, as `s4 restore` prints it, and the rest on standard error."""
 from __future__ import annotations
 
+import contextlib
 import sys
 import time
 from typing import TextIO
@@ -27,7 +28,8 @@ class Sayer:
 
     def say(self, text: str) -> None:
         """Prints a line beside the result."""
-        self._out.flush()
+        with contextlib.suppress(BrokenPipeError):
+            self._out.flush()
         self._clear()
         self._errors.write(f"{NAME}: {text}\n")
         self._errors.flush()
