@@ -328,39 +328,46 @@ class Numbers(Plain):
                 self.assertEqual(self.command("--at", at, "--dry-run")[2].partition("s4d.restore: 2 would")[0], said)
 
 
+@needs_program
+@needs_s4
+@needs_s4serve
 class Histories(Served):
     """Random histories of a service: a restore leaves what `s4 restore` makes of a copy of the image."""
 
     @staticmethod
-    def throw(drive, draw, numbers, count):
+    def thrown(draw, numbers):
+        """A random request for a change."""
+        number = draw.choice(numbers or [1])
+        data = draw.choice((draw.randbytes(draw.randrange(700)), bytes(draw.randrange(600)), draw.randbytes(draw.randrange(5_000))))
+        kind = draw.randrange(10)
+        if kind == 0 or not numbers:
+            return wire.create(draw.choice((b"", b"note", b"other")))
+        if kind == 1:
+            return wire.delete(number)
+        if kind == 2:
+            return wire.truncate(number, draw.randrange(6_000))
+        if kind == 3:
+            return wire.set_attribute(number, draw.choice((b"", b"note", b"name")))
+        return wire.append(number, data) if kind == 4 else wire.write(number, draw.randrange(5_000), data)
+
+    def throw(self, drive, draw, numbers, count):
         """So many random changes, of which some are refused. `numbers` has the objects that were made."""
-        for _ in range(count):
-            number = draw.choice(numbers or [1])
-            data = draw.choice((draw.randbytes(draw.randrange(700)), bytes(draw.randrange(600)), draw.randbytes(draw.randrange(5_000))))
-            kind = draw.randrange(10)
-            with contextlib.suppress(s4d.Refused):
-                if kind == 0 or not numbers:
-                    numbers.append(drive.create(draw.choice((b"", b"note", b"other"))).object)
-                elif kind == 1:
-                    drive.delete(number)
-                elif kind == 2:
-                    drive.truncate(number, draw.randrange(6_000))
-                elif kind == 3:
-                    drive.set_attribute(number, draw.choice((b"", b"note", b"name")))
-                elif kind == 4:
-                    drive.append(number, data)
-                else:
-                    drive.write(number, draw.randrange(5_000), data)
+        while count > 0:
+            with drive.pipeline() as batch:
+                replies = [batch.add(self.thrown(draw, numbers)) for _ in range(8)]
+            made = [reply.result() for reply in replies if reply.refusal() is None]
+            numbers += [it.object for it in made if isinstance(it, s4d.Created)]
+            count -= len(replies)
 
     def test_histories(self):
+        compared = 0
         for seed in range(HISTORIES):
             with self.subTest(seed=seed):
-                self.one(random.Random(seed))
+                compared += bool(self.one(random.Random(seed)))
+        self.assertGreater(2 * compared, HISTORIES)
 
-    @needs_program
-    @needs_s4
-    @needs_s4serve
     def one(self, draw):
+        """Throws a history and restores a moment of it: whether both ways did."""
         self.begin_anew()
         self.start(draw.choice((24, 64)))
         numbers, drive, admin = [], self.session(), self.session("admin")
@@ -374,12 +381,13 @@ class Histories(Served):
             if status == 0:
                 self.assertEqual(done.failed, 0, printed)
             if done.failed:
-                return
+                return False
             with self.subTest("again"):
                 again, lines, _ = restored(admin, at, to_nothing=True, flush=True)
                 self.assertEqual((again.changes, [it for it in lines if "is there as" not in it]), (0, []))
             if status == 0:
                 self.compare(admin, image, numbers)
+            return status == 0
 
     @staticmethod
     def status_of(work):
@@ -471,7 +479,7 @@ class Floods(Served):
                     replies = [batch.write(number, 0, draw.randbytes(12_000)) for number in numbers]
             self.assertIsInstance(replies[-1].refusal(), s4d.NoSpace)
         done, printed = self.check(before, at)
-        self.assertEqual(done.hidden, 0)
+        self.assertEqual((done.hidden, done.is_short), (0, True))
         self.assertGreater(done.failed, 0)
         done, printed = self.check(before, at, flush=True)
         self.assertEqual(done.failed, 0, printed)
@@ -577,7 +585,7 @@ class Programs(Served):
         address = f"unix:{self.folder}/client.sock"
         ended, faults = threading.Event(), []
         with s4d.Drive.connect(address, PATIENCE) as it:
-            owned = [it.create(b"%d" % count).object for count in range(40)]
+            owned = [it.create(b"%d" % count).object for count in range(12)]
             for number in owned:
                 it.write(number, 0, b"mine")
             busy = it.create(b"busy").object
@@ -605,7 +613,7 @@ class Programs(Served):
         self.assertRegex(printed[-1], rf"^ +{busy}  changed by others meanwhile, last at 20\d\d-")
         self.assertEqual(faults, [])
         with s4d.Drive.connect(address, PATIENCE) as it:
-            self.assertEqual([it.read(number) for number in owned[:-1]], [b"mine"] * 39)
+            self.assertEqual([it.read(number) for number in owned[:-1]], [b"mine"] * 11)
             self.assertEqual((it.read(owned[-1]), it.read(busy)), (b"mevil", b"work"))
 
     def run_restore(self, *words, role="admin"):

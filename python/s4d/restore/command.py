@@ -106,8 +106,8 @@ def restore(found: argparse.Namespace, drive: Drive, sayer: Sayer) -> int:
         sayer.say(f"interrupted; the same command with --at {at} goes on where it was")
         raise
     sayer.say(summary_of(done, wanted, time.monotonic() - begun))
-    if done.is_journal_full:
-        sayer.say("--flush hides as few moments of full journals as serve")
+    if done.is_short and not wanted.flush:
+        sayer.say("--flush hides moments of what is deleted, and of full journals, in steps until that serves")
     return 1 if done.failed else 0
 
 

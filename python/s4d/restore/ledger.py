@@ -100,7 +100,8 @@ class Ledger:
         """The moments of so many of the newest versions of an object that aren't hidden, or of as many as there are, but for the
         present one; each begins after a moment. None where there is no such version.
         """
-        begun, found = self.lives[object].begun, None
+        begun = self.lives[object].begun
+        found: Optional[Tuple[int, int]] = None
         for first, after in zip(begun[-2::-1], begun[:0:-1]):
             if first <= moment or count == 0:
                 break

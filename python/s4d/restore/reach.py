@@ -1,6 +1,7 @@
 """Whether a moment is in reach: of the drive's window, which is widened where it is about to pass it, and of the audit."""
 from __future__ import annotations
 
+import time
 from typing import List, NamedTuple, Optional
 
 from .. import wire
@@ -17,6 +18,7 @@ NOBODY = 0  # no object has this number: what is asked of it says of the moment 
 SECOND = 1_000_000  # microseconds
 TIME_NEAR, COUNT_NEAR = 600 * SECOND, 4_096  # so near the floor that a moment may expire while objects are restored
 CLOSE = SECOND // 10  # within which a window is one of whole seconds, as `s4serve --keep` makes them
+LOOK_SECONDS = 30.0  # after which it is looked again whether a moment is near the floor
 SCANNED = 4_096  # objects that are looked at together
 
 
@@ -44,7 +46,7 @@ class Window:
     def __init__(self, asker: Asker, at: int, facts: Optional[Info]) -> None:
         self._asker, self._at = asker, at
         self._size = facts.window if facts is not None else asker.ledger.window
-        self._near = TIME_NEAR if at >= TIMES else COUNT_NEAR
+        self._near, self._looked = TIME_NEAR if at >= TIMES else COUNT_NEAR, -LOOK_SECONDS
         self.widened: Optional[Widening] = None
 
     def keep(self) -> Optional[Widening]:
@@ -63,6 +65,9 @@ class Window:
     def near_size(self) -> Optional[int]:
         """The window, where the moment may expire soon. It is looked for only then: what is nearer to the floor has expired."""
         if self._size is None:
+            if time.monotonic() < self._looked + LOOK_SECONDS:
+                return None
+            self._looked = time.monotonic()
             refusal = self._asker.all([wire.attributes(NOBODY, max(self._at - self._near, 0))])[0].refusal()
             if not isinstance(refusal, Expired):
                 return None

@@ -10,7 +10,7 @@ from .. import wire
 from ..errors import Busy, ChainFull, Expired, Flushed, NoMemory, NoObject, NoSpace, Refused
 from ..rows import Info
 from ..wire import AuditKind
-from .asking import Asker, Fault
+from .asking import Asker, Fault, Version
 from .plans import Change, Content, changes_between, create, delete
 from .reach import Widening, Window, check_audit, check_moment, is_any_left
 from .room import Room
@@ -21,7 +21,7 @@ from .words import text_of
 GROUP = 64  # objects that are changed together, at most
 DELETED = 512  # objects that are deleted together, at most
 TRIES = 6  # of what may pass by itself, as an object that another session changes meanwhile
-TRY_SECONDS = 0.05  # before the first of them; each next one waits twice as long
+TRY_SECONDS = 0.02  # by which the first of them waits; each next one waits twice as long
 
 FAILURES = {"NoSpace": "no room for its blocks", "NoMemory": "memory was refused", "Flushed": "its moment is hidden"}
 
@@ -84,7 +84,7 @@ class Done:
     others: int = 0
     changes: int = 0
     widened: Optional[Widening] = None
-    is_journal_full: bool = False
+    is_short: bool = False  # of room, or a journal was full
 
 
 Outcome = Tuple[Job, Optional[Refused]]
@@ -154,9 +154,11 @@ class Restore:
     def _check_named(self) -> None:
         """Fault where an object that is named was never there, as far as can be read."""
         at = self._wanted.at
-        for object in self._wanted.objects:
-            replies = self._asker.all([wire.attributes(object, at), wire.attributes(object, None)])
-            if object not in self._asker.ledger.lives and all(isinstance(it.refusal(), NoObject) for it in replies):
+        unknown = [it for it in self._wanted.objects if it not in self._asker.ledger.lives]
+        then = self._asker.all([wire.attributes(object, at) for object in unknown])
+        now = self._asker.all([wire.attributes(object, None) for object in unknown])
+        for object, was, is_ in zip(unknown, then, now):
+            if isinstance(was.refusal(), NoObject) and isinstance(is_.refusal(), NoObject):
                 raise Fault(f"there is no object {object}, nor was there one at {text_of(at)}")
 
     def _stand_ins(self, gone: Sequence[int]) -> Dict[int, int]:
@@ -214,7 +216,10 @@ class Restore:
             if len(left) < len(group):
                 self._room.progressed()
             short = [job for job, refusal in left if isinstance(refusal, NoSpace)]
-            again = [job for job, refusal in left if refusal is not None and not isinstance(refusal, NoSpace) and self._tries_again(job, refusal)]
+            others = [(job, refusal) for job, refusal in left if not isinstance(refusal, NoSpace)]
+            again = [job for job, refusal in others if self._tries_again(job, refusal)]
+            if any(isinstance(refusal, (Busy, NoMemory)) for _, refusal in others):
+                time.sleep(TRY_SECONDS * 2**max(job.tries for job, _ in others))
             size = self._made_room(short, waiting, max(len(group) - len(short), 1)) if short else min(2 * size, most)
             waiting.extendleft(reversed(again))
             self._show()
@@ -226,6 +231,7 @@ class Restore:
         if self._room.make():
             waiting.extendleft(reversed(short))
             return fitted
+        self._done.is_short = True
         self._give_up(short[0], FAILURES["NoSpace"])
         waiting.extendleft(reversed(short[1:]))
         return 1
@@ -236,9 +242,8 @@ class Restore:
             raise Fault(f"moment {text_of(self._wanted.at)} has expired meanwhile")
         if isinstance(refusal, ChainFull):
             why = self._room.make_in_journal(job.number)
-            self._done.is_journal_full = self._done.is_journal_full or why is not None and not self._wanted.flush
+            self._done.is_short = self._done.is_short or why is not None
         elif isinstance(refusal, (Busy, NoMemory, NoObject)) and job.tries < TRIES:
-            time.sleep(TRY_SECONDS * 2**job.tries)
             job.tries, why = job.tries + 1, None
         else:
             why = FAILURES.get(type(refusal).__name__, type(refusal).__name__)
@@ -259,12 +264,12 @@ class Restore:
             outcomes.append((job, refusal))
         return outcomes
 
-    def _compared(self, group: Sequence[Job]) -> List[Tuple[Job, object, object]]:
+    def _compared(self, group: Sequence[Job]) -> List[Tuple[Job, Version, Optional[Version]]]:
         """What each object was, and what there is under the number under which it is compared."""
-        then = self._asker.versions([(job.object, self._wanted.at) for job in group])
-        placed = [job.target for job in group if job.target is not None]
-        now = iter(self._asker.versions([(target, None) for target in placed]))
-        return [(job, was, next(now) if job.target is not None else None) for job, was in zip(group, then)]
+        then: List[Tuple[int, Optional[int]]] = [(job.object, self._wanted.at) for job in group]
+        versions = self._asker.versions(then + [(job.target, None) for job in group if job.target is not None])
+        now = iter(versions[len(group):])
+        return [(job, was, next(now) if job.target is not None else None) for job, was in zip(group, versions)]
 
     def _change(self, group: List[Job]) -> List[Outcome]:
         """Makes objects what they were, under their numbers, or anew."""
@@ -272,14 +277,14 @@ class Restore:
         compared: List[Tuple[Job, Content, Content]] = []
         missing: List[Tuple[Job, Content]] = []
         for job, then, now in self._compared(group):
-            if not isinstance(then, Content):
-                outcomes[job.object] = then if isinstance(then, Refused) else None
+            if isinstance(then, Refused):
+                outcomes[job.object] = then
             elif isinstance(now, Content):
                 compared.append((job, then, now))
             elif now is None or isinstance(now, NoObject):
                 missing.append((job, then))
             else:
-                outcomes[job.object] = now if isinstance(now, Refused) else None
+                outcomes[job.object] = now
         compared += self._remade(missing, outcomes)
         self._ask_changes(compared, outcomes)
         for job, _, _ in compared:
