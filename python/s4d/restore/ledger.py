@@ -1,0 +1,115 @@
+"""What an audit says of objects since a moment, and which moments are hidden."""
+from __future__ import annotations
+
+from bisect import bisect_right
+from dataclasses import dataclass, field
+from typing import Dict, Iterable, List, Optional, Tuple
+
+from ..wire import AuditKind, AuditRow
+from .plans import BLOCK_BYTES
+
+MOST_RUNS = 65_536  # runs of hidden moments of all lists
+NEAR_RUNS = MOST_RUNS - 4_096  # from here on it is said how many are left
+CHANGES = (AuditKind.CREATE, AuditKind.DELETE, AuditKind.WRITE, AuditKind.TRUNCATE, AuditKind.SET_ATTRIBUTE)
+FLUSHES = (AuditKind.FLUSH, AuditKind.FLUSH_OBJECT)
+
+
+class Runs:
+    """The runs of hidden moments, by object; object 0 has those of all. Neighbours are one run, as the drive has them."""
+
+    def __init__(self) -> None:
+        self._lists: Dict[int, List[Tuple[int, int]]] = {}
+        self.count = 0
+
+    def add(self, object: int, first: int, last: int) -> None:
+        """Takes what a flush hid."""
+        runs = self._lists.setdefault(object, [])
+        low = bisect_right(runs, (first,))
+        if low and runs[low - 1][1] >= first - 1:
+            low -= 1
+        high = low
+        while high < len(runs) and runs[high][0] <= last + 1:
+            first, last, high = min(first, runs[high][0]), max(last, runs[high][1]), high + 1
+        self.count += 1 - (high - low)
+        runs[low:high] = [(first, last)]
+
+    def hides(self, object: int, first: int, last: int) -> bool:
+        """Whether all these moments of the object are hidden, by one run."""
+        for runs in (self._lists.get(object, []), self._lists.get(0, [])):
+            low = bisect_right(runs, (first, last)) - 1
+            if any(run[0] <= first and last <= run[1] for run in runs[max(low, 0):low + 2]):
+                return True
+        return False
+
+
+@dataclass
+class Life:
+    """What the audit says of an object: when it was made and deleted, where it has that, and when its versions begin."""
+
+    made: Optional[int] = None
+    deleted: Optional[int] = None
+    begun: List[int] = field(default_factory=list)
+    written: int = 0  # bytes, in all
+
+
+class Ledger:
+    """The rows of an audit."""
+
+    def __init__(self, rows: Iterable[AuditRow] = ()) -> None:
+        self.lives: Dict[int, Life] = {}
+        self.runs = Runs()
+        self.first: Optional[int] = None
+        self.last: Optional[int] = None
+        self.window: Optional[int] = None  # that was set last
+        for row in rows:
+            self.add(row)
+
+    def add(self, row: AuditRow) -> None:
+        """Takes a row that follows the others."""
+        self.first, self.last = row.moment if self.first is None else self.first, row.moment
+        if row.kind in CHANGES:
+            self._change(row)
+        elif row.kind in FLUSHES:
+            self.runs.add(row.object, row.first, row.second)
+        else:
+            self.window = row.first
+
+    def _change(self, row: AuditRow) -> None:
+        life = self.lives.setdefault(row.object, Life())
+        life.begun.append(row.moment)
+        if row.kind is AuditKind.CREATE:
+            life.made = row.moment
+        elif row.kind is AuditKind.DELETE:
+            life.deleted = row.moment
+        elif row.kind is AuditKind.WRITE:
+            life.written += row.second
+
+    def changed_since(self, moment: int) -> List[int]:
+        """The objects that were changed after a moment, ascending."""
+        return sorted(object for object, life in self.lives.items() if life.begun[-1] > moment)
+
+    def made_from(self, moment: int) -> List[int]:
+        """The objects that were made at a moment or later, ascending."""
+        return sorted(object for object, life in self.lives.items() if life.made is not None and life.made >= moment)
+
+    def lowest_made(self) -> Optional[int]:
+        """The first number that the audit saw given: those below it were given before."""
+        return min((object for object, life in self.lives.items() if life.made is not None), default=None)
+
+    def newest_hidable(self, object: int, moment: int, count: int = 1) -> Optional[Tuple[int, int]]:
+        """The moments of so many of the newest versions of an object that aren't hidden, or of as many as there are, but for the
+        present one; each begins after a moment. None where there is no such version.
+        """
+        begun = self.lives[object].begun
+        found: Optional[Tuple[int, int]] = None
+        for first, after in zip(begun[-2::-1], begun[:0:-1]):
+            if first <= moment or count == 0:
+                break
+            if found is not None or not self.runs.hides(object, first, after - 1):
+                found, count = (first, after - 1 if found is None else found[1]), count - 1
+        return found
+
+    def written_since(self, object: int, moment: int) -> int:
+        """About how many blocks hold what an object became after a moment: one at least for each of its versions."""
+        life = self.lives[object]
+        return life.written // BLOCK_BYTES + len(life.begun) - bisect_right(life.begun, moment)
