@@ -115,6 +115,11 @@ def reads(link):
         yield [wire.read(made, 0, wire.READ_BYTES, None).frame()]
 
 
+def come_and_go(_link):
+    """A session for each request."""
+    yield [wire.attributes(1, None).frame()]
+
+
 def bad_frames(_link):
     while True:
         yield [b"\0\0\0\0"] * 16
@@ -135,8 +140,8 @@ def half_frames(link):
 
 FILLING = {"empty Creates": creates, "large Writes": large_writes, "small Writes": small_writes, "overwrites of one object": overwrites,
            "SetAttrs": set_attributes, "Appends": appends, "journals of many objects": journals}
-OTHERS = {"Reads": reads, "frames that are no request": bad_frames, "sessions that hold seats": seats, "half frames": half_frames,
-          "silent connections": None}
+OTHERS = {"Reads": reads, "frames that are no request": bad_frames, "sessions that come and go": come_and_go,
+          "sessions that hold seats": seats, "half frames": half_frames, "silent connections": None}
 
 
 class Flood:
@@ -292,7 +297,7 @@ def filled(way, frames, share):
 
 def beside(way, frames, seconds, share):
     with Trial(frames, share) as it:
-        alone, _ = it.rate(seconds)
+        before, _ = it.rate(seconds)
         flood = it.flood(way, LONGEST)
         try:
             time.sleep(1)
@@ -304,6 +309,8 @@ def beside(way, frames, seconds, share):
         finally:
             flood.kill()
             flood.wait()
+        time.sleep(1)
+        alone = (before + it.rate(seconds)[0]) / 2  # so that a machine that becomes slower meanwhile doesn't count as much
     print(f"{way}: the other's requests a second: {alone:.0f} alone, {first:.0f} beside it ({first / alone:.2f}, at most {longest * 1000:.0f} ms), "
           f"{then:.0f} once its share is used up ({then / alone:.2f}, {longest_then * 1000:.0f} ms)", flush=True)
 

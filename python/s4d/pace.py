@@ -14,8 +14,8 @@ from typing import Deque, Dict, List, NamedTuple, Optional, Tuple
 BURST_SECONDS = 60.0  # worth of tokens that a bucket holds
 MOST_PEERS = 256  # that are remembered, beside those that are here: else memory and pages would grow with who ever came
 REQUESTS_A_TURN = 2  # of a peer that are passed on before those of the others, where they have some
-ASKING_SECONDS = 0.1  # after its last request in which a peer still counts as one that asks
-STALLED_SECONDS = 0.1  # without a reply, after which a peer's requests wait for its own replies no more
+ASKING_SECONDS = 0.2  # after its last request in which a peer still counts as one that asks
+STALLED_SECONDS = 0.5  # without a reply, after which a peer's requests wait for its own replies no more
 OTHERS = "others"  # in the place of a peer: all that aren't remembered any more
 
 PART = re.compile(r"(sessions)=([1-9][0-9]{0,4})|(changes)=([1-9][0-9]{0,8})/(s|min)|(bytes)=([1-9][0-9]{0,8})(KiB|MiB)?/(s|min)")

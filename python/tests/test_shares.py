@@ -200,6 +200,18 @@ class Served(Bridged):
                     it.append(made, b"")
             return count
 
+    @needs_openssl
+    def test_each_name_has_a_share_of_its_own(self):
+        alice, bob = self.certify("alice", "bob")
+        self.begin(*tls_words(self.folder, self.port), "--share", "changes=1/min", "--wait", "0.3")
+        with self.certified(alice) as first, self.certified(alice) as second, self.certified(bob) as other, self.connect() as user:
+            made = first.create().object
+            with self.assertRaisesRegex(s4d.NotAsked, "nothing was passed on"):  # it was this session's first request
+                second.append(made, b"x")
+            self.assertEqual(first.read(made), b"")
+            self.assertEqual([it.create().object for it in (other, user)], [made + 1, made + 2])
+        self.assertEqual(self.wait_for_line(event="session", end="over share")["peer"]["name"], "alice")
+
     def check_seats(self, hold):
         """Sixteen connections of one peer hold what they can; another gets a session at once."""
         alice, bob = self.certify("alice", "bob")
