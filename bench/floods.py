@@ -1,7 +1,7 @@
 #!/usr/bin/env python3
 """Ways in which a client can flood a service with a bridge before it: what that takes, and what others can do meanwhile and afterwards.
 
-    floods.py [--frames N] [--seconds N] [--share SHARE] [WAY..]      without a WAY all of them
+    floods.py [--frames N] [--seconds N] [--share SHARE] [--part full|beside] [WAY..]      without a WAY all of them
 
 S4SERVE names the program, and openssl has to be there: who floods comes over a Unix socket, with 16 connections, and another client by TLS.
 Each way is tried twice, over a new drive of 1,024 frames or N. First without a share of changes: the seconds, requests and bytes until a change
@@ -12,6 +12,7 @@ delete after each; 1: not after one."""
 import contextlib
 import json
 import os
+import signal
 import socket
 import subprocess
 import sys
@@ -27,7 +28,8 @@ from s4d import wire  # noqa: E402
 from s4d.pace import BURST_SECONDS, share_of  # noqa: E402
 
 CONNECTIONS = 16
-LONGEST = 120.0  # seconds of a flood that doesn't fill the drive
+LONGEST = 600.0  # seconds of a flood that doesn't fill the drive
+EMPTY_SECONDS = 60.0  # after which a flood's tokens aren't waited for
 SHARE = "sessions=12,changes=50/s,bytes=1MiB/min"
 NO_SPACE, CHAIN_FULL, TOO_LARGE = 9, 12, 6
 LOST = OSError, EOFError
@@ -302,7 +304,7 @@ def beside(way, frames, seconds, share):
         try:
             time.sleep(1)
             first, longest = it.rate(seconds)
-            end = time.monotonic() + (LONGEST / 2 if way in FILLING else 0)
+            end = time.monotonic() + (EMPTY_SECONDS if way in FILLING else 0)
             while not it.waited() and time.monotonic() < end:
                 time.sleep(0.2)
             then, longest_then = it.rate(seconds)
@@ -330,14 +332,16 @@ def main(words):
         return 0
     if words[:1] == ["--flood"]:
         Flood(words[1], words[2], float(words[3])).run()
+    signal.signal(signal.SIGTERM, lambda *_: sys.exit(1))  # so that what was begun is ended
     words = list(words)
     frames, seconds = int(option(words, "--frames", "1024")), float(option(words, "--seconds", "5"))
-    share, is_good = option(words, "--share", SHARE), True
+    share, part, is_good = option(words, "--share", SHARE), option(words, "--part", None), True
     ways = words or [*FILLING, *OTHERS]
     for way in ways:
-        if way in FILLING:
+        if way in FILLING and part != "beside":
             is_good &= filled(way, frames, share)
-        beside(way, frames, seconds, share)
+        if part != "full":
+            beside(way, frames, seconds, share)
     return 0 if is_good else 1
 
 

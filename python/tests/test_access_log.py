@@ -56,6 +56,19 @@ class Turned(unittest.TestCase):
         self.assertLessEqual((self.folder / "old").stat().st_size, 1_000)
         self.assertEqual(self.lines()[-1]["number"], 39)
 
+    def test_another_file_at_the_path_is_kept(self):
+        """As one that who turned it has made there: lines go on in it."""
+        log = AccessLog(str(self.path), most_bytes=1_000)
+        log.write(number=0)
+        asyncio.run(log.settle())
+        self.path.rename(self.folder / "old")
+        self.path.write_text("{}\n", encoding="ascii")
+        for number in range(1, 25):
+            log.write(number=number)
+        log.close()
+        self.assertEqual(sorted(os.listdir(self.folder)), ["access.log", "old"])
+        self.assertEqual((self.lines()[0], self.lines()[-1]["number"]), ({}, 24))
+
     def test_a_link_is_not_turned(self):
         """Nor what it names: it may be another program's, as /dev/stdout."""
         (self.folder / "file").touch()
@@ -65,6 +78,16 @@ class Turned(unittest.TestCase):
             log.write(number=number)
         log.close()
         self.assertEqual((sorted(os.listdir(self.folder)), len(self.lines())), (["access.log", "file"], 50))
+
+    def test_a_pipe_is_not_turned(self):
+        os.mkfifo(self.path)
+        reader = os.open(self.path, os.O_RDONLY | os.O_NONBLOCK)
+        self.addCleanup(os.close, reader)
+        log = AccessLog(str(self.path), most_bytes=100)
+        for number in range(50):
+            log.write(number=number)
+        log.close()
+        self.assertEqual((os.listdir(self.folder), os.read(reader, 65_536).count(b"\n"), log.lost), (["access.log"], 50, 0))
 
     def test_one_that_cannot_be_turned(self):
         """Its lines are lost, and counted: it doesn't grow."""
