@@ -33,12 +33,14 @@ EMPTY_SECONDS = 60.0  # after which a flood's tokens aren't waited for
 SHARE = "sessions=12,changes=50/s,bytes=1MiB/min"
 NO_SPACE, CHAIN_FULL, TOO_LARGE = 9, 12, 6
 LOST = OSError, EOFError
+ONE, THE_ONE = threading.Lock(), []  # the object that all connections overwrite
 
 
 class Link:
-    """A connection of who floods."""
+    """A connection of who floods. What is asked to prepare it is counted by `take`."""
 
-    def __init__(self, path):
+    def __init__(self, path, take):
+        self.take = take
         self.socket = socket.socket(socket.AF_UNIX)
         self.socket.settimeout(service.PATIENCE)
         self.socket.connect(path)
@@ -57,7 +59,10 @@ class Link:
         return body
 
     def create(self):
-        return int.from_bytes(self.ask([wire.create(b"").frame()])[0][1:9], "big")
+        frames = [wire.create(b"").frame()]
+        replies = self.ask(frames)
+        self.take(frames, replies)
+        return int.from_bytes(replies[0][1:9], "big")
 
     def close(self):
         self.reader.close()
@@ -84,10 +89,11 @@ def small_writes(link):
 
 def overwrites(link):
     """All of them of one object."""
-    if link.ask([wire.attributes(1, None).frame()])[0][0] == 0:
-        link.create()
+    with ONE:
+        if not THE_ONE:
+            THE_ONE.append(link.create())
     while True:
-        yield [wire.write(1, 0, b"x" * 24_576).frame()]
+        yield [wire.write(THE_ONE[0], 0, b"x" * 24_576).frame()]
 
 
 def set_attributes(link):
@@ -159,6 +165,9 @@ class Flood:
             thread.start()
         while time.monotonic() < self.end and self.full is None and any(thread.is_alive() for thread in threads):
             time.sleep(0.02)
+        if self.full is not None:
+            for thread in threads:  # what they have asked is answered, and counts
+                thread.join(2)
         with self.lock:
             seconds = (self.full or time.monotonic()) - self.began
             print(json.dumps({"seconds": seconds, "requests": self.requests, "bytes": self.bytes, "refusals": self.refusals}), flush=True)
@@ -167,7 +176,7 @@ class Flood:
     def come_and_go(self):
         while self.full is None and time.monotonic() < self.end:
             try:
-                link = Link(self.path)
+                link = Link(self.path, self.take)
             except OSError:
                 time.sleep(0.05)
                 continue
@@ -180,9 +189,8 @@ class Flood:
         """Counts what was accepted; whether these objects take nothing more."""
         refused = [reply[1] for reply in replies if reply[0] == 0]
         with self.lock:
-            if self.full is None:
-                self.requests += len(replies) - len(refused)
-                self.bytes += sum(len(frame) for frame, reply in zip(frames, replies) if reply[0])
+            self.requests += len(replies) - len(refused)
+            self.bytes += sum(len(frame) for frame, reply in zip(frames, replies) if reply[0])
             for number in refused:
                 self.refusals[number] = self.refusals.get(number, 0) + 1
             only_one = self.way is overwrites and CHAIN_FULL in refused
@@ -266,7 +274,8 @@ class Trial:
             deletes = outcome(lambda: it.delete(self.mine))
         with self.bridge.session("admin") as it:
             hides = outcome(lambda: it.flush(0, 1))
-            removes = outcome(lambda: it.delete(next(row.object for row in it.audit() if row.object != self.mine)))
+            made = next(row.object for row in it.audit() if row.kind is s4d.AuditKind.CREATE and row.object != self.mine)
+            removes = outcome(lambda: it.delete(made))
         said = f"the other: Read {'yes' if reads else 'no'}, Write {changes}, Delete {deletes}; an administrator: Flush {hides}, Delete {removes}"
         return said, (hides, removes) == ("yes", "yes")
 
