@@ -2,9 +2,11 @@
 from __future__ import annotations
 
 import asyncio
+import contextlib
 import errno
 import json
 import os
+import stat
 import sys
 import threading
 from collections import deque
@@ -12,6 +14,8 @@ from datetime import datetime, timezone
 from typing import Any, Deque, List, Optional, Tuple, Union
 
 MOST_LINES = 10_000  # that wait for the disk
+LOG_BYTES = 33_554_432  # of the log's file, before it is turned
+LOG_FILES = 8  # of the log: FILE, and FILE.1 to FILE.7, of which the last is the oldest
 LATE_SECONDS = 0.1  # that replies wait for their lines, once, where the disk is slow
 CLOSE_SECONDS = 5.0  # that the end of a log waits for it
 
@@ -21,12 +25,15 @@ class AccessLog:
 
     A thread writes them, so that a slow disk doesn't slow sessions. A line that can't be written, or for which there is
     no room among those that wait, is lost, counted in `lost`, and said once on standard error: sessions go on.
+
+    A file that would have more than `most_bytes` is turned: FILE becomes FILE.1, that FILE.2, and so on, and the oldest goes.
     """
 
-    def __init__(self, path: Optional[str] = None, most: int = MOST_LINES) -> None:
-        self._path, self._most, self.lost = path, most, 0
+    def __init__(self, path: Optional[str] = None, most: int = MOST_LINES, most_bytes: int = LOG_BYTES) -> None:
+        self._path, self._most, self._most_bytes, self.lost = path, most, most_bytes, 0
         self._is_failing, self._is_cut, self._is_full, self._is_late = False, False, False, False
         self._file = standard_output() if path is None else opened(path)
+        self._size = size_of(self._file)
         self._changed = threading.Condition()
         self._waiting: Deque[Union[bytes, int, None]] = deque()  # lines, files that those after them go to, and the end
         self._put, self._taken = 0, 0  # of them, how many there were, and how many of them the thread is done with
@@ -87,6 +94,7 @@ class AccessLog:
             if isinstance(item, int):
                 earlier, self._file, self._is_cut = self._file, item, False
                 os.close(earlier)
+                self._size = size_of(self._file)
             else:
                 self._append(item)
             with self._changed:
@@ -102,11 +110,27 @@ class AccessLog:
     def _append(self, line: bytes) -> None:
         try:
             data = b"\n" + line if self._is_cut else line  # what a full disk has cut stays a line of its own
+            if self._path is not None and self._size + len(data) > self._most_bytes:
+                self._turn(self._path)
             written = os.write(self._file, data)
+            self._size += written
             self._is_cut = written < len(data)
             self._note(OSError("cut") if self._is_cut else None)
         except OSError as error:
             self._note(error)
+
+    def _turn(self, path: str) -> None:
+        """Begins the file anew. What the path names that isn't this file, or is no file, as a link or a FIFO, stays as it is."""
+        found = os.lstat(path) if os.path.lexists(path) else None
+        if found is not None and not stat.S_ISREG(found.st_mode):
+            return
+        if found is not None and os.path.samestat(found, os.fstat(self._file)):
+            for number in range(LOG_FILES - 1, 0, -1):
+                with contextlib.suppress(FileNotFoundError):
+                    os.replace(path if number == 1 else f"{path}.{number - 1}", f"{path}.{number}")
+        earlier, self._file = self._file, opened(path)
+        os.close(earlier)
+        self._size, self._is_cut = size_of(self._file), False
 
     def _note(self, error: Optional[OSError]) -> None:
         if error is not None:
@@ -151,6 +175,12 @@ def standard_output() -> int:
 
 def opened(path: str) -> int:
     return os.open(path, os.O_WRONLY | os.O_APPEND | os.O_CREAT | os.O_CLOEXEC, 0o640)
+
+
+def size_of(number: int) -> int:
+    """How many bytes a file has that is open: none where it is no file."""
+    found = os.fstat(number)
+    return found.st_size if stat.S_ISREG(found.st_mode) else 0
 
 
 def say(line: str) -> None:

@@ -8,6 +8,7 @@ from typing import Any, AsyncIterator, Deque, List, Optional, Tuple, Type, TypeV
 
 from . import wire
 from .addresses import Address, address_of
+from .connection import ENDED
 from .errors import BadReply, Disconnected, NotAsked, Refused, ReplyLost
 from .history import Search, Span, history_of
 from .moments import When, moment_of
@@ -81,9 +82,9 @@ class AsyncDrive:
                 if not 1 <= length <= READ_BYTES + 1:
                     raise BadReply(f"a reply has no {length:,} bytes")
                 body = await self._reader.readexactly(length)
-                if self._is_new and body == TURNED_AWAY:
+                if body == TURNED_AWAY:
                     self._is_turned_away = True
-                    self._fail("no session was to be had; nothing was passed on")
+                    self._fail("no session was to be had; nothing was passed on" if self._is_new else ENDED)
                     return
                 self._is_new = False
                 if not self._waiting:

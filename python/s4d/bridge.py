@@ -7,36 +7,38 @@ of frames, and what they say for its log alone: the service judges them.
 It says `ready` once all sockets listen and the service reads at each door: a client that comes then gets a session. Who
 comes before is turned away. The line is on standard output, or an event of the access log where that is there.
 
+Each peer, which is a user's number or a common name, has a share of sessions, of changes and of their bytes; administrators
+have no share. Who is over it waits, and nobody else.
+
 SIGTERM and SIGINT end it: who waits is turned away, requests that were passed on are answered. SIGHUP opens the log,
 the certificates and the file of roles anew; sessions of who has lost the role, or the authority of the certificate, take
-no further request. Status 0: a signal ended it; 1: something couldn't be had; 2: the call is wrong.
+no further request; shares stay as they are. Status 0: a signal ended it; 1: something couldn't be had; 2: the call is wrong.
 """
 from __future__ import annotations
 
-import argparse
 import asyncio
 import contextlib
 import os
-import re
 import signal
 import socket
 import sys
 import time
-from dataclasses import dataclass, field
-from typing import Any, Dict, List, NamedTuple, NoReturn, Optional, Sequence, Tuple
+from typing import Any, Dict, List, Optional, Sequence
 
 from . import relay
 from .access_log import AccessLog, say
 from .doors import Door, Seats, TurnedAway
 from .frames import Asked, Said
-from .handshakes import HANDSHAKE_SECONDS
 from .listeners import Listener, Peer, TlsListener, UnixListener
-from .metrics import Counts, Family, of_bridge
-from .relay import Client, Relay
+from .metrics import Counts, Family, of_bridge, of_peers
+from .pace import Account, Pace
+from .refused import Refusals
+from .relay import Client, Relay, who_of
+from .settings import Settings, settings_of
 from .status import DriveNumbers, StatusServer
-from .trust import Tls
 
-SEATS = {"admin": 4}  # sessions at once, as many as the service has workers for
+ADMIN = "admin"  # the role that has no share
+SEATS = {ADMIN: 4}  # sessions at once, as many as the service has workers for
 OTHER_SEATS = 16
 MOST_DISMISSED = 256  # clients that were turned away, and whose requests are still taken for a moment
 TICK_SECONDS = 0.5  # between looks for sessions that are idle, or that the service doesn't open
@@ -44,40 +46,13 @@ READY_SECONDS = 0.05  # between looks for the service, until it is there for the
 LATE_SECONDS = 5.0  # after which it is said that it isn't there
 
 
-class UnixSocket(NamedTuple):
-    """A Unix socket to listen on: the role of its clients, its path and its mode."""
-
-    role: str
-    path: str
-    mode: int
-
-
-@dataclass(frozen=True)
-class Settings:
-    """What the command line says. Times are in seconds."""
-
-    doors: str
-    unix: Sequence[UnixSocket] = ()
-    tls: Optional[Tls] = None
-    seats: Dict[str, int] = field(default_factory=dict)
-    queue: int = 64
-    wait: float = 10.0
-    idle: float = 60.0
-    grace: float = 10.0
-    log: Optional[str] = None
-    port: Optional[int] = None
-    image: Optional[str] = None
-    s4: str = "s4"
-    handshake: float = HANDSHAKE_SECONDS
-    ready: Optional[int] = None
-
-
 class Bridge:
     """The doors, the sockets, and the sessions between them."""
 
     def __init__(self, settings: Settings) -> None:
         self._settings = settings
-        self._log = AccessLog(settings.log)
+        self._log = AccessLog(settings.log, most_bytes=settings.log_bytes)
+        self._refusals, self._pace = Refusals(self._log), Pace(settings.share, settings.wait)
         self._doors: Dict[str, Door] = {}
         self._counts: Dict[str, Counts] = {}
         self._listeners: List[Listener] = []
@@ -107,7 +82,9 @@ class Bridge:
         if role in self._doors:
             return
         settings = self._settings
-        seats = Seats(settings.seats.get(role, SEATS.get(role, OTHER_SEATS)), settings.queue, settings.wait)
+        count = settings.seats.get(role, SEATS.get(role, OTHER_SEATS))
+        most_of_one = count if role == ADMIN else settings.share.sessions_of(count)
+        seats = Seats(count, settings.queue, settings.wait, most_of_one)
         door = Door(role, os.path.join(settings.doors, role), seats)
         door.take()
         self._doors[role], self._counts[role] = door, Counts()
@@ -121,39 +98,45 @@ class Bridge:
                 self._look_after_sessions()
 
     def _look_after_sessions(self) -> None:
-        """Ends sessions that the service doesn't open, and idle ones where somebody waits: as many as wait, at most."""
-        for door in self._doors.values():
+        """Ends sessions that the service doesn't open, and idle ones where somebody waits who may have the seat."""
+        for role, door in self._doors.items():
             door.seats.drop_gone()
-        longest = sorted(self._relays, key=lambda it: it.moved)
-        waiting = {role: door.seats.waiting for role, door in self._doors.items()}
-        wait = {role: self._settings.wait if door.has_service() else 0.0 for role, door in self._doors.items()}
-        for session in longest:
-            role = self._relays[session]
-            if session.is_unopened(wait[role]):
+            sessions = [it for it, its_role in self._relays.items() if its_role == role]
+            wait = self._settings.wait if door.has_service() else 0.0
+            unopened = [it for it in sessions if it.is_unopened(wait)]
+            for session in unopened:
                 session.end(relay.NOT_OPENED)
-            elif waiting[role] and session.is_idle(self._settings.idle):
-                session.end(relay.IDLE)
-                waiting[role] -= 1
+            if door.seats.waiting:
+                idle = [it for it in sessions if it not in unopened and it.is_idle(self._settings.idle)]
+                idle.sort(key=lambda it: it.moved)
+                for session, is_worth_it in zip(idle, door.seats.worth_ending(it.client.who for it in idle)):
+                    if is_worth_it:
+                        session.end(relay.IDLE)
 
     async def _serve(self, client: Client) -> None:
         """All that becomes of a client. Nothing that goes wrong with one reaches another."""
-        door = self._doors[client.role]
+        door, who = self._doors[client.role], client.who
+        account = self._pace.enter(client.role, who, client.role != ADMIN)
         try:
-            await door.seats.take(client.fault)
+            await door.seats.take(who, client.fault)
             try:
-                await self._relay(client, door)
+                end = await self._relay(client, door, account)
             finally:
-                door.seats.leave()
+                door.seats.leave(who)
+            if end == relay.OVER_SHARE:
+                await self._dismiss(client)
+                client.close()
             await client.closed()  # so that the end of the bridge doesn't reset a connection with replies on their way
         except TurnedAway as turned:
-            await self._dismiss(client, turned)
+            self._turn_away(client.role, client.peer, turned)
+            await self._dismiss(client)
         except Exception as error:  # a fault of this program: the other sessions go on
             say(f"a session failed: {error!r}")
         finally:
             client.close()
+            self._pace.leave(account)
 
-    async def _dismiss(self, client: Client, turned: TurnedAway) -> None:
-        self._turn_away(client.role, client.peer, turned)
+    async def _dismiss(self, client: Client) -> None:
         client.dismiss()
         if self._dismissed < MOST_DISMISSED:
             self._dismissed += 1
@@ -162,7 +145,8 @@ class Bridge:
             finally:
                 self._dismissed -= 1
 
-    async def _relay(self, client: Client, door: Door) -> None:
+    async def _relay(self, client: Client, door: Door, account: Account) -> str:
+        """Its session, and how that ended."""
         if self._is_stopping:
             raise TurnedAway("stopping")
         if client.lost is not None:
@@ -171,28 +155,42 @@ class Bridge:
         pipes = door.ask_for(name)
         counts = self._counts[client.role]
         shared: Dict[str, Any] = {"session": name, "role": client.role, "peer": client.peer}
-        requests = 0
+        requests = unanswered = 0
 
         def report(asked: Asked, said: Optional[Said], seconds: float) -> None:
-            nonlocal requests
+            nonlocal requests, unanswered
             requests += 1
+            if unanswered:  # else it was too long to be passed on
+                unanswered -= 1
+                self._pace.answered(account)
             self._count(counts, asked, said, seconds)
             became: Said = {"lost": True} if said is None else said
-            self._log.write(event="request", **shared, request=asked.kind, **{**asked.named, **became},
-                            seconds=round(seconds, 6))
+            line: Dict[str, Any] = {"event": "request", **shared, "request": asked.kind, **asked.named, **became, "seconds": round(seconds, 6)}
+            if "refusal" in became:
+                self._refusals.note("refused", client.role, client.who, str(became["refusal"]), line)
+            else:
+                self._log.write(**line)
 
-        session = Relay(client, pipes, report, self._log.settle)
+        async def pass_on(asked: Asked, size: int) -> None:
+            nonlocal unanswered
+            await self._pace.pass_on(account, asked.is_change, size)
+            unanswered += 1
+
+        session = Relay(client, pipes, report, self._log.settle, pass_on)
         self._relays[session] = client.role
+        self._pace.begin(account)
         counts.sessions += 1
         end = relay.STOPPED
         try:
             end = await session.run()
         finally:
             counts.sessions -= 1
+            self._pace.end(account)
             counts.ended[end] += 1
             del self._relays[session]
             self._log.write(event="session", **shared, end=end, requests=requests,
                             seconds=round(time.monotonic() - session.began, 6))
+        return end
 
     @staticmethod
     def _count(counts: Counts, asked: Asked, said: Optional[Said], seconds: float) -> None:
@@ -207,7 +205,8 @@ class Bridge:
     def _turn_away(self, role: Optional[str], peer: Peer, turned: TurnedAway) -> None:
         counts = self._strangers if role is None else self._counts[role]
         counts.turned_away[turned.why] += 1
-        self._log.write(event="turned away", role=role, peer=peer, why=turned.why, fault=turned.fault)
+        line = {"event": "turned away", "role": role, "peer": peer, "why": turned.why, "fault": turned.fault}
+        self._refusals.note("turned away", role, who_of(peer), turned.why, line)
 
     def _faults(self) -> List[str]:
         """What keeps clients from being served."""
@@ -217,7 +216,7 @@ class Bridge:
     def _families(self) -> List[Family]:
         waiting = {role: door.seats.waiting for role, door in self._doors.items()}
         counts = {**self._counts, **({"none": self._strangers} if self._tls is not None else {})}
-        return of_bridge(counts, waiting, self._log.lost)
+        return of_bridge(counts, waiting, self._log.lost) + of_peers(self._pace.used())
 
     async def announce(self) -> None:
         """Waits until the service reads at each door, and says so, once."""
@@ -278,6 +277,7 @@ class Bridge:
             self._status.close()
         for door in self._doors.values():
             door.close()
+        self._refusals.close()
         self._log.close()
 
 
@@ -286,117 +286,6 @@ def fault_of(error: Exception) -> str:
     if isinstance(error, OSError) and error.filename is not None:
         return f"{error.filename}: {error.strerror}"
     return str(error)
-
-
-class Parser(argparse.ArgumentParser):
-    """A parser that says a fault in one line."""
-
-    def error(self, message: str) -> NoReturn:
-        say(f"{message}; --help lists the options")
-        sys.exit(2)
-
-
-def unix_socket(text: str) -> UnixSocket:
-    found = re.fullmatch(r"([a-z0-9-]+)=(.+?)(?::([0-7]{3}))?", text)
-    if found is None:
-        raise argparse.ArgumentTypeError(f"{text!r} is no ROLE=PATH[:MODE], as client=client.sock:660")
-    return UnixSocket(found[1], found[2], int(found[3] or "600", 8))
-
-
-def seats(text: str) -> Tuple[str, int]:
-    found = re.fullmatch(r"([a-z0-9-]+)=([1-9][0-9]{0,4})", text)
-    if found is None:
-        raise argparse.ArgumentTypeError(f"{text!r} is no ROLE=N, as client=16")
-    return found[1], int(found[2])
-
-
-def host_and_port(text: str) -> Tuple[str, int]:
-    host, _, number = text.rpartition(":")
-    if not host:
-        raise argparse.ArgumentTypeError(f"{text!r} is no HOST:PORT")
-    return host.strip("[]"), port(number)
-
-
-def port(text: str) -> int:
-    if not re.fullmatch(r"[0-9]{1,5}", text) or int(text) > 65_535:
-        raise argparse.ArgumentTypeError(f"{text!r} is no port")
-    return int(text)
-
-
-def seconds(text: str) -> float:
-    if not re.fullmatch(r"[0-9]{1,9}(\.[0-9]+)?", text):
-        raise argparse.ArgumentTypeError(f"{text!r} is no number of seconds")
-    return float(text)
-
-
-def descriptor(text: str) -> int:
-    """A descriptor that is open: it is looked for before this program opens any itself."""
-    number = count(text)
-    try:
-        os.fstat(number)
-    except OSError:
-        raise argparse.ArgumentTypeError(f"{text!r} is no open descriptor") from None
-    if number < 3:
-        raise argparse.ArgumentTypeError(f"{text!r} is a standard stream: give 3 or more")
-    return number
-
-
-def count(text: str) -> int:
-    if not re.fullmatch(r"[0-9]{1,9}", text):
-        raise argparse.ArgumentTypeError(f"{text!r} is no number")
-    return int(text)
-
-
-def parser() -> Parser:
-    """The options. Those without a default may be left out."""
-    made = Parser(prog="python3 -m s4d.bridge", allow_abbrev=False,
-                  description="Serves sockets by the doors of a running service.")
-    add = made.add_argument
-    add("--doors", metavar="DIR", required=True, help="the folder in which each role's door is, as DIR/client/door")
-    add("--unix", metavar="ROLE=PATH[:MODE]", type=unix_socket, action="append", default=[],
-        help="a Unix socket whose clients have this role; its mode is 600 where none is given")
-    add("--tls", metavar="HOST:PORT", type=host_and_port, help="a port for TLS; it needs the four options that follow")
-    add("--cert", metavar="FILE", help="this side's certificate")
-    add("--key", metavar="FILE", help="its key")
-    add("--client-ca", metavar="FILE", help="the authority of the clients' certificates")
-    add("--roles", metavar="FILE", help="lines of a role and the common name that has it")
-    add("--sessions", metavar="ROLE=N", type=seats, action="append", default=[],
-        help="sessions of a role at once (admin=4, other roles 16)")
-    add("--queue", metavar="N", type=count, default=64, help="clients of a role that may wait for a session (64)")
-    add("--wait", metavar="SECONDS", type=seconds, default=10.0,
-        help="how long a client waits for a session, and then for the service to open it (10)")
-    add("--handshake", metavar="SECONDS", type=seconds, default=HANDSHAKE_SECONDS,
-        help="how long a handshake of TLS may take, from the connection on (5)")
-    add("--idle", metavar="SECONDS", type=seconds, default=60.0,
-        help="how long a session may be idle while others wait (60)")
-    add("--grace", metavar="SECONDS", type=seconds, default=10.0,
-        help="how long sessions may take to end at SIGTERM (10)")
-    add("--log", metavar="FILE", help="the access log; standard output where none is given")
-    add("--ready-fd", metavar="N", type=descriptor,
-        help="an open descriptor that gets the line `ready` once clients get sessions, and is closed then")
-    add("--local", metavar="PORT", type=port, help="a port of 127.0.0.1 for /health and /metrics")
-    add("--image", metavar="FILE", help="the image, for the drive's numbers in /metrics")
-    add("--s4", metavar="PROGRAM", default="s4", help="the program that reads them (s4)")
-    return made
-
-
-def settings_of(words: Sequence[str]) -> Settings:
-    """What the words say. Where they are wrong, the program ends with a line and status 2."""
-    options = parser()
-    found = options.parse_args(words)
-    files = {"--cert": found.cert, "--key": found.key, "--client-ca": found.client_ca, "--roles": found.roles}
-    missing = [name for name, path in files.items() if path is None]
-    if not found.unix and found.tls is None:
-        options.error("give at least one --unix or --tls")
-    if found.tls is None and len(missing) < len(files):
-        options.error(f"{next(name for name in files if name not in missing)} is for --tls alone")
-    if found.tls is not None and missing:
-        options.error(f"--tls needs {missing[0]}")
-    if found.image is not None and found.local is None:
-        options.error("--image is for --local alone")
-    tls = None if found.tls is None else Tls(*found.tls, *files.values())
-    return Settings(found.doors, found.unix, tls, dict(found.sessions), found.queue, found.wait, found.idle,
-                    found.grace, found.log, found.local, found.image, found.s4, found.handshake, found.ready_fd)
 
 
 def say_ready(number: int) -> None:

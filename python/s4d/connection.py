@@ -12,6 +12,9 @@ from .tls import Tls, TlsStream, refuses_certificate
 from .wire import READ_BYTES, TURNED_AWAY
 
 
+ENDED = "the session was ended before this request, which waited too long for its turn; it wasn't passed on"
+
+
 class Reader(Protocol):
     """A binary stream that replies come from."""
 
@@ -84,8 +87,8 @@ class Connection:
             raise
 
     def receive(self) -> bytes:
-        """The body of the next reply to what was sent. ReplyLost where none comes, NotAsked where a bridge has no session,
-        ImageServed where the program can't have the image.
+        """The body of the next reply to what was sent. ReplyLost where none comes, NotAsked where a bridge has no session, or none
+        any more, ImageServed where the program can't have the image.
         """
         if self._is_turned_away:
             raise self._not_asked()
@@ -93,8 +96,8 @@ class Connection:
         if not 1 <= length <= READ_BYTES + 1:
             raise self.bad(f"a reply has no {length:,} bytes")
         body = self._bytes(length)
-        if self._is_new and self._may_turn_away and body == TURNED_AWAY:
-            raise self._not_asked()
+        if self._may_turn_away and body == TURNED_AWAY:
+            raise self._not_asked() if self._is_new else self._not_asked(ENDED)
         self._is_new = False
         return body
 

@@ -12,7 +12,9 @@ import fcntl
 import os
 import secrets
 import stat
-from typing import Callable, Dict, Optional, Tuple
+from collections import Counter
+from typing import Callable, Dict, Iterable, List, NamedTuple, Optional, Tuple
+from typing import Counter as Counted
 
 FLAGS = os.O_NONBLOCK | os.O_NOFOLLOW | os.O_CLOEXEC  # of each FIFO: nobody waits for its other end, and links are none
 PIECE = 65_536  # bytes of replies that are taken at once
@@ -27,57 +29,99 @@ class TurnedAway(Exception):
         self.why, self.fault = why, fault
 
 
-class Seats:
-    """How many sessions a door has at once, and who waits for one, first come, first served.
+class Place(NamedTuple):
+    """Who waits for a seat: a peer, and what says why it needs none any more."""
 
-    At most `most_waiting` wait, each at most `seconds` long.
+    peer: str
+    fault: Callable[[], Optional[str]]
+
+
+class Seats:
+    """How many sessions a door has at once, and who waits for one: first come, first served, but for peers that have as many as one may.
+
+    At most `most_waiting` wait, each at most `seconds` long. One peer has at most `most_of_one` seats.
     """
 
-    def __init__(self, count: int, most_waiting: int, seconds: float) -> None:
-        self.free, self._most, self._seconds = count, most_waiting, seconds
-        self._waiting: Dict[asyncio.Future[None], Callable[[], Optional[str]]] = {}  # in the order in which they came
+    def __init__(self, count: int, most_waiting: int, seconds: float, most_of_one: Optional[int] = None) -> None:
+        self._free, self._most, self._seconds = count, most_waiting, seconds
+        self._most_of_one = count if most_of_one is None else most_of_one
+        self._held: Counted[str] = Counter()  # seats of each peer that has some
+        self._waiting: Dict[asyncio.Future[None], Place] = {}  # in the order in which they came
 
     @property
     def waiting(self) -> int:
         """How many wait."""
         return len(self._waiting)
 
-    async def take(self, fault: Callable[[], Optional[str]]) -> None:
+    async def take(self, peer: str, fault: Callable[[], Optional[str]]) -> None:
         """Takes a seat, at once or in turn. TurnedAway where too many wait, no seat was left in time, or `fault` names one."""
-        if self.free:  # then nobody waits, since who leaves hands the seat on
-            self.free -= 1
+        if self._free and self._held[peer] < self._most_of_one:  # then nobody waits who may have it
+            self._seat(peer)
             return
         self.drop_gone()
         if len(self._waiting) >= self._most:
-            raise TurnedAway("queue full")
+            self._make_room(peer)
         loop = asyncio.get_running_loop()
         place: asyncio.Future[None] = loop.create_future()
-        self._waiting[place] = fault
+        self._waiting[place] = Place(peer, fault)
         timer = loop.call_later(self._seconds, self._give_up, place, "waited too long")
         try:
             await place
         except asyncio.CancelledError:
             if place.done() and not place.cancelled() and place.exception() is None:
-                self.leave()  # it was handed on while the wait was being cancelled
+                self.leave(peer)  # it was handed on while the wait was being cancelled
             raise
         finally:
             timer.cancel()
             self._waiting.pop(place, None)
 
-    def leave(self) -> None:
-        """Hands a seat to who waits longest, or back."""
+    def _make_room(self, peer: str) -> None:
+        """Turns away who came last of the peer that waits with most, so that one peer doesn't fill the queue. TurnedAway, for who came,
+        where its own has nearly as many.
+        """
+        count = Counter(it.peer for it in self._waiting.values())
+        crowd, most = max(count.items(), key=lambda it: it[1], default=("", 0))
+        if most <= count[peer] + 1:
+            raise TurnedAway("queue full")
+        self._give_up(next(place for place, it in reversed(list(self._waiting.items())) if it.peer == crowd), "queue full")
+
+    def leave(self, peer: str) -> None:
+        """Hands a peer's seat to who waits longest and may have it, or back."""
+        self._held[peer] -= 1
+        if not self._held[peer]:
+            del self._held[peer]
+        self._free += 1
         self.drop_gone()
-        for place in list(self._waiting):
-            del self._waiting[place]
-            if not place.done():
-                place.set_result(None)
-                return
-        self.free += 1
+        for place, it in list(self._waiting.items()):
+            if self._free and self._held[it.peer] < self._most_of_one:
+                del self._waiting[place]
+                if not place.done():
+                    self._seat(it.peer)
+                    place.set_result(None)
+
+    def _seat(self, peer: str) -> None:
+        self._free -= 1
+        self._held[peer] += 1
+
+    def worth_ending(self, peers: Iterable[str]) -> List[bool]:
+        """Whether a seat of each of these, which others would have before it, is one that somebody waits for who may have it then."""
+        held, waiting = Counter(self._held), [it.peer for it in self._waiting.values()]
+        found: List[bool] = []
+        for peer in peers:
+            held[peer] -= 1
+            next_one = next((it for it in waiting if held[it] < self._most_of_one), None)
+            found.append(next_one is not None)
+            if next_one is not None:
+                waiting.remove(next_one)
+                held[next_one] += 1
+            else:
+                held[peer] += 1
+        return found
 
     def drop_gone(self) -> None:
         """Turns away who doesn't wait any more, or may not."""
-        for place, fault in list(self._waiting.items()):
-            why = fault()
+        for place, it in list(self._waiting.items()):
+            why = it.fault()
             if why is not None:
                 self._give_up(place, why)
 

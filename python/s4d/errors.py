@@ -42,7 +42,9 @@ class Disconnected(Error):
 
 
 class NotAsked(Disconnected):
-    """The other side had no session for this one, or refused its certificate. Nothing was passed on to the drive."""
+    """The other side had no session for this one, or refused its certificate, or ended the session before this request. It wasn't
+    passed on to the drive.
+    """
 
 
 class ImageServed(NotAsked):

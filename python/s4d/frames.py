@@ -13,6 +13,7 @@ BAD = "bad frame"
 
 KINDS = {1: "create", 2: "delete", 3: "read", 4: "write", 5: "append", 6: "truncate", 7: "attributes",
          8: "set_attribute", 9: "set_window", 10: "flush", 11: "flush_object", 12: "audit"}
+READING = ("read", "attributes", "audit")
 WITHOUT_OBJECT = (1, 9, 10, 12)
 MOMENT_AT = {3: 21, 7: 9}  # where the byte is that says whether a moment follows
 SPAN_AT = {10: 1, 11: 9}  # where the first and the last moment of a flush are
@@ -27,6 +28,11 @@ class Asked:
     kind: str
     named: Said
     since: float
+
+    @property
+    def is_change(self) -> bool:
+        """Whether it would change the drive; what is no request counts as if it did."""
+        return self.kind not in READING
 
 
 def number_at(body: bytes, at: int) -> Optional[int]:

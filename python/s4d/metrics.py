@@ -3,8 +3,9 @@ from __future__ import annotations
 
 from collections import Counter
 from typing import Counter as Counted
-from typing import Dict, Iterable, List, NamedTuple, Optional, Tuple, Union
+from typing import Dict, Iterable, List, NamedTuple, Optional, Sequence, Tuple, Union
 
+from .pace import Used
 from .rows import Info
 
 BOUNDS = (0.001, 0.003, 0.01, 0.03, 0.1, 0.3, 1.0, 3.0, 10.0)  # seconds to a reply
@@ -110,6 +111,22 @@ def of_bridge(counts: Dict[str, Counts], waiting: Dict[str, int], lines_lost: in
         histogram("s4_bridge_reply_seconds", "Seconds from a request to its reply.", seconds),
         Family("s4_bridge_log_lines_lost_total", "counter", "Lines of the access log that couldn't be written.",
                [Sample("", {}, lines_lost)]),
+    ]
+
+
+def of_peers(used: Iterable[Used]) -> List[Family]:
+    """What each peer uses. They are few: a bridge forgets who hasn't come for long, and sums up what those used."""
+    all_used = list(used)
+
+    def family(name: str, kind: str, help: str, values: Sequence[Union[int, float]]) -> Family:
+        samples = [Sample("", {"role": it.role, "peer": it.peer}, value) for it, value in zip(all_used, values)]
+        return Family(f"s4_bridge_peer_{name}", kind, help, samples)
+
+    return [
+        family("sessions", "gauge", "Sessions of a peer that are open.", [it.sessions for it in all_used]),
+        family("changes_total", "counter", "Changes of a peer that were passed on.", [it.changes for it in all_used]),
+        family("change_bytes_total", "counter", "Bytes of these.", [it.bytes for it in all_used]),
+        family("waited_seconds_total", "counter", "Seconds that its changes waited for its share.", [round(it.waited, 6) for it in all_used]),
     ]
 
 

@@ -5,15 +5,17 @@ import asyncio
 import contextlib
 import time
 from collections import deque
-from dataclasses import dataclass, field
+from dataclasses import dataclass, field, replace
 from typing import Any, Awaitable, Callable, Deque, Dict, Optional
 
 from . import frames
 from .doors import Pipes
 from .frames import BAD, BAD_FRAME, LENGTH_BYTES, Asked, Replies, Said
+from .handshakes import origin_of
+from .pace import Overdue
 from .wire import BODY_BYTES, TURNED_AWAY
 
-MOST_ASKED = 1_024  # requests of a session that may wait for replies; more aren't taken from its client meanwhile
+MOST_ASKED = 64  # requests of a session that may wait for replies; more aren't taken from its client meanwhile
 LINGER_SECONDS = 5.0  # that what was written may take to leave, and the end of a client of TLS to come
 DISMISS_SECONDS = 1.0  # that what a client still sends is taken once it is turned away
 
@@ -27,11 +29,12 @@ STOPPED = "stopped"
 SERVICE_ENDED = "service ended"
 NOT_OPENED = "not opened"
 BAD_REPLY = "bad reply"
+OVER_SHARE = "over share"  # a change waited too long for its peer's share
 
 
 @dataclass(eq=False)
 class Client:
-    """A client that is connected: its role, who it is for the log, its streams, and its certificate where it has one.
+    """A client that is connected: its role, what the log has of it, its streams, and its certificate where it has one.
 
     `lost` says what it has lost since it came, its role or its certificate: it gets no session then, and keeps none.
     """
@@ -43,6 +46,11 @@ class Client:
     certificate: Dict[str, Any] = field(default_factory=dict)
     lost: Optional[str] = None
 
+    @property
+    def who(self) -> str:
+        """The peer that it belongs to: a common name, or a user's number."""
+        return who_of(self.peer)
+
     def fault(self) -> Optional[str]:
         """Why it needs no session any more: it has lost its role, has ended the connection and left nothing to be answered,
         or can't be understood any more. None where it does.
@@ -51,7 +59,7 @@ class Client:
         return self.lost or (CLIENT_GONE if is_gone else None)
 
     def dismiss(self) -> None:
-        """Says that it has no session, and that nothing was passed on. Nothing more is written."""
+        """Says that it has no session, or none any more, and that nothing was passed on since. Nothing more is written."""
         if not self.writer.transport.is_closing():
             with contextlib.suppress(OSError):  # it can't be written to any more
                 self.writer.write(len(TURNED_AWAY).to_bytes(LENGTH_BYTES, "big") + TURNED_AWAY)
@@ -82,20 +90,30 @@ class Client:
         self.writer.transport.abort()
 
 
+def who_of(peer: Dict[str, Any]) -> str:
+    """Who is meant by what the log has of a client, however often it comes: a name or a user; an address where there is neither."""
+    if peer.get("name") is not None:
+        return f"name {peer['name']}"
+    if "uid" in peer:
+        return f"uid {peer['uid']}"
+    return f"address {origin_of(peer['address'].rpartition(':')[0])}"
+
+
 Report = Callable[[Asked, Optional[Said], float], None]  # a request, what its reply said or None, and how long it took
 Settle = Callable[[], Awaitable[None]]  # waits until what was reported is in the log
+PassOn = Callable[[Asked, int], Awaitable[None]]  # waits until a request of so many bytes may be passed on; Overdue where it may not
 
 
 class Relay:
     """Passes whole requests on, so that a client that ends inside one, or sends one too long, changes nothing there."""
 
-    def __init__(self, client: Client, pipes: Pipes, report: Report, settle: Settle) -> None:
-        self.client, self._pipes, self._report, self._settle = client, pipes, report, settle
+    def __init__(self, client: Client, pipes: Pipes, report: Report, settle: Settle, pass_on: PassOn) -> None:
+        self.client, self._pipes, self._report, self._settle, self._pass_on = client, pipes, report, settle, pass_on
         self._asked: Deque[Asked] = deque()
         self._room = asyncio.Event()
         self._room.set()
         self._end: Optional[str] = None
-        self._is_reading, self._is_stopping, self._is_writing = False, False, False
+        self._is_reading, self._is_stopping, self._is_writing, self._is_held_back = False, False, False, False
         self._requests: Optional[asyncio.Future[None]] = None
         self._replies: Optional[asyncio.Future[None]] = None
         self.began = self.moved = time.monotonic()  # and when it last moved
@@ -103,7 +121,7 @@ class Relay:
         client.writer.transport.set_write_buffer_limits(high=0)  # so that a reply counts as taken once it has left
 
     async def run(self) -> str:
-        """Serves the session, and says how it ended. Its pipes and the connection are closed by then."""
+        """Serves the session, and says how it ended. Its pipes are closed by then, and the connection unless it ended OVER_SHARE."""
         self._requests = asyncio.ensure_future(self._pass_requests())
         self._replies = asyncio.ensure_future(self._pass_replies())
         try:
@@ -118,14 +136,15 @@ class Relay:
             await asyncio.wait({self._requests, self._replies})
             self._pipes.close()
             self._report_lost()
-            self.client.close()
+            if self._end != OVER_SHARE:
+                self.client.close()
         return self._end or SERVICE_ENDED
 
     def stop(self, why: str = STOPPED) -> None:
         """Takes no further request; the session ends once those that it has are answered."""
         self._note(why)
         self._is_stopping = True
-        if self._is_reading and self._requests is not None:
+        if (self._is_reading or self._is_held_back) and self._requests is not None:
             self._requests.cancel()
 
     def end(self, why: str) -> None:
@@ -136,9 +155,9 @@ class Relay:
         self.client.abort()
 
     def is_idle(self, seconds: float) -> bool:
-        """Whether the client has sent no whole request and taken no reply for that time, and the service owes it none."""
-        waits_for_service = self._asked and not self._is_writing
-        return not waits_for_service and time.monotonic() - self.moved >= seconds
+        """Whether the client has sent no whole request and taken no reply for that time, and nothing is owed to it."""
+        waits = (self._asked or self._is_held_back) and not self._is_writing
+        return not waits and time.monotonic() - self.moved >= seconds
 
     def is_unopened(self, seconds: float) -> bool:
         """Whether the service hasn't opened the session in that time, or has gone before its first reply.
@@ -160,14 +179,26 @@ class Relay:
                 frame = await self._next_frame()
                 if frame is None:
                     return
-                self._asked.append(frames.asked(frame[LENGTH_BYTES:], time.monotonic()))
+                asked = frames.asked(frame[LENGTH_BYTES:], time.monotonic())
+                await self._hold_back(asked, len(frame))
+                self._asked.append(replace(asked, since=time.monotonic()))
                 await self._pipes.write(frame)
                 self.moved = time.monotonic()
                 await self._wait_for_room()
+        except Overdue:
+            self._note(OVER_SHARE)
         except BrokenPipeError:
             pass  # the end of the replies says that the service has gone
         finally:
             self._pipes.end_requests()
+
+    async def _hold_back(self, asked: Asked, size: int) -> None:
+        """Waits until a request may be passed on."""
+        self._is_held_back = True
+        try:
+            await self._pass_on(asked, size)
+        finally:
+            self._is_held_back = False
 
     async def _next_frame(self) -> Optional[bytes]:
         """The client's next request, whole; None where there is none, with the reason noted."""

@@ -4,7 +4,7 @@ from __future__ import annotations
 import asyncio
 import time
 from http import HTTPStatus
-from typing import Callable, List, Optional, Tuple
+from typing import Callable, Dict, List, Optional, Tuple
 
 from .errors import BadReply
 from .listeners import listen_tcp
@@ -15,6 +15,7 @@ SECONDS = 5.0  # that a request may take to come
 INFO_SECONDS = 10.0  # that `s4 info` may take
 KEPT_SECONDS = 15.0  # as long an image's numbers are said again before they are read anew
 HEAD_BYTES = 8_192
+MOST_ASKING = 32  # connections at once: who comes then ends the oldest
 
 PLAIN = "text/plain; charset=utf-8"
 PROMETHEUS = "text/plain; version=0.0.4; charset=utf-8"
@@ -63,6 +64,7 @@ class StatusServer:
                  drive: Optional[DriveNumbers]) -> None:
         self._port, self._faults, self._families, self._drive = port, faults, families, drive
         self._server: Optional[asyncio.AbstractServer] = None
+        self._asking: Dict[asyncio.StreamWriter, None] = {}  # in the order in which they came
 
     async def start(self) -> None:
         """OSError where the port can't be had."""
@@ -75,6 +77,11 @@ class StatusServer:
             self._server.close()
 
     async def _attend(self, reader: asyncio.StreamReader, writer: asyncio.StreamWriter) -> None:
+        if len(self._asking) >= MOST_ASKING:
+            oldest = next(iter(self._asking))
+            del self._asking[oldest]
+            oldest.transport.abort()
+        self._asking[writer] = None
         try:
             head = await asyncio.wait_for(reader.readuntil(b"\r\n\r\n"), SECONDS)
             status, kind, text = await self._answer(head)
@@ -86,6 +93,7 @@ class StatusServer:
         except (OSError, EOFError, asyncio.TimeoutError, asyncio.LimitOverrunError):
             pass  # who asks so gets no answer
         finally:
+            self._asking.pop(writer, None)
             writer.close()
 
     async def _answer(self, head: bytes) -> Answer:

@@ -16,7 +16,7 @@ AUDIT_ROW_BYTES = 33
 BODY_BYTES = 32_768  # the longest body of a frame
 WRITE_BYTES = BODY_BYTES - 17  # the most bytes of one write, after its kind, object and offset
 LAST = 2**64 - 1  # the last moment, and the greatest number of an object
-TURNED_AWAY = b"\0\xff"  # a body by which a bridge says that it has no session, and passed nothing on; no drive gives it
+TURNED_AWAY = b"\0\xff"  # a body by which a bridge says that it has no session any more, and passes nothing on; no drive gives it
 
 T = TypeVar("T")
 

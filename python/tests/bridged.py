@@ -131,6 +131,14 @@ class Bridged(unittest.TestCase):
         wait_until(lambda: len(self.lines(**wanted)) >= count, f"{count} lines with {wanted}")
         return self.lines(**wanted)[-1]
 
+    def turned_away(self, why, **wanted):
+        """How many the log says were turned away for this: by a line of its own, or counted with others of the same peer."""
+        return sum(line.get("why") == why or line.get("more", {}).get(why, 0) for line in self.lines(event="turned away", **wanted))
+
+    def wait_for_turned_away(self, count, why, **wanted):
+        """Waits until the log says that this many were turned away for this."""
+        wait_until(lambda: self.turned_away(why, **wanted) >= count, f"{count} that were turned away: {why}")
+
     def pipes(self, role="client"):
         """The pipes of sessions that are in a door's folder."""
         return [path.name for path in (self.folder / "doors" / role).iterdir() if path.name != "door"]
