@@ -15,7 +15,7 @@ from ..rows import Listed
 from ..wire import READ_BYTES
 from .contents import Gone, Pieces
 from .drives import StoreDrive
-from .index import Bucket, Entry, Index, Place
+from .index import Bucket, Entry, Index, Place, entry_of
 from .layout import BadHead, Piece, head_attribute, version_in
 from .names import is_bucket_name
 from .service import say
@@ -70,12 +70,19 @@ class Loading:
             for row in found.objects:
                 self._take(Place(number, row.object), row)
         versions = await asyncio.gather(*[self._versions(place, attribute) for place, attribute in self._heads])
+        moved: Set[Place] = set()
         for entry in sorted((it for each in versions for it in each), key=age):
             if entry.version.bucket in self.index.buckets:
-                self.index.add(entry)
+                left = self.index.add(entry)
+                moved |= set() if left is None else {left}
             else:
                 self._alone[entry.version.bucket, entry.version.key] = entry
+        self._left += moved - self._heads_named() if moved else []
         return self.index
+
+    def _heads_named(self) -> Set[Place]:
+        """The heads of all versions."""
+        return {it.head for bucket in self.index.buckets.values() for known in bucket.keys.values() for it in known}
 
     def _take(self, place: Place, row: Listed) -> None:
         """Takes an object for what its attribute says."""
@@ -97,7 +104,7 @@ class Loading:
         moments = sorted(set(self._found[place.drive].moments.get(place.object, [])))
         points: List[Optional[int]] = [moment - 1 for moment in moments if moment > 0]
         found = await asyncio.gather(*[self._version(drive, place, attribute, at) for at in [*points, None]])
-        return list({it.moment: it for it in found if it is not None}.values())
+        return list({it.written: it for it in found if it is not None}.values())
 
     async def _version(self, drive: StoreDrive, place: Place, attribute: bytes, at: Optional[int]) -> Optional[Entry]:
         """The version of a moment, or now; None where there is none that can be read."""
@@ -116,7 +123,7 @@ class Loading:
             say(f"{named(place)}: {error}; the pieces of its key are left as they are")
             self._unread.add(attribute[1:])
             return None
-        return Entry(version, place, changed)
+        return entry_of(version, place, changed)
 
     async def collect(self) -> int:
         """Deletes live pieces that no current version names, and heads that no version needs: how many that were. Where a head
@@ -154,9 +161,10 @@ class Loading:
 
 def age(entry: Entry) -> Tuple[int, int]:
     """By what the versions of a key ascend. A key that was deleted, and put again once its marker was past the window, counts
-    from 1 again, and the head of that marker may be there still. Times ascend in any case.
+    from 1 again, and the head of that marker may be there still. Times ascend in any case. Where a version was moved, its
+    last Write says where it is.
     """
-    return entry.version.time, entry.moment
+    return entry.version.time, entry.written
 
 
 def named(place: Place) -> str:

@@ -15,9 +15,11 @@ from ..s3.keys import keys_in
 from ..s3.past import fault_of
 from ..s3.server import Server
 from .opening import OpenStore
+from .rebalance import Rebalance
 from .service import say
 from .settings import StoreFault, image_path
 from .status import StoreStatus
+from .store import Store
 
 GRACE = 30.0  # seconds that requests may take to end at SIGTERM
 
@@ -41,6 +43,7 @@ class Wanted:
     key: Optional[str] = None
     local: Optional[int] = None
     past: Sequence[Past] = ()
+    rebalance: bool = False
 
 
 class Serving:
@@ -53,6 +56,7 @@ class Serving:
         self._servers: List[Server] = []
         self._status: Optional[StoreStatus] = None
         self._tls: Optional[ssl.SSLContext] = None
+        self._moving: Optional[asyncio.Future[None]] = None
 
     async def start(self) -> List[str]:
         """Starts the drives, and then the gateways: the lines that say where clients come. StoreFault, OSError or ValueError where
@@ -71,6 +75,8 @@ class Serving:
             await server.start()
         if wanted.local is not None:
             await self._start_status(wanted.local)
+        if wanted.rebalance:
+            self._moving = asyncio.ensure_future(moved(store))
         return self._lines()
 
     async def _start_status(self, port: int) -> None:
@@ -117,7 +123,17 @@ class Serving:
         """Accepts no more, and waits for the requests that are worked on."""
         if self._status is not None:
             self._status.close()
+        if self._moving is not None:
+            self._moving.cancel()
+            await asyncio.wait({self._moving})
         await asyncio.gather(*[server.close(GRACE) for server in self._servers])
+
+
+async def moved(store: Store) -> None:
+    """Moves what there is to move, and says what that was."""
+    rebalance = Rebalance(store)
+    for line in (await rebalance.run()).lines(rebalance.loads):
+        say(line)
 
 
 def tls_of(wanted: Wanted) -> Optional[ssl.SSLContext]:
