@@ -1,6 +1,7 @@
 """A store to which drives were added: what is moved to them, what stays as it was, and what a kill leaves."""
 import asyncio
 import copy
+import dataclasses
 import random
 import unittest
 from unittest import mock
@@ -251,6 +252,26 @@ class Refusals(Moving):
             self.assertEqual(self.live(), {"B": 1, "H": 1})
 
         self.run_store(work)
+
+    def test_a_head_that_a_later_version_needs(self):
+        """A version was moved, and the next one is in the head where it was before: that one stays."""
+        async def work(store):
+            await store.create_bucket("one")
+            entry = await store.put("one", "k", body(b"mill"), {})
+            moved = dataclasses.replace(entry.version, since=entry.moment)
+            await store._write_on(moved, store.pieces.drives[1 - entry.head.drive])
+            await store.put("one", "k", body(b"moor"), {})
+
+        async def look(store):
+            self.assertEqual([it.head.drive for it in store.bucket("one").keys["k"]], [1 - self.drive(store), self.drive(store)])
+            self.assertEqual(await bytes_of(store), [b"mill", b"moor"])
+
+        self.run_store(work, look, look)
+        self.assertEqual(self.live(), {"B": 1, "H": 2})
+
+    @staticmethod
+    def drive(store):
+        return layout.first_drive("one", "k", len(store.pieces.drives))
 
     def test_headers_of_a_version_that_is_moved(self):
         """Whoever puts tags meanwhile names the pieces where they are then."""
