@@ -7,12 +7,15 @@ import subprocess
 import sys
 import tempfile
 import unittest
+from unittest import mock
 
+from s4d.errors import SERVED
 from s4d.store import OpenStore, Programs, Settings, StoreFault, make_store
 from s4d.store.adding import add_drives
 from s4d.store.drives import DriveAway
 from s4d.store.layout import first_drive
 from s4d.store.rebalance import Rebalance
+from s4d.store.settings import image_path
 
 from .bridged import PACKAGE, PATIENCE
 from .built import PROGRAM, S4, S4SERVE, needs_program, needs_s4, needs_s4serve
@@ -219,6 +222,27 @@ class RealStarts(Real, Served):
     test_services_that_are_killed_start_again = Starts.test_services_that_are_killed_start_again
     test_moments_of_two_drives = Starts.test_moments_of_two_drives
     test_a_drive_more = Starts.test_a_drive_more
+
+    def test_a_service_that_has_no_door_yet(self):
+        """A start that was killed left it, while it waited for the machine's time: the next start waits for it, ends it, and serves."""
+        async def put(store):
+            await store.create_bucket("one")
+            await store.put("one", "k", body(b"mill"), {})
+            for drive in store.pieces.drives:
+                drive._service.kill()  # so that the next one waits ten seconds
+
+        async def get(store):
+            self.assertEqual(await got(store, store.bucket("one").current("k")), b"mill")
+            self.assertEqual(await asyncio.get_running_loop().run_in_executor(None, left.wait, PATIENCE), 0)
+
+        self.run_store(put)
+        doors = [f"--door={role}={self.folder}/drives/00/doors/{role}" for role in ("client", "admin")]
+        with subprocess.Popen([S4SERVE, *doors, image_path(self.folder, 0)], stderr=subprocess.PIPE, text=True) as left:
+            self.addCleanup(left.kill)
+            self.assertIn("that is waited for, 10 s", left.stderr.readline())
+            with mock.patch("s4d.store.service.say") as say:
+                self.run_store(get)
+        self.assertTrue([line for line, in (it[0] for it in say.call_args_list) if line.endswith(SERVED)])
     once_served = staticmethod(Starts.once_served)
 
 
