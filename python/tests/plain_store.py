@@ -123,10 +123,10 @@ class PlainStores:
         pieces = Pieces(self.session_drives())
         loading = Loading(pieces, [drive.found() for drive in self.drives], self.window)
         index = await loading.load()
-        self.collected = await loading.collect()
+        self.collected, self.uploads = await loading.collect(), loading.uploads
         return Store(pieces, index)
 
     def live(self):
         """How many live objects of each kind all drives have."""
-        counts = {kind: sum(drive.live(kind.encode()) for drive in self.drives) for kind in "BHP"}
+        counts = {kind: sum(drive.live(kind.encode()) for drive in self.drives) for kind in "BHPU"}
         return {kind: count for kind, count in counts.items() if count}

@@ -114,6 +114,7 @@ class Known:
 
     def __init__(self):
         self.lock, self.versions = threading.Lock(), {}
+        self.uploads = {}  # key, digest and contents of the only part of uploads that nobody has completed
         self.is_stopping, self.is_full, self.faults = False, False, []
 
     def add(self, id, key, data):
@@ -184,7 +185,7 @@ class Worker(threading.Thread):
             self.known.add(id, key, None)
 
     def upload(self, key):
-        """An upload of one part, which may be replaced before it is completed, or be left."""
+        """An upload of one part, which may be replaced before it is completed, or be left for later."""
         path = f"/one/{key}"
         begun = self.ask("POST", path, query=[("uploads", "")])
         if begun is None:
@@ -195,9 +196,14 @@ class Worker(threading.Thread):
             part = self.ask("PUT", path, data, [("partNumber", "1"), ("uploadId", id)])
             if part is None:
                 return
-        said = f"<Part><PartNumber>1</PartNumber><ETag>{part.headers['etag']}</ETag></Part>"
-        done = self.draw.random() < 0.8 and self.ask("POST", path, f"<CompleteMultipartUpload>{said}</CompleteMultipartUpload>".encode(),
-                                                      [("uploadId", id)])
+        if self.draw.random() < 0.8:
+            self.complete(id, key, part.headers["etag"], data)
+        else:
+            self.known.uploads[id] = (key, part.headers["etag"], data)
+
+    def complete(self, id, key, etag, data):
+        body = f"<CompleteMultipartUpload><Part><PartNumber>1</PartNumber><ETag>{etag}</ETag></Part></CompleteMultipartUpload>"
+        done = self.ask("POST", f"/one/{key}", body.encode(), [("uploadId", id)])
         if done:
             self.known.add(done.headers["x-amz-version-id"], key, data)
 
@@ -319,7 +325,29 @@ class Trial:
         client.close()
         if kind != "service":
             self.wait_for_moves()
-            self.look_for_leftovers(rows)
+            self.look_for_leftovers(rows, *self.look_at_uploads())
+            self.complete_uploads()
+
+    def look_at_uploads(self):
+        """Each upload that was left has its part. How many records all of them need, and how many pieces."""
+        client, found, pieces = self.serving.client(), {}, 0
+        for row in client.ask("GET", "/one", query=[("uploads", "")]).all("Upload"):
+            key, id = (row.partition(f"<{name}>")[2].partition("</")[0] for name in ("Key", "UploadId"))
+            parts = client.ask("GET", f"/one/{key}", query=[("uploadId", id)])
+            found[id] = (key, [it.replace("&quot;", '"') for it in parts.all("ETag")])
+            pieces += sum(-(-int(size) // PIECE_BYTES) for size in parts.all("Size"))
+        for id, (key, etag, _) in self.known.uploads.items():
+            if found.get(id) != (key, [etag]):
+                self.faults.append(f"upload {id} of {key} has {found.get(id)}, not {etag}")
+        client.close()
+        return sum(1 + len(etags) for _, etags in found.values()), pieces
+
+    def complete_uploads(self):
+        """Completes the half of those that were left: they are versions as others from then on."""
+        worker = Worker(self.serving, self.known, self.draw)
+        for id in [it for it in self.known.uploads if self.draw.random() < 0.5]:
+            worker.complete(id, *self.known.uploads.pop(id))
+        worker.client.close()
 
     def wait_for_moves(self):
         """Returns once the server that was started last has moved what there was to move."""
@@ -349,11 +377,12 @@ class Trial:
                 self.faults.append(f"at {moment} there are {found}, status {reply.status}, not {then}")
         self.moments.append((machine_time(), now))
 
-    def look_for_leftovers(self, rows):
-        """After a start the drives have the pieces of the current versions, and the bucket. A key has one head, or several where it was
-        moved, of which each has a version.
+    def look_for_leftovers(self, rows, records, parts):
+        """After a start the drives have the pieces of the current versions and of uploads, what says that these are there, and the
+        bucket. A key has one head, or several where it was moved, of which each has a version.
         """
-        right = {"B": 1, "P": sum(pieces_of(size, etag) for _, _, etag, size, is_latest in rows if is_latest and etag is not None)}
+        pieces = sum(pieces_of(size, etag) for _, _, etag, size, is_latest in rows if is_latest and etag is not None)
+        right = {"B": 1, "P": pieces + parts, "U": records}
         found = dict.fromkeys([*right, "H"], 0)
         for number in range(self.drives):
             for row in Image(image_path(self.folder, number), s4=self.programs.s4).list():

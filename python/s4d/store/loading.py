@@ -21,6 +21,8 @@ from .names import is_bucket_name
 from .service import say
 from .settings import StoreFault
 from .store import contents_of
+from .upload_records import Upload
+from .uploads_found import FoundUploads
 
 IMAGES_AT_ONCE = 4  # that are read side by side
 
@@ -63,6 +65,8 @@ class Loading:
         self._parts: List[Tuple[Place, bytes]] = []
         self._unread: Set[bytes] = set()  # hashes of keys, of which a head says something that isn't known here
         self._left: List[Place] = []  # what else nothing needs
+        self._records: List[Tuple[Place, bytes]] = []  # of uploads and parts
+        self.uploads: List[Upload] = []
         self._alone: Dict[Tuple[str, str], Entry] = {}  # the last version of keys whose bucket isn't there
 
     async def load(self) -> Index:
@@ -97,6 +101,8 @@ class Loading:
             self._left.append(place)  # it was made, and never written
         elif kind == b"P":
             self._parts.append((place, rest))
+        elif kind == b"U":
+            self._records.append((place, row.attribute))
 
     async def _versions(self, place: Place, attribute: bytes) -> List[Entry]:
         """The versions of a head that can be read."""
@@ -136,9 +142,23 @@ class Loading:
                 kept.update(await self._named(bucket.keys[key][-1]))
         for entry in self._alone.values():
             kept.update(await self._named(entry))  # whoever makes the bucket again has them
+        found = FoundUploads(self.index, {place for place, _ in self._parts} - kept)
+        await asyncio.gather(*[self._take_record(found, place, attribute) for place, attribute in self._records])
+        left += found.choose()
+        self.uploads = found.uploads()
+        kept.update(found.pieces())
         left += [place for place, key in self._parts if place not in kept and key not in self._unread]
         await self._pieces.delete([Piece(*place, 0, 0) for place in left])
         return len(left)
+
+    async def _take_record(self, found: FoundUploads, place: Place, attribute: bytes) -> None:
+        """Takes what an object says of an upload. Where that isn't understood, the pieces of its key stay, and so does it."""
+        data = await self._pieces.drives[place.drive].ask(lambda session: session.read(place.object, 0, READ_BYTES))
+        try:
+            found.take(place, data, attribute)
+        except BadHead as error:
+            say(f"{named(place)}: {error}; the pieces of its key are left as they are")
+            self._unread.add(attribute[1:])
 
     def _markers_alone(self) -> List[Place]:
         """Heads of a bucket that was deleted, which say that their key was deleted before."""

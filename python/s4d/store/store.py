@@ -154,11 +154,13 @@ class Store:
         doubt = self._doubts.get((bucket, key))
         return doubt is not None and pieces != () and doubt.version.pieces == pieces
 
-    async def commit(self, bucket: str, key: str, contents: Contents, headers: Dict[str, str], check: Check = unchecked) -> Entry:
-        """Makes a version of contents that are in pieces already the current one, as `put` does. It isn't to be answered before
-        `passed`. Where this raises, and the pieces aren't doubtful, no version has them.
+    async def commit(self, bucket: str, key: str, contents: Contents, headers: Dict[str, str], check: Check = unchecked,
+                     upload: str = "") -> Entry:
+        """Makes a version of contents that are in pieces already the current one, as `put` does; `upload` is the id of the upload
+        that they were. It isn't to be answered before `passed`. Where this raises, and the pieces aren't doubtful, no version has
+        them.
         """
-        return await self._commit(version_with(bucket, key, contents, headers), check)
+        return await self._commit(replace(version_with(bucket, key, contents, headers), upload=upload), check)
 
     async def relabel(self, entry: Entry, headers: Dict[str, str], check: Check) -> Entry:
         """Makes a version of the contents of the current one, in the same pieces, with other headers."""
