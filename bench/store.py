@@ -2,20 +2,25 @@
 """How fast a store over many drives puts, gets, lists and starts, and what memory it takes.
 
     store.py [--seconds N] [--drives N,..] [--clients N,..] [--sizes N,..] [--frames N]    puts and gets a second
+    store.py --beside NAME,.. [..]          the same of other programs over files: rclone (serve webdav), nginx (its dav module)
     store.py --pages [KEYS ..]              a page of 1,000 keys among so many
     store.py --full [DRIVES [FRAMES]]       a start over drives without room
 
 S4D, S4 and S4SERVE name the programs. Puts and gets: each client is a process with one connection, which signs each request; the store keeps a
 second of its past, so that room comes back. A store is made for each number of drives (1 and 4), of so many frames (1,024); each line is N seconds
 (5) of puts, and then of gets, by so many clients (1 and 16) of so many bytes (1,000 and 100,000). Refused is what was answered by an error. Memory is the most that the
-gateway took, and the most that one service took. Pages: the seconds of the processor that a list takes in the gateway, the least of several,
+gateway took, and the most that one service took. The others have their files in a folder of the same disk, and sign nothing; nginx doesn't
+wait for the disk, nor does rclone. Pages: the seconds of the processor that a list takes in the gateway, the least of several,
 at the start and in the midst of the bucket, without connections and signatures; among 8,000 and 80,000 keys. A start: small objects are put
 until no drive has room, then the program is ended and begun, in order and after a kill."""
 import argparse
 import http.client
 import multiprocessing
+import os
 import random
+import shutil
 import signal
+import subprocess
 import sys
 import tempfile
 import time
@@ -27,7 +32,8 @@ from s4d.s3.lists import list_keys_2, list_versions, token_of  # noqa: E402
 from s4d.store import Programs, Settings, make_store  # noqa: E402
 from s4d.store.index import Bucket, Entry, Index, Place  # noqa: E402
 from s4d.store.layout import Version  # noqa: E402
-from tests.s3_blocking import BlockingClient  # noqa: E402
+from tests.bridged import free_port  # noqa: E402
+from tests.s3_blocking import SECONDS, BlockingClient  # noqa: E402
 from tests.store_kills import Serving  # noqa: E402
 
 KEYS = 20  # of each client at most
@@ -35,6 +41,11 @@ LIVE_BYTES = 1_700_000  # of all keys together, so that what a second keeps besi
 TRIES = 7  # of a page
 SMALL = 100  # bytes of the objects that fill drives
 MICROSECOND = 1_000_000
+DONE = (200, 201, 204)
+NGINX = """daemon off; user root; pid {folder}/pid; error_log {folder}/errors; events {{}}
+http {{ access_log off; client_max_body_size 0; client_body_temp_path {folder}/temp; keepalive_requests 1000000;
+server {{ listen 127.0.0.1:{port}; root {folder}/files; location / {{ dav_methods PUT DELETE; }} }} }}
+"""
 
 
 def programs():
@@ -45,14 +56,62 @@ def keys_of_each(clients, size):
     return max(1, min(KEYS, LIVE_BYTES // (clients * size)))
 
 
+class FileClient:
+    """A client of a program that serves files, with the method of a store's client that is used here."""
+
+    def __init__(self, port):
+        self.connection = http.client.HTTPConnection("127.0.0.1", port, timeout=SECONDS)
+
+    def ask(self, method, path, body=b""):
+        self.connection.request(method, path, body)
+        reply = self.connection.getresponse()
+        reply.read()
+        return reply
+
+
+class FileServing:
+    """A program that serves the files of a folder. It has no key."""
+
+    key = None
+
+    def __init__(self, name, folder):
+        self.port = free_port()
+        for it in ("files/one", "temp"):
+            os.makedirs(f"{folder}/{it}")
+        words = ["rclone", "serve", "webdav", f"{folder}/files", "--addr", f"127.0.0.1:{self.port}", "--config", "/dev/null"]
+        if name == "nginx":
+            with open(f"{folder}/nginx.conf", "w", encoding="ascii") as file:
+                file.write(NGINX.format(folder=folder, port=self.port))
+            words = [shutil.which("nginx") or "/usr/sbin/nginx", "-p", folder, "-c", f"{folder}/nginx.conf"]
+        with open(f"{folder}/said", "wb") as said:
+            self.process = subprocess.Popen(words, stdout=said, stderr=said, stdin=subprocess.DEVNULL)
+        end = time.monotonic() + SECONDS
+        while time.monotonic() < end and not self.answers():
+            time.sleep(0.05)
+
+    def answers(self):
+        try:
+            return FileClient(self.port).ask("GET", "/one/none").status == 404
+        except OSError:
+            return False
+
+    def client(self):
+        return FileClient(self.port)
+
+    def stop(self):
+        self.process.terminate()
+        self.process.wait()
+
+
 def work(port, key, name, keys, kind, size, until, counts):
     """A client's requests of its keys until a time: how many were done, and how many refused."""
-    client, draw, done, refused = BlockingClient(port, key), random.Random(name), 0, 0
+    client = BlockingClient(port, key) if key is not None else FileClient(port)
+    draw, done, refused = random.Random(name), 0, 0
     data = draw.randbytes(size)
     try:
         while time.monotonic() < until:
             reply = client.ask(kind, f"/one/{name}-{draw.randrange(keys)}", data if kind == "PUT" else b"")
-            done, refused = done + (reply.status == 200), refused + (reply.status != 200)
+            done, refused = done + (reply.status in DONE), refused + (reply.status not in DONE)
     except (OSError, http.client.HTTPException) as error:
         print(f"client {name}: {error!r}", file=sys.stderr)
     counts.put((done, refused))
@@ -92,15 +151,30 @@ def measure(drives, found):
         serving.start()
         try:
             serving.client().ask("PUT", "/one")
-            for size in found.sizes:
-                for clients in found.clients:
-                    fill_keys(serving, clients, size)
-                    puts, refused = run_clients(serving, "PUT", clients, size, found.seconds)
-                    gets, missed = run_clients(serving, "GET", clients, size, found.seconds)
-                    print(f"{drives} drives, {clients} clients, {size:,} bytes: {puts:,.1f} puts, {gets:,.1f} gets a second; "
-                          f"{refused + missed} refused", flush=True)
+            run_all(serving, f"{drives} drives", found)
             services = [most_memory(pid) for number in range(drives) for pid in serving.services(number)]
             print(f"{drives} drives: the gateway took {most_memory(serving.process.pid):,} KiB, a service {max(services):,} KiB")
+        finally:
+            serving.stop()
+
+
+def run_all(serving, said, found):
+    """Puts and gets of each size by each number of clients."""
+    for size in found.sizes:
+        for clients in found.clients:
+            fill_keys(serving, clients, size)
+            puts, refused = run_clients(serving, "PUT", clients, size, found.seconds)
+            gets, missed = run_clients(serving, "GET", clients, size, found.seconds)
+            print(f"{said}, {clients} clients, {size:,} bytes: {puts:,.1f} puts, {gets:,.1f} gets a second; {refused + missed} refused",
+                  flush=True)
+
+
+def beside(name, found):
+    with tempfile.TemporaryDirectory() as folder:
+        os.chmod(folder, 0o755)
+        serving = FileServing(name, folder)
+        try:
+            run_all(serving, name, found)
         finally:
             serving.stop()
 
@@ -192,6 +266,7 @@ def main(words):
     options.add_argument("--clients", type=numbers, default=[1, 16])
     options.add_argument("--sizes", type=numbers, default=[1_000, 100_000])
     options.add_argument("--frames", type=int, default=1_024)
+    options.add_argument("--beside", type=lambda text: text.split(","), default=[])
     options.add_argument("--pages", type=int, nargs="*", metavar="KEYS")
     options.add_argument("--full", type=int, nargs="*", metavar="N")
     found = options.parse_args(words)
@@ -199,6 +274,9 @@ def main(words):
         pages(found.pages or [8_000, 80_000])
     elif found.full is not None:
         full(*(found.full + [16, 1_024][len(found.full):]))
+    elif found.beside:
+        for name in found.beside:
+            beside(name, found)
     else:
         for drives in found.drives:
             measure(drives, found)

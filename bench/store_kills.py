@@ -3,10 +3,10 @@
 
     store_kills.py [COUNT [SEED]]      COUNT kills (200), one after another; S4D, S4 and S4SERVE name the programs
 
-Four clients put, copy, delete and upload in parts, of 0 to 250,000 bytes, to six keys over two drives. Every third kill is of the gateway, of
-a service, and of both; some starts are killed, too. After each, and the next start, every version that was acknowledged is in the list and
-has its bytes, each other one has the bytes that its digest says, and the drives have a head for each key, the pieces of the current versions
-and no other objects. After ten kills, or once it is full, another store is begun. Prints the faults, and last how many kills and acknowledged
+Four clients put, copy, delete and upload in parts, of 0 to 250,000 bytes, to six keys over two drives. Every fourth kill is of the gateway, of
+a service, of both, and of a gateway that moves what there is to a drive that was added; some starts are killed, too. After each, and the next
+start, every version that was acknowledged is in the list and has its bytes, each other one has the bytes that its digest says, and the drives
+have the heads of versions, the pieces of the current ones and no other objects. After ten kills, or once it is full, another store is begun. Prints the faults, and last how many kills and acknowledged
 versions there were. Status 0: no faults; 1: some. A kill of a service takes ten seconds, which its next start waits."""
 import random
 import signal

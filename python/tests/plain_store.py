@@ -108,17 +108,25 @@ class PlainStores:
 
     def __init__(self, count=2, window=30 * DAY, clock=machine_time, **options):
         self.window, self.clock = window, clock
-        self.drives = [TimedDrive(window, clock=clock, **options) for _ in range(count)]
+        self.drives = []
+        self.add(count, **options)
+
+    def add(self, count, **options):
+        """So many drives more, which the next start has."""
+        self.drives += [TimedDrive(self.window, clock=self.clock, **options) for _ in range(count)]
+
+    def session_drives(self):
+        return [PlainStoreDrive(number, drive) for number, drive in enumerate(self.drives)]
 
     async def start(self):
         """The store, and how many objects were left by puts that were cut."""
-        pieces = Pieces([PlainStoreDrive(number, drive) for number, drive in enumerate(self.drives)])
+        pieces = Pieces(self.session_drives())
         loading = Loading(pieces, [drive.found() for drive in self.drives], self.window)
         index = await loading.load()
-        self.collected = await loading.collect()
+        self.collected, self.uploads = await loading.collect(), loading.uploads
         return Store(pieces, index)
 
     def live(self):
         """How many live objects of each kind all drives have."""
-        counts = {kind: sum(drive.live(kind.encode()) for drive in self.drives) for kind in "BHP"}
+        counts = {kind: sum(drive.live(kind.encode()) for drive in self.drives) for kind in "BHPU"}
         return {kind: count for kind, count in counts.items() if count}

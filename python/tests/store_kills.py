@@ -1,4 +1,5 @@
-"""Kills a store's gateway, or the service of one of its drives, amid puts, copies, deletions and uploads of several threads.
+"""Kills a store's gateway, or the service of one of its drives, amid puts, copies, deletions and uploads of several threads, and while
+what it has is moved to a drive that was added.
 
 After each kill, and the next start, each version that was acknowledged is there to the byte, none is there in part, what was there at
 earlier moments is found so, and the drives have the objects that versions need, and no more.
@@ -18,6 +19,7 @@ from s4d.image import Image
 from s4d.moments import machine_time
 from s4d.s3.keys import keys_in
 from s4d.store import Settings, make_store
+from s4d.store.adding import add_drives
 from s4d.store.layout import INLINE_BYTES, LISTED_PIECES, NAMED_PIECES, PIECE_BYTES
 from s4d.store.settings import image_path, keys_path
 
@@ -27,7 +29,9 @@ from .s3_blocking import BlockingClient
 THREADS = 4
 KEYS = [f"deep/{number}" for number in range(6)]
 LOST = (OSError, http.client.HTTPException)  # what a client meets where the gateway is killed
-KINDS = ("gateway", "service", "both")
+KINDS = ("gateway", "service", "both", "moves")
+MOST_DRIVES = 5
+MOVES = 0.5  # seconds at most from a start with a new drive to the kill
 CHANGES = 24  # at most that are acknowledged before a kill
 LINGER = 0.1  # seconds at most from the last of these to the kill
 AWAY, FULL = 503, 507
@@ -38,6 +42,7 @@ class Serving:
 
     def __init__(self, folder, programs, *more):
         self.folder, self.process, self.port, self.local = folder, None, None, free_port()
+        self.began = 0  # how much was said before the last start
         self.words = [sys.executable, "-B", "-m", "s4d.store", "serve", folder, "--listen", "127.0.0.1:0", "--local", str(self.local),
                       "--s4", programs.s4, "--s4serve", programs.s4serve, *more]
         self.past = []  # the ports of gateways of a moment
@@ -45,6 +50,7 @@ class Serving:
 
     def start(self):
         with open(f"{self.folder}.said", "ab") as said:
+            self.began = said.tell()
             self.process = subprocess.Popen(self.words, cwd=PACKAGE, stdout=subprocess.PIPE, stderr=said, text=True)
         ready = self.process.stdout.readline()
         while ready.startswith("at "):
@@ -108,6 +114,7 @@ class Known:
 
     def __init__(self):
         self.lock, self.versions = threading.Lock(), {}
+        self.uploads = {}  # key, digest and contents of the only part of uploads that nobody has completed
         self.is_stopping, self.is_full, self.faults = False, False, []
 
     def add(self, id, key, data):
@@ -178,7 +185,7 @@ class Worker(threading.Thread):
             self.known.add(id, key, None)
 
     def upload(self, key):
-        """An upload of one part, which may be replaced before it is completed, or be left."""
+        """An upload of one part, which may be replaced before it is completed, or be left for later."""
         path = f"/one/{key}"
         begun = self.ask("POST", path, query=[("uploads", "")])
         if begun is None:
@@ -189,9 +196,14 @@ class Worker(threading.Thread):
             part = self.ask("PUT", path, data, [("partNumber", "1"), ("uploadId", id)])
             if part is None:
                 return
-        said = f"<Part><PartNumber>1</PartNumber><ETag>{part.headers['etag']}</ETag></Part>"
-        done = self.draw.random() < 0.8 and self.ask("POST", path, f"<CompleteMultipartUpload>{said}</CompleteMultipartUpload>".encode(),
-                                                      [("uploadId", id)])
+        if self.draw.random() < 0.8:
+            self.complete(id, key, part.headers["etag"], data)
+        else:
+            self.known.uploads[id] = (key, part.headers["etag"], data)
+
+    def complete(self, id, key, etag, data):
+        body = f"<CompleteMultipartUpload><Part><PartNumber>1</PartNumber><ETag>{etag}</ETag></Part></CompleteMultipartUpload>"
+        done = self.ask("POST", f"/one/{key}", body.encode(), [("uploadId", id)])
         if done:
             self.known.add(done.headers["x-amz-version-id"], key, data)
 
@@ -234,7 +246,7 @@ class Trial:
         self.known, self.read = Known(), set()  # ids of versions whose bytes were looked at
         self.moments = []  # after kills, and the keys with their digests that were there at each
         make_store(folder, Settings(drives, frames, "30d"), programs)
-        self.serving = Serving(folder, programs)
+        self.serving = Serving(folder, programs, "--rebalance")
         self.serving.start()
         assert self.serving.client().ask("PUT", "/one").status == 200
 
@@ -244,15 +256,17 @@ class Trial:
 
     def kill(self, kind):
         """A kill while the threads work, and the next start: what is wrong after it is in `faults`."""
+        if kind == "moves":
+            self.add_drive()
         wanted = len(self.known.versions) + self.draw.randrange(1, CHANGES)
         workers = [Worker(self.serving, self.known, random.Random(self.draw.random())) for _ in range(THREADS)]
         for it in workers:
             it.start()
-        while len(self.known.versions) < wanted and any(it.is_alive() for it in workers):
+        while kind != "moves" and len(self.known.versions) < wanted and any(it.is_alive() for it in workers):
             time.sleep(0.002)
-        time.sleep(self.draw.random() * LINGER)
+        time.sleep(self.draw.random() * (LINGER if kind != "moves" else MOVES))
         number = self.draw.randrange(self.drives)
-        killed = self.serving.kill_service(number) if kind != "gateway" else set()
+        killed = self.serving.kill_service(number) if kind in ("service", "both") else set()
         if kind == "service":
             time.sleep(self.draw.random())  # they go on with the other drives meanwhile
         else:
@@ -263,6 +277,13 @@ class Trial:
         else:
             self.start_again()
         self.look(kind)
+
+    def add_drive(self):
+        """Serves the store anew with a drive more, as long as it has few."""
+        self.serving.stop()
+        if self.drives < MOST_DRIVES:
+            self.drives = add_drives(self.folder, 1, self.programs)
+        self.serving.start()
 
     def end_all(self, workers):
         self.known.is_stopping = True
@@ -303,7 +324,38 @@ class Trial:
         self.look_back(client, {key: etag for key, _, etag, _, is_latest in rows if is_latest and etag is not None})
         client.close()
         if kind != "service":
-            self.look_for_leftovers(rows)
+            self.wait_for_moves()
+            self.look_for_leftovers(rows, *self.look_at_uploads())
+            self.complete_uploads()
+
+    def look_at_uploads(self):
+        """Each upload that was left has its part. How many records all of them need, and how many pieces."""
+        client, found, pieces = self.serving.client(), {}, 0
+        for row in client.ask("GET", "/one", query=[("uploads", "")]).all("Upload"):
+            key, id = (row.partition(f"<{name}>")[2].partition("</")[0] for name in ("Key", "UploadId"))
+            parts = client.ask("GET", f"/one/{key}", query=[("uploadId", id)])
+            found[id] = (key, [it.replace("&quot;", '"') for it in parts.all("ETag")])
+            pieces += sum(-(-int(size) // PIECE_BYTES) for size in parts.all("Size"))
+        for id, (key, etag, _) in self.known.uploads.items():
+            if found.get(id) != (key, [etag]):
+                self.faults.append(f"upload {id} of {key} has {found.get(id)}, not {etag}")
+        client.close()
+        return sum(1 + len(etags) for _, etags in found.values()), pieces
+
+    def complete_uploads(self):
+        """Completes the half of those that were left: they are versions as others from then on."""
+        worker = Worker(self.serving, self.known, self.draw)
+        for id in [it for it in self.known.uploads if self.draw.random() < 0.5]:
+            worker.complete(id, *self.known.uploads.pop(id))
+        worker.client.close()
+
+    def wait_for_moves(self):
+        """Returns once the server that was started last has moved what there was to move."""
+        end = time.monotonic() + PATIENCE
+        while "s4store: moved " not in self.serving.said()[self.serving.began:]:
+            if time.monotonic() > end:
+                raise AssertionError(f"nothing says what was moved: {self.serving.said()}")
+            time.sleep(0.02)
 
     def look_at(self, client, row):
         """Each version is read when it is seen first, and some later again: none is there in part."""
@@ -325,16 +377,19 @@ class Trial:
                 self.faults.append(f"at {moment} there are {found}, status {reply.status}, not {then}")
         self.moments.append((machine_time(), now))
 
-    def look_for_leftovers(self, rows):
-        """After a start the drives have a head for each key, the pieces of the current versions, and the bucket."""
-        right = {"B": 1, "H": len({key for key, *_ in rows}),
-                 "P": sum(pieces_of(size, etag) for _, _, etag, size, is_latest in rows if is_latest and etag is not None)}
-        found = dict.fromkeys(right, 0)
+    def look_for_leftovers(self, rows, records, parts):
+        """After a start the drives have the pieces of the current versions and of uploads, what says that these are there, and the
+        bucket. A key has one head, or several where it was moved, of which each has a version.
+        """
+        pieces = sum(pieces_of(size, etag) for _, _, etag, size, is_latest in rows if is_latest and etag is not None)
+        right = {"B": 1, "P": pieces + parts, "U": records}
+        found = dict.fromkeys([*right, "H"], 0)
         for number in range(self.drives):
             for row in Image(image_path(self.folder, number), s4=self.programs.s4).list():
                 found[chr(row.attribute[0])] += 1
-        if found != right:
-            self.faults.append(f"the drives have {found}, not {right}")
+        heads = found.pop("H")
+        if found != right or not len({key for key, *_ in rows}) <= heads <= len(rows):
+            self.faults.append(f"the drives have {heads} heads and {found}, not {right}")
 
     def end(self):
         """All that was acknowledged is looked at once more; and the gateway ends in order."""

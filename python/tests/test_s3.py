@@ -411,6 +411,11 @@ class Objects(unittest.TestCase):
             self.assertEqual((reply.status, got.headers["etag"], got.headers["content-type"]), (200, f'"{digest}-2"', "a/b"))
             self.assertEqual(got.body, data + b"end")
             self.assertEqual((await it.ask("DELETE", "/one/k", query=[("uploadId", id)])).code, "NoSuchUpload")
+            await it.ask("PUT", "/one/k", b"newer")
+            again = await it.ask("POST", "/one/k", body((1, etags[0]), (2, etags[1])), query=[("uploadId", id)])  # its reply was lost
+            self.assertEqual((again.status, again.headers["x-amz-version-id"]), (200, reply.headers["x-amz-version-id"]))
+            self.assertEqual((await it.ask("GET", "/one/k")).body, b"newer")
+            self.assertEqual((await it.ask("POST", "/one/other", body((1, etags[0])), query=[("uploadId", id)])).code, "NoSuchUpload")
 
         with_client(work)
 
@@ -440,7 +445,8 @@ class Lists(unittest.TestCase):
             self.assertEqual((await it.ask("PUT", "/two")).status, 200)
             self.assertEqual((await it.ask("DELETE", "/two")).status, 204)
             self.assertEqual((await it.ask("HEAD", "/two")).status, 404)
-            for part, text in (("location", "LocationConstraint"), ("versioning", "Enabled"), ("acl", "FULL_CONTROL"), ("lifecycle", "Noncurrent")):
+            for part, text in (("location", "LocationConstraint"), ("versioning", "Enabled"), ("acl", "FULL_CONTROL"), ("lifecycle", "Noncurrent"),
+                               ("lifecycle", "<DaysAfterInitiation>7</DaysAfterInitiation>")):
                 self.assertIn(text, (await it.ask("GET", "/one", query=[(part, "")])).body.decode())
             with mock.patch("s4d.store.store.BUCKETS", 1):
                 self.assertEqual((await it.ask("PUT", "/more")).code, "TooManyBuckets")

@@ -2,6 +2,7 @@
 skipped where it isn't installed.
 """
 import asyncio
+import contextlib
 import importlib.util
 import os
 import pathlib
@@ -24,6 +25,7 @@ from .s3_client import OWNER, Gatewayed
 from .test_store import BYTES
 
 is_long = unittest.skipUnless(os.environ.get("STORE_CLIENTS"), "clients of S3 are tried where STORE_CLIENTS=1 is set")
+needs_mounts = unittest.skipUnless(os.access("/dev/fuse", os.W_OK) and os.geteuid() == 0, "there is no /dev/fuse, or who runs this may not mount")
 needs_boto3 = unittest.skipUnless(importlib.util.find_spec("boto3"), "boto3 isn't installed")
 
 
@@ -70,13 +72,37 @@ class Clients(unittest.TestCase):
 
     def run_program(self, *words, statuses=(0,), **environment):
         """What a program prints, which ends by one of these statuses."""
-        known = {"AWS_ACCESS_KEY_ID": OWNER.access, "AWS_SECRET_ACCESS_KEY": OWNER.secret, "AWS_DEFAULT_REGION": "us-east-1",
-                 "AWS_EC2_METADATA_DISABLED": "true", "AWS_CONFIG_FILE": "/dev/null", "HOME": str(self.folder)}
-        shared = {name: value for name, value in os.environ.items() if not name.startswith("AWS_")}
-        ran = subprocess.run(list(map(str, words)), env={**shared, **known, **environment}, stdout=subprocess.PIPE,
+        ran = subprocess.run(list(map(str, words)), env=self.environment(**environment), stdout=subprocess.PIPE,
                              stderr=subprocess.STDOUT, timeout=5 * PATIENCE, check=False)
         self.assertIn(ran.returncode, statuses, ran.stdout.decode())
         return ran.stdout.decode()
+
+    def environment(self, **more):
+        known = {"AWS_ACCESS_KEY_ID": OWNER.access, "AWS_SECRET_ACCESS_KEY": OWNER.secret, "AWS_DEFAULT_REGION": "us-east-1",
+                 "AWS_EC2_METADATA_DISABLED": "true", "AWS_CONFIG_FILE": "/dev/null", "HOME": str(self.folder)}
+        return {**{name: value for name, value in os.environ.items() if not name.startswith("AWS_")}, **known, **more}
+
+    @contextlib.contextmanager
+    def mounted(self, *words, **environment):
+        """A folder that a program has mounted as long as the block goes on; `{}` in its words is the folder."""
+        folder = pathlib.Path(tempfile.mkdtemp(dir=self.folder))
+        with open(self.folder / "said", "wb+") as said:
+            mount = subprocess.Popen([str(word).format(folder) for word in words], env=self.environment(**environment), stdout=said,
+                                     stderr=subprocess.STDOUT, stdin=subprocess.DEVNULL)
+            try:
+                end = time.monotonic() + PATIENCE
+                while not folder.is_mount():
+                    said.seek(0)
+                    self.assertTrue(mount.poll() is None and time.monotonic() < end, said.read().decode())
+                    time.sleep(0.05)
+                yield folder
+            finally:
+                subprocess.run(["umount", folder], check=False, stderr=subprocess.DEVNULL)
+                with contextlib.suppress(subprocess.TimeoutExpired):
+                    mount.wait(PATIENCE)
+                subprocess.run(["umount", "-l", folder], check=False, stderr=subprocess.DEVNULL)
+                mount.kill()
+                mount.wait()
 
     def make_files(self):
         """A folder with files of some sizes."""
@@ -231,10 +257,13 @@ class S3cmd(Clients):
 class Remotes(Clients):
     """Rclone's words for the gateway."""
 
+    def remote(self):
+        return {"RCLONE_CONFIG": "/dev/null", "RCLONE_CONFIG_S4_TYPE": "s3", "RCLONE_CONFIG_S4_PROVIDER": "Other",
+                "RCLONE_CONFIG_S4_ENDPOINT": self.url, "RCLONE_CONFIG_S4_ACCESS_KEY_ID": OWNER.access,
+                "RCLONE_CONFIG_S4_SECRET_ACCESS_KEY": OWNER.secret}
+
     def rclone(self, *words, **more):
-        return self.run_program("rclone", *words, "--retries=1", **more, RCLONE_CONFIG="/dev/null", RCLONE_CONFIG_S4_TYPE="s3",
-                                RCLONE_CONFIG_S4_PROVIDER="Other", RCLONE_CONFIG_S4_ENDPOINT=self.url,
-                                RCLONE_CONFIG_S4_ACCESS_KEY_ID=OWNER.access, RCLONE_CONFIG_S4_SECRET_ACCESS_KEY=OWNER.secret)
+        return self.run_program("rclone", *words, "--retries=1", **more, **self.remote())
 
 
 @needs("rclone")
@@ -255,6 +284,63 @@ class Rclone(Remotes):
         self.check_files(self.folder / "back")
         self.rclone("sync", self.folder / "back", "s4:one/files")  # and all is there again
         self.rclone("check", "--download", files, "s4:one/files")
+
+
+    @needs_mounts
+    def test_mounts(self):
+        """Files of now, which are written, and those of a moment."""
+        files = self.make_files()
+        self.rclone("mkdir", "s4:one")
+        with self.mounted("rclone", "mount", "s4:one", "{}", "--vfs-cache-mode=full", "--vfs-write-back=0s",
+                          f"--cache-dir={self.folder}/cache", **self.remote()) as folder:
+            shutil.copytree(files, folder, dirs_exist_ok=True)
+            self.check_files(folder)
+        self.rclone("check", files, "s4:one")
+        time.sleep(1.1)
+        before = datetime.now(timezone.utc).strftime("%Y-%m-%dT%H:%M:%SZ")
+        time.sleep(1.1)
+        self.rclone("delete", "s4:one")
+        with self.mounted("rclone", "mount", "s4:one", "{}", "--read-only", f"--s3-version-at={before}", **self.remote()) as folder:
+            self.check_files(folder)
+            self.assertEqual((folder / "deep/long").read_bytes(), BYTES[:300_000])
+
+
+@needs("s3fs")
+@needs_mounts
+class S3fs(Clients):
+    def test_files(self):
+        """Files are written, read in parts, renamed and deleted, and those of a moment are there as they were."""
+        files = self.make_files()
+        asyncio.run_coroutine_threadsafe(self.gateway.store.create_bucket("two"), self.loop).result(PATIENCE)
+
+        def s3fs(url):
+            return self.mounted("s3fs", "two", "{}", "-f", "-o", f"url={url}", "-o", "use_path_request_style",
+                                AWSACCESSKEYID=OWNER.access, AWSSECRETACCESSKEY=OWNER.secret)
+
+        with s3fs(self.url) as folder:
+            for name in files.iterdir():
+                self.run_program("cp", "-r", name, folder)
+            self.check_files(folder)
+            (folder / "long").write_bytes(BYTES * 13)
+            (folder / "long").rename(folder / "longer")
+            self.assertEqual((folder / "longer").read_bytes(), BYTES * 13)
+            with open(folder / "longer", "rb") as file:
+                file.seek(5_000_000)
+                self.assertEqual(file.read(3), (BYTES * 13)[5_000_000:5_000_003])
+            (folder / "longer").unlink()
+            self.check_files(folder)
+        time.sleep(0.01)
+        before = machine_time()
+        time.sleep(0.01)
+        with s3fs(self.url) as folder:
+            shutil.rmtree(folder / "deep")
+            (folder / "small").write_bytes(b"moor")
+            self.assertEqual(sorted(it.name for it in folder.iterdir()), ["empty", "small"])
+        with s3fs(self.url_at(before)) as folder:
+            self.check_files(folder)
+            self.assertEqual((folder / "small").read_bytes(), BYTES[:10])
+            with self.assertRaises(OSError):
+                (folder / "small").write_bytes(b"moor")
 
 
 @needs("restic")

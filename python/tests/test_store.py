@@ -1,6 +1,8 @@
 """A store over plain drives in memory: what is put, what is refused, what is cut, and what a start finds."""
 import asyncio
+import copy
 import dataclasses
+import hashlib
 import os
 import tempfile
 import unittest
@@ -15,7 +17,9 @@ from s4d.store.layout import Piece
 from s4d.store.service import Service
 from s4d.store.sessions import session_at
 from s4d.store.store import BucketThere, BucketUsed, Doubt, NoBucket, contents_of
+from s4d.store.upload_records import Part, PartOf, Upload, part_record, record_in, upload_record
 from s4d.store.uploads import LEAST_PART, NoPart, NoUpload, PartTooSmall, TooManyUploads, UploadTooLarge, Uploads
+from s4d.store.uploads_found import FoundUploads
 
 from .bridged import PATIENCE
 from .plain_store import Clock, PlainStores
@@ -149,7 +153,7 @@ class Puts(Stores):
             await store.create_bucket("one")
             await cancelled(store, store.put("one", "k", body(BYTES[:3_000]), {}))
             uploads = Uploads(store, 2**30)
-            it = uploads.begin("one", "k", {}, "me")
+            it = await uploads.begin("one", "k", {}, "me")
             part = await uploads.put_part(it, 1, body(BYTES[:3_000]))
             await cancelled(store, uploads.complete(it, [(1, part.etag)]))
 
@@ -265,7 +269,7 @@ class Away(Stores):
             await store.create_bucket("one")
             entry = await store.put("one", "k", body(b"mill"), {})
             uploads = Uploads(store, 2**30)
-            it = uploads.begin("one", "k", {}, "me")
+            it = await uploads.begin("one", "k", {}, "me")
             part = await uploads.put_part(it, 1, body(BYTES[:1_000]))
             drive = store.pieces.drives[entry.head.drive]
             drive.loses = 4
@@ -537,7 +541,7 @@ class Uploading(Stores):
         async def put(store):
             await store.create_bucket("one")
             uploads = Uploads(store, 2**30)
-            it = uploads.begin("one", "k", {"content-type": "a/b"}, "me")
+            it = await uploads.begin("one", "k", {"content-type": "a/b"}, "me")
             parts = [await uploads.put_part(it, number, body(data)) for number, data in ((3, last), (1, first), (2, b"unused"))]
             with self.assertRaises(NoPart):
                 await uploads.complete(it, [(1, parts[0].etag)])
@@ -548,11 +552,11 @@ class Uploading(Stores):
             self.assertEqual(await got(store, entry), first + last)
             with self.assertRaises(NoUpload):
                 await uploads.put_part(it, 1, body(b""))
-            aborted = uploads.begin("one", "k", {}, "me")
+            aborted = await uploads.begin("one", "k", {}, "me")
             await uploads.put_part(aborted, 1, body(last))
             await uploads.abort(aborted)
-            left = uploads.begin("one", "k", {}, "me")
-            await uploads.put_part(left, 1, body(last))
+            with self.assertRaises(NoUpload):
+                await uploads.abort(aborted)
 
         async def get(store):
             entry = store.bucket("one").current("k")
@@ -562,15 +566,140 @@ class Uploading(Stores):
         self.run_store(put, get)
         self.assertEqual(self.live(), {"B": 1, "H": 1, "P": -(-LEAST_PART // 98_304) + 2})
 
+    def test_an_upload_that_goes_on_after_a_start(self):
+        """It has the parts that it had, of each number the last, and so has who completes it."""
+        async def begin(store):
+            await store.create_bucket("one")
+            uploads = Uploads(store, 2**30)
+            self.upload = await uploads.begin("one", "k", {"content-type": "a/b"}, "me")
+            with mock.patch.object(uploads, "_delete"):  # the part that is replaced stays on its drives
+                for number, size in ((1, 300_000), (2, 5), (1, 200_000), (3, 0)):
+                    await uploads.put_part(self.upload, number, body(BYTES[:size]))
+
+        async def go_on(store):
+            self.assertEqual(self.stores.collected, 1 + 4)
+            self.assertEqual(self.stores.uploads, [self.upload])
+            uploads = Uploads(store, 2**30, self.stores.uploads)
+            self.assertEqual(uploads.in_bucket("one"), [self.upload])
+            it = uploads.of("one", "k", self.upload.id)
+            part = await uploads.put_part(it, 2, body(BYTES[:7]))
+            self.assertEqual(sorted((number, part.size) for number, part in it.parts.items()), [(1, 200_000), (2, 7), (3, 0)])
+            with mock.patch("s4d.store.uploads.LEAST_PART", 7):
+                entry = await uploads.complete(it, [(1, it.parts[1].etag), (2, part.etag)])
+            self.assertEqual(await got(store, entry), BYTES[:200_000] + BYTES[:7])
+            self.assertEqual(entry.version.headers, {"content-type": "a/b"})
+
+        async def look(store):
+            self.assertEqual((self.stores.uploads, self.stores.collected), ([], 0))
+            entry = store.bucket("one").current("k")
+            self.assertIs(Uploads(store, 2**30).version_of("one", "k", self.upload.id), entry)
+            self.assertEqual(await got(store, entry), BYTES[:200_000] + BYTES[:7])
+
+        self.run_store(begin, go_on, look)
+        self.assertEqual(self.live(), {"B": 1, "H": 1, "P": 4})
+
+    def test_records_that_outlast_their_upload(self):
+        """Their drive was away when it was completed: the next start deletes them, and not the pieces of the version."""
+        async def complete(store):
+            await store.create_bucket("one")
+            uploads = Uploads(store, 2**30)
+            it = await uploads.begin("one", "k", {}, "me")
+            part = await uploads.put_part(it, 1, body(BYTES[:1_000]))
+            with mock.patch.object(uploads, "_delete_records"):
+                await uploads.complete(it, [(1, part.etag)])
+            entry = await store.relabel(store.bucket("one").current("k"), {"content-type": "a/b"}, lambda _: None)
+            self.assertEqual(entry.version.upload, "")
+
+        async def forget(store):
+            self.assertEqual((self.stores.uploads, self.stores.collected), ([], 2))
+
+        async def without_the_version(store):
+            """Where the version that says so has left the window the pieces say it."""
+            self.assertEqual([it.parts for it in self.stores.uploads], [{}])
+            self.assertEqual(await got(store, store.bucket("one").current("k")), BYTES[:1_000])
+
+        take = FoundUploads.take
+        self.run_store(complete)
+        drives = copy.deepcopy(self.stores.drives)
+        self.run_store(forget)
+        self.assertEqual(self.live(), {"B": 1, "H": 1, "P": 1})
+        self.stores.drives = drives
+        with mock.patch.object(FoundUploads, "take", lambda it, *words: it._complete.clear() or take(it, *words)):
+            self.run_store(without_the_version)
+
+    def test_a_head_whose_reply_is_lost(self):
+        """Who completes it once more has the version, and nobody can change or end the upload then."""
+        async def put(store):
+            await store.create_bucket("one")
+            uploads = Uploads(store, 2**30)
+            entry = await store.put("one", "k", body(b"mill"), {})
+            for ask in ("complete", "put_part", "abort"):
+                it = await uploads.begin("one", "k", {}, "me")
+                part = await uploads.put_part(it, 1, body(BYTES[:1_000]))
+                drive = store.pieces.drives[entry.head.drive]
+                drive.loses = 4
+                with self.assertRaises(DriveAway):
+                    await uploads.complete(it, [(1, part.etag)])
+                if ask == "complete":
+                    self.assertEqual((await uploads.complete(it, [(1, part.etag)])).version.upload, it.id)
+                elif ask == "put_part":
+                    with self.assertRaises(NoUpload):
+                        await uploads.put_part(it, 1, body(b"moor"))
+                else:
+                    with self.assertRaises(NoUpload):
+                        await uploads.abort(it)
+                entry = store.bucket("one").current("k")
+                self.assertEqual((entry.version.upload, await got(store, entry)), (it.id, BYTES[:1_000]))
+                self.assertEqual(uploads.in_bucket("one"), [])
+
+        async def look(store):
+            self.assertEqual(self.stores.uploads, [])
+
+        self.run_store(put, look)
+        self.assertEqual(self.live(), {"B": 1, "H": 1, "P": 1})
+
+    def test_uploads_that_nobody_completes(self):
+        """They go after some days, with their parts."""
+        async def put(store):
+            await store.create_bucket("one")
+            uploads = Uploads(store, 2**30)
+            old, new = [await uploads.begin("one", key, {}, "me") for key in ("k", "l")]
+            await uploads.put_part(old, 1, body(BYTES[:1_000]))
+            old.time -= 7 * 86_400_000_000
+            looking = asyncio.ensure_future(uploads.look_after())
+            while self.live() != {"B": 1, "U": 1}:
+                await asyncio.sleep(0)
+            looking.cancel()
+            self.assertEqual(uploads.in_bucket("one"), [new])
+
+        self.run_store(put)
+
+    def test_records(self):
+        pieces = [Piece(number % 64, number + 1, 2**50 + number, 98_304) for number in range(700)]
+        upload = Upload("0f", "one", "a/ü", {"content-type": "a/b"}, "me", 5)
+        part = Part(3, sum(it.size for it in pieces), "d41d", pieces, 6)
+        for it, data in ((upload, upload_record(upload)), (PartOf("0f", part), part_record(upload, part))):
+            self.assertEqual(record_in(data), it)
+            for end in (*range(100), len(data) - 1):
+                with self.assertRaises(layout.BadHead):
+                    record_in(data[:end])
+            for old, new in ((b"S4U1", b"S4H1"), (b"S4V1", b"S4U1"), (b'"time":', b'"tame":'), (b'"headers":{', b'"headers":['),
+                             (b'"size":6', b'"size":7')):
+                if old in data:
+                    with self.subTest(new), self.assertRaises(layout.BadHead):
+                        record_in(data.replace(old, new, 1))
+        with self.assertRaises(layout.TooLong):
+            upload_record(Upload("0f", "one", "k", {"a": "x" * layout.HEAD_BYTES}, "me", 5))
+
     def test_how_much_an_upload_holds(self):
         """Who begins uploads and ends none leaves room for others, and none holds what no version has room for."""
         async def put(store):
             await store.create_bucket("one")
             uploads = Uploads(store, 1_500)
-            it = [uploads.begin("one", "k", {}, "me") for _ in range(2)][0]
+            it = [await uploads.begin("one", "k", {}, "me") for _ in range(2)][0]
             with self.assertRaises(TooManyUploads):
-                uploads.begin("one", "k", {}, "me")
-            uploads.begin("one", "k", {}, "other")
+                await uploads.begin("one", "k", {}, "me")
+            await uploads.begin("one", "k", {}, "other")
             await uploads.put_part(it, 1, body(BYTES[:1_000]))
             for number, size in ((2, 501), (1, 1_501)):
                 with self.assertRaises(UploadTooLarge):
@@ -600,11 +729,32 @@ class Kills(Stores):
         acknowledged[(await store.put("one", "k", store.stream(old, 0, old.version.size - 1), {})).version.id] = 3_500
         acknowledged[(await store.delete("one", "k")).version.id] = None
         uploads = Uploads(store, 2**30)
-        it = uploads.begin("one", "k", {}, "me")
-        parts = [await uploads.put_part(it, number, body(BYTES[:500])) for number in (1, 2)]
-        entry = await uploads.complete(it, [(2, parts[1].etag)])
-        acknowledged[entry.version.id] = 500
+        it = await uploads.begin("one", "k", {}, "me")
+        for number, size in ((1, 400), (2, 500), (2, 1_500)):
+            part = await uploads.put_part(it, number, body(BYTES[:size]))
+            self.parts[number] = part.etag
+        self.parts = {}
+        entry = await uploads.complete(it, [(2, part.etag)])
+        acknowledged[entry.version.id] = 1_500
+        other = await uploads.begin("one", "k", {}, "me")
+        await uploads.put_part(other, 1, body(BYTES[:700]))
+        await uploads.abort(other)
         await store.close()
+
+    async def check_uploads(self, store):
+        """Those that are there have the parts that were acknowledged, and bytes: how many records and pieces they need."""
+        records = pieces = 0
+        for upload in self.stores.uploads:
+            etags = {number: part.etag for number, part in upload.parts.items()}
+            self.assertLessEqual(set(self.parts), set(etags))
+            self.assertTrue(self.parts.items() <= etags.items() or len(self.parts) == 2)  # the last part may be the next one
+            for part in upload.parts.values():
+                data = b"".join([await store.pieces.read(piece, Life()) for piece in part.pieces])
+                self.assertEqual((data, part.etag), (BYTES[:part.size], hashlib.md5(data).hexdigest()))
+            records += 1 + len(upload.parts)
+            pieces += sum(len(part.pieces) for part in upload.parts.values())
+        self.assertTrue(self.stores.uploads or not self.parts)
+        return records, pieces
 
     async def check(self, store, acknowledged):
         entries = store.bucket("one").keys.get("k", []) if "one" in store.index.buckets else []
@@ -618,12 +768,13 @@ class Kills(Stores):
         if entries:
             pieces, lists = await store.pieces.all_of(contents_of(entries[-1].version), entries[-1])
             named = len(pieces) + len(lists)
-        self.assertEqual(self.live(), {kind: count for kind, count in
-                                       (("B", len(store.index.buckets)), ("H", min(len(entries), 1)), ("P", named)) if count})
+        records, parts = await self.check_uploads(store)
+        right = {"B": len(store.index.buckets), "H": min(len(entries), 1), "P": named + parts, "U": records}
+        self.assertEqual(self.live(), {kind: count for kind, count in right.items() if count})
 
     async def kill(self, number, is_done):
         """Whether the program was killed at this request, before it had ended by itself."""
-        self.stores, acknowledged = PlainStores(), {}
+        self.stores, acknowledged, self.parts = PlainStores(), {}, {}
         store = await self.stores.start()
         left = [number]
         for drive in store.pieces.drives:
@@ -646,6 +797,12 @@ class Kills(Stores):
 
         with mock.patch.object(contents, "PIECE_BYTES", 1_000), mock.patch.object(layout, "NAMED_PIECES", 2):
             asyncio.run(asyncio.wait_for(all_of(), 5 * PATIENCE))
+
+
+class Life:
+    """That of what is current, and was never moved."""
+
+    until = moved = None
 
 
 class Killed(BaseException):

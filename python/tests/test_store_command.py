@@ -10,11 +10,15 @@ import signal
 import subprocess
 import sys
 import tempfile
+import time
 import unittest
 from unittest import mock
 
+from s4d.image import Image
 from s4d.s3.keys import keys_in
 from s4d.store.command import OPEN_FILES, allow_open_files, main
+from s4d.store.opening import locked
+from s4d.store.settings import image_path
 
 from .bridged import PACKAGE, PATIENCE
 from .s3_client import Client, Signer
@@ -40,6 +44,9 @@ class Commands(unittest.TestCase):
     def init(self, *more):
         return self.run_command("init", self.store, "--drives", "1", "--frames", "24", "--keep", "1d", "--s4d", self.programs["s4d"], *more)
 
+    def add(self, count, *more):
+        return self.run_command("add", self.store, "--drives", str(count), "--s4d", self.programs["s4d"], "--s4", self.programs["s4"], *more)
+
     def test_words_that_are_wrong(self):
         for words, line in ((["init", self.store, "--drives", "0"], "'0' is no number from 1 to 64"),
                             (["init", self.store, "--frames", "x"], "'x' is no number from 24 to 1024"),
@@ -47,6 +54,7 @@ class Commands(unittest.TestCase):
                             (["init", self.store, "--keep", "36501d"], "36501d is longer than 36,500 days"),
                             (["serve", self.store, "--listen", "9000"], "'9000' is no HOST:PORT"),
                             (["serve", self.store, "--cert", "x"], "--cert and --key need each other"),
+                            (["add", self.store], "required: --drives"), (["add", self.store, "--drives", "65"], "'65' is no number"),
                             (["remake", self.store], "invalid choice: 'remake'"), ([], "command")):
             status, printed, said = self.run_command(*words)
             self.assertEqual((status, printed, said.count("\n")), (2, "", 1), words)
@@ -58,8 +66,8 @@ class Commands(unittest.TestCase):
             status, printed, said = self.init()
         self.assertEqual((status, said), (0, ""))
         self.assertEqual([os.path.relpath(path, os.path.dirname(self.store)) for path in synced],
-                         ["store/drives/00/doors", "store/drives/00", "store/keys", "store/drives", "store", ".", "store/store.json",
-                          "store"])
+                         ["store/drives/00/doors", "store/drives/00", "store/keys", "store/drives", "store", ".",
+                          "store/store.json.new", "store"])
         self.assertIn(f"serve it by: python3 -m s4d.store serve {self.store}", printed)
         folder = pathlib.Path(self.store)
         self.assertEqual(json.loads((folder / "store.json").read_text()), {"version": 1, "drives": 1, "frames": 24, "keep": "1d"})
@@ -67,6 +75,79 @@ class Commands(unittest.TestCase):
                          [0o700, 0o600, 0o700, 0o700])
         self.assertEqual([key.may_write for key in keys_in(str(folder / "keys")).values()], [True])
         self.assertEqual(self.init()[::2], (1, f"s4store: {self.store} isn't empty: name another folder, or remove what is there\n"))
+
+    def test_add(self):
+        """Drives count once all are made. What a program left that was killed is made anew, and what was used stays."""
+        self.init()
+        settings, drives = pathlib.Path(self.store, "store.json"), pathlib.Path(self.store, "drives")
+        with mock.patch("s4d.store.adding.write_settings", side_effect=KeyboardInterrupt), self.assertRaises(KeyboardInterrupt):
+            self.add(2)
+        self.assertEqual(json.loads(settings.read_text())["drives"], 1)
+        self.assertEqual(len(list(drives.iterdir())), 3)
+        (drives / "02/image").unlink()
+        pathlib.Path(self.store, "store.json.new").write_text("half of it")
+        status, printed, said = self.add(2)
+        self.assertEqual((status, said), (0, ""))
+        self.assertIn(f"{self.store} has 3 drives; what it has is moved to the new ones by: ", printed)
+        self.assertEqual(json.loads(settings.read_text()), {"version": 1, "drives": 3, "frames": 24, "keep": "1d"})
+        self.assertEqual(sorted(it.name for it in pathlib.Path(self.store).iterdir()), ["drives", "keys", "store.json"])
+        self.assertEqual((drives / "02/doors/client").stat().st_mode & 0o777, 0o700)
+        self.assertEqual(self.add(62)[::2], (1, f"s4store: {self.store} has 3 drives: it may have 64\n"))
+        (drives / "03").mkdir()
+        (drives / "03/image").write_text((drives / "00/image").read_text() + "5 0100\n", encoding="ascii")
+        self.assertEqual(self.add(1)[::2],
+                         (1, f"s4store: {drives}/03 is a drive with a past, and none of the store's: move it elsewhere\n"))
+        self.addCleanup(os.close, locked(self.store))
+        self.assertEqual(self.add(1)[::2], (1, f"s4store: {self.store}: another program serves this store: end that one\n"))
+
+    def test_rebalance(self):
+        """By the command, by a server, and by one that is killed: all keys are there, on both drives."""
+        self.init()
+        self.fill()
+        self.add(1)
+        words = [sys.executable, "-B", "-m", "s4d.store", "rebalance", self.store, "--s4", self.programs["s4"],
+                 "--s4serve", self.programs["s4serve"]]
+        with subprocess.Popen(words, cwd=PACKAGE, stdout=subprocess.PIPE, stderr=subprocess.DEVNULL, text=True) as moving:
+            while len(self.heads(1)) < 3 and moving.poll() is None:
+                time.sleep(0.01)
+            moving.kill()
+        ran = subprocess.run(words, cwd=PACKAGE, stdout=subprocess.PIPE, text=True, check=True)
+        self.assertRegex(ran.stdout, r"^moved [0-9]+ objects of [0-9]+ versions, 0 bytes in pieces; a drive has [0-9,]+ to [0-9,]+ bytes\n$")
+        self.assertEqual([len(self.heads(number)) for number in (0, 1)], [15, 15])
+        self.add(1)
+        self.fill("--rebalance", wanted=lambda: len(self.heads(2)) == 10)
+        self.assertEqual(sum(len(self.heads(number)) for number in range(3)), 30)
+        self.assertEqual(len(set().union(*[self.heads(number) for number in range(3)])), 30)
+
+    def heads(self, number):
+        """The attributes of a drive's heads."""
+        rows = Image(image_path(self.store, number), s4=self.programs["s4"]).list()
+        return {row.attribute for row in rows if row.attribute[:1] == b"H"}
+
+    def fill(self, *more, wanted=lambda: True):
+        """Puts thirty keys, or looks that they are there, while the store is served, and until it is as wanted."""
+        words = [sys.executable, "-B", "-m", "s4d.store", "serve", self.store, "--listen", "127.0.0.1:0", "--s4", self.programs["s4"],
+                 "--s4serve", self.programs["s4serve"], *more]
+        key, = keys_in(f"{self.store}/keys").values()
+
+        async def ask_all(port):
+            client = await Client.connect(port)
+            rows = [("PUT", "/one", b""), *(("PUT", f"/one/{number}", b"mill") for number in range(30))] if not more else []
+            rows += [("GET", f"/one/{number}", b"") for number in range(30)]
+            replies = [await client.ask(method, path, body, signer=Signer(key)) for method, path, body in rows]
+            client.writer.close()
+            self.assertEqual({it.status for it in replies}, {200})
+            self.assertEqual([it.body for it in replies[-30:]], [b"mill"] * 30)
+
+        with subprocess.Popen(words, cwd=PACKAGE, stdout=subprocess.PIPE, stderr=subprocess.DEVNULL, text=True) as serving:
+            try:
+                port = int(serving.stdout.readline().rpartition(":")[2])
+                end = time.monotonic() + PATIENCE
+                while not wanted() and time.monotonic() < end:
+                    time.sleep(0.05)
+                asyncio.run(ask_all(port))
+            finally:
+                serving.send_signal(signal.SIGTERM)
 
     def test_open_files(self):
         before = resource.getrlimit(resource.RLIMIT_NOFILE)

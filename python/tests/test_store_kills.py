@@ -24,14 +24,14 @@ class Kills(unittest.TestCase):
         self.assertGreaterEqual(versions, count)
 
     def test_stand_ins(self):
-        self.kill(15, ("gateway", "service", "both"), lambda folder: Programs(**programs(folder)))
+        self.kill(16, ("gateway", "service", "both", "moves"), lambda folder: Programs(**programs(folder)))
 
     @needs_program
     @needs_s4
     @needs_s4serve
     def test_programs(self):
         """Few of these are of services, which wait ten seconds at their next start."""
-        self.kill(5, ("gateway", "gateway", "both", "gateway", "service"), lambda _: Programs(PROGRAM, S4, S4SERVE))
+        self.kill(6, ("gateway", "moves", "both", "gateway", "moves", "service"), lambda _: Programs(PROGRAM, S4, S4SERVE))
 
 
 if __name__ == "__main__":

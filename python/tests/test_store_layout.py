@@ -26,7 +26,7 @@ class Layout(unittest.TestCase):
     def test_heads(self):
         pieces = (Piece(1, 2**63, 2**64 - 1, 98_304), Piece(0, 7, 8, 1))
         for it in (version(), version(contents=b"", size=0), version(contents=b"", size=98_305, pieces=pieces),
-                   version(contents=b"", size=10**9, pieces=pieces, depth=2), version(headers={}),
+                   version(contents=b"", size=10**9, pieces=pieces, depth=2), version(headers={}), version(since=2**50),
                    Version("photos", "a", 4, "10", 1_800, is_marker=True)):
             head = layout.head_of(it)
             self.assertEqual(layout.version_in(head), it)

@@ -7,10 +7,15 @@ import subprocess
 import sys
 import tempfile
 import unittest
+from unittest import mock
 
+from s4d.errors import SERVED
 from s4d.store import OpenStore, Programs, Settings, StoreFault, make_store
+from s4d.store.adding import add_drives
 from s4d.store.drives import DriveAway
 from s4d.store.layout import first_drive
+from s4d.store.rebalance import Rebalance
+from s4d.store.settings import image_path
 
 from .bridged import PACKAGE, PATIENCE
 from .built import PROGRAM, S4, S4SERVE, needs_program, needs_s4, needs_s4serve
@@ -96,6 +101,38 @@ class Starts(Served):
         started = []
         self.run_store(ask)
         self.assertEqual([it.returncode is not None for it in started], [True])
+
+    def test_a_drive_more(self):
+        """What there is is moved to it, though services are killed meanwhile, and stays as it was."""
+        async def put(store):
+            await store.create_bucket("one")
+            for number in range(9):
+                for size in (40_000, 7):
+                    await store.put("one", f"k{number}", body(BYTES[:size * (number % 2) + number]), {})
+            known.extend([(it.version.id, it.moment, await got(store, it)) for it in all_of(store)])
+
+        async def move(store):
+            moving = asyncio.ensure_future(Rebalance(store).run())
+            for drive in store.pieces.drives:
+                await asyncio.sleep(0.01)
+                drive._service.kill()
+            await moving
+
+        async def go_on(store):
+            while (await Rebalance(store).run()).kept:
+                await asyncio.sleep(0.3)
+            self.assertGreater(len({it.head for it in all_of(store) if it.head.drive == 2}), 1)
+
+        async def look(store):
+            self.assertEqual([(it.version.id, it.moment, await got(store, it)) for it in all_of(store)], known)
+
+        def all_of(store):
+            return [it for key in store.bucket("one").names for it in store.bucket("one").keys[key]]
+
+        known = []
+        self.run_store(put)
+        self.assertEqual(add_drives(self.folder, 1, self.programs), 3)
+        self.run_store(move, look, go_on, look)
 
     @staticmethod
     async def once_served(work):
@@ -184,6 +221,28 @@ class Real:
 class RealStarts(Real, Served):
     test_services_that_are_killed_start_again = Starts.test_services_that_are_killed_start_again
     test_moments_of_two_drives = Starts.test_moments_of_two_drives
+    test_a_drive_more = Starts.test_a_drive_more
+
+    def test_a_service_that_has_no_door_yet(self):
+        """A start that was killed left it, while it waited for the machine's time: the next start waits for it, ends it, and serves."""
+        async def put(store):
+            await store.create_bucket("one")
+            await store.put("one", "k", body(b"mill"), {})
+            for drive in store.pieces.drives:
+                drive._service.kill()  # so that the next one waits ten seconds
+
+        async def get(store):
+            self.assertEqual(await got(store, store.bucket("one").current("k")), b"mill")
+            self.assertEqual(await asyncio.get_running_loop().run_in_executor(None, left.wait, PATIENCE), 0)
+
+        self.run_store(put)
+        doors = [f"--door={role}={self.folder}/drives/00/doors/{role}" for role in ("client", "admin")]
+        with subprocess.Popen([S4SERVE, *doors, image_path(self.folder, 0)], stderr=subprocess.PIPE, text=True) as left:
+            self.addCleanup(left.kill)
+            self.assertIn("that is waited for, 10 s", left.stderr.readline())
+            with mock.patch("s4d.store.service.say") as say:
+                self.run_store(get)
+        self.assertTrue([line for line, in (it[0] for it in say.call_args_list) if line.endswith(SERVED)])
     once_served = staticmethod(Starts.once_served)
 
 

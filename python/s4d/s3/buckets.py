@@ -5,6 +5,7 @@ from typing import Awaitable, Callable, Dict, List, Tuple
 
 from ..store.names import is_bucket_name
 from ..store.store import Store
+from ..store.uploads import DAYS as UPLOAD_DAYS
 from ..store.uploads import Uploads
 from .answers import OWNER, check_acl, stamp_of
 from .context import Context
@@ -111,11 +112,12 @@ class Buckets:
         return Answer()
 
     async def lifecycle(self, context: Context) -> Answer:
-        """Versions that were replaced leave with the window."""
+        """Versions that were replaced leave with the window, and uploads that aren't completed after some days."""
         self._store.bucket(context.bucket, context.at)
         days = max(-(-self._window // DAY), 1)
         rule: List[Node] = [("ID", "window"), ("Filter", [("Prefix", "")]), ("Status", "Enabled"),
-                            ("NoncurrentVersionExpiration", [("NoncurrentDays", days)])]
+                            ("NoncurrentVersionExpiration", [("NoncurrentDays", days)]),
+                            ("AbortIncompleteMultipartUpload", [("DaysAfterInitiation", UPLOAD_DAYS)])]
         return xml_answer(document("LifecycleConfiguration", [("Rule", rule)]))
 
     async def acl(self, context: Context) -> Answer:

@@ -49,11 +49,11 @@ class Gateway:
     """Answers requests. Nothing is done before the signature is found good, and the key has the right."""
 
     def __init__(self, store: Store, keys: Mapping[str, Key], window: int, log: Optional[AccessLog], at: Optional[int] = None,
-                 counts: Optional[Counts] = None) -> None:
+                 counts: Optional[Counts] = None, uploads: Optional[Uploads] = None) -> None:
         """With a moment `at` all is read as it was then, and nothing is changed."""
         self.keys, self._log, self._store, self._window, self._at = keys, log, store, window, at
         self._counts = counts or Counts()
-        uploads = Uploads(store, OBJECT_BYTES)
+        uploads = uploads or Uploads(store, OBJECT_BYTES)
         self._buckets, self._objects = Buckets(store, uploads, window), Objects(store, window)
         self._multipart = Multipart(store, uploads, self._objects)
         self._working: Counted[str] = Counter()  # requests of each key that are worked on

@@ -8,7 +8,7 @@ from urllib.parse import quote
 
 from ..store.index import Bucket, Entry
 from ..store.listing import Page, keys_page, versions_page
-from ..store.uploads import Part, Upload
+from ..store.upload_records import Part, Upload
 from .answers import OWNER, quoted, stamp_of
 from .errors import S3Error
 from .http import Request

@@ -4,7 +4,8 @@ from __future__ import annotations
 from typing import AsyncIterator, Awaitable, Callable, Dict, Tuple
 
 from ..store.store import Store
-from ..store.uploads import PARTS, Upload, Uploads
+from ..store.upload_records import Upload
+from ..store.uploads import PARTS, Uploads
 from .answers import quoted, stamp_of
 from .buckets import xml_answer
 from .conditions import check_write, range_of
@@ -32,7 +33,7 @@ class Multipart:
 
     async def begin(self, context: Context) -> Answer:
         """CreateMultipartUpload."""
-        upload = self._uploads.begin(context.bucket, context.key, self._objects.kept(context), context.signed.key.access)
+        upload = await self._uploads.begin(context.bucket, context.key, self._objects.kept(context), context.signed.key.access)
         return xml_answer(document("InitiateMultipartUploadResult", [("Bucket", upload.bucket), ("Key", upload.key),
                                                                      ("UploadId", upload.id)]))
 
@@ -57,16 +58,19 @@ class Multipart:
 
     async def complete(self, context: Context) -> Answer:
         """CompleteMultipartUpload."""
-        upload, root = self.upload(context), parsed(await context.xml(), "CompleteMultipartUpload")
+        root = parsed(await context.xml(), "CompleteMultipartUpload")
         named = [(part_number(text_in(it, "PartNumber")), text_in(it, "ETag").strip().strip('"')) for it in root.findall("Part")]
         if not named:
             raise S3Error("MalformedXML")
         if any(before >= after for (before, _), (after, _) in zip(named, named[1:])):
             raise S3Error("InvalidPartOrder")
-        entry = await self._uploads.complete(upload, named, lambda before: check_write(context.request.headers, before))
+        entry = self._uploads.version_of(context.bucket, context.key, context.request.parameter("uploadId") or "")
+        if entry is None:
+            upload = self.upload(context)
+            entry = await self._uploads.complete(upload, named, lambda before: check_write(context.request.headers, before))
         context.said["version"] = entry.version.id
         answer = xml_answer(document("CompleteMultipartUploadResult", [
-            ("Location", f"/{upload.bucket}/{upload.key}"), ("Bucket", upload.bucket), ("Key", upload.key),
+            ("Location", f"/{context.bucket}/{context.key}"), ("Bucket", context.bucket), ("Key", context.key),
             ("ETag", quoted(entry.version.etag))]))
         answer.headers["x-amz-version-id"] = entry.version.id
         return answer

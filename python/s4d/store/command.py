@@ -1,4 +1,6 @@
-"""The commands of a store: `init`, which makes one, and `serve`, which starts its drives and the gateway before them."""
+"""The commands of a store: `init` makes one, `serve` starts its drives and the gateway before them, `add` gives it more drives, and
+`rebalance` moves what it has to those that have less.
+"""
 from __future__ import annotations
 
 import argparse
@@ -6,11 +8,13 @@ import asyncio
 import resource
 import signal
 import sys
-from typing import NoReturn, Optional, Sequence, Tuple
+from typing import List, NoReturn, Optional, Sequence, Tuple
 
 from ..access_log import AccessLog
 from ..s3.past import moment_in
+from .adding import add_drives
 from .opening import OpenStore
+from .rebalance import Moves, Rebalance
 from .service import say
 from .serving import Past, Serving, Wanted
 from .settings import DRIVES, FRAMES, Programs, Settings, StoreFault, keys_path, make_store, microseconds
@@ -80,9 +84,18 @@ def parser() -> Parser:
     serve.add_argument("--key", metavar="FILE", help="its key")
     serve.add_argument("--keys", metavar="FILE", help="the file of access keys (DIR/keys)")
     serve.add_argument("--log", metavar="FILE", help="the access log; none is written where none is given")
-    serve.add_argument("--leap", metavar="DURATION", type=duration, help="as s4serve takes it")
-    serve.add_argument("--s4", metavar="PROGRAM", default="s4", help="the program that reads images (s4)")
-    serve.add_argument("--s4serve", metavar="PROGRAM", default="s4serve", help="the program that serves a drive (s4serve)")
+    serve.add_argument("--rebalance", action="store_true", help="does meanwhile what the command rebalance does")
+    add = commands.add_parser("add", help="gives a store more drives, while it isn't served", allow_abbrev=False)
+    add.add_argument("folder", metavar="DIR")
+    add.add_argument("--drives", type=drives, required=True, help="how many more")
+    add.add_argument("--s4d", metavar="PROGRAM", default="s4d", help="the program that makes a drive (s4d)")
+    add.add_argument("--s4", metavar="PROGRAM", default="s4", help="the program that reads images (s4)")
+    moving = commands.add_parser("rebalance", help="moves what a store has to the drives that have less", allow_abbrev=False)
+    moving.add_argument("folder", metavar="DIR")
+    for it in (serve, moving):
+        it.add_argument("--leap", metavar="DURATION", type=duration, help="as s4serve takes it")
+        it.add_argument("--s4", metavar="PROGRAM", default="s4", help="the program that reads images (s4)")
+        it.add_argument("--s4serve", metavar="PROGRAM", default="s4serve", help="the program that serves a drive (s4serve)")
     return made
 
 
@@ -105,7 +118,7 @@ def wanted_of(found: argparse.Namespace) -> Wanted:
     """What serves the store, as the options say it."""
     past = [Past(moment_in(moment), *host_and_port(listen)) for moment, listen in found.at]
     host, number = found.listen
-    return Wanted(host, number, found.keys or keys_path(found.folder), found.cert, found.key, found.local, past)
+    return Wanted(host, number, found.keys or keys_path(found.folder), found.cert, found.key, found.local, past, found.rebalance)
 
 
 async def serve(found: argparse.Namespace) -> int:
@@ -135,6 +148,38 @@ async def serve(found: argparse.Namespace) -> int:
             log.close()
 
 
+async def rebalance(found: argparse.Namespace) -> int:
+    """Moves what there is to move, until a signal ends it: the status."""
+    allow_open_files()
+    opened = OpenStore(found.folder, Programs(s4=found.s4, s4serve=found.s4serve), found.leap)
+    moving, loop = asyncio.ensure_future(moved_of(opened)), asyncio.get_running_loop()
+    for number in (signal.SIGTERM, signal.SIGINT):
+        loop.add_signal_handler(number, moving.cancel)
+    try:
+        await asyncio.wait({moving})
+        if moving.cancelled():
+            return 1
+        moves, loads = moving.result()
+        print("\n".join(moves.lines(loads)), flush=True)
+        return 1 if moves.kept else 0
+    finally:
+        await opened.stop()
+
+
+async def moved_of(opened: OpenStore) -> Tuple[Moves, List[int]]:
+    """What was moved, and what each drive has then."""
+    rebalancing = Rebalance(await opened.start())
+    return await rebalancing.run(), rebalancing.loads
+
+
+def add(found: argparse.Namespace) -> int:
+    """Gives a store more drives, and says how they are used."""
+    count = add_drives(found.folder, found.drives, Programs(s4d=found.s4d, s4=found.s4))
+    print(f"{found.folder} has {count} drives; what it has is moved to the new ones by: "
+          f"python3 -m s4d.store rebalance {found.folder}")
+    return 0
+
+
 def init(found: argparse.Namespace) -> int:
     """Makes a store, and says how it is served."""
     make_store(found.folder, Settings(found.drives, found.frames, found.keep), Programs(s4d=found.s4d))
@@ -155,7 +200,9 @@ def main(words: Optional[Sequence[str]] = None) -> int:
         except (argparse.ArgumentTypeError, ValueError, OverflowError) as error:
             options.error(f"--at: {error}")
     try:
-        return init(found) if found.command == "init" else asyncio.run(serve(found))
+        if found.command in ("init", "add"):
+            return init(found) if found.command == "init" else add(found)
+        return asyncio.run(serve(found) if found.command == "serve" else rebalance(found))
     except (StoreFault, OSError, ValueError) as error:
         say(fault_of(error))
         return 1

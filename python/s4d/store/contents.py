@@ -28,9 +28,10 @@ class Gone(Exception):
 
 
 class Life(Protocol):
-    """When a version was replaced, a moment; None while it is current."""
+    """When a version was replaced, and when it was moved last: moments, or None where it is current, and was never moved."""
 
     until: Optional[int]
+    moved: Optional[int]
 
 
 @dataclass(frozen=True)
@@ -70,9 +71,10 @@ class Pieces:
     async def put(self, attribute: bytes, data: bytes) -> Piece:
         """A new piece; the errors are those of `anywhere`."""
         self._turn += 1
-        return await self.anywhere(self._turn, lambda drive: self._put_on(drive, attribute, data))
+        return await self.anywhere(self._turn, lambda drive: self.put_on(drive, attribute, data))
 
-    async def _put_on(self, drive: StoreDrive, attribute: bytes, data: bytes) -> Piece:
+    async def put_on(self, drive: StoreDrive, attribute: bytes, data: bytes) -> Piece:
+        """A new piece on this drive. What refuses it is raised, and DriveAway where it doesn't answer."""
         made = await drive.ask(lambda session: session.create(attribute))
         writes = [drive.ask(writing(made.object, start, data)) for start in range(0, len(data), READ_BYTES)]
         found = await asyncio.gather(*writes, return_exceptions=True)
@@ -143,13 +145,14 @@ def moments_of(piece: Piece, life: Life) -> Iterator[Optional[int]]:
     """The moments at which a piece is tried to be read, one after the other; None is now.
 
     A piece never changes, and its object is deleted when its version is replaced. So it is read at its own moment; where that has
-    expired now, if the version is current; and else just before it was replaced, which may have been meanwhile.
+    expired now, if the version is current; and else just before it was replaced, or moved, which may have been meanwhile.
     """
     yield piece.moment
     if life.until is None:
         yield None
-    if life.until is not None and life.until - CLOCKS > piece.moment:
-        yield life.until - CLOCKS
+    for end in (life.until, life.moved):
+        if end is not None and end - CLOCKS > piece.moment:
+            yield end - CLOCKS
 
 
 def writing(object: int, start: int, data: bytes) -> Callable[[AsyncDrive], Awaitable[int]]:

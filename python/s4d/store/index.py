@@ -18,12 +18,20 @@ class Place(NamedTuple):
 
 @dataclass
 class Entry:
-    """A version, the object that is its head, the moment of its Write, and that of the version that replaced it."""
+    """A version, the object that is its head, its moment, and that of the version that replaced it. Where it was moved, `moved` is
+    the moment of the Write that did that; its own stays that of the first.
+    """
 
     version: Version
     head: Place
     moment: int
     until: Optional[int] = None
+    moved: Optional[int] = None
+
+    @property
+    def written(self) -> int:
+        """The moment of its Write."""
+        return self.moment if self.moved is None else self.moved
 
     def was_there(self, at: Optional[int]) -> bool:
         """Whether it was written by a moment; without one, it was."""
@@ -62,6 +70,13 @@ class Bucket:
         return None if found is None or found.version.is_marker else found
 
 
+def entry_of(version: Version, head: Place, written: int) -> Entry:
+    """A version whose head was written at a moment."""
+    if version.since is None:
+        return Entry(version, head, written)
+    return Entry(version, head, version.since, moved=written)
+
+
 def nobody(_bucket: str, _key: str) -> bool:
     """No key is used."""
     return False
@@ -79,10 +94,14 @@ class Index:
         self._ends: List[Tuple[int, int, Entry]] = []  # a heap: when a version leaves, a number in their order, and it
         self._count = 0
 
-    def add(self, entry: Entry) -> None:
-        """Takes a version that is the newest of its key from now on."""
+    def add(self, entry: Entry) -> Optional[Place]:
+        """Takes a version that is the newest of its key from now on, or the newest one where it is now, after a move: its head up
+        to then, where no version needs that any more.
+        """
         bucket, key = self.buckets[entry.version.bucket], entry.version.key
         known = bucket.keys.get(key)
+        if known and known[-1].version.id == entry.version.id:
+            return move(known, entry)
         if known is None:
             known = bucket.keys[key] = []
             insort(bucket.names, key)
@@ -97,6 +116,7 @@ class Index:
             remove(bucket.live, key)
         elif not was_live and not entry.version.is_marker:
             insort(bucket.live, key)
+        return None
 
     def _leaves(self, moment: int, entry: Entry) -> None:
         self._count += 1
@@ -130,6 +150,13 @@ class Index:
             del bucket.keys[entry.version.key]
             remove(bucket.names, entry.version.key)
         return [] if any(it.head == entry.head for it in known) else [entry.head]
+
+
+def move(known: List[Entry], entry: Entry) -> Optional[Place]:
+    """Takes the newest version of a key for moved: its head up to then, where no version needs that any more."""
+    newest = known[-1]
+    before, newest.version, newest.head, newest.moved = newest.head, entry.version, entry.head, entry.moved
+    return None if any(it.head == before for it in known) else before
 
 
 def remove(names: List[str], name: str) -> None:

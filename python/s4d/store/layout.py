@@ -50,7 +50,9 @@ class Version:
     """A version of a key, as its head has it. A marker says that the key was deleted.
 
     `sequence` counts the key's versions from 1 on; `time` is in microseconds since 1970. `contents` are those that are in
-    the head; else `pieces` are theirs where the depth is 0, and those of the list of their pieces where it is above.
+    the head; else `pieces` are theirs where the depth is 0, and those of the list of their pieces where it is above. Where
+    a version was moved, its head was written anew: `since` is the moment of its first one. `upload` is the id of the upload
+    that it was, if it was one.
     """
 
     bucket: str
@@ -65,6 +67,8 @@ class Version:
     contents: bytes = b""
     pieces: Tuple[Piece, ...] = ()
     depth: int = 0
+    since: Optional[int] = None
+    upload: str = ""
 
 
 def bucket_attribute(name: str) -> bytes:
@@ -100,6 +104,10 @@ def head_of(version: Version) -> bytes:
     else:
         said.update(size=version.size, etag=version.etag, headers=version.headers, pieces=version.pieces,
                     depth=version.depth)
+        if version.since is not None:
+            said["since"] = version.since
+        if version.upload:
+            said["upload"] = version.upload
     text = json.dumps(said, ensure_ascii=False, separators=(",", ":")).encode()
     length = FRONT.size + len(text) + len(version.contents)
     if length > HEAD_BYTES:
@@ -133,7 +141,8 @@ def version_of(said: Dict[str, Any], contents: bytes) -> Version:
     size, depth = number(said["size"]), number(said["depth"])
     if depth > MOST_DEPTH or (depth == 0 and size != len(contents) + sum(piece.size for piece in pieces)):
         raise ValueError("size and pieces don't agree")
-    return Version(*shared, size, text(said["etag"]), False, headers, contents, pieces, depth)
+    since = number(said["since"]) if "since" in said else None
+    return Version(*shared, size, text(said["etag"]), False, headers, contents, pieces, depth, since, text(said.get("upload", "")))
 
 
 def text(value: Any) -> str:

@@ -15,12 +15,14 @@ from ..rows import Listed
 from ..wire import READ_BYTES
 from .contents import Gone, Pieces
 from .drives import StoreDrive
-from .index import Bucket, Entry, Index, Place
+from .index import Bucket, Entry, Index, Place, entry_of
 from .layout import BadHead, Piece, head_attribute, version_in
 from .names import is_bucket_name
 from .service import say
 from .settings import StoreFault
 from .store import contents_of
+from .upload_records import Upload
+from .uploads_found import FoundUploads
 
 IMAGES_AT_ONCE = 4  # that are read side by side
 
@@ -63,6 +65,8 @@ class Loading:
         self._parts: List[Tuple[Place, bytes]] = []
         self._unread: Set[bytes] = set()  # hashes of keys, of which a head says something that isn't known here
         self._left: List[Place] = []  # what else nothing needs
+        self._records: List[Tuple[Place, bytes]] = []  # of uploads and parts
+        self.uploads: List[Upload] = []
         self._alone: Dict[Tuple[str, str], Entry] = {}  # the last version of keys whose bucket isn't there
 
     async def load(self) -> Index:
@@ -70,12 +74,19 @@ class Loading:
             for row in found.objects:
                 self._take(Place(number, row.object), row)
         versions = await asyncio.gather(*[self._versions(place, attribute) for place, attribute in self._heads])
+        moved: Set[Place] = set()
         for entry in sorted((it for each in versions for it in each), key=age):
             if entry.version.bucket in self.index.buckets:
-                self.index.add(entry)
+                left = self.index.add(entry)
+                moved |= set() if left is None else {left}
             else:
                 self._alone[entry.version.bucket, entry.version.key] = entry
+        self._left += moved - self._heads_named() if moved else []
         return self.index
+
+    def _heads_named(self) -> Set[Place]:
+        """The heads of all versions."""
+        return {it.head for bucket in self.index.buckets.values() for known in bucket.keys.values() for it in known}
 
     def _take(self, place: Place, row: Listed) -> None:
         """Takes an object for what its attribute says."""
@@ -90,6 +101,8 @@ class Loading:
             self._left.append(place)  # it was made, and never written
         elif kind == b"P":
             self._parts.append((place, rest))
+        elif kind == b"U":
+            self._records.append((place, row.attribute))
 
     async def _versions(self, place: Place, attribute: bytes) -> List[Entry]:
         """The versions of a head that can be read."""
@@ -97,7 +110,7 @@ class Loading:
         moments = sorted(set(self._found[place.drive].moments.get(place.object, [])))
         points: List[Optional[int]] = [moment - 1 for moment in moments if moment > 0]
         found = await asyncio.gather(*[self._version(drive, place, attribute, at) for at in [*points, None]])
-        return list({it.moment: it for it in found if it is not None}.values())
+        return list({it.written: it for it in found if it is not None}.values())
 
     async def _version(self, drive: StoreDrive, place: Place, attribute: bytes, at: Optional[int]) -> Optional[Entry]:
         """The version of a moment, or now; None where there is none that can be read."""
@@ -116,7 +129,7 @@ class Loading:
             say(f"{named(place)}: {error}; the pieces of its key are left as they are")
             self._unread.add(attribute[1:])
             return None
-        return Entry(version, place, changed)
+        return entry_of(version, place, changed)
 
     async def collect(self) -> int:
         """Deletes live pieces that no current version names, and heads that no version needs: how many that were. Where a head
@@ -129,9 +142,23 @@ class Loading:
                 kept.update(await self._named(bucket.keys[key][-1]))
         for entry in self._alone.values():
             kept.update(await self._named(entry))  # whoever makes the bucket again has them
+        found = FoundUploads(self.index, {place for place, _ in self._parts} - kept)
+        await asyncio.gather(*[self._take_record(found, place, attribute) for place, attribute in self._records])
+        left += found.choose()
+        self.uploads = found.uploads()
+        kept.update(found.pieces())
         left += [place for place, key in self._parts if place not in kept and key not in self._unread]
         await self._pieces.delete([Piece(*place, 0, 0) for place in left])
         return len(left)
+
+    async def _take_record(self, found: FoundUploads, place: Place, attribute: bytes) -> None:
+        """Takes what an object says of an upload. Where that isn't understood, the pieces of its key stay, and so does it."""
+        data = await self._pieces.drives[place.drive].ask(lambda session: session.read(place.object, 0, READ_BYTES))
+        try:
+            found.take(place, data, attribute)
+        except BadHead as error:
+            say(f"{named(place)}: {error}; the pieces of its key are left as they are")
+            self._unread.add(attribute[1:])
 
     def _markers_alone(self) -> List[Place]:
         """Heads of a bucket that was deleted, which say that their key was deleted before."""
@@ -154,9 +181,10 @@ class Loading:
 
 def age(entry: Entry) -> Tuple[int, int]:
     """By what the versions of a key ascend. A key that was deleted, and put again once its marker was past the window, counts
-    from 1 again, and the head of that marker may be there still. Times ascend in any case.
+    from 1 again, and the head of that marker may be there still. Times ascend in any case. Where a version was moved, its
+    last Write says where it is.
     """
-    return entry.version.time, entry.moment
+    return entry.version.time, entry.written
 
 
 def named(place: Place) -> str:

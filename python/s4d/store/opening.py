@@ -14,6 +14,7 @@ from .loading import IMAGES_AT_ONCE, Found, Loading, found_in
 from .service import Service, say
 from .settings import Programs, Settings, StoreFault, image_path, settings_in
 from .store import Store
+from .upload_records import Upload
 
 
 class OpenStore:
@@ -26,6 +27,7 @@ class OpenStore:
         self.drives: List[StoreDrive] = []
         self._looking: Optional[asyncio.Future[None]] = None
         self.store: Optional[Store] = None
+        self.uploads: List[Upload] = []  # that were begun before, and aren't complete
 
     async def start(self) -> Store:
         """Starts the drives, makes the index, and deletes what puts left that were cut. StoreFault where one can't be served."""
@@ -49,6 +51,7 @@ class OpenStore:
         try:
             index = await loading.load()
             count = await loading.collect()
+            self.uploads = loading.uploads
         except (DriveAway, Error) as error:
             raise StoreFault(f"the index can't be made: {error}") from error
         if count:

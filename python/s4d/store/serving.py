@@ -12,12 +12,16 @@ from ..s3.answers import stamp_of
 from ..s3.counts import Counts
 from ..s3.gateway import Gateway
 from ..s3.keys import keys_in
+from ..s3.limits import OBJECT_BYTES
 from ..s3.past import fault_of
 from ..s3.server import Server
 from .opening import OpenStore
+from .rebalance import Rebalance
 from .service import say
 from .settings import StoreFault, image_path
 from .status import StoreStatus
+from .store import Store
+from .uploads import Uploads
 
 GRACE = 30.0  # seconds that requests may take to end at SIGTERM
 
@@ -41,6 +45,7 @@ class Wanted:
     key: Optional[str] = None
     local: Optional[int] = None
     past: Sequence[Past] = ()
+    rebalance: bool = False
 
 
 class Serving:
@@ -53,6 +58,7 @@ class Serving:
         self._servers: List[Server] = []
         self._status: Optional[StoreStatus] = None
         self._tls: Optional[ssl.SSLContext] = None
+        self._tasks: List[asyncio.Future[None]] = []  # that go on until the end
 
     async def start(self) -> List[str]:
         """Starts the drives, and then the gateways: the lines that say where clients come. StoreFault, OSError or ValueError where
@@ -61,16 +67,20 @@ class Serving:
         wanted = self._wanted
         keys, self._tls = keys_in(wanted.keys), tls_of(wanted)
         store, window = await self._opened.start(), self._opened.settings.window
+        uploads = Uploads(store, OBJECT_BYTES, self._opened.uploads)
+        self._tasks.append(asyncio.ensure_future(uploads.look_after()))
         for host, port, at in [*((it.host, it.port, it.moment) for it in wanted.past), (wanted.host, wanted.port, None)]:
             fault = None if at is None else fault_of(at, window)
             if fault is not None:
                 raise StoreFault(f"--at: {fault}")
-            self._gateways.append(Gateway(store, keys, window, self._log, at, self._counts))
+            self._gateways.append(Gateway(store, keys, window, self._log, at, self._counts, uploads))
             self._servers.append(Server(self._gateways[-1], host, port, self._tls))
         for server in self._servers:
             await server.start()
         if wanted.local is not None:
             await self._start_status(wanted.local)
+        if wanted.rebalance:
+            self._tasks.append(asyncio.ensure_future(moved(store)))
         return self._lines()
 
     async def _start_status(self, port: int) -> None:
@@ -117,7 +127,18 @@ class Serving:
         """Accepts no more, and waits for the requests that are worked on."""
         if self._status is not None:
             self._status.close()
+        for task in self._tasks:
+            task.cancel()
+        if self._tasks:
+            await asyncio.wait(set(self._tasks))
         await asyncio.gather(*[server.close(GRACE) for server in self._servers])
+
+
+async def moved(store: Store) -> None:
+    """Moves what there is to move, and says what that was."""
+    rebalance = Rebalance(store)
+    for line in (await rebalance.run()).lines(rebalance.loads):
+        say(line)
 
 
 def tls_of(wanted: Wanted) -> Optional[ssl.SSLContext]:

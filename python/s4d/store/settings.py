@@ -1,6 +1,7 @@
 """A store's folder: the file `store.json`, the file of keys, and a folder for each drive."""
 from __future__ import annotations
 
+import contextlib
 import json
 import os
 import re
@@ -84,9 +85,7 @@ def make_store(folder: str, settings: Settings, programs: Programs) -> None:
         write_new(keys_path(folder), keys_text())
         for path in (drives, folder, os.path.dirname(os.path.abspath(folder))):
             sync_folder(path)
-        said = {"version": VERSION, "drives": settings.drives, "frames": settings.frames, "keep": settings.keep}
-        write_new(os.path.join(folder, "store.json"), json.dumps(said) + "\n")
-        sync_folder(folder)
+        write_settings(folder, settings)
     except OSError as error:
         raise StoreFault(f"{error.filename or folder}: {error.strerror or error}") from error
 
@@ -105,6 +104,17 @@ def make_drive(folder: str, number: int, settings: Settings, programs: Programs)
         raise StoreFault(f"drive {number} can't be made: {said}")
     sync_folder(os.path.join(drive_folder(folder, number), "doors"))
     sync_folder(drive_folder(folder, number))
+
+
+def write_settings(folder: str, settings: Settings) -> None:
+    """Writes the file `store.json`, which is whole whenever it is there."""
+    path = os.path.join(folder, "store.json")
+    said = {"version": VERSION, "drives": settings.drives, "frames": settings.frames, "keep": settings.keep}
+    with contextlib.suppress(FileNotFoundError):
+        os.unlink(f"{path}.new")  # of a program that was killed
+    write_new(f"{path}.new", json.dumps(said) + "\n")
+    os.rename(f"{path}.new", path)
+    sync_folder(folder)
 
 
 def keys_text() -> str:

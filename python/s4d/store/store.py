@@ -12,7 +12,7 @@ from ..moments import machine_time
 from ..wire import READ_BYTES
 from .contents import Contents, Gone, Incoming, Pieces, stream
 from .drives import DriveAway, StoreDrive
-from .index import Bucket, Entry, Index, Place
+from .index import Bucket, Entry, Index, Place, entry_of
 from .layout import BadHead, Piece, Version, bucket_attribute, first_drive, head_attribute, head_of, piece_attribute, version_in
 from .locks import Locks
 
@@ -41,6 +41,10 @@ class TooManyBuckets(Exception):
 
 class BucketUsed(Exception):
     """The bucket has versions that can be read."""
+
+
+class Moved(Exception):
+    """The current version has been moved meanwhile: its pieces aren't where they were."""
 
 
 def unchecked(_before: Optional[Entry]) -> None:
@@ -150,18 +154,49 @@ class Store:
         doubt = self._doubts.get((bucket, key))
         return doubt is not None and pieces != () and doubt.version.pieces == pieces
 
-    async def commit(self, bucket: str, key: str, contents: Contents, headers: Dict[str, str], check: Check = unchecked) -> Entry:
-        """Makes a version of contents that are in pieces already the current one, as `put` does. It isn't to be answered before
-        `passed`. Where this raises, and the pieces aren't doubtful, no version has them.
+    async def commit(self, bucket: str, key: str, contents: Contents, headers: Dict[str, str], check: Check = unchecked,
+                     upload: str = "") -> Entry:
+        """Makes a version of contents that are in pieces already the current one, as `put` does; `upload` is the id of the upload
+        that they were. It isn't to be answered before `passed`. Where this raises, and the pieces aren't doubtful, no version has
+        them.
         """
-        return await self._commit(version_with(bucket, key, contents, headers), check)
+        return await self._commit(replace(version_with(bucket, key, contents, headers), upload=upload), check)
 
     async def relabel(self, entry: Entry, headers: Dict[str, str], check: Check) -> Entry:
         """Makes a version of the contents of the current one, in the same pieces, with other headers."""
-        version = entry.version
-        made = await self._commit(version_with(version.bucket, version.key, contents_of(version), headers), check)
+        while True:
+            try:
+                made = await self._relabel(entry, entry.version, headers, check)
+            except Moved:
+                continue
+            await self.passed(made)
+            return made
+
+    async def _relabel(self, entry: Entry, version: Version, headers: Dict[str, str], check: Check) -> Entry:
+        def check_place(before: Optional[Entry]) -> None:
+            check(before)
+            if entry.version is not version:
+                raise Moved()
+
+        return await self._commit(version_with(version.bucket, version.key, contents_of(version), headers), check_place)
+
+    async def move(self, entry: Entry, version: Version, contents: Contents, drive: Optional[StoreDrive]) -> bool:
+        """Writes the head of the current version anew, with its contents in these pieces: in a new head on a drive, where one is named.
+        Id, time and sequence stay. False where the version isn't the current one any more, or is elsewhere: nothing is written.
+        The pieces that it had aren't deleted.
+        """
+        async with self._locks.hold((version.bucket, version.key)):
+            await self.settle(version.bucket, version.key)
+            bucket = self.index.buckets.get(version.bucket)
+            if bucket is None or bucket.current(version.key) is not entry or entry.version is not version:
+                return False
+            moved = replace(version, pieces=contents.pieces, depth=contents.depth, since=entry.moment)
+            made = await (self._write(moved, entry.head) if drive is None else self._write_on(moved, drive))
+            left = self.index.add(made)
         await self.passed(made)
-        return made
+        if left is not None:
+            await self.pieces.delete([Piece(*left, 0, 0)])
+        return True
 
     async def delete(self, bucket: str, key: str) -> Entry:
         """Puts a marker, so that the key isn't there any more, though its versions can be read."""
@@ -204,23 +239,24 @@ class Store:
         if head is not None:
             with contextlib.suppress(*HEAD_FULL):
                 return await self._write_to(version, head, data)
+        first = first_drive(version.bucket, version.key, len(self.pieces.drives))
+        return await self.pieces.anywhere(first, lambda drive: self._write_on(version, drive))
+
+    async def _write_on(self, version: Version, drive: StoreDrive) -> Entry:
+        """Writes a new head on a drive."""
         attribute = head_attribute(version.bucket, version.key)
-
-        async def make(drive: StoreDrive) -> Entry:
-            made = await drive.ask(lambda session: session.create(attribute))
-            place = Place(drive.number, made.object)
-            try:
-                return await self._write_to(version, place, data)
-            except Refused:
-                await self.pieces.delete([Piece(*place, 0, 0)])
-                raise
-
-        return await self.pieces.anywhere(first_drive(version.bucket, version.key, len(self.pieces.drives)), make)
+        made = await drive.ask(lambda session: session.create(attribute))
+        place = Place(drive.number, made.object)
+        try:
+            return await self._write_to(version, place, head_of(version))
+        except Refused:
+            await self.pieces.delete([Piece(*place, 0, 0)])
+            raise
 
     async def _write_to(self, version: Version, place: Place, data: bytes) -> Entry:
         drive = self.pieces.drives[place.drive]
         try:
-            return Entry(version, place, await drive.ask(lambda session: session.write(place.object, 0, data)))
+            return entry_of(version, place, await drive.ask(lambda session: session.write(place.object, 0, data)))
         except Refused:
             raise
         except BaseException as error:  # a cancellation, too, doesn't take the request back
@@ -241,7 +277,7 @@ class Store:
         del self._doubts[bucket, key]
         with contextlib.suppress(ValueError):
             if version_in(data) == doubt.version:
-                self.index.add(Entry(doubt.version, doubt.place, found.changed))
+                self.index.add(entry_of(doubt.version, doubt.place, found.changed))
 
     async def stream(self, entry: Entry, first: int, last: int) -> AsyncIterator[bytes]:
         """The bytes of a version from the first to the last, counted from 0. Gone where they can't be read any more."""
@@ -262,7 +298,7 @@ class Store:
     @staticmethod
     async def passed(entry: Entry) -> None:
         """Waits until each drive's moments are past the version's, so that a read at a moment is one cut over all of them."""
-        late = (entry.moment + APART - machine_time()) / 1e6
+        late = (entry.written + APART - machine_time()) / 1e6
         if late > 0:
             await asyncio.sleep(min(late, MOST_WAIT))
 

@@ -1,25 +1,29 @@
-"""Uploads in parts. They are in memory until they are completed: an upload ends with the program that has the store, and its
-pieces are collected at the next start.
-"""
+"""Uploads in parts. What says that they are there is on the drives before it is answered: a start finds them, and their parts."""
 from __future__ import annotations
 
+import asyncio
+import contextlib
 import hashlib
 import secrets
-from dataclasses import dataclass, field
-from typing import AsyncIterator, Dict, List, Sequence, Set, Tuple
+from typing import AsyncIterator, Dict, Iterable, List, Optional, Sequence, Tuple
 
 from ..moments import machine_time
 from .contents import Contents, Incoming
+from .drives import DriveAway
 from .index import Entry
 from .layout import Piece, piece_attribute
 from .locks import Locks
 from .store import Check, Store, unchecked
+from .upload_records import Part, Upload, part_record, upload_attribute, upload_record
 
 UPLOADS = 1_000  # at once
 UPLOADS_OF_ONE = 100  # of one access key: who begins and doesn't end them leaves room for others
-PARTS_OF_ONE = 100  # of one upload at once: parts are in memory, and a version has room for thirteen that aren't too small
+PARTS_OF_ONE = 100  # of one upload at once: a version has room for thirteen that aren't too small
 PARTS = 10_000  # the greatest number of a part
 LEAST_PART = 5 * 1_048_576  # bytes of each part but the last
+DAYS = 7  # after which an upload that isn't complete goes
+DAY = 86_400_000_000  # microseconds
+LOOK_SECONDS = 60.0  # between looks for those
 
 
 class NoUpload(Exception):
@@ -42,40 +46,15 @@ class UploadTooLarge(Exception):
     """The parts have more bytes than a version may have, or are too many."""
 
 
-@dataclass
-class Part:
-    """A part that has come whole: its contents, and when."""
-
-    number: int
-    size: int
-    etag: str
-    pieces: List[Piece]
-    time: int
-
-
-@dataclass
-class Upload:
-    """An upload that isn't complete."""
-
-    id: str
-    bucket: str
-    key: str
-    headers: Dict[str, str]
-    owner: str  # the access key that began it
-    time: int
-    parts: Dict[int, Part] = field(default_factory=dict)
-    is_ending: bool = False  # its parts become a version
-
-
 class Uploads:
-    """The uploads of a store. A version may have at most `most` bytes."""
+    """The uploads of a store, with those that its start found. A version may have at most `most` bytes."""
 
-    def __init__(self, store: Store, most: int) -> None:
+    def __init__(self, store: Store, most: int, found: Iterable[Upload] = ()) -> None:
         self._store, self._most = store, most
-        self._uploads: Dict[str, Upload] = {}
+        self._uploads: Dict[str, Upload] = {it.id: it for it in found}
         self._locks = Locks()
 
-    def begin(self, bucket: str, key: str, headers: Dict[str, str], owner: str) -> Upload:
+    async def begin(self, bucket: str, key: str, headers: Dict[str, str], owner: str) -> Upload:
         """A new upload; TooManyUploads where there is no room for it."""
         self._store.bucket(bucket)
         of_owner = sum(it.owner == owner for it in self._uploads.values())
@@ -83,6 +62,11 @@ class Uploads:
             raise TooManyUploads(f"{of_owner:,} uploads of this key are there, of {len(self._uploads):,}")
         upload = Upload(secrets.token_hex(16), bucket, key, headers, owner, machine_time())
         self._uploads[upload.id] = upload
+        try:
+            upload.record = await self._store.pieces.put(upload_attribute(bucket, key), upload_record(upload))
+        except BaseException:
+            del self._uploads[upload.id]
+            raise
         return upload
 
     def of(self, bucket: str, key: str, id: str) -> Upload:
@@ -96,6 +80,21 @@ class Uploads:
         """The uploads of a bucket, by key and time."""
         return sorted((it for it in self._uploads.values() if it.bucket == bucket), key=lambda it: (it.key, it.time))
 
+    def version_of(self, bucket: str, key: str, id: str) -> Optional[Entry]:
+        """The version that an upload has become, where it can be read."""
+        found = self._store.index.buckets.get(bucket)
+        known = found.keys.get(key, []) if found is not None else []
+        return next((it for it in reversed(known) if id and it.version.upload == id), None)
+
+    async def _check_open(self, upload: Upload) -> None:
+        """NoUpload where the upload isn't there any more, as when the head was written whose reply was lost: its parts are a
+        version's.
+        """
+        await self._store.settle(upload.bucket, upload.key)
+        if self.version_of(upload.bucket, upload.key, upload.id) is not None and self._uploads.pop(upload.id, None) is not None:
+            await self._delete_records(upload)
+        self.of(upload.bucket, upload.key, upload.id)
+
     async def put_part(self, upload: Upload, number: int, body: AsyncIterator[bytes]) -> Part:
         """Takes a part, which replaces an earlier one of its number. What the body raises is raised. UploadTooLarge where the
         upload has no room for it.
@@ -105,17 +104,26 @@ class Uploads:
             async for data in body:
                 await incoming.add(data)
             part = Part(number, incoming.size, incoming.etag, await incoming.finish_pieces(), machine_time())
-            if upload.is_ending or upload.id not in self._uploads:
-                raise NoUpload(upload.id)
-            self._check_room(upload, part)
+            before = await self._take(upload, part)
         except BaseException:
             await incoming.abandon()
             raise
-        before = upload.parts.get(number)
-        upload.parts[number] = part
         if before is not None:
-            await self._store.pieces.delete(before.pieces)
+            await self._delete([before])
         return part
+
+    async def _take(self, upload: Upload, part: Part) -> Optional[Part]:
+        """Notes a part, on a drive too: that of its number that was there before. Parts of an upload take turns."""
+        async with self._locks.hold(upload.id):
+            await self._check_open(upload)
+            self._check_room(upload, part)
+            before = upload.parts.get(part.number)
+            if before is not None:
+                part.time = max(part.time, before.time + 1)
+            attribute = upload_attribute(upload.bucket, upload.key)
+            part.record = await self._store.pieces.put(attribute, part_record(upload, part))
+            upload.parts[part.number] = part
+            return before
 
     def _check_room(self, upload: Upload, part: Part) -> None:
         others = [it.size for number, it in upload.parts.items() if number != part.number]
@@ -123,19 +131,19 @@ class Uploads:
             raise UploadTooLarge()
 
     async def complete(self, upload: Upload, named: Sequence[Tuple[int, str]], check: Check = unchecked) -> Entry:
-        """Makes a version of the parts that are named by number and digest, in their order. The others are deleted."""
+        """Makes a version of the parts that are named by number and digest, in their order. The others are deleted. Whoever asks
+        again has the same version.
+        """
         async with self._locks.hold(upload.id):
-            self.of(upload.bucket, upload.key, upload.id)
-            parts = self._parts(upload, named)
-            upload.is_ending = True
-            try:
-                entry = await self._commit(upload, parts, check)
-                del self._uploads[upload.id]
-            except BaseException:
-                upload.is_ending = False
-                raise
-        used: Set[int] = {part.number for part in parts}
-        await self._delete([part for part in upload.parts.values() if part.number not in used])
+            await self._store.settle(upload.bucket, upload.key)
+            entry, used = self.version_of(upload.bucket, upload.key, upload.id), list(upload.parts.values())
+            if entry is None:
+                self.of(upload.bucket, upload.key, upload.id)
+                used = self._parts(upload, named)
+                entry = await self._commit(upload, used, check)
+            if self._uploads.pop(upload.id, None) is not None:
+                await self._delete_records(upload)
+                await self._delete_pieces([part for part in upload.parts.values() if part not in used])
         await self._store.passed(entry)
         return entry
 
@@ -147,11 +155,9 @@ class Uploads:
         listed, depth = await self._store.pieces.listed(attribute, pieces)
         contents = Contents(sum(part.size for part in parts), etag, b"", listed, depth)
         try:
-            return await self._store.commit(upload.bucket, upload.key, contents, upload.headers, check)
+            return await self._store.commit(upload.bucket, upload.key, contents, upload.headers, check, upload.id)
         except BaseException:
-            if self._store.is_doubtful(upload.bucket, upload.key, listed):
-                del self._uploads[upload.id]  # its parts may be those of a version now
-            elif depth:
+            if depth and not self._store.is_doubtful(upload.bucket, upload.key, listed):
                 await self._store.pieces.delete(listed)
             raise
 
@@ -173,9 +179,28 @@ class Uploads:
     async def abort(self, upload: Upload) -> None:
         """Ends an upload and deletes its parts."""
         async with self._locks.hold(upload.id):
-            self.of(upload.bucket, upload.key, upload.id)
+            await self._check_open(upload)
             del self._uploads[upload.id]
-        await self._delete(list(upload.parts.values()))
+        await self._delete_records(upload)
+        await self._delete_pieces(list(upload.parts.values()))
+
+    async def _delete_records(self, upload: Upload) -> None:
+        """The upload's own first: parts without one are nobody's."""
+        await self._store.pieces.delete([] if upload.record is None else [upload.record])
+        await self._store.pieces.delete([part.record for part in upload.parts.values() if part.record is not None])
 
     async def _delete(self, parts: Sequence[Part]) -> None:
-        await self._store.pieces.delete([piece for part in parts for piece in part.pieces])
+        await self._store.pieces.delete([part.record for part in parts if part.record is not None])
+        await self._delete_pieces(parts)
+
+    async def _delete_pieces(self, parts: Sequence[Part]) -> None:
+        pieces: List[Piece] = [piece for part in parts for piece in part.pieces]
+        await self._store.pieces.delete(pieces)
+
+    async def look_after(self) -> None:
+        """Ends uploads that weren't completed in time, until it is cancelled."""
+        while True:
+            for upload in [it for it in self._uploads.values() if it.time + DAYS * DAY < machine_time()]:
+                with contextlib.suppress(NoUpload, DriveAway):
+                    await self.abort(upload)
+            await asyncio.sleep(LOOK_SECONDS)
