@@ -1,9 +1,10 @@
 //! Laws of differences, for the layers above: each function does nothing, and its contract is the
 //! law.
-ghost use Rattle.std.specs.Prelude.{◌≡◌, ℕ, List, length, Some};
+ghost use Rattle.std.specs.Prelude.{◌≡◌, ℕ, List, length, None, Some};
 ghost use Rattle.image_update.specs.Bounds.{PutsNoUnitAgain, PutsUnitsApart, PutsWhatDiffers};
 ghost use Rattle.image_update.specs.Changes.{Changes, patched};
-ghost use Rattle.image_update.specs.Encoding.{IsDifference, encoded, encoded_length};
+ghost use Rattle.image_update.specs.Encoding.{IsDifference, changes_in, encoded, encoded_length};
+ghost use Rattle.image_update.specs.Encoding.{fault_of};
 ghost use Rattle.image_update.specs.Layout.{difference_of};
 
 /// What changed from one front to the next makes the next one of it, whatever bytes they are.
@@ -17,6 +18,14 @@ pub fn a_difference_gives_the_new_front()
 pub fn one_difference_an_encoding()
     ensures { (one other : Changes) → IsDifference one → IsDifference other
         → encoded one ≡ encoded other → one ≡ other }
+{}
+
+/// What is encoded is read again.
+#[tactic(auto, using(crate::proofs::Spelled::no_fault, crate::proofs::Spelled::changes_again))]
+pub fn an_encoding_is_read_again()
+    ensures none { (changes : Changes) → IsDifference changes → fault_of (encoded changes) ≡ None }
+    ensures same { (changes : Changes) → IsDifference changes
+        → changes_in (encoded changes) ≡ changes }
 {}
 
 /// How many bytes an encoding has.

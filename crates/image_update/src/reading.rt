@@ -82,6 +82,7 @@ fn read_all(alloc: Global, bytes: &[u8]) -> Result<Difference, Unread>
 /// these put.
 pub fn decode(alloc: Global, bytes: &[u8]) -> Result<Difference, Unread>
     ensures found { IfOk result (λ d. bytes.now ≡ encoded d) }
+    ensures read { IfOk result (λ d. d ≡ changes_in bytes.now) }
     ensures none { IfOk result (λ d. fault_of bytes.now ≡ None) }
     ensures fault { IfErr result (λ unread. (unread ≡ Unread.NoMemory)
         ⊎ (fault_of bytes.now ≡ Some unread)) }
