@@ -11,7 +11,7 @@ use Rattle.kept_drive.specs.Images.{IsClosed, IsFlushed}
 abbrev pub IsEnd : TableId → Base → (seen : List Accepted) → (start last reach : ℕ) → List ℕ → Type 0
 IsEnd frames base seen start last reach bytes = IsClosed (WasHad frames base) base seen start bytes ⊎ IsFlushed (WasHad frames base) base seen last reach bytes
 
--- A keeper was in a state in which the drive was kept at the end of its service: whatever a crash left then is that.
+-- A keeper was in a state in which the drive was kept, by a flush or at the end of its service: whatever a crash left then is that.
 pub record HasBeenEnded {K : Type 0} (may_leave : K → List ℕ → Type 0) (frames : TableId) (base : Base) : Type 0 where
   pub keeper : K
   pub seen : List Accepted

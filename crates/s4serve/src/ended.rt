@@ -1,11 +1,12 @@
-//! What shows that a drive was kept at the end of its service.
+//! What shows that a drive was kept: by a flush, or at the end of its service.
 ghost use Rattle.s4serve.specs.Ended.{HasBeenEnded};
 
 use image_keeping::Keeper;
 use segment_word::Naming;
 use std::marker::{Model, PhantomData};
 
-/// What shows that the drive that `J` names was kept at the end of its service, by a keeper `K`.
+/// What shows that the drive that `J` names was kept by a keeper `K`: by a flush, or at the end of
+/// its service.
 /// None can be made but where a keeper has kept it then.
 #[derive(Drop)]
 pub struct EndReceipt<J: Naming, K: Keeper> {

@@ -159,7 +159,7 @@ fn serve_ready<
         ≡ reserve_of asked.now.reserve (length ready.drive.store.table.seat.frames) }
     requires half { J.reserve ≤ most_reserve (length ready.drive.store.table.seat.frames) }
     requires left { ready.reserve ≡ J.reserve }
-    // Where it was stopped, all that was accepted was kept then.
+    // Where it was stopped, a flush had kept it, or the end did. No clause says which.
     ensures ended { OnOk result (HasBeenEnded K.may_leave J.frames J.base) }
 {
     let Ready {
@@ -303,7 +303,7 @@ fn flush_first<'a, 'b, J: Running, C: serving::Clock, K: Keeper + Explaining, R:
     Ok((receipt, path))
 }
 
-/// Waits until the service is to end. Then all that was accepted is kept, at the drive's own clock.
+/// Waits until the service is to end, and keeps what was accepted, at the drive's own clock.
 fn await_end<
     'a,
     J: Running,
