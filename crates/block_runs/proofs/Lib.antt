@@ -1,3 +1,4 @@
+pub mod Cutting
 pub mod Exact
 pub mod Whole
 pub mod Blocks

@@ -1,13 +1,14 @@
 -- Runs that are written one after the other give the bytes.
 use Rattle.std.proofs.Common.{◌≡◌, ◌≢◌, ◌∙◌, ◌⊎◌, inl, inr, ◌+◌, ◌-◌, ◌<◌, ◌≤◌, max, ℕ, Bool, true, false, List, [], ◌∷◌, ◌++◌, length, take, drop, get_or, slice_index, replicate, Option, None, Some, refl, sym, ap, subst, arith}
-use Rattle.std.proofs.lemmas.Bool.{cases_lt}
+use Rattle.std.proofs.lemmas.Bool.{cases_Bool, cases_lt}
 use Rattle.std.proofs.lemmas.Bool.Decides.{nat_tests}
-use Rattle.std.proofs.lemmas.List.{get_or-take, get_or-drop, get_or-append_right, get_or_append_left, get_or_past, get_or-replicate, ext_get_or, length-append, length-take, length-drop, length-replicate, length-take-le}
+use Rattle.std.proofs.lemmas.List.{append-nil, get_or-take, get_or-drop, get_or-append_right, get_or_append_left, get_or_past, get_or-replicate, ext_get_or, length-append, length-take, length-drop, length-replicate, length-take-le}
 use Rattle.s4_model.specs.Effect.{resized, written}
 use Rattle.s4_model.specs.Step.{part}
 use Rattle.block_runs.specs.declared.running.Run.{Run}
-use Rattle.block_runs.specs.Runs.{AreRuns, IsRun, IsSized, RunsAreWhole, differs, runs_of, sized, written_over}
+use Rattle.block_runs.specs.Runs.{AreRuns, IsRun, IsSized, RunsAreWhole, differs, end_block, is_cut_whole, runs_of, runs_to, sized, written_over}
 use Rattle.block_runs.proofs.Exact.{runs_are_exact}
+use Rattle.block_runs.proofs.Cutting.{cut_by, kept_by, when_whole}
 
 -- ---- one place of a list that was cut or written over
 
@@ -130,17 +131,22 @@ length_written d bytes now i block (r ∷ rs) are reaches = length_written d byt
 
 -- ---- bytes that were sized first
 
+-- All bytes are there after the cut that were, or fewer where a byte is written at their end.
+abbrev Fits : List ℕ → List ℕ → Option ℕ → Type 0
+Fits bytes now None = (length now ≤ length bytes) × ((length now ≡ length bytes) ⊎ (slice_index bytes (length bytes - 1) ≢ 0))
+Fits bytes now (Some size) = size ≡ length bytes
+
 same_at : (bytes now : List ℕ) (i : ℕ) → differs bytes now i ≡ false → get_or now i 0 ≡ get_or bytes i 0
 same_at bytes now i is = grind (arith, nat_tests)
 
 other_at : (bytes now : List ℕ) (i : ℕ) → (get_or bytes i 0 ≡ get_or now i 0 → ⊥) → differs bytes now i ≡ true
 other_at bytes now i apart = grind (arith, nat_tests)
 
-begun : (bytes now : List ℕ) (size : Option ℕ) → IsSized bytes now size → AreSame (differs bytes now) bytes 0 (sized size now)
+begun : (bytes now : List ℕ) (size : Option ℕ) → Fits bytes now size → AreSame (differs bytes now) bytes 0 (sized size now)
 begun bytes now None is j below which = elim which [ inl less ↦ absurd (omega arith) | inr same ↦ same_at bytes now j same ]
 begun bytes now (Some size) is j below which = elim which [
   | inl less ↦ absurd (omega arith)
-  | inr same ↦ at_resized size now j (omega (arith, is.0)) ∙ same_at bytes now j same
+  | inr same ↦ at_resized size now j (omega (arith, is)) ∙ same_at bytes now j same
 ]
 
 last_differs : (bytes now : List ℕ) → length now < length bytes → slice_index bytes (length bytes - 1) ≢ 0 → differs bytes now (length bytes - 1) ≡ true
@@ -148,7 +154,7 @@ last_differs bytes now less some =
     let none : get_or now (length bytes - 1) 0 ≡ 0 = get_or_past now (length bytes - 1) 0 (omega arith) in
     other_at bytes now (length bytes - 1) (λ (e : get_or bytes (length bytes - 1) 0 ≡ get_or now (length bytes - 1) 0). some (e ∙ none))
 
-sized_reaches : (bytes now : List ℕ) (size : Option ℕ) → IsSized bytes now size → Reaches (differs bytes now) (length bytes) 0 (sized size now)
+sized_reaches : (bytes now : List ℕ) (size : Option ℕ) → Fits bytes now size → Reaches (differs bytes now) (length bytes) 0 (sized size now)
 sized_reaches bytes now None is = (
   is.0,
   elim is.1 [
@@ -156,12 +162,43 @@ sized_reaches bytes now None is = (
     | inr some ↦ elim (cases_lt (length now) (length bytes)) [ inl less ↦ inr (omega arith, last_differs bytes now less some) | inr past ↦ inl (omega (arith, is.0)) ]
   ],
 )
-sized_reaches bytes now (Some size) is = let e : length (resized size now) ≡ length bytes = length_resized size now ∙ is.0 in (omega arith, inl e)
+sized_reaches bytes now (Some size) is = let e : length (resized size now) ≡ length bytes = length_resized size now ∙ is in (omega arith, inl e)
 
-pub runs_are_whole : RunsAreWhole
-runs_are_whole bytes now size is =
+whole : (bytes now : List ℕ) (size : Option ℕ) → Fits bytes now size → written_over bytes (runs_of bytes now) (sized size now) ≡ bytes
+whole bytes now size is =
     let d = differs bytes now in
     let rs = runs_of bytes now in
     let count = length_written d bytes (sized size now) 0 0 rs (runs_are_exact bytes now) (sized_reaches bytes now size is) in
     ext_get_or 0 (written_over bytes rs (sized size now)) bytes count
     (λ i less. all_same d bytes (sized size now) 0 0 rs (runs_are_exact bytes now) (begun bytes now size is) i (subst (λ n. i < n) count less))
+
+-- ---- what is cut
+
+-- what is cut in front of the last block
+cut_off : (bytes now : List ℕ) → length bytes < length now → resized (end_block (length bytes)) now ≡ take (end_block (length bytes)) now
+cut_off bytes now less =
+    let none : end_block (length bytes) - length now ≡ 0 = omega arith in
+    ap (λ n. take (end_block (length bytes)) now ++ replicate n 0) none ∙ append-nil (take (end_block (length bytes)) now)
+
+cut_whole : (bytes now : List ℕ) (size : Option ℕ) → is_cut_whole bytes now ≡ true → IsSized bytes now size → written_over bytes (runs_to bytes now) (sized size now) ≡ bytes
+cut_whole bytes now None right is = let less : length bytes < length now = (when_whole bytes now right).0 in absurd (omega (arith, is.0))
+cut_whole bytes now (Some size) right (inr is) = let less : length bytes < length now = (when_whole bytes now right).0 in absurd (omega (arith, is.0))
+cut_whole bytes now (Some size) right (inl is) =
+    let front : List ℕ = take (end_block (length bytes)) now in
+    let few : length (take (end_block (length bytes)) now) ≤ length bytes = omega (arith, length-take (end_block (length bytes)) now) in
+    ap (λ there. written_over bytes (runs_of bytes there) (resized size now)) (kept_by bytes now true right)
+    ∙ ap (λ there. written_over bytes (runs_of bytes front) there) (ap (λ n. resized n now) (is.1 ∙ cut_by bytes now true right) ∙ cut_off bytes now is.0)
+    ∙ whole bytes front None (few, inr (when_whole bytes now right).1)
+
+cut_within : (bytes now : List ℕ) (size : Option ℕ) → is_cut_whole bytes now ≡ false → IsSized bytes now size → Fits bytes now size
+cut_within bytes now None wrong is = is
+cut_within bytes now (Some size) wrong (inl is) = is.1 ∙ cut_by bytes now false wrong
+cut_within bytes now (Some size) wrong (inr is) = is.2
+
+pub runs_are_whole : RunsAreWhole
+runs_are_whole bytes now size is = elim (cases_Bool (is_cut_whole bytes now)) [
+  | inl right ↦ cut_whole bytes now size right is
+  | inr wrong ↦
+      ap (λ there. written_over bytes (runs_of bytes there) (sized size now)) (kept_by bytes now false wrong)
+      ∙ whole bytes now size (cut_within bytes now size wrong is)
+]

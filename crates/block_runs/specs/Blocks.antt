@@ -1,8 +1,8 @@
 -- Which blocks runs write.
-use Rattle.std.specs.Prelude.{◌≡◌, ◌≢◌, ℕ, ◌+◌, ◌-◌, ◌/◌, ◌<◌, nat_le, ◌&&◌, if◌then◌else◌, List, [], ◌∷◌, length, slice_index}
+use Rattle.std.specs.Prelude.{◌≡◌, ◌≢◌, ℕ, ◌+◌, ◌-◌, ◌/◌, ◌%◌, ◌<◌, nat_le, ◌&&◌, if◌then◌else◌, List, [], ◌∷◌, length, slice_index, Some}
 use Rattle.s4_types.specs.declared.limits.TheConstants.{BLOCK_BYTES}
 use Rattle.block_runs.specs.declared.running.Run.{Run}
-use Rattle.block_runs.specs.Runs.{runs_of}
+use Rattle.block_runs.specs.Runs.{IsSized, runs_to}
 
 -- A block differs: one of its bytes does. What is past the end of a list that is too short is a zero.
 abbrev pub DiffersIn : List ℕ → List ℕ → ℕ → Type 0
@@ -24,4 +24,8 @@ blocks_in_all (r ∷ rs) = blocks_in r + blocks_in_all rs
 
 -- Each block that differs is written once, and no other is.
 abbrev pub RunsWriteEachOnce : Type 0
-RunsWriteEachOnce = (bytes now : List ℕ) (k : ℕ) → (DiffersIn bytes now k → times_written k (runs_of bytes now) ≡ 1) × ((DiffersIn bytes now k → ⊥) → times_written k (runs_of bytes now) ≡ 0)
+RunsWriteEachOnce = (bytes now : List ℕ) (k : ℕ) → (DiffersIn bytes now k → times_written k (runs_to bytes now) ≡ 1) × ((DiffersIn bytes now k → ⊥) → times_written k (runs_to bytes now) ≡ 0)
+
+-- Where bytes are cut in the midst of a block, and the last that stays isn't a zero, that block is written by none.
+abbrev pub NoCutBlockIsWritten : Type 0
+NoCutBlockIsWritten = (bytes now : List ℕ) (size : ℕ) → IsSized bytes now (Some size) → length bytes < length now → slice_index bytes (length bytes - 1) ≢ 0 → 0 < size % BLOCK_BYTES → times_written (size / BLOCK_BYTES) (runs_to bytes now) ≡ 0

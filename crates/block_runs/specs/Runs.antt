@@ -1,5 +1,5 @@
 -- Where two lists of bytes differ, as runs of neighbouring blocks.
-use Rattle.std.specs.Prelude.{◌≡◌, ◌≢◌, ◌⊎◌, ℕ, zero, suc, ◌+◌, ◌-◌, ◌/◌, ◌<◌, ◌≤◌, nat_le, ◌==◌, not, if◌then◌else◌, Bool, true, false, List, [], ◌∷◌, length, slice_index, Option, None, Some}
+use Rattle.std.specs.Prelude.{◌≡◌, ◌≢◌, ◌⊎◌, ℕ, zero, suc, ◌+◌, ◌-◌, ◌/◌, ◌*◌, ◌<◌, ◌≤◌, nat_lt, nat_le, ◌==◌, ◌&&◌, ◌||◌, not, if◌then◌else◌, Bool, true, false, List, [], ◌∷◌, length, take, slice_index, Option, None, Some}
 use Rattle.s4_types.specs.declared.limits.TheConstants.{BLOCK_BYTES}
 use Rattle.s4_model.specs.Effect.{resized, written}
 use Rattle.s4_model.specs.Step.{part}
@@ -52,14 +52,40 @@ abbrev pub written_over : List ℕ → List Run → List ℕ → List ℕ
 written_over bytes [] now = now
 written_over bytes (r ∷ rs) now = written_over bytes rs (written r.offset (part bytes r.offset (r.end - r.offset)) now)
 
+-- whether one of this many indexes from the first on is of a kind
+abbrev pub any_between : (ℕ → Bool) → (first count : ℕ) → Bool
+any_between d first zero = false
+any_between d first (suc n) = d (first + n) || any_between d first n
+
+-- where the block begins in which this many bytes end
+abbrev pub end_block : ℕ → ℕ
+end_block size = size / BLOCK_BYTES * BLOCK_BYTES
+
+-- Whether longer bytes are cut in front of the block in which these end: one of those that would stay of it differs, so that it is written anyway,
+-- and the last isn't a zero, so that with what is written there are all bytes.
+abbrev pub is_cut_whole : List ℕ → List ℕ → Bool
+is_cut_whole bytes now = nat_lt (length bytes) (length now) && (not (slice_index bytes (length bytes - 1) == 0) && any_between (differs bytes now) (end_block (length bytes)) (length bytes - end_block (length bytes)))
+
+-- to how many bytes longer ones are cut
+abbrev pub cut_size : List ℕ → List ℕ → ℕ
+cut_size bytes now = if is_cut_whole bytes now then end_block (length bytes) else length bytes
+
+-- what is there once that block is cut off, or all where it isn't
+abbrev pub kept : List ℕ → List ℕ → List ℕ
+kept bytes now = if is_cut_whole bytes now then take (end_block (length bytes)) now else now
+
+-- the runs that are written over it
+abbrev pub runs_to : List ℕ → List ℕ → List Run
+runs_to bytes now = runs_of bytes (kept bytes now)
+
 -- Bytes are cut where there are more than there were, and lengthened where there are fewer and the last that was is a zero.
 abbrev pub IsSized : List ℕ → List ℕ → Option ℕ → Type 0
 IsSized bytes now None = (length now ≤ length bytes) × ((length now ≡ length bytes) ⊎ (slice_index bytes (length bytes - 1) ≢ 0))
-IsSized bytes now (Some size) = (size ≡ length bytes) × ((length bytes < length now) ⊎ ((length now < length bytes) × (slice_index bytes (length bytes - 1) ≡ 0)))
+IsSized bytes now (Some size) = ((length bytes < length now) × (size ≡ cut_size bytes now)) ⊎ ((length now < length bytes) × (slice_index bytes (length bytes - 1) ≡ 0) × (size ≡ length bytes))
 
 abbrev pub sized : Option ℕ → List ℕ → List ℕ
 sized None now = now
 sized (Some size) now = resized size now
 
 abbrev pub RunsAreWhole : Type 0
-RunsAreWhole = (bytes now : List ℕ) (size : Option ℕ) → IsSized bytes now size → written_over bytes (runs_of bytes now) (sized size now) ≡ bytes
+RunsAreWhole = (bytes now : List ℕ) (size : Option ℕ) → IsSized bytes now size → written_over bytes (runs_to bytes now) (sized size now) ≡ bytes

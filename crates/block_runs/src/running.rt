@@ -15,7 +15,7 @@ pub struct Run {
 }
 
 // Whether two lists differ at an index; past its end a list has zeros.
-fn differs(bytes: &[u8], now: &[u8], index: usize) -> bool
+pub(crate) fn differs(bytes: &[u8], now: &[u8], index: usize) -> bool
     requires { index < length bytes.now }
     ensures { result ≡ differs bytes.now now.now index }
 {

@@ -1,5 +1,5 @@
 -- What was restored needn't be restored again.
-use Rattle.std.proofs.Common.{◌≡◌, ◌≢◌, ◌∙◌, ◌==◌, inl, inr, eq-eqb, ◌<◌, ℕ, Bool, true, false, List, [], ◌∷◌, length, Option, None, Some, refl, sym, ap, subst, arith}
+use Rattle.std.proofs.Common.{◌≡◌, ◌≢◌, ◌∙◌, ◌==◌, inl, inr, eq-eqb, ℕ, Bool, true, false, List, [], ◌∷◌, length, Option, None, Some, refl, sym, ap, subst, arith}
 use Rattle.std.specs.Prelude.{MatchBool, ◌&&◌, not, is_none}
 use Rattle.std.specs.List.{AllByRecursion}
 use Rattle.std.proofs.lemmas.Bool.{eqb-true, true≢false}
@@ -13,9 +13,10 @@ use Rattle.s4_model.specs.VersionAt.{version_of}
 use Rattle.s4_model.specs.Refusals.{present}
 use Rattle.history_restore.specs.declared.plans.Changes.{Changes}
 use Rattle.block_runs.specs.declared.running.Run.{Run}
-use Rattle.block_runs.specs.Runs.{AreRuns, IsSized, differs, runs_of, written_over}
+use Rattle.block_runs.specs.Runs.{AreRuns, IsSized, differs, runs_of, runs_to, written_over}
 use Rattle.block_runs.proofs.Whole.{runs_are_whole}
 use Rattle.block_runs.proofs.Exact.{runs_are_exact}
+use Rattle.block_runs.proofs.Cutting.{kept_all}
 use Rattle.history_restore.specs.declared.plans.Plan.{Plan}
 use Rattle.history_restore.specs.declared.plans.Plan.TheVariants.{Keep, Delete, Remake, Change}
 use Rattle.history_restore.specs.declared.restoring.Restored.{Restored}
@@ -27,7 +28,8 @@ use Rattle.history_restore.specs.Whole.{IsRestored}
 -- nothing is cut of bytes that are the same
 no_cut : (bytes : List ℕ) (cut : Option ℕ) → IsSized bytes bytes cut → is_none cut ≡ true
 no_cut bytes None is = refl
-no_cut bytes (Some size) is = elim is.1 [ inl less ↦ absurd (omega arith) | inr less ↦ let more : length bytes < length bytes = less.0 in absurd (omega arith) ]
+no_cut bytes (Some size) (inl is) = absurd (omega (arith, is.0))
+no_cut bytes (Some size) (inr is) = absurd (omega (arith, is.0))
 
 -- nor is anything written
 same_there : (bytes : List ℕ) (i : ℕ) → differs bytes bytes i ≡ false
@@ -37,8 +39,10 @@ no_runs : (bytes : List ℕ) (rs : List Run) → AreRuns (differs bytes bytes) (
 no_runs bytes [] are = refl
 no_runs bytes (r ∷ rs) are = absurd (true≢false (sym are.0.first ∙ same_there bytes r.offset))
 
-no_write : (bytes : List ℕ) (writes : ℕ) → writes ≡ length (runs_of bytes bytes) → (writes == 0) ≡ true
-no_write bytes writes is = let none : writes ≡ 0 = is ∙ no_runs bytes (runs_of bytes bytes) (runs_are_exact bytes bytes) in eq-eqb writes 0 none
+no_write : (bytes : List ℕ) (writes : ℕ) → writes ≡ length (runs_to bytes bytes) → (writes == 0) ≡ true
+no_write bytes writes is =
+    let all : length (runs_to bytes bytes) ≡ length (runs_of bytes bytes) = ap (λ there. length (runs_of bytes there)) (kept_all bytes bytes (omega arith)) in
+    let none : writes ≡ 0 = is ∙ all ∙ no_runs bytes (runs_of bytes bytes) (runs_are_exact bytes bytes) in eq-eqb writes 0 none
 
 -- nor the attribute replaced
 no_attribute : (attribute : List ℕ) (wanted : Bool) → MatchBool wanted (attribute ≢ attribute) (attribute ≡ attribute) → not wanted ≡ true
@@ -61,11 +65,11 @@ both : (a b : Bool) → (a && b) ≡ true → (a ≡ true) × (b ≡ true)
 both true b is = (refl, is)
 both false b is = absurd (true≢false (sym is))
 
-idle_bytes : (bytes now : List ℕ) (cut : Option ℕ) (writes : ℕ) → IsSized bytes now cut → writes ≡ length (runs_of bytes now) → is_none cut ≡ true → (writes == 0) ≡ true → bytes ≡ now
+idle_bytes : (bytes now : List ℕ) (cut : Option ℕ) (writes : ℕ) → IsSized bytes now cut → writes ≡ length (runs_to bytes now) → is_none cut ≡ true → (writes == 0) ≡ true → bytes ≡ now
 idle_bytes bytes now (Some size) writes is written uncut idle = absurd (true≢false (sym uncut))
 idle_bytes bytes now None writes is written uncut idle =
     let zeros : writes ≡ 0 = eqb-true writes 0 idle in
-    let none : runs_of bytes now ≡ [] = nil_from_length (runs_of bytes now) (sym written ∙ zeros) in
+    let none : runs_to bytes now ≡ [] = nil_from_length (runs_to bytes now) (sym written ∙ zeros) in
     sym (runs_are_whole bytes now None is) ∙ ap (λ (rs : List Run). written_over bytes rs now) none
 
 idle_attribute : (attribute now : List ℕ) (wanted : Bool) → MatchBool wanted (attribute ≢ now) (attribute ≡ now) → not wanted ≡ true → attribute ≡ now
@@ -81,7 +85,7 @@ idle_is_same bytes attribute now attribute_now changes is idle =
 keeps_between : (bytes attribute : List ℕ) (plan : Plan) → IsPlanBetween bytes attribute bytes attribute plan → plan ≡ Keep
 keeps_between bytes attribute Keep is = refl
 keeps_between bytes attribute Delete is = absurd is
-keeps_between bytes attribute (Remake size) is = absurd is
+keeps_between bytes attribute (Remake changes) is = absurd is
 keeps_between bytes attribute (Change changes) is = absurd (true≢false (sym (idle_same bytes attribute changes is.0) ∙ is.1))
 
 -- the bytes and the attribute that are held

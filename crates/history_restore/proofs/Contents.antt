@@ -7,11 +7,12 @@ use Rattle.s4_types.specs.declared.versions.Version.{Version}
 use Rattle.s4_types.specs.declared.versions.Version.TheVariants.{Absent, Live}
 use Rattle.s4_model.specs.Effect.{effect, resized, written}
 use Rattle.s4_model.specs.Step.{part}
-use Rattle.history_restore.specs.declared.plans.Patch.{Patch}
+use Rattle.history_restore.specs.declared.plans.Changes.{Changes}
+use Rattle.history_restore.specs.declared.plans.Plan.TheVariants.{Remake, Change as OfChanges}
+use Rattle.history_view.specs.Contents.{attribute_of, content_of as bytes_of}
 use Rattle.block_runs.specs.declared.running.Run.{Run}
 use Rattle.history_restore.specs.Content.{Content, content_of, holding}
-use Rattle.history_restore.specs.Plans.{AreWithin, IsWritten, attribute_by, cut_by, runs_by, runs_changes, written_by}
-use Rattle.history_restore.proofs.Patching.{written_bytes, written_is_whole}
+use Rattle.history_restore.specs.Plans.{AreWithin, attribute_by, changed_by, cut_by, runs_by, runs_changes, turned}
 
 -- what a change makes of a content
 abbrev pub content_by : Change → Option Content → Option Content
@@ -45,9 +46,9 @@ content_of-effect (FlushO object first last) moment v = refl
 pub effects_alike : (change : Change) (m n : ℕ) (v w : Version) → content_of v ≡ content_of w → content_of (effect change m v) ≡ content_of (effect change n w)
 effects_alike change m n v w same = content_of-effect change m v ∙ ap (content_by change) same ∙ sym (content_of-effect change n w)
 
-pub writes_alike : (bytes : List ℕ) (patch : Option Patch) (o m n : ℕ) (v w : Version) → content_of v ≡ content_of w → content_of (written_by bytes patch o m v) ≡ content_of (written_by bytes patch o n w)
-writes_alike bytes None o m n v w same = same
-writes_alike bytes (Some patch) o m n v w same = effects_alike (Write o patch.offset (part bytes patch.offset patch.length)) m n v w same
+cuts_alike : (cut : Option ℕ) (o m n : ℕ) (v w : Version) → content_of v ≡ content_of w → content_of (cut_by cut o m v) ≡ content_of (cut_by cut o n w)
+cuts_alike None o m n v w same = same
+cuts_alike (Some size) o m n v w same = effects_alike (Truncate o size) m n v w same
 
 pub runs_alike : (bytes : List ℕ) (rs : List Run) (o m n : ℕ) (v w : Version) → content_of v ≡ content_of w → content_of (runs_by bytes rs o m v) ≡ content_of (runs_by bytes rs o n w)
 runs_alike bytes [] o m n v w same = same
@@ -58,6 +59,31 @@ runs_alike bytes (r ∷ rs) o m n v w same =
 attributes_alike : (attribute : List ℕ) (wanted : Bool) (o m n : ℕ) (v w : Version) → content_of v ≡ content_of w → content_of (attribute_by attribute wanted o m v) ≡ content_of (attribute_by attribute wanted o n w)
 attributes_alike attribute true o m n v w same = effects_alike (SetAttr o attribute) m n v w same
 attributes_alike attribute false o m n v w same = same
+
+-- nor does an object's number make a difference
+cut_any : (cut : Option ℕ) (o p m : ℕ) (v : Version) → cut_by cut o m v ≡ cut_by cut p m v
+cut_any None o p m v = refl
+cut_any (Some size) o p m Absent = refl
+cut_any (Some size) o p m (Live content attribute created changed) = refl
+
+runs_any : (bytes : List ℕ) (rs : List Run) (o p m : ℕ) (v : Version) → runs_by bytes rs o m v ≡ runs_by bytes rs p m v
+runs_any bytes [] o p m v = refl
+runs_any bytes (r ∷ rs) o p m Absent = runs_any bytes rs o p m Absent
+runs_any bytes (r ∷ rs) o p m (Live content attribute created changed) = runs_any bytes rs o p m (Live (written r.offset (part bytes r.offset (r.end - r.offset)) content) attribute created m)
+
+attribute_any : (attribute : List ℕ) (wanted : Bool) (o p m : ℕ) (v : Version) → attribute_by attribute wanted o m v ≡ attribute_by attribute wanted p m v
+attribute_any attribute false o p m v = refl
+attribute_any attribute true o p m Absent = refl
+attribute_any attribute true o p m (Live content old created changed) = refl
+
+any_number : (before : Version) (rs : List Run) (changes : Changes) (o p m : ℕ) (v : Version) → changed_by before rs changes o m v ≡ changed_by before rs changes p m v
+any_number before rs changes o p m v =
+    attribute_any (attribute_of before) changes.attribute o p m (runs_by (bytes_of before) rs o m (cut_by changes.cut o m v))
+    ∙ ap (attribute_by (attribute_of before) changes.attribute p m) (runs_any (bytes_of before) rs o p m (cut_by changes.cut o m v) ∙ ap (runs_by (bytes_of before) rs p m) (cut_any changes.cut o p m v))
+
+-- so what is made anew is the same under each number, whatever was there
+pub any_remade : (before : Version) (rs : List Run) (changes : Changes) (o p : ℕ) (v w : Version) → turned before rs (Remake changes) o 0 v ≡ turned before rs (Remake changes) p 0 w
+any_remade before rs changes o p v w = any_number before rs changes o p 0 (Live [] (attribute_of before) 0 0)
 
 -- one run more
 runs_by_more : (bytes : List ℕ) (rs : List Run) (r : Run) (o m : ℕ) (v : Version) → runs_by bytes (rs ++ r ∷ []) o m v ≡ effect (Write o r.offset (part bytes r.offset (r.end - r.offset))) m (runs_by bytes rs o m v)
@@ -76,15 +102,15 @@ pub changed_whole : (bytes attribute : List ℕ) (cut : Option ℕ) (rs : List R
 changed_whole bytes attribute cut rs wanted o v middle later first second =
     attributes_alike attribute wanted o 0 0 later (runs_by bytes rs o 0 (cut_by cut o 0 v)) (second ∙ runs_alike bytes rs o 0 0 middle (cut_by cut o 0 v) first)
 
--- bytes written over none
-writes_of_new : (bytes attribute : List ℕ) (patch : Option Patch) (o : ℕ) → content_of (written_by bytes patch o 0 (Live [] attribute 0 0)) ≡ holding (written_bytes bytes patch []) attribute
-writes_of_new bytes attribute None o = refl
-writes_of_new bytes attribute (Some patch) o = refl
-
--- an object that is made and gets its bytes has them
-pub made_whole : (bytes attribute : List ℕ) (patch : Option Patch) (o : ℕ) (v w : Version) → IsWritten bytes [] patch → content_of v ≡ holding [] attribute → content_of w ≡ content_of (written_by bytes patch o 0 v) → content_of w ≡ holding bytes attribute
-made_whole bytes attribute patch o v w is made write =
-    write ∙ writes_alike bytes patch o 0 0 v (Live [] attribute 0 0) made ∙ writes_of_new bytes attribute patch o ∙ ap (λ (b : List ℕ). holding b attribute) (written_is_whole bytes [] patch is)
+-- an object that is made with an attribute, and then changed, is what is planned
+pub remade_whole : (before : Version) (rs : List Run) (changes : Changes) (o : ℕ) (v w : Version) → content_of v ≡ holding [] (attribute_of before) → content_of w ≡ content_of (turned before rs (OfChanges changes) o 0 v)
+    → content_of w ≡ content_of (turned before rs (Remake changes) 0 0 Absent)
+remade_whole before rs changes o v w made done =
+    let new : Version = Live [] (attribute_of before) 0 0 in
+    done
+    ∙ attributes_alike (attribute_of before) changes.attribute o 0 0 (runs_by (bytes_of before) rs o 0 (cut_by changes.cut o 0 v)) (runs_by (bytes_of before) rs o 0 (cut_by changes.cut o 0 new))
+    (runs_alike (bytes_of before) rs o 0 0 (cut_by changes.cut o 0 v) (cut_by changes.cut o 0 new) (cuts_alike changes.cut o 0 0 v new made))
+    ∙ ap content_of (any_number before rs changes o 0 0 new)
 
 -- ---- the changes of runs
 

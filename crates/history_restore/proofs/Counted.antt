@@ -1,5 +1,5 @@
 -- How many changes a plan has, and plans one after the other.
-use Rattle.std.proofs.Common.{◌≡◌, ◌∙◌, ◌+◌, ℕ, suc, min, Bool, true, false, List, [], ◌∷◌, ◌++◌, length, Option, None, Some, cond, inl, inr, refl, sym, ap, subst, arith}
+use Rattle.std.proofs.Common.{◌≡◌, ◌∙◌, ◌+◌, ℕ, suc, Bool, true, false, List, [], ◌∷◌, ◌++◌, length, Option, None, Some, cond, inl, inr, refl, sym, ap, subst, arith}
 use Rattle.std.specs.Prelude.{if◌then◌else◌, nat_lt}
 use Rattle.std.proofs.lemmas.Option.{none-some}
 use Rattle.std.proofs.lemmas.List.{length-append}
@@ -10,22 +10,18 @@ use Rattle.s4_types.specs.declared.versions.Version.TheVariants.{Absent, Live}
 use Rattle.s4_model.specs.State.{State}
 use Rattle.s4_model.specs.Visible.{is_hidden}
 use Rattle.block_runs.specs.declared.running.Run.{Run}
-use Rattle.block_runs.specs.Runs.{runs_of}
+use Rattle.block_runs.specs.Runs.{runs_to}
 use Rattle.history_restore.specs.declared.plans.Plan.{Plan}
 use Rattle.history_restore.specs.declared.plans.Plan.TheVariants.{Keep, Delete, Remake, Change}
 use Rattle.history_restore.specs.declared.restoring.Restored.{Restored}
 use Rattle.history_restore.specs.Asking.{IsMovedBy, clock_by}
 use Rattle.history_restore.proofs.Moving.{clock_by_more}
 use Rattle.history_restore.specs.Keeping.{IsDatedFrom}
-use Rattle.history_restore.specs.Plans.{IsPlan, attribute_changes, change_count, changes_by, count_of, cut_changes, made_changes, next_by_plan, runs_between, runs_changes}
+use Rattle.history_restore.specs.Plans.{IsPlan, attribute_changes, change_count, changes_by, changes_of, count_of, count_of_changes, cut_changes, next_by_plan, runs_between, runs_changes}
 use Rattle.history_restore.specs.Restoring.{IsUnread}
 use Rattle.history_restore.specs.Whole.{IsCounted, changes_of_all, made_anew}
 
 -- ---- a plan
-
-count_made : (o : ℕ) (bytes : List ℕ) → length (made_changes o bytes) ≡ min 1 (length bytes)
-count_made o [] = refl
-count_made o (b ∷ bs) = omega arith
 
 count_runs : (o : ℕ) (bytes : List ℕ) (rs : List Run) → length (runs_changes o bytes rs) ≡ length rs
 count_runs o bytes [] = refl
@@ -50,13 +46,16 @@ count_changed o bytes attribute cut rs writes wanted is =
 pub counts_changes : (before now : Version) (plan : Plan) (next o : ℕ) → IsPlan before now plan → length (changes_by before (runs_between before now) plan next o) ≡ change_count plan
 counts_changes Absent Absent plan next o is = subst (λ (p : Plan). length (changes_by Absent [] p next o) ≡ change_count p) (sym is) refl
 counts_changes Absent (Live now attribute_now created changed) plan next o is = subst (λ (p : Plan). length (changes_by Absent [] p next o) ≡ change_count p) (sym is) refl
-counts_changes (Live bytes attribute created changed) Absent plan next o is =
-    let made : 1 + length (made_changes next bytes) ≡ 1 + min 1 (length bytes) = ap (λ n. 1 + n) (count_made next bytes) in
-    subst (λ (p : Plan). length (changes_by (Live bytes attribute created changed) (runs_of bytes []) p next o) ≡ change_count p) (sym is) (omega (arith, made))
+counts_changes (Live bytes attribute created changed) Absent Keep next o is = absurd is
+counts_changes (Live bytes attribute created changed) Absent Delete next o is = absurd is
+counts_changes (Live bytes attribute created changed) Absent (Remake changes) next o is =
+    let own : length (changes_of (Live bytes attribute created changed) (runs_to bytes []) changes next) ≡ count_of_changes changes = count_changed next bytes attribute changes.cut (runs_to bytes []) changes.writes changes.attribute is.rewritten in
+    omega (arith, own)
+counts_changes (Live bytes attribute created changed) Absent (Change changes) next o is = absurd is
 counts_changes (Live bytes attribute created changed) (Live now attribute_now created_now changed_now) Keep next o is = refl
 counts_changes (Live bytes attribute created changed) (Live now attribute_now created_now changed_now) Delete next o is = absurd is
-counts_changes (Live bytes attribute created changed) (Live now attribute_now created_now changed_now) (Remake size) next o is = absurd is
-counts_changes (Live bytes attribute created changed) (Live now attribute_now created_now changed_now) (Change changes) next o is = count_changed o bytes attribute changes.cut (runs_of bytes now) changes.writes changes.attribute is.0.rewritten
+counts_changes (Live bytes attribute created changed) (Live now attribute_now created_now changed_now) (Remake changes) next o is = absurd is
+counts_changes (Live bytes attribute created changed) (Live now attribute_now created_now changed_now) (Change changes) next o is = count_changed o bytes attribute changes.cut (runs_to bytes now) changes.writes changes.attribute is.0.rewritten
 
 -- ---- what isn't read isn't for a full journal
 
@@ -79,7 +78,7 @@ counted_none s now = record { next = omega arith; moved = refl; dated = λ o t b
 next_plus : (plan : Plan) (n : ℕ) → next_by_plan plan n ≡ n + next_by_plan plan 0
 next_plus Keep n = omega arith
 next_plus Delete n = omega arith
-next_plus (Remake size) n = omega arith
+next_plus (Remake changes) n = omega arith
 next_plus (Change changes) n = omega arith
 
 made_push : (all : List Restored) (r : Restored) → made_anew (all ++ r ∷ []) ≡ made_anew all + next_by_plan r.plan 0

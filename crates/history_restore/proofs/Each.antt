@@ -166,7 +166,7 @@ placed_stays s middle later all le placed = all_weaker (IsPlaced s middle) (IsPl
 
 -- the next number is given by a plan that gives it
 next_is_given : (plan : Plan) (next later_next number o : ℕ) → number ≡ next → number_by plan next o ≡ next → later_next ≡ next_by_plan plan next → o < next → number < later_next
-next_is_given (Remake size) next later_next number o is by more lt = omega arith
+next_is_given (Remake changes) next later_next number o is by more lt = omega arith
 next_is_given Keep next later_next number o is by more lt = omega arith
 next_is_given Delete next later_next number o is by more lt = omega arith
 next_is_given (Change changes) next later_next number o is by more lt = omega arith

@@ -1,6 +1,5 @@
 pub mod Listed
 pub mod Moving
-pub mod Patching
 pub mod Contents
 pub mod Turning
 pub mod Stepping

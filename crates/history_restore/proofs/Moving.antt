@@ -1,5 +1,5 @@
 -- Where a clock is by changes that are asked for at one moment.
-use Rattle.std.proofs.Common.{◌≡◌, ◌∙◌, ◌+◌, ◌-◌, ◌<◌, ◌≤◌, ℕ, zero, suc, min, max, refl, sym, ap, arith}
+use Rattle.std.proofs.Common.{◌≡◌, ◌+◌, ◌-◌, ◌<◌, ℕ, zero, suc, min, max, ap, arith}
 use Rattle.s4_model.specs.Refusals.{last_number}
 use Rattle.s4_model.specs.State.{State}
 use Rattle.history_restore.specs.Asking.{clock_by}

@@ -1,9 +1,8 @@
 -- Changes that are stored one after the other, and where one of them finds a journal too full.
-use Rattle.std.proofs.Common.{◌≡◌, ◌∙◌, ◌+◌, ◌-◌, ◌<◌, ◌≤◌, ℕ, min, Result, Ok, Err, List, [], ◌∷◌, ◌++◌, length, take, drop, Option, None, Some, OnOk, IfErr, inl, inr, refl, sym, ap, subst, arith}
-use Rattle.std.proofs.lemmas.List.{take_all, length-append, length-take, length-drop}
+use Rattle.std.proofs.Common.{◌≡◌, ◌∙◌, ℕ, Result, Ok, Err, List, [], ◌∷◌, ◌++◌, length, Some, OnOk, IfErr, inl, inr, refl, sym, ap, subst}
+use Rattle.std.proofs.lemmas.List.{length-append}
 use Rattle.std.proofs.lemmas.Result.{IfErr-weaker, on_ok_weaker}
 use Rattle.s4_types.specs.declared.changes.Change.{Change}
-use Rattle.s4_types.specs.declared.changes.Change.TheVariants as change
 use Rattle.s4_types.specs.declared.refusals.Refusal.{Refusal}
 use Rattle.s4_types.specs.declared.refusals.Refusal.TheVariants.{NoMemory}
 use Rattle.s4_types.specs.declared.requests.Request.{Request}
@@ -11,11 +10,9 @@ use Rattle.s4_model.specs.State.{State}
 use Rattle.s4_model.specs.Step.{change_of}
 use Rattle.version_store.specs.Store.{StoreFields}
 use Rattle.drive.specs.Fields.{DriveFields, state_in, store_of}
-use Rattle.history_restore.specs.declared.plans.Patch.{Patch}
-use Rattle.history_restore.specs.Asking.{AreStored, AsksFor, FindsFull, IsFullFor, IsFullForOne, IsMovedBy, StoresAsked, clock_by}
+use Rattle.history_restore.specs.Asking.{AreStored, AsksFor, FindsFull, IsFullFor, IsMovedBy, StoresAsked, clock_by}
 use Rattle.history_restore.specs.Keeping.{IsDatedFrom}
 use Rattle.history_restore.proofs.Moving.{clock_by_more}
-use Rattle.history_restore.specs.Plans.{IsPatch, IsWritten, made_changes, written_changes}
 
 -- ---- one after the other
 
@@ -79,28 +76,3 @@ asked_then r cs ds d middle d' now x first second = record {
   moved = on_ok_weaker r (moved_after cs ds (state_in d) (state_in middle) (state_in d') now first.moved) second.moved;
   dated = λ o t before. second.dated o t before ∙ first.dated o t before;
 }
-
--- ---- all bytes of an object that has none
-
--- such a patch has them all
-whole_patch : (b : ℕ) (bs : List ℕ) (o : ℕ) (p : Patch) → IsPatch (b ∷ bs) [] p → written_changes o (b ∷ bs) (Some p) ≡ made_changes o (b ∷ bs)
-whole_patch b bs o p is =
-    let bytes : List ℕ = b ∷ bs in
-    let within : p.offset + p.length ≤ length bytes = is.within in
-    let fronts : min p.offset (length bytes) ≡ min p.offset 0 = sym (length-take p.offset bytes) ∙ ap length is.front ∙ length-take p.offset [] in
-    let backs : length bytes - (p.offset + p.length) ≡ 0 - (p.offset + p.length) = sym (length-drop (p.offset + p.length) bytes) ∙ ap length is.back ∙ length-drop (p.offset + p.length) [] in
-    let begins : p.offset ≡ 0 = omega (arith, within, fronts) in
-    let reaches : length bytes ≤ p.length = omega (arith, within, begins, backs) in
-    ap (λ n. change.Write o n (take p.length (drop n bytes)) ∷ []) begins ∙ ap (λ (l : List ℕ). change.Write o 0 l ∷ []) (take_all p.length bytes reaches)
-
-pub made_by : (bytes : List ℕ) (patch : Option Patch) (o : ℕ) → IsWritten bytes [] patch → written_changes o bytes patch ≡ made_changes o bytes
-made_by bytes None o is = sym (ap (made_changes o) is)
-made_by [] (Some p) o is = let some : 0 < p.length = is.some in let within : p.offset + p.length ≤ 0 = is.within in absurd (omega (arith, some, within))
-made_by (b ∷ bs) (Some p) o is = whole_patch b bs o p is
-
--- an object that is made anew gets its attribute, and then all its bytes
-pub remade_changes : (next n : ℕ) (bytes whole attribute own : List ℕ) (patch : Option Patch) → n ≡ next → bytes ≡ whole → attribute ≡ own → IsWritten bytes [] patch
-    → (change.Create next attribute ∷ []) ++ written_changes n bytes patch ≡ change.Create next own ∷ made_changes next whole
-remade_changes next n bytes whole attribute own patch n_is bytes_is attribute_is written =
-    ap (λ (ds : List Change). change.Create next attribute ∷ ds) (made_by bytes patch n written ∙ ap (λ k. made_changes k bytes) n_is ∙ ap (made_changes next) bytes_is)
-    ∙ ap (λ (a : List ℕ). change.Create next a ∷ made_changes next whole) attribute_is

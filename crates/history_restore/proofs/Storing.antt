@@ -1,5 +1,5 @@
 -- What a request for a change of an object stores, when it is refused for a full journal, and how far it moves the clock.
-use Rattle.std.proofs.Common.{◌≡◌, ◌∙◌, ◌+◌, ◌≤◌, ℕ, max, Bool, true, false, cond, Option, None, Some, inl, inr, refl, sym, ap, subst, arith}
+use Rattle.std.proofs.Common.{◌≡◌, ◌∙◌, ◌≤◌, ℕ, Bool, true, false, cond, Option, None, Some, inl, inr, refl, sym, ap, subst, arith}
 use Rattle.std.specs.Prelude.{option_and_then, MatchBool}
 use Rattle.std.specs.List.{AllByRecursion}
 use Rattle.std.proofs.lemmas.Option.{none-some, same_Some}

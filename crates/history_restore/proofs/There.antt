@@ -8,12 +8,11 @@ use Rattle.s4_types.specs.declared.versions.Version.TheVariants.{Absent, Live}
 use Rattle.s4_model.specs.Limits.{IsWithinLimits}
 use Rattle.s4_model.specs.Refusals.{is_absent}
 use Rattle.history_view.specs.Contents.{attribute_of, content_of as bytes_of}
-use Rattle.history_restore.specs.declared.plans.Patch.{Patch}
 use Rattle.block_runs.specs.declared.running.Run.{Run}
 use Rattle.s4_model.specs.Effect.{written}
 use Rattle.s4_model.specs.Step.{part}
-use Rattle.history_restore.specs.Content.{content_of}
-use Rattle.history_restore.specs.Plans.{cut_by, runs_by, written_by}
+use Rattle.history_restore.specs.Content.{content_of, holding}
+use Rattle.history_restore.specs.Plans.{cut_by, runs_by}
 
 -- an object is there where it has a content
 absent_by_content : (v : Version) → is_absent v ≡ is_none (content_of v)
@@ -29,14 +28,9 @@ cut_there (Some size) o moment (Live bytes attribute created changed) there = re
 pub there_after_cut : (size : Option ℕ) (o moment : ℕ) (v w : Version) → content_of w ≡ content_of (cut_by size o moment v) → is_absent v ≡ false → is_absent w ≡ false
 there_after_cut size o moment v w same there = absent_by_content w ∙ ap is_none same ∙ cut_there size o moment v there
 
--- and one that bytes are written to
-written_there : (bytes : List ℕ) (patch : Option Patch) (o moment : ℕ) (v : Version) → is_absent v ≡ false → is_none (content_of (written_by bytes patch o moment v)) ≡ false
-written_there bytes patch o moment Absent there = absurd (true≢false there)
-written_there bytes None o moment (Live content attribute created changed) there = refl
-written_there bytes (Some patch) o moment (Live content attribute created changed) there = refl
-
-pub there_after_write : (bytes : List ℕ) (patch : Option Patch) (o moment : ℕ) (v w : Version) → content_of w ≡ content_of (written_by bytes patch o moment v) → is_absent v ≡ false → is_absent w ≡ false
-there_after_write bytes patch o moment v w same there = absent_by_content w ∙ ap is_none same ∙ written_there bytes patch o moment v there
+-- one that has bytes is there
+pub there_with : (v : Version) (bytes attribute : List ℕ) → content_of v ≡ holding bytes attribute → is_absent v ≡ false
+there_with v bytes attribute has = absent_by_content v ∙ ap is_none has
 
 -- and one that runs are written to
 runs_there : (bytes : List ℕ) (rs : List Run) (o moment : ℕ) (v : Version) → is_absent v ≡ false → is_none (content_of (runs_by bytes rs o moment v)) ≡ false

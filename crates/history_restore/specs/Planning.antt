@@ -41,5 +41,5 @@ changes_planned (p ∷ plans) = change_count p.plan + changes_planned plans
 abbrev pub is_older : Plan → Bool
 is_older Delete = false
 is_older Keep = true
-is_older (Remake size) = true
+is_older (Remake changes) = true
 is_older (Change changes) = true

@@ -1,7 +1,8 @@
 //! What a plan asks for, done by requests.
-ghost use Rattle.std.specs.Prelude.{◌≡◌, ◌+◌, ◌≤◌, [], ◌∷◌, true, false, length};
+ghost use Rattle.std.specs.Prelude.{◌≡◌, ◌+◌, ◌-◌, ◌≤◌, [], ◌∷◌, true, false, length};
 ghost use Rattle.std.specs.Prelude.{IfOk, IfErr, OnOk};
 ghost use Rattle.s4_types.specs.declared.changes.Change.TheVariants as change;
+ghost use Rattle.s4_types.specs.declared.versions.Version.TheVariants.{Absent};
 ghost use Rattle.s4_types.specs.declared.limits.TheConstants.{OBJECT_BYTES, ATTRIBUTE_BYTES};
 ghost use Rattle.s4_model.specs.Limits.{IsWithinLimits};
 ghost use Rattle.s4_model.specs.Refusals.{present, is_absent};
@@ -9,18 +10,18 @@ ghost use Rattle.s4_model.specs.Step.{part};
 ghost use Rattle.drive.specs.Fields.{state_in, store_of};
 ghost use Rattle.history_view.specs.Contents.{attribute_of, content_of as bytes_of};
 ghost use Rattle.history_restore.specs.Content.{content_of, holding};
-ghost use Rattle.history_restore.specs.Plans.{cut_by, written_by, runs_by, attribute_by, turned};
+ghost use Rattle.history_restore.specs.Plans.{cut_by, runs_by, attribute_by, turned};
 ghost use Rattle.history_restore.specs.Plans.{number_by};
-ghost use Rattle.history_restore.specs.Plans.{next_by_plan, FitsCut, IsWithinBytes, IsWithinPlan};
+ghost use Rattle.history_restore.specs.Plans.{next_by_plan, FitsCut, IsWithinPlan};
 ghost use Rattle.history_restore.specs.Plans.{IsThereFor};
-ghost use Rattle.history_restore.specs.Plans.{cut_changes, written_changes, attribute_changes};
-ghost use Rattle.history_restore.specs.Plans.{made_changes, runs_changes, changes_by};
+ghost use Rattle.history_restore.specs.Plans.{cut_changes, attribute_changes};
+ghost use Rattle.history_restore.specs.Plans.{runs_changes, changes_by};
 ghost use Rattle.history_restore.specs.Plans.{AreWithin};
 ghost use Rattle.history_restore.specs.Asking.{is_left, AsksFor};
 ghost use Rattle.history_restore.specs.Keeping.{LeavesPast, LeavesOthers};
 
 use crate::asking::ask;
-use crate::plans::{Changes, Patch, Plan, patch_between};
+use crate::plans::{Changes, Plan};
 use block_runs::Run;
 use drive::{Drive, Session};
 use history_view::{attribute_of, content_of};
@@ -28,14 +29,12 @@ use s4_types::{Bytes, Moment, ObjectId, ObjectRequest, Refusal, Version};
 use segment_word::Naming;
 use std::alloc::Global;
 
-/// The bytes that a patch names.
-fn part(bytes: &[u8], patch: Patch) -> &[u8]
-    requires { patch.offset + patch.length ≤ length bytes.now }
-    ensures { result.now ≡ part bytes.now patch.offset patch.length }
+/// The bytes of a run.
+fn part(bytes: &[u8], run: Run) -> &[u8]
+    requires { AreWithin bytes.now (run ∷ []) }
+    ensures { result.now ≡ part bytes.now run.offset (run.end - run.offset) }
 {
-    let first = patch.offset as usize;
-    let end = first + patch.length as usize;
-    &bytes[first..end]
+    &bytes[run.offset as usize..run.end as usize]
 }
 
 /// The object is cut to a size, where one is given.
@@ -68,71 +67,40 @@ fn cut<J: Naming>(
     }
 }
 
-/// Bytes are written as a patch says.
-fn write_patch<J: Naming>(
+/// The bytes of a run are written.
+fn write_run<J: Naming>(
     alloc: Global,
     drive: &mut Drive<J>,
     session: &mut Session<J>,
     object: ObjectId,
     bytes: &[u8],
-    patch: Patch,
+    run: Run,
     now: Moment,
 ) -> Result<(), Refusal>
-    requires { patch.offset + patch.length ≤ length bytes.now }
+    requires { AreWithin bytes.now (run ∷ []) }
     ensures content { OnOk result
         (content_of (present (state_in drive.new) object)
         ≡ content_of
-        (written_by bytes.now (Some patch) object 0
-        (present (state_in drive.old) object))) }
+        (runs_by bytes.now (run ∷ []) object 0 (present (state_in drive.old) object))) }
     ensures next { OnOk result ((state_in drive.new).next ≡ (state_in drive.old).next) }
     ensures refused { IfErr result
         (λ e. is_absent (present (state_in drive.old) object) ≡ false
         → length bytes.now ≤ OBJECT_BYTES → is_left e ≡ true) }
-    ensures asked { AsksFor drive.old now (written_changes object bytes.now (Some patch)) result
+    ensures asked { AsksFor drive.old now (runs_changes object bytes.now (run ∷ [])) result
         drive.new }
     ensures others { LeavesOthers object (state_in drive.old) (state_in drive.new) }
     ensures past { LeavesPast (state_in drive.old) (state_in drive.new) }
 {
-    let new = part(bytes, patch);
+    let new = part(bytes, run);
     let Ok(bytes) = Bytes::from_slice(alloc, new) else {
         return Err(Refusal::NoMemory);
     };
     let update = ObjectRequest::Write {
         object,
-        offset: patch.offset,
+        offset: run.offset,
         bytes,
     };
     ask(drive, session, update, now)
-}
-
-/// Bytes are written as a patch says, where one is given.
-fn write<J: Naming>(
-    alloc: Global,
-    drive: &mut Drive<J>,
-    session: &mut Session<J>,
-    object: ObjectId,
-    bytes: &[u8],
-    patch: Option<Patch>,
-    now: Moment,
-) -> Result<(), Refusal>
-    requires { IsWithinBytes bytes.now patch }
-    ensures content { OnOk result
-        (content_of (present (state_in drive.new) object)
-        ≡ content_of
-        (written_by bytes.now patch object 0 (present (state_in drive.old) object))) }
-    ensures next { OnOk result ((state_in drive.new).next ≡ (state_in drive.old).next) }
-    ensures refused { IfErr result
-        (λ e. is_absent (present (state_in drive.old) object) ≡ false
-        → length bytes.now ≤ OBJECT_BYTES → is_left e ≡ true) }
-    ensures asked { AsksFor drive.old now (written_changes object bytes.now patch) result
-        drive.new }
-    ensures others { LeavesOthers object (state_in drive.old) (state_in drive.new) }
-    ensures past { LeavesPast (state_in drive.old) (state_in drive.new) }
-{
-    match patch {
-        None => Ok(()),
-        Some(patch) => write_patch(alloc, drive, session, object, bytes, patch, now),
-    }
 }
 
 /// Bytes are written, run by run.
@@ -160,11 +128,7 @@ fn write_runs<J: Naming>(
     ensures past { LeavesPast (state_in drive.old) (state_in drive.new) }
 {
     for run in runs {
-        let patch = Patch {
-            offset: run.offset,
-            length: run.end - run.offset,
-        };
-        write_patch(alloc, drive, session, object, bytes, patch, now)?;
+        write_run(alloc, drive, session, object, bytes, *run, now)?;
     }
     Ok(())
 }
@@ -277,31 +241,31 @@ fn create<J: Naming>(
     Ok(number)
 }
 
-/// An object is made anew, with the attribute and the bytes of a version.
+/// An object is made anew, with the attribute of a version, and changed as that says.
 fn remake<J: Naming>(
     alloc: Global,
     drive: &mut Drive<J>,
     session: &mut Session<J>,
     before: &Version,
+    runs: &[Run],
+    changes: Changes,
     now: Moment,
 ) -> Result<ObjectId, Refusal>
+    requires { IsWithinPlan (bytes_of before.now) runs.now (Plan.Remake changes) }
     ensures number { IfOk result (λ number. number ≡ (state_in drive.old).next) }
     ensures content { OnOk result
         (content_of (present (state_in drive.new) (state_in drive.old).next)
-        ≡ holding (bytes_of before.now) (attribute_of before.now)) }
+        ≡ content_of (turned before.now runs.now (Plan.Remake changes) 0 0 Absent)) }
     ensures next { OnOk result ((state_in drive.new).next ≡ (state_in drive.old).next + 1) }
     ensures refused { IfErr result (λ e. IsWithinLimits before.now → is_left e ≡ true) }
-    ensures asked { AsksFor drive.old now
-        (change.Create (state_in drive.old).next (attribute_of before.now)
-        ∷ made_changes (state_in drive.old).next (bytes_of before.now)) result drive.new }
+    ensures asked { AsksFor drive.old now (changes_by before.now runs.now (Plan.Remake changes)
+        (state_in drive.old).next 0) result drive.new }
     ensures others { LeavesOthers (state_in drive.old).next (state_in drive.old)
         (state_in drive.new) }
     ensures past { LeavesPast (state_in drive.old) (state_in drive.new) }
 {
     let number = create(alloc, drive, session, attribute_of(before), now)?;
-    let bytes = content_of(before);
-    let patch = patch_between(bytes, &[]);
-    write(alloc, drive, session, number, bytes, patch, now)?;
+    change(alloc, drive, session, number, before, runs, changes, now)?;
     Ok(number)
 }
 
@@ -341,7 +305,7 @@ pub(crate) fn perform<J: Naming>(
             ask(drive, session, ObjectRequest::Delete { object }, now)?;
             Ok(object)
         }
-        Plan::Remake(_) => remake(alloc, drive, session, before, now),
+        Plan::Remake(changes) => remake(alloc, drive, session, before, runs, changes, now),
         Plan::Change(changes) => {
             change(alloc, drive, session, object, before, runs, changes, now)?;
             Ok(object)

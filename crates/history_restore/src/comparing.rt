@@ -9,7 +9,7 @@ ghost use Rattle.history_restore.specs.Plans.{runs_between};
 ghost use Rattle.history_restore.specs.Restoring.{IsUnread};
 
 use crate::aims::Aim;
-use block_runs::{Run, runs_between};
+use block_runs::{Run, kept, runs_between};
 use drive::{Drive, Session};
 use history_view::{content_of, version_at};
 use s4_types::{Moment, Refusal, Version};
@@ -23,7 +23,7 @@ pub(crate) struct Compared {
     pub(crate) earlier: Version,
     /// What is there now.
     pub(crate) latest: Version,
-    /// Where their bytes differ.
+    /// Where their bytes differ, once the latest are cut.
     pub(crate) runs: Vec<Run>,
 }
 
@@ -49,7 +49,8 @@ pub(crate) fn compare<J: Naming>(
     let clock = drive.clock();
     let earlier = version_at(alloc, drive, session, aim.object, at)?;
     let latest = version_at(alloc, drive, session, aim.target, clock)?;
-    let Ok(runs) = runs_between(alloc, content_of(&earlier), content_of(&latest)) else {
+    let bytes = content_of(&earlier);
+    let Ok(runs) = runs_between(alloc, bytes, kept(bytes, content_of(&latest))) else {
         return Err(Refusal::NoMemory);
     };
     Ok(Compared {

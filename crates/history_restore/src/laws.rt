@@ -15,7 +15,6 @@ use s4_model::laws::{
 
 /// A plan turns an object back: after its changes it has the bytes and the attribute that it had,
 /// or isn't there where it wasn't.
-#[tactic(auto, using(crate::proofs::Turning::turns_back))]
 pub fn a_plan_turns_back()
     ensures { APlanTurnsBack }
 {}

@@ -1,8 +1,9 @@
 //! What objects were at a moment, made their present again by requests of a session.
 //!
 //! The layers above may rely on this: a plan says what has to be done to an object, by what it was
-//! and what it is. It writes each run of neighbouring blocks that differ, and no other block, and
-//! `laws` says that it turns the object back. `restore_object` does what `plan_object` plans:
+//! and what it is. It writes each run of neighbouring blocks that differ, and no other block, of an
+//! object that is made anew each that isn't all zeros, and `laws` says that it turns the object
+//! back. `restore_object` does what `plan_object` plans:
 //! afterwards the object has exactly the bytes and the attribute that it had, under its own number,
 //! or under the next one where it was deleted since. `restore_these` does so with objects, one
 //! after the other. Whatever these answer, every other object is what it was, every version up to
@@ -30,7 +31,6 @@ mod aims;
 mod asking;
 mod changing;
 mod comparing;
-mod differences;
 mod failures;
 pub mod laws;
 mod planning;

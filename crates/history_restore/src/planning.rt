@@ -2,7 +2,7 @@
 ghost use Rattle.std.specs.Prelude.{◌≡◌, ◌+◌, ◌≤◌, if◌then◌else◌, min, filter, IfOk, IfErr};
 ghost use Rattle.s4_model.specs.Refusals.{last_number};
 ghost use Rattle.drive.specs.Fields.{state_in, store_of};
-ghost use Rattle.history_restore.specs.Plans.{change_count, count_of};
+ghost use Rattle.history_restore.specs.Plans.{change_count, count_of, count_of_changes};
 ghost use Rattle.history_restore.specs.Planning.{IsPlanned, IsUnplanned, PlansEach, aims_planned};
 ghost use Rattle.history_restore.specs.Planning.{changes_planned, is_older};
 ghost use Rattle.history_restore.specs.Whole.{is_chosen};
@@ -88,10 +88,7 @@ fn count_if(wanted: bool) -> u64
 }
 
 fn count_of_changes(changes: &Changes) -> u64
-    ensures { result
-        ≡ min last_number
-        (count_of changes.now.cut
-        + (changes.now.writes + (if changes.now.attribute then 1 else 0))) }
+    ensures { result ≡ min last_number (count_of_changes changes.now) }
 {
     let others = count_of(changes.cut) + count_if(changes.attribute);
     changes.writes.saturating_add(others)
@@ -105,7 +102,7 @@ fn change_count(plan: &Plan) -> u64
     match plan {
         Plan::Keep => 0,
         Plan::Delete => 1,
-        Plan::Remake(size) => 1 + (*size).min(1),
+        Plan::Remake(changes) => count_of_changes(changes).saturating_add(1),
         Plan::Change(changes) => count_of_changes(changes),
     }
 }

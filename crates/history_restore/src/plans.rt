@@ -1,21 +1,13 @@
 //! What has to be done to an object, so that it is what it was.
-ghost use Rattle.std.specs.Prelude.{◌≡◌, ◌≢◌, ◌≤◌, length, MatchBool};
-ghost use Rattle.history_restore.specs.Plans.{IsWritten, IsChangesOf, IsPlanBetween, IsPlan};
+ghost use Rattle.std.specs.Prelude.{◌≡◌, ◌≢◌, [], MatchBool};
+ghost use Rattle.history_restore.specs.Plans.{IsChangesOf, IsPlanBetween, IsPlan, IsRemade};
 ghost use Rattle.history_restore.specs.Plans.{is_idle, runs_between};
-ghost use Rattle.block_runs.specs.Runs.{IsSized, runs_of};
+ghost use Rattle.block_runs.specs.Runs.{runs_to};
 
-use crate::differences::{end_of_difference, first_difference};
-use block_runs::{Run, count_blocks};
+use block_runs::{Run, count_blocks, cut_between};
 use s4_types::Version;
 
-/// Bytes that are written in one request, by their place in the object as it was, in bytes.
-#[derive(Clone, Copy)]
-pub struct Patch {
-    pub offset: u64,
-    pub length: u64,
-}
-
-/// What is done to an object that was there and is there, in this order.
+/// What is done to an object that is there, in this order.
 #[derive(Clone, Copy)]
 pub struct Changes {
     /// It is cut to this size, in bytes, or gets zeros up to it.
@@ -37,40 +29,10 @@ pub enum Plan {
     /// It is deleted, as it wasn't there.
     Delete,
     /// It isn't there any more: an object is made under the next number, with its attribute, and
-    /// gets its bytes, of this length.
-    Remake(u64),
+    /// changed from one that has no bytes.
+    Remake(Changes),
     /// It is changed.
     Change(Changes),
-}
-
-/// Where an object is cut, by the bytes that it had and has, or up to where it gets zeros.
-fn cut_between(bytes: &[u8], now: &[u8]) -> Option<u64>
-    ensures { IsSized bytes.now now.now result }
-{
-    let size = bytes.len();
-    if size < now.len() {
-        return Some(size as u64);
-    }
-    if now.len() < size && bytes[size - 1] == 0 {
-        return Some(size as u64);
-    }
-    None
-}
-
-/// What is written over bytes of which there are no more than there were.
-pub(crate) fn patch_between(bytes: &[u8], now: &[u8]) -> Option<Patch>
-    requires { length now.now ≤ length bytes.now }
-    ensures { IsWritten bytes.now now.now result }
-{
-    let first = first_difference(bytes, now);
-    if first == bytes.len() {
-        return None;
-    }
-    let length = end_of_difference(bytes, now) - first;
-    Some(Patch {
-        offset: first as u64,
-        length: length as u64,
-    })
 }
 
 /// Whether two attributes differ.
@@ -87,7 +49,7 @@ fn changes_between(
     attribute_now: &[u8],
     runs: &[Run],
 ) -> Changes
-    requires { runs.now ≡ runs_of bytes.now now.now }
+    requires { runs.now ≡ runs_to bytes.now now.now }
     ensures { IsChangesOf bytes.now attribute.now now.now attribute_now.now result }
 {
     Changes {
@@ -112,7 +74,7 @@ fn plan_between(
     attribute_now: &[u8],
     runs: &[Run],
 ) -> Plan
-    requires { runs.now ≡ runs_of bytes.now now.now }
+    requires { runs.now ≡ runs_to bytes.now now.now }
     ensures { IsPlanBetween bytes.now attribute.now now.now attribute_now.now result }
 {
     let changes = changes_between(bytes, attribute, now, attribute_now, runs);
@@ -121,6 +83,13 @@ fn plan_between(
     } else {
         Plan::Change(changes)
     }
+}
+
+fn plan_anew(bytes: &[u8], attribute: &[u8], runs: &[Run]) -> Plan
+    requires { runs.now ≡ runs_to bytes.now [] }
+    ensures { IsRemade bytes.now attribute.now result }
+{
+    Plan::Remake(changes_between(bytes, attribute, &[], attribute, runs))
 }
 
 /// What has to be done to an object, by what it was and what it is now, and by the runs of blocks
@@ -140,7 +109,7 @@ pub(crate) fn plan_of(before: &Version, now: &Version, runs: &[Run]) -> Plan
             attribute,
             ..
         } => match now {
-            Version::Absent => Plan::Remake(bytes.len() as u64),
+            Version::Absent => plan_anew(bytes.as_slice(), attribute.as_slice(), runs),
             Version::Live {
                 bytes: bytes_now,
                 attribute: attribute_now,

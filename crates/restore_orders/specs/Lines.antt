@@ -14,7 +14,7 @@ use Rattle.history_restore.specs.declared.restoring.Restored.{Restored}
 abbrev pub planned_line : ℕ → ℕ → Plan → List ℕ
 planned_line o n Keep = []
 planned_line o n Delete = column 10 o ++ codes "  deleted\n"
-planned_line o n (Remake size) = column 10 o ++ (codes "  made anew as " ++ (decimal n ++ codes "\n"))
+planned_line o n (Remake changes) = column 10 o ++ (codes "  made anew as " ++ (decimal n ++ codes "\n"))
 planned_line o n (Change changes) = column 10 o ++ codes "  changed\n"
 
 abbrev pub done_data : ℕ → List ℕ → Data
@@ -27,7 +27,7 @@ remade_data o n = object (member (codes "done") (string (codes "made anew")) (me
 abbrev pub planned_json : ℕ → ℕ → Plan → List ℕ
 planned_json o n Keep = []
 planned_json o n Delete = json_line (done_data o (codes "deleted"))
-planned_json o n (Remake size) = json_line (remade_data o n)
+planned_json o n (Remake changes) = json_line (remade_data o n)
 planned_json o n (Change changes) = json_line (done_data o (codes "changed"))
 
 abbrev pub planned_text : Bool → ℕ → ℕ → Plan → List ℕ

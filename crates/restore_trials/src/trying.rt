@@ -5,13 +5,13 @@ ghost use Rattle.restore_trials.specs.Trying.{AreRestoredOver, Carries, PassesFi
 ghost use Rattle.restore_trials.specs.Trying.{TriesFine};
 
 use drive::{Drive, Session};
-use history_restore::{Aim, ObjectPlan, Plan, restore_object};
+use history_restore::{Aim, Changes, ObjectPlan, Plan, restore_object};
 use journal_chain::packing::blocks_needed;
 use restore_orders::{Moments, failure_of};
 use restore_search::{Lack, Lacking};
 use s4_images::Failure;
 use s4_types::Refusal;
-use s4_types::limits::{BLOCK_BYTES, OBJECT_BLOCKS, SHORTEST_ENTRY_BYTES};
+use s4_types::limits::{OBJECT_BLOCKS, SHORTEST_ENTRY_BYTES};
 use segment_word::Naming;
 use std::alloc::Global;
 use undo_redo::entry_sizes;
@@ -178,24 +178,26 @@ fn leave(lacking: &mut Vec<Lacking>, aim: &Aim, lack: Lack) -> Result<bool, Fail
 }
 
 // How many blocks a plan appends at least: its data, and a journal block for each change, of a
-// single write as many as it takes. Of what is made anew, with an attribute of few bytes, exactly.
+// single write as many as it takes. Of what is made anew by one, with an attribute of few bytes,
+// exactly.
 fn least_blocks(plan: &Plan) -> usize {
     match plan {
         Plan::Keep => 0,
         Plan::Delete => 1,
-        Plan::Remake(size) => {
-            let data = (*size as usize).div_ceil(BLOCK_BYTES);
-            blocks_of(SHORTEST_ENTRY_BYTES, data).saturating_add(1)
-        }
-        Plan::Change(changes) => {
-            let written = match changes.writes {
-                1 => blocks_of(0, changes.blocks as usize),
-                writes => changes.blocks.saturating_add(writes) as usize,
-            };
-            let others = usize::from(changes.cut.is_some()) + usize::from(changes.attribute);
-            written.saturating_add(others)
-        }
+        Plan::Remake(changes) => least_of(SHORTEST_ENTRY_BYTES, changes).saturating_add(1),
+        Plan::Change(changes) => least_of(0, changes),
     }
+}
+
+// How many blocks changes append at least, by how many bytes of entries the newest journal block
+// has.
+fn least_of(filled: usize, changes: &Changes) -> usize {
+    let written = match changes.writes {
+        1 => blocks_of(filled, changes.blocks as usize),
+        writes => changes.blocks.saturating_add(writes) as usize,
+    };
+    let others = usize::from(changes.cut.is_some()) + usize::from(changes.attribute);
+    written.saturating_add(others)
 }
 
 // How many blocks a write of this many appends by how many bytes of entries the newest journal

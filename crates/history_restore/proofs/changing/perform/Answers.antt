@@ -1,16 +1,17 @@
-use Rattle.std.proofs.Common.{◌≡◌, ◌∙◌, ℕ, List, OnOk, Ok, Err, refl, sym, ap, subst}
+use Rattle.std.proofs.Common.{◌≡◌, ◌∙◌, ℕ, OnOk, Ok, Err, refl, sym, ap, subst}
 use Rattle.std.proofs.lemmas.Result.{err_from_is_err_and, on_ok_weaker}
 use Rattle.s4_types.specs.declared.changes.Change.TheVariants as change
 use Rattle.s4_types.specs.declared.requests.Request.TheVariants as request
 use Rattle.s4_types.specs.declared.requests.ObjectRequest.TheVariants as object_request
 use Rattle.s4_model.specs.Refusals.{present}
 use Rattle.drive.specs.Fields.{state_in}
-use Rattle.history_view.specs.Contents.{attribute_of, content_of as bytes_of}
 use Rattle.history_restore.specs.Asking.{AsksFor}
 use Rattle.history_restore.specs.declared.plans.Plan.{Plan}
-use Rattle.history_restore.specs.Content.{content_of, holding}
+use Rattle.history_restore.specs.Content.{content_of}
 use Rattle.history_restore.specs.Plans.{changes_by, number_by, next_by_plan, turned}
-use Rattle.history_restore.proofs.Patching.{written_over_none}
+use Rattle.history_restore.proofs.Contents.{any_remade}
+use Rattle.history_restore.specs.declared.plans.Plan.TheVariants.{Remake}
+use Rattle.s4_types.specs.declared.versions.Version.TheVariants.{Absent}
 use Rattle.history_restore.proofs.Planned.{asked_one}
 use Rattle.history_restore.proofs.changing.perform.Goals as goal
 
@@ -33,8 +34,9 @@ returns-in-Remake-clause-content g c =
     let later = state_in c.remake.new.drive in
     let o = c.args.object in
     let before = c.args.before.now in
+    let changes = c.in-Remake.changes in
     subst (λ (p : Plan). OnOk c.remake.result (content_of (present later (number_by p s.next o)) ≡ content_of (turned before c.args.runs.now p o 0 (present s o)))) (sym c.in-Remake.is)
-    (on_ok_weaker c.remake.result (λ (done : content_of (present later s.next) ≡ holding (bytes_of before) (attribute_of before)). done ∙ ap (λ (b : List ℕ). holding b (attribute_of before)) (sym (written_over_none (bytes_of before)))) c.remake.ensures.content)
+    (on_ok_weaker c.remake.result (λ (done : content_of (present later s.next) ≡ content_of (turned before c.args.runs.now (Remake changes) 0 0 Absent)). done ∙ ap content_of (any_remade before c.args.runs.now changes 0 o Absent (present s o))) c.remake.ensures.content)
 
 pub returns-in_ok-ask-in-Delete-clause-asked : goal.returns-in_ok-ask-in-Delete-clause-asked
 returns-in_ok-ask-in-Delete-clause-asked g c =
