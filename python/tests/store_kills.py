@@ -382,7 +382,7 @@ class Trial:
         bucket. A key has one head, or several where it was moved, of which each has a version.
         """
         pieces = sum(pieces_of(size, etag) for _, _, etag, size, is_latest in rows if is_latest and etag is not None)
-        right = {"B": 1, "P": pieces + parts, "U": records}
+        right = {"B": 1, "P": pieces + parts, "U": records, "S": self.drives}
         found = dict.fromkeys([*right, "H"], 0)
         for number in range(self.drives):
             for row in Image(image_path(self.folder, number), s4=self.programs.s4).list():

@@ -70,7 +70,9 @@ class Commands(unittest.TestCase):
                           "store/store.json.new", "store"])
         self.assertIn(f"serve it by: python3 -m s4d.store serve {self.store}", printed)
         folder = pathlib.Path(self.store)
-        self.assertEqual(json.loads((folder / "store.json").read_text()), {"version": 1, "drives": 1, "frames": 24, "keep": "1d"})
+        said = json.loads((folder / "store.json").read_text())
+        self.assertRegex(said.pop("id"), "^[0-9a-f]{16}$")
+        self.assertEqual(said, {"version": 1, "drives": 1, "frames": 24, "keep": "1d"})
         self.assertEqual([(folder / name).stat().st_mode & 0o777 for name in (".", "keys", "drives", "drives/00/doors/client")],
                          [0o700, 0o600, 0o700, 0o700])
         self.assertEqual([key.may_write for key in keys_in(str(folder / "keys")).values()], [True])
@@ -80,6 +82,7 @@ class Commands(unittest.TestCase):
         """Drives count once all are made. What a program left that was killed is made anew, and what was used stays."""
         self.init()
         settings, drives = pathlib.Path(self.store, "store.json"), pathlib.Path(self.store, "drives")
+        before = json.loads(settings.read_text())
         with mock.patch("s4d.store.adding.write_settings", side_effect=KeyboardInterrupt), self.assertRaises(KeyboardInterrupt):
             self.add(2)
         self.assertEqual(json.loads(settings.read_text())["drives"], 1)
@@ -89,7 +92,7 @@ class Commands(unittest.TestCase):
         status, printed, said = self.add(2)
         self.assertEqual((status, said), (0, ""))
         self.assertIn(f"{self.store} has 3 drives; what it has is moved to the new ones by: ", printed)
-        self.assertEqual(json.loads(settings.read_text()), {"version": 1, "drives": 3, "frames": 24, "keep": "1d"})
+        self.assertEqual(json.loads(settings.read_text()), {**before, "drives": 3})
         self.assertEqual(sorted(it.name for it in pathlib.Path(self.store).iterdir()), ["drives", "keys", "store.json"])
         self.assertEqual((drives / "02/doors/client").stat().st_mode & 0o777, 0o700)
         self.assertEqual(self.add(62)[::2], (1, f"s4store: {self.store} has 3 drives: it may have 64\n"))

@@ -18,6 +18,7 @@ def version(**changed):
 class Layout(unittest.TestCase):
     def test_attributes(self):
         self.assertEqual(layout.bucket_attribute("photos"), b"Bphotos")
+        self.assertEqual(layout.mark_attribute("0f" * 8, 12), b"S0f0f0f0f0f0f0f0f/12")
         self.assertEqual(layout.head_attribute("photos", "a/ü"), b"HMr_cVBp4RIM1JOLayajspfyR1e-lTR-NyjGnU57UgMQ")
         self.assertEqual(layout.piece_attribute("one", "two"), b"PoO9wxDRC1ASx7QBLZkk0hjPdow4v-sVHwpordTq6-ok")
         self.assertEqual({len(layout.piece_attribute("b" * 63, "k" * length)) for length in (1, 1_024)}, {44})
@@ -78,7 +79,8 @@ class Layout(unittest.TestCase):
                 microseconds(word)
         said = {"version": 1, "drives": 2, "frames": 24, "keep": "1w"}
         self.assertEqual(settings_of(said, "it"), Settings(2, 24, "1w"))
-        for name, value in (("version", 2), ("drives", 65), ("drives", True), ("frames", 23), ("keep", "soon"), ("keep", 5)):
+        self.assertEqual(settings_of({**said, "id": "0f" * 8}, "it"), Settings(2, 24, "1w", "0f" * 8))
+        for name, value in (("version", 2), ("id", 5), ("id", "0g" * 8), ("id", "0f"), ("drives", 65), ("drives", True), ("frames", 23), ("keep", "soon"), ("keep", 5)):
             with self.subTest(name=name, value=value), self.assertRaises(StoreFault):
                 settings_of({**said, name: value}, "it")
 

@@ -1,5 +1,6 @@
 """A store whose drives are programs, of a stand-in and, where they are built, of the drive itself: starts, ends, kills."""
 import asyncio
+import json
 import os
 import pathlib
 import signal
@@ -134,6 +135,37 @@ class Starts(Served):
         self.assertEqual(add_drives(self.folder, 1, self.programs), 3)
         self.run_store(move, look, go_on, look)
 
+    def test_drives_that_are_not_in_their_places(self):
+        """Nothing is deleted, and what is wrong is said; in their places they are served again."""
+        async def put(store):
+            if "one" not in store.index.buckets:
+                await store.create_bucket("one")
+            await store.put("one", "k", body(BYTES[:200_000]), {})
+
+        async def get(store):
+            self.assertEqual(await got(store, store.bucket("one").current("k")), BYTES[:200_000])
+
+        def swap():
+            for old, new in ((places[0], "other"), (places[1], places[0]), ("other", places[1])):
+                os.rename(f"{self.folder}/{old}", f"{self.folder}/{new}")
+
+        places = ["drives/00/image", "drives/01/image"]
+        self.run_store(put)
+        swap()
+        with self.assertRaisesRegex(StoreFault, "drive 0: .*drives/00/image is drive 1 of this store: put it where it belongs"):
+            self.run_store(get)
+        swap()
+        self.run_store(get)
+        os.rename(f"{self.folder}/store.json", f"{self.folder}/kept")
+        said = json.loads(pathlib.Path(self.folder, "kept").read_text(encoding="utf-8"))
+        for id in ("", "0" * 16):  # that of a store that was made before there were any, and another one's
+            pathlib.Path(self.folder, "store.json").write_text(json.dumps({**said, "id": id}), encoding="utf-8")
+            if id:
+                with self.assertRaisesRegex(StoreFault, "drives/00/image is a drive of another store: put it where it belongs"):
+                    self.run_store(get)
+            else:
+                self.run_store(get)
+
     @staticmethod
     async def once_served(work):
         """What comes of work once the drives answer again."""
@@ -222,6 +254,7 @@ class RealStarts(Real, Served):
     test_services_that_are_killed_start_again = Starts.test_services_that_are_killed_start_again
     test_moments_of_two_drives = Starts.test_moments_of_two_drives
     test_a_drive_more = Starts.test_a_drive_more
+    test_drives_that_are_not_in_their_places = Starts.test_drives_that_are_not_in_their_places
 
     def test_a_service_that_has_no_door_yet(self):
         """A start that was killed left it, while it waited for the machine's time: the next start waits for it, ends it, and serves."""

@@ -1,7 +1,7 @@
 """What a store's objects hold: attributes, heads, and lists of pieces. Nothing here asks a drive.
 
 An attribute says what an object is, and never changes: `B` and the bucket's name; `H` or `P`, head or piece, and the hash of
-bucket and key. A version of a key is one Write of its head, so it is seen whole or not at all. Contents that are short are
+bucket and key; `S`, the store's id and the drive's number. A version of a key is one Write of its head, so it is seen whole or not at all. Contents that are short are
 in the head; longer ones are in pieces, each of which the head names by drive, object and that object's own moment. A list
 that is too long for a head is in pieces itself, and so on: the depth says how often.
 """
@@ -73,6 +73,11 @@ class Version:
 
 def bucket_attribute(name: str) -> bytes:
     return b"B" + name.encode("ascii")
+
+
+def mark_attribute(store: str, drive: int) -> bytes:
+    """Of the object that says which drive of which store this is."""
+    return f"S{store}/{drive}".encode("ascii")
 
 
 def head_attribute(bucket: str, key: str) -> bytes:

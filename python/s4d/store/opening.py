@@ -7,9 +7,10 @@ import fcntl
 import os
 from typing import Awaitable, List, Optional
 
-from ..errors import Error
+from ..errors import Error, Refused
 from .contents import Pieces
 from .drives import DriveAway, StoreDrive
+from .layout import mark_attribute
 from .loading import IMAGES_AT_ONCE, Found, Loading, found_in
 from .service import Service, say
 from .settings import Programs, Settings, StoreFault, image_path, settings_in
@@ -40,10 +41,36 @@ class OpenStore:
         limit = asyncio.Semaphore(IMAGES_AT_ONCE)
         paths = [image_path(self.folder, number) for number in numbers]
         found = await asyncio.gather(*[found_in(path, self._programs.s4, limit) for path in paths])
+        unmarked = self._unmarked(found)
         await all_done([drive.start() for drive in self.drives])
+        await self._mark(unmarked)
         self.store = await self._loaded(found)
         self._looking = asyncio.ensure_future(self.store.look_after())
         return self.store
+
+    def _unmarked(self, found: List[Found]) -> List[StoreDrive]:
+        """The drives that don't say which they are. StoreFault where one says that it is another: nothing of it is deleted then."""
+        unmarked: List[StoreDrive] = []
+        for drive, image in zip(self.drives, found):
+            marks = [row.attribute for row in image.objects if row.attribute[:1] == b"S"]
+            right = mark_attribute(self.settings.id, drive.number)
+            if self.settings.id and marks and marks != [right] * len(marks):
+                store, _, number = marks[0][1:].decode("ascii", "replace").partition("/")
+                whose = f"drive {number} of this store" if store == self.settings.id else "a drive of another store"
+                raise StoreFault(f"drive {drive.number}: {image_path(self.folder, drive.number)} is {whose}: put it where it belongs")
+            unmarked += [] if marks or not self.settings.id else [drive]
+        return unmarked
+
+    async def _mark(self, drives: List[StoreDrive]) -> None:
+        """Makes the objects that say which drives these are. One without room goes without."""
+        async def mark(drive: StoreDrive) -> None:
+            with contextlib.suppress(Refused):
+                await drive.ask(lambda session: session.create(mark_attribute(self.settings.id, drive.number)))
+
+        try:
+            await all_done([mark(drive) for drive in drives])
+        except DriveAway as error:
+            raise StoreFault(f"{error}") from error
 
     async def _loaded(self, found: List[Found]) -> Store:
         pieces = Pieces(self.drives)

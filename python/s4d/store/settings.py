@@ -7,7 +7,7 @@ import os
 import re
 import secrets
 import subprocess
-from dataclasses import dataclass
+from dataclasses import dataclass, replace
 from typing import Any, Dict, List
 
 DRIVES = range(1, 65)  # how many a store may have
@@ -15,6 +15,7 @@ FRAMES = range(24, 1_025)
 VERSION = 1  # of the folder's layout
 UNITS = {"s": 1, "m": 60, "h": 3_600, "d": 86_400, "w": 604_800}
 DURATION = re.compile(r"([1-9][0-9]{0,8})([smhdw])")
+ID = re.compile("([0-9a-f]{16})?")
 LONGEST = 36_500 * 86_400 * 1_000_000  # microseconds of a duration: times after it still have a date
 ROLES = ("client", "admin")  # the doors of each drive
 
@@ -25,11 +26,14 @@ class StoreFault(Exception):
 
 @dataclass(frozen=True)
 class Settings:
-    """What a store was made with: how many drives of how many frames, and for how long they keep the past."""
+    """What a store was made with: how many drives of how many frames, and for how long they keep the past. Its id, which those
+    that were made first haven't, tells it from others.
+    """
 
     drives: int
     frames: int
     keep: str
+    id: str = ""
 
     @property
     def window(self) -> int:
@@ -85,7 +89,7 @@ def make_store(folder: str, settings: Settings, programs: Programs) -> None:
         write_new(keys_path(folder), keys_text())
         for path in (drives, folder, os.path.dirname(os.path.abspath(folder))):
             sync_folder(path)
-        write_settings(folder, settings)
+        write_settings(folder, replace(settings, id=secrets.token_hex(8)))
     except OSError as error:
         raise StoreFault(f"{error.filename or folder}: {error.strerror or error}") from error
 
@@ -109,7 +113,7 @@ def make_drive(folder: str, number: int, settings: Settings, programs: Programs)
 def write_settings(folder: str, settings: Settings) -> None:
     """Writes the file `store.json`, which is whole whenever it is there."""
     path = os.path.join(folder, "store.json")
-    said = {"version": VERSION, "drives": settings.drives, "frames": settings.frames, "keep": settings.keep}
+    said = {"version": VERSION, "drives": settings.drives, "frames": settings.frames, "keep": settings.keep, "id": settings.id}
     with contextlib.suppress(FileNotFoundError):
         os.unlink(f"{path}.new")  # of a program that was killed
     write_new(f"{path}.new", json.dumps(said) + "\n")
@@ -160,13 +164,15 @@ def settings_of(said: Any, path: str) -> Settings:
     faults = faults_of(said)
     if faults:
         raise StoreFault(f"{path}: {faults[0]}")
-    return Settings(said["drives"], said["frames"], said["keep"])
+    return Settings(said["drives"], said["frames"], said["keep"], said.get("id", ""))
 
 
 def faults_of(said: Dict[str, Any]) -> List[str]:
     """What is wrong with the numbers of a store."""
     faults = [f"{name} is no number from {known[0]} to {known[-1]}" for name, known in (("drives", DRIVES), ("frames", FRAMES))
               if type(said.get(name)) is not int or said[name] not in known]
+    if not isinstance(said.get("id", ""), str) or ID.fullmatch(said.get("id", "")) is None:
+        faults.append("id is none of a store")
     try:
         microseconds(str(said.get("keep")))
     except ValueError as error:
