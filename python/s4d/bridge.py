@@ -164,12 +164,7 @@ class Bridge:
                 unanswered -= 1
                 self._pace.answered(account)
             self._count(counts, asked, said, seconds)
-            became: Said = {"lost": True} if said is None else said
-            line: Dict[str, Any] = {"event": "request", **shared, "request": asked.kind, **asked.named, **became, "seconds": round(seconds, 6)}
-            if "refusal" in became:
-                self._refusals.note("refused", client.role, client.who, str(became["refusal"]), line)
-            else:
-                self._log.write(**line)
+            self._log_request(client, shared, asked, said, seconds)
 
         async def pass_on(asked: Asked, size: int) -> None:
             nonlocal unanswered
@@ -191,6 +186,14 @@ class Bridge:
             self._log.write(event="session", **shared, end=end, requests=requests,
                             seconds=round(time.monotonic() - session.began, 6))
         return end
+
+    def _log_request(self, client: Client, shared: Dict[str, Any], asked: Asked, said: Optional[Said], seconds: float) -> None:
+        became: Said = {"lost": True} if said is None else said
+        line: Dict[str, Any] = {"event": "request", **shared, "request": asked.kind, **asked.named, **became, "seconds": round(seconds, 6)}
+        if "refusal" in became:
+            self._refusals.note("refused", client.role, client.who, str(became["refusal"]), line)
+        else:
+            self._log.write(**line)
 
     @staticmethod
     def _count(counts: Counts, asked: Asked, said: Optional[Said], seconds: float) -> None:
