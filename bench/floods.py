@@ -326,6 +326,12 @@ def beside(way, frames, seconds, share):
           f"{then:.0f} once its share is used up ({then / alone:.2f}, {longest_then * 1000:.0f} ms)", flush=True)
 
 
+def end(*_):
+    """Ends what was begun, also where more signals come meanwhile."""
+    signal.signal(signal.SIGTERM, signal.SIG_IGN)
+    sys.exit(1)
+
+
 def option(words, name, default):
     if name not in words:
         return default
@@ -341,7 +347,7 @@ def main(words):
         return 0
     if words[:1] == ["--flood"]:
         Flood(words[1], words[2], float(words[3])).run()
-    signal.signal(signal.SIGTERM, lambda *_: sys.exit(1))  # so that what was begun is ended
+    signal.signal(signal.SIGTERM, end)
     words = list(words)
     frames, seconds = int(option(words, "--frames", "1024")), float(option(words, "--seconds", "5"))
     share, part, is_good = option(words, "--share", SHARE), option(words, "--part", None), True
