@@ -22,7 +22,7 @@ from .plain_drive import PlainDrive
 from .served import Served, restore_words
 from .test_sockets import Served as Plain
 
-HISTORIES = int(os.environ.get("RESTORE_HISTORIES", "30"))
+HISTORIES = int(os.environ.get("RESTORE_HISTORIES", "8"))
 
 
 class Plans(unittest.TestCase):
