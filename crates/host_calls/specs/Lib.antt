@@ -1,3 +1,4 @@
 pub mod Events
 pub mod Note
 pub mod Replay
+pub mod Worlds

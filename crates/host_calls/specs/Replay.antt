@@ -1,5 +1,5 @@
 -- What calls leave, from what was there before the first of them.
-use Rattle.std.specs.Prelude.{◌≡◌, ◌⊎◌, ◌==◌, ◌++◌, ℕ, zero, suc, Bool, true, false, if◌then◌else◌, List, [], ◌∷◌, length, Option, None, Some, ⊤, codes}
+use Rattle.std.specs.Prelude.{◌≡◌, ◌⊎◌, ◌==◌, ◌||◌, ◌++◌, ℕ, zero, suc, Bool, true, false, if◌then◌else◌, List, [], ◌∷◌, length, Option, None, Some, ⊤, codes}
 use Rattle.std.specs.Str.{bytes_eq}
 use Rattle.std.specs.Path.{path_parent}
 use Rattle.host_calls.specs.Events.{Answer, Done, Short, Unsupported, Failed, Event, Made, Written, Cut, Synced, Renamed, Linked, Removed, FolderSynced, Locked, Owned, ModeSet}
@@ -22,22 +22,21 @@ pub record World : Type 0 where
   pub others : List ℕ → List Lying
   -- where the file of a number is
   pub place : ℕ → Option (List ℕ)
+  -- a sync has failed: what was written may be lost, also where a later one doesn't
+  pub failed : Bool
 
 -- before the first call
 abbrev pub begun : World
-begun = record { named = Before; others = λ path. []; place = λ number. None }
+begun = record { named = Before; others = λ path. []; place = λ number. None; failed = false }
 
--- where nothing is known any more
-abbrev pub forgotten : World
-forgotten = record { named = λ path. Unknown; others = λ path. []; place = λ number. None }
+-- Nothing is known any more.
+abbrev pub forgotten : World → World
+forgotten w = record w { named = λ path. Unknown; others = λ path. []; place = λ number. None }
 
--- the same but at one path
-abbrev pub set_at : {A : Type 0} → List ℕ → A → (List ℕ → A) → List ℕ → A
-set_at path x f other = if bytes_eq path other then x else f other
-
--- one more may have a path's name after a crash
-abbrev pub with_other : List ℕ → Lying → (List ℕ → List Lying) → List ℕ → List Lying
-with_other path x others = set_at path (x ∷ others path) others
+-- where the file of a number is; 0 is no file's that is followed
+abbrev pub place_of : World → ℕ → Option (List ℕ)
+place_of w zero = None
+place_of w (suc n) = w.place (suc n)
 
 -- a place, where it isn't this path
 abbrev pub unless_at : List ℕ → Option (List ℕ) → Option (List ℕ)
@@ -49,22 +48,17 @@ abbrev pub moved : (from to : List ℕ) → Option (List ℕ) → Option (List �
 moved from to None = None
 moved from to (Some other) = if bytes_eq from other then Some to else Some other
 
--- where the file of a number is; 0 is no file's that is followed
-abbrev pub place_of : World → ℕ → Option (List ℕ)
-place_of w zero = None
-place_of w (suc n) = w.place (suc n)
-
--- what was written or cut, and isn't known any more
-abbrev pub spoiled : Lying → Lying
-spoiled (Whole lasts bytes) = Front []
-spoiled (Front bytes) = Front []
-spoiled _ = Unknown
-
 -- bytes were written at an offset
 abbrev pub written : (at : ℕ) → List ℕ → Lying → Lying
 written at bytes (Whole lasts before) = if at == length before then Whole false (before ++ bytes) else if at == 0 then Front bytes else Front []
 written at bytes (Front before) = if at == length before then Front (before ++ bytes) else if at == 0 then Front bytes else Front []
 written at bytes _ = Unknown
+
+-- a write at an offset failed: what is before that stays
+abbrev pub unwritten : (at : ℕ) → Lying → Lying
+unwritten at (Whole lasts before) = if at == length before then Front before else Front []
+unwritten at (Front before) = if at == length before then Front before else Front []
+unwritten at _ = Unknown
 
 -- a file got a length
 abbrev pub cut : (len : ℕ) → Lying → Lying
@@ -72,50 +66,68 @@ cut len (Whole lasts before) = if len == length before then Whole false before e
 cut len (Front before) = if len == length before then Whole false before else if len == 0 then Whole false [] else Front []
 cut len _ = Unknown
 
+-- it may have got another one
+abbrev pub uncut : Lying → Lying
+uncut (Whole lasts before) = Front []
+uncut (Front before) = Front []
+uncut _ = Unknown
+
 -- a file was synced
 abbrev pub settled : Lying → Lying
 settled (Whole lasts bytes) = Whole true bytes
 settled x = x
 
+-- what is at a path is changed in this way
+abbrev pub changed_at : (Lying → Lying) → List ℕ → World → World
+changed_at how path w = record w { named = λ other. if bytes_eq path other then how (w.named other) else w.named other }
+
 -- What is at a place is changed in this way. Where it isn't known which file is, nothing is known any more.
 abbrev pub changed : (Lying → Lying) → Option (List ℕ) → World → World
-changed how None w = forgotten
-changed how (Some path) w = record w { named = set_at path (how (w.named path)) w.named }
+changed how None w = forgotten w
+changed how (Some path) w = changed_at how path w
 
 -- what is at a place was synced
 abbrev pub synced_at : Option (List ℕ) → World → World
 synced_at None w = w
-synced_at (Some path) w = record w { named = set_at path (settled (w.named path)) w.named }
+synced_at (Some path) w = changed_at settled path w
+
+-- what may have a path's name after a crash, once what has the name of this one hasn't any more
+abbrev pub left_at : List ℕ → World → List ℕ → List Lying
+left_at path w other = if bytes_eq path other then w.named other ∷ w.others other else w.others other
 
 -- a file was made at a path, with this number
 abbrev pub made_at : List ℕ → ℕ → World → World
-made_at path number w = record {
-  named = set_at path (Whole false []) w.named;
-  others = with_other path (w.named path) w.others;
+made_at path number w = record w {
+  named = λ other. if bytes_eq path other then Whole false [] else w.named other;
+  others = left_at path w;
   place = λ n. if n == number then Some path else unless_at path (w.place n);
 }
 
 -- what is at a path got another name as well
 abbrev pub linked_to : (from to : List ℕ) → World → World
-linked_to from to w = record {
-  named = set_at to (w.named from) w.named;
-  others = with_other to (w.named to) w.others;
+linked_to from to w = record w {
+  named = λ other. if bytes_eq to other then w.named from else w.named other;
+  others = left_at to w;
   place = λ n. unless_at from (unless_at to (w.place n));
 }
 
 -- what is at a path got another name in place of its own
 abbrev pub renamed_to : (from to : List ℕ) → World → World
-renamed_to from to w = record {
-  named = set_at to (w.named from) (set_at from Nothing w.named);
-  others = with_other to (w.named to) (with_other from (w.named from) w.others);
+renamed_to from to w = record w {
+  named = λ other. if bytes_eq to other then w.named from else if bytes_eq from other then Nothing else w.named other;
+  others = λ other. if bytes_eq to other || bytes_eq from other then w.named other ∷ w.others other else w.others other;
   place = λ n. moved from to (unless_at to (w.place n));
 }
 
+-- what is at a path may have got another name
+abbrev pub maybe_at : (from to : List ℕ) → World → World
+maybe_at from to w = record w { others = λ other. if bytes_eq to other then w.named from ∷ w.others other else w.others other }
+
 -- what was at a path has its name no more
 abbrev pub removed_at : List ℕ → World → World
-removed_at path w = record {
-  named = set_at path Nothing w.named;
-  others = with_other path (w.named path) w.others;
+removed_at path w = record w {
+  named = λ other. if bytes_eq path other then Nothing else w.named other;
+  others = left_at path w;
   place = λ n. unless_at path (w.place n);
 }
 
@@ -133,26 +145,31 @@ folder_path path = folder_by path (path_parent path)
 abbrev pub names_synced : List ℕ → World → World
 names_synced folder w = record w { others = λ path. if bytes_eq folder (folder_path path) then [] else w.others path }
 
--- A call. A folder whose names the file system doesn't sync is taken for one whose names last.
+-- A call. No sync counts after one that failed. A folder whose names the file system doesn't sync is taken for one whose names last.
 abbrev pub after : Event → World → World
 after (Made path number true) w = made_at path number w
 after (Made path number false) w = w
 after (Written number at bytes true) w = changed (written at bytes) (place_of w number) w
-after (Written number at bytes false) w = changed spoiled (place_of w number) w
+after (Written number at bytes false) w = changed (unwritten at) (place_of w number) w
 after (Cut number len true) w = changed (cut len) (place_of w number) w
-after (Cut number len false) w = changed spoiled (place_of w number) w
-after (Synced number true) w = synced_at (place_of w number) w
-after (Synced number false) w = record w { place = λ n. if n == number then None else w.place n }
+after (Cut number len false) w = changed uncut (place_of w number) w
+after (Synced number true) w = if w.failed then w else synced_at (place_of w number) w
+after (Synced number false) w = record w { failed = true }
 after (Renamed from to Done) w = renamed_to from to w
 after (Renamed from to Short) w = w
-after (Renamed from to _) w = record w { others = with_other to (w.named from) w.others }
+after (Renamed from to Unsupported) w = maybe_at from to w
+after (Renamed from to Failed) w = maybe_at from to w
 after (Linked from to true) w = linked_to from to w
-after (Linked from to false) w = record w { others = with_other to (w.named from) w.others }
+after (Linked from to false) w = maybe_at from to w
 after (Removed path true) w = removed_at path w
 after (Removed path false) w = w
-after (FolderSynced folder Failed) w = w
-after (FolderSynced folder _) w = names_synced folder w
-after _ w = w
+after (FolderSynced folder Done) w = if w.failed then w else names_synced folder w
+after (FolderSynced folder Unsupported) w = if w.failed then w else names_synced folder w
+after (FolderSynced folder Short) w = record w { failed = true }
+after (FolderSynced folder Failed) w = record w { failed = true }
+after (Locked number ok) w = w
+after (Owned number ok) w = w
+after (ModeSet number ok) w = w
 
 -- the world after these calls, of which the newest comes first
 unfoldable pub replay : List Event → World

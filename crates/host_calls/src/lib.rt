@@ -15,7 +15,12 @@
 mod calls;
 mod host;
 mod record;
+mod steps;
 
 pub use calls::Calls;
 pub use host::{HostCalls, HostFile, HostFolder};
 pub use record::Record;
+pub use steps::{
+    fill_file, give_file, link_file, lock_file, make_file, remove_file, rename_file, set_file_mode,
+    sync_file, sync_names,
+};
