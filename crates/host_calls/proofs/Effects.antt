@@ -8,7 +8,7 @@ use Rattle.std.proofs.Math.Seq.{take-add, take-length}
 use Rattle.std.proofs.lemmas.Bool.Decides.{Decides-eqb}
 use Rattle.host_calls.specs.Events.{Answer, Done, Short, Unsupported, Failed, Event, Made, Written, Cut, Synced, Renamed, Linked, Removed, FolderSynced}
 use Rattle.host_calls.specs.Replay.{Lying, Before, Whole, Front, Nothing, Unknown, World, place_of, unless_at, written, unwritten, cut, uncut, settled, changed_at, changed, synced_at, left_at, made_at, linked_to, renamed_to, maybe_at, removed_at, names_synced, folder_path, after, replay, Leaves, LeavesOne, MayLeave}
-use Rattle.host_calls.specs.Worlds.{IsFile, IsAt, Begins, HasBytes, SameAt, SameNames, AddsNone, AddsOnly, IsWriting, GoesOn}
+use Rattle.host_calls.specs.Worlds.{IsFile, IsAt, Begins, HasBytes, SameAt, SameNames, AddsNone, AddsOnly, IsWriting, GoesOn, ChangesOnly, SamePlaces}
 
 -- the world after one more call
 pub replayed : (new old : List Event) (call : Event) → new ≡ call ∷ old → replay new ≡ after call (replay old)
@@ -517,3 +517,71 @@ remove_others path false w q n = record { named = refl; others = refl }
 pub remove_failed : (path : List ℕ) (ok : Bool) (w : World) → (after (Removed path ok) w).failed ≡ w.failed
 remove_failed path true w = refl
 remove_failed path false w = refl
+
+pub changes_none : (n : ℕ) (w : World) → ChangesOnly n w w
+changes_none n w = record { at = λ path at. at; others = λ path other at ne. record { named = refl; others = refl }; failed = refl }
+
+pub changes_then : (n : ℕ) (w v u : World) → ChangesOnly n w v → ChangesOnly n v u → ChangesOnly n w u
+changes_then n w v u one two = record {
+  at = λ path at. two.at path (one.at path at);
+  others = λ path other at ne. same_then w v u other (one.others path other at ne) (two.others path other (one.at path at) ne);
+  failed = two.failed ∙ one.failed;
+}
+
+changed_only : (how : Lying → Lying) (n : ℕ) (w : World) → ((x : Lying) → IsFile x → IsFile (how x)) → ChangesOnly n w (changed how (place_of w n) w)
+changed_only how n w files = record {
+  at = λ path at.
+      let so = is_changed how w n path at in
+      record { place = so.place n path at.place; file = rw so.here (files (w.named path) at.file) };
+  others = λ path other at ne. (is_changed how w n path at).there other ne;
+  failed = changed_failed how (place_of w n) w;
+}
+
+pub written_only : (n at : ℕ) (bytes : List ℕ) (w : World) → ChangesOnly n w (after (Written n at bytes true) w)
+written_only n at bytes w = changed_only (written at bytes) n w (file_written at bytes)
+
+pub unwritten_only : (n at : ℕ) (bytes : List ℕ) (w : World) → ChangesOnly n w (after (Written n at bytes false) w)
+unwritten_only n at bytes w = changed_only (unwritten at) n w (file_unwritten at)
+
+file_settled_if : (t : Bool) (x : Lying) → IsFile x → IsFile (if t then settled x else x)
+file_settled_if true x h = file_settled x h
+file_settled_if false x h = h
+
+synced_place : (place : Option (List ℕ)) (w : World) → SamePlaces w (synced_at place w)
+synced_place None w n path at = at
+synced_place (Some other) w n path at = record {
+  place = changed_place settled other w n path at.place;
+  file = file_settled_if (bytes_eq other path) (w.named path) at.file;
+}
+
+if_failed_place : (t : Bool) (w v : World) → SamePlaces w v → SamePlaces w (if t then w else v)
+if_failed_place true w v h = λ n path at. at
+if_failed_place false w v h = h
+
+pub sync_place : (n : ℕ) (ok : Bool) (w : World) → SamePlaces w (after (Synced n ok) w)
+sync_place n true w = if_failed_place w.failed w (synced_at (place_of w n) w) (synced_place (place_of w n) w)
+sync_place n false w = λ m path at. record { place = same_place w (after (Synced n false) w) m path (λ k. refl) at.place; file = at.file }
+
+-- Where a rename isn't done, all files stay where they are.
+pub rename_place : (from to : List ℕ) (answer : Answer) (w : World) → (answer ≡ Done → ⊥) → SamePlaces w (after (Renamed from to answer) w)
+rename_place from to Done w n = absurd (n refl)
+rename_place from to Short w n = λ m path at. at
+rename_place from to Unsupported w n = λ m path at. record { place = same_place w (maybe_at from to w) m path (λ k. refl) at.place; file = at.file }
+rename_place from to Failed w n = λ m path at. record { place = same_place w (maybe_at from to w) m path (λ k. refl) at.place; file = at.file }
+
+link_from_test : (t : Bool) (x : Lying) → (if t then x else x) ≡ x
+link_from_test true x = refl
+link_from_test false x = refl
+
+-- What got another name has its own as well.
+pub link_from : (from to : List ℕ) (ok : Bool) (w : World) → (after (Linked from to ok) w).named from ≡ w.named from
+link_from from to true w = link_from_test (bytes_eq to from) (w.named from)
+link_from from to false w = refl
+
+adds_or : (was : List ℕ → List ℕ → Type 0) (x : Lying) (w v : World) (path c : List ℕ) → AddsOnly was x w v → MayLeave was v path c ⊎ Leaves was x c → MayLeave was w path c ⊎ Leaves was x c
+adds_or was x w v path c one (inl h) = one path c h
+adds_or was x w v path c one (inr h) = inr h
+
+-- what a crash leaves after two steps, of which each adds no more than this
+pub adds_then : (was : List ℕ → List ℕ → Type 0) (x : Lying) (w v u : World) → AddsOnly was x w v → AddsOnly was x v u → AddsOnly was x w u
+adds_then was x w v u one two path c h = adds_or was x w v path c one (two path c h)

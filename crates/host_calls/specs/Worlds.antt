@@ -58,3 +58,13 @@ pub record IsWriting (number done : ℕ) (bytes path : List ℕ) (w w' : World) 
 -- Wherever a file is being written and so many of its bytes are, so many are after this.
 pub record GoesOn (number done done' : ℕ) (bytes : List ℕ) (w w' : World) : Type 0 where
   pub on : (path : List ℕ) (start : World) → IsWriting number done bytes path start w → IsWriting number done' bytes path start w'
+
+-- Wherever the file of a number is, it stays there, and all other paths are as they were.
+pub record ChangesOnly (number : ℕ) (w w' : World) : Type 0 where
+  pub at : (path : List ℕ) → IsAt w number path → IsAt w' number path
+  pub others : (path other : List ℕ) → IsAt w number path → other ≢ path → SameAt w w' other
+  pub failed : w'.failed ≡ w.failed
+
+-- The files of all numbers are where they were.
+abbrev pub SamePlaces : (w w' : World) → Type 0
+SamePlaces w w' = (number : ℕ) (path : List ℕ) → IsAt w number path → IsAt w' number path

@@ -22,5 +22,5 @@ pub use host::{HostCalls, HostFile, HostFolder};
 pub use record::Record;
 pub use steps::{
     fill_file, give_file, link_file, lock_file, make_file, remove_file, rename_file, set_file_mode,
-    sync_file, sync_names,
+    sync_file, sync_names, write_zeros,
 };

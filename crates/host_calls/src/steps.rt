@@ -4,7 +4,8 @@ ghost use Rattle.std.specs.Prelude.{IfErr, IfOk, OnErr, OnOk, is_ok};
 ghost use Rattle.host_calls.specs.Events.{Short, refusal_of};
 ghost use Rattle.host_calls.specs.Replay.{World, folder_path, replay};
 ghost use Rattle.host_calls.specs.Worlds.{AddsNone, AddsOnly, GoesOn, HasBytes, HasLasting, IsAt};
-ghost use Rattle.host_calls.specs.Worlds.{IsWriting, SameAt, SameNames};
+ghost use Rattle.host_calls.specs.Worlds.{ChangesOnly, IsWriting, SameAt, SameNames};
+ghost use Rattle.host_calls.specs.Worlds.{SamePlaces};
 
 use crate::calls::Calls;
 use std::fs::{Permissions, TryLockError};
@@ -114,14 +115,59 @@ pub fn fill_file<C: Calls>(calls: &mut C, file: &C::File, bytes: &[u8]) -> io::R
     Ok(())
 }
 
+/// Writes a piece at an offset, and says how much of it.
+#[tactic(auto, using(crate::proofs::Effects::written_only, crate::proofs::Effects::unwritten_only), unfolding(crate::specs::Replay::replay))]
+fn write_piece<C: Calls>(
+    calls: &mut C,
+    file: &C::File,
+    at: usize,
+    piece: &[u8],
+) -> io::Result<usize>
+    ensures count { IfOk result (λ more. more ≤ length piece.now) }
+    ensures only { ChangesOnly (C.number file.now) (replay (C.history calls.old))
+        (replay (C.history calls.new)) }
+{
+    let more = calls.write_at(file, at as u64, piece)?;
+    Ok(more)
+}
+
+/// Gives a file that was made this many zeros, of which so many are at hand, so that the disk has
+/// room for them then.
+#[tactic(auto, using(crate::proofs::Effects::changes_none, crate::proofs::Effects::changes_then))]
+pub fn write_zeros<C: Calls>(
+    calls: &mut C,
+    file: &C::File,
+    zeros: &[u8],
+    count: usize,
+) -> io::Result<()>
+    ensures { ChangesOnly (C.number file.now) (replay (C.history calls.old))
+        (replay (C.history calls.new)) }
+{
+    let mut done = 0;
+    for _ in 0..u64::MAX {
+        if done >= count {
+            return Ok(());
+        }
+        let part = zeros.len().min(count - done);
+        match write_piece(calls, file, done, &zeros[..part]) {
+            Ok(0) => return Err(io::Error::from(io::ErrorKind::WriteZero)),
+            Ok(more) => done = done.saturating_add(more),
+            Err(error) if error.kind() == io::ErrorKind::Interrupted => {}
+            Err(error) => return Err(error),
+        }
+    }
+    Err(io::Error::from(io::ErrorKind::Interrupted))
+}
+
 /// Writes all bytes of a file that was made to the disk.
-#[tactic(auto, using(crate::proofs::Effects::sync_adds, crate::proofs::Effects::sync_keeps, crate::proofs::Effects::sync_failed), unfolding(crate::specs::Replay::replay))]
+#[tactic(auto, using(crate::proofs::Effects::sync_adds, crate::proofs::Effects::sync_place, crate::proofs::Effects::sync_failed), unfolding(crate::specs::Replay::replay))]
 pub fn sync_file<C: Calls>(calls: &mut C, file: &C::File) -> io::Result<()>
     // After a sync that failed nothing is known to last.
     ensures lasting { OnOk result ((replay (C.history calls.old)).failed ≡ false
         → (path bytes : List ℕ) → IsAt (replay (C.history calls.old)) (C.number file.now) path
         → HasBytes (replay (C.history calls.old)) path bytes
         → HasLasting (replay (C.history calls.new)) path bytes) }
+    ensures places { SamePlaces (replay (C.history calls.old)) (replay (C.history calls.new)) }
     ensures kept { (path bytes : List ℕ) → HasBytes (replay (C.history calls.old)) path bytes
         → HasBytes (replay (C.history calls.new)) path bytes }
     ensures crash { AddsNone C.was (replay (C.history calls.old)) (replay (C.history calls.new)) }
@@ -139,6 +185,8 @@ pub fn rename_file<C: Calls>(calls: &mut C, from: &str, to: &str) -> io::Result<
         ≡ (replay (C.history calls.old)).named from.now) }
     ensures refused { OnErr result
         (SameNames (replay (C.history calls.old)) (replay (C.history calls.new))) }
+    ensures places { OnErr result
+        (SamePlaces (replay (C.history calls.old)) (replay (C.history calls.new))) }
     ensures crash { AddsOnly C.was ((replay (C.history calls.old)).named from.now)
         (replay (C.history calls.old)) (replay (C.history calls.new)) }
     ensures short { IfErr result (λ e. refusal_of e ≡ Short
@@ -169,8 +217,10 @@ pub fn sync_names<C: Calls>(calls: &mut C, folder: &C::Folder) -> io::Result<()>
 }
 
 /// Gives what is at a path another one as well, at which nothing is.
-#[tactic(auto, using(crate::proofs::Effects::link_adds, crate::proofs::Effects::link_others, crate::proofs::Effects::link_failed), unfolding(crate::specs::Replay::replay))]
+#[tactic(auto, using(crate::proofs::Effects::link_adds, crate::proofs::Effects::link_from, crate::proofs::Effects::link_others, crate::proofs::Effects::link_failed), unfolding(crate::specs::Replay::replay))]
 pub fn link_file<C: Calls>(calls: &mut C, from: &str, to: &str) -> io::Result<()>
+    ensures from { (replay (C.history calls.new)).named from.now
+        ≡ (replay (C.history calls.old)).named from.now }
     ensures others { (other : List ℕ) → other ≢ to.now
         → SameAt (replay (C.history calls.old)) (replay (C.history calls.new)) other }
     ensures crash { AddsOnly C.was ((replay (C.history calls.old)).named from.now)
