@@ -16,6 +16,8 @@ mod calls;
 mod host;
 mod record;
 mod steps;
+#[cfg(test)]
+mod tests;
 
 pub use calls::Calls;
 pub use host::{HostCalls, HostFile, HostFolder};
