@@ -573,6 +573,9 @@ link_from_test : (t : Bool) (x : Lying) → (if t then x else x) ≡ x
 link_from_test true x = refl
 link_from_test false x = refl
 
+pub link_names : (from to : List ℕ) (w : World) → (after (Linked from to true) w).named to ≡ w.named from
+link_names from to w = here to (w.named from) (w.named to)
+
 -- What got another name has its own as well.
 pub link_from : (from to : List ℕ) (ok : Bool) (w : World) → (after (Linked from to ok) w).named from ≡ w.named from
 link_from from to true w = link_from_test (bytes_eq to from) (w.named from)

@@ -217,8 +217,10 @@ pub fn sync_names<C: Calls>(calls: &mut C, folder: &C::Folder) -> io::Result<()>
 }
 
 /// Gives what is at a path another one as well, at which nothing is.
-#[tactic(auto, using(crate::proofs::Effects::link_adds, crate::proofs::Effects::link_from, crate::proofs::Effects::link_others, crate::proofs::Effects::link_failed), unfolding(crate::specs::Replay::replay))]
+#[tactic(auto, using(crate::proofs::Effects::link_adds, crate::proofs::Effects::link_from, crate::proofs::Effects::link_names, crate::proofs::Effects::link_others, crate::proofs::Effects::link_failed), unfolding(crate::specs::Replay::replay))]
 pub fn link_file<C: Calls>(calls: &mut C, from: &str, to: &str) -> io::Result<()>
+    ensures named { OnOk result ((replay (C.history calls.new)).named to.now
+        ≡ (replay (C.history calls.old)).named from.now) }
     ensures from { (replay (C.history calls.new)).named from.now
         ≡ (replay (C.history calls.old)).named from.now }
     ensures others { (other : List ℕ) → other ≢ to.now
@@ -228,7 +230,8 @@ pub fn link_file<C: Calls>(calls: &mut C, from: &str, to: &str) -> io::Result<()
     ensures failed { (replay (C.history calls.new)).failed
         ≡ (replay (C.history calls.old)).failed }
 {
-    calls.link(from, to)
+    calls.link(from, to)?;
+    Ok(())
 }
 
 /// Removes what is at a path.
