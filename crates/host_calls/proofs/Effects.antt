@@ -6,8 +6,8 @@ use Rattle.std.proofs.lemmas.Bool.{false_from_ne_true}
 use Rattle.std.proofs.lemmas.List.{length-take-le, length-drop}
 use Rattle.std.proofs.Math.Seq.{take-add, take-length}
 use Rattle.std.proofs.lemmas.Bool.Decides.{Decides-eqb}
-use Rattle.host_calls.specs.Events.{Answer, Done, Short, Unsupported, Failed, Event, Made, Written, Cut, Synced, Renamed, Linked, Removed, FolderSynced}
-use Rattle.host_calls.specs.Replay.{Lying, Before, Whole, Front, Nothing, Unknown, World, place_of, unless_at, written, unwritten, cut, uncut, settled, changed_at, changed, synced_at, left_at, made_at, linked_to, renamed_to, maybe_at, removed_at, names_synced, folder_path, after, replay, Leaves, LeavesOne, MayLeave}
+use Rattle.host_calls.specs.Events.{Answer, Done, Short, Unsupported, Failed, Event, Written, Cut, Synced, Renamed, Linked, Removed, FolderSynced}
+use Rattle.host_calls.specs.Replay.{Lying, Before, Whole, Front, Nothing, Unknown, World, place_of, unless_at, written, unwritten, cut, uncut, settled, changed_at, changed, synced_at, made_at, maybe_at, names_synced, folder_path, after, replay, Leaves, LeavesOne, MayLeave}
 use Rattle.host_calls.specs.Worlds.{IsFile, IsAt, Begins, HasBytes, SameAt, SameNames, AddsNone, AddsOnly, IsWriting, GoesOn, ChangesOnly, SamePlaces}
 
 -- the world after one more call

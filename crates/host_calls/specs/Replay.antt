@@ -2,7 +2,7 @@
 use Rattle.std.specs.Prelude.{◌≡◌, ◌⊎◌, ◌==◌, ◌||◌, ◌++◌, ℕ, zero, suc, Bool, true, false, if◌then◌else◌, List, [], ◌∷◌, length, Option, None, Some, ⊤, codes}
 use Rattle.std.specs.Str.{bytes_eq}
 use Rattle.std.specs.Path.{path_parent}
-use Rattle.host_calls.specs.Events.{Answer, Done, Short, Unsupported, Failed, Event, Made, Written, Cut, Synced, Renamed, Linked, Removed, FolderSynced, Locked, Owned, ModeSet}
+use Rattle.host_calls.specs.Events.{Done, Short, Unsupported, Failed, Event, Made, Written, Cut, Synced, Renamed, Linked, Removed, FolderSynced, Locked, Owned, ModeSet}
 
 -- what has a path's name
 pub data Lying : Type 0 where

@@ -1,5 +1,4 @@
 use Rattle.std.proofs.Common.{◌∙◌}
-use Rattle.host_calls.specs.Replay.{replay}
 use Rattle.host_calls.proofs.steps.write_front.Goals.{in-Ok, in-Err}
 use Rattle.host_calls.proofs.steps.write_front.Goals as goal
 
