@@ -1,0 +1,4 @@
+pub mod Events
+pub mod Note
+pub mod Replay
+pub mod Worlds
