@@ -46,6 +46,7 @@ impl<F> From<AllocError> for NoCommand<F> {
 /// What a refusal of the parser means.
 pub fn refused<F>(error: clap::Error) -> NoCommand<F>
     ensures meaning { result ≡ meaning_of (kind_of error) error }
+    ensures memory { kind_of error ≡ ErrorKind.OutOfMemory → result ≡ NoCommand.NoMemory }
     ensures refused { (kinds : Kinds) → HasKind kinds error → IsRefusedBy kinds result }
 {
     match error.kind() {
