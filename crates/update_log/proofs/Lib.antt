@@ -1,0 +1,10 @@
+pub mod Nonzeros
+pub mod Masking
+pub mod Laying
+pub mod Recording
+pub mod Choices
+pub mod Heading
+pub mod Following
+pub mod Parting
+pub mod Writing
+pub mod Clearing

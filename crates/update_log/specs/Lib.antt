@@ -1,0 +1,6 @@
+pub mod Sectors
+pub mod Records
+pub mod Tails
+pub mod Headers
+pub mod Logs
+pub mod Kept
