@@ -271,11 +271,12 @@ class RealStarts(Real, Served):
 
         self.run_store(put)
         doors = [f"--door={role}={self.folder}/drives/00/doors/{role}" for role in ("client", "admin")]
-        with subprocess.Popen([S4SERVE, *doors, image_path(self.folder, 0)], stderr=subprocess.PIPE, text=True) as left:
-            self.addCleanup(left.kill)
-            self.assertIn("that is waited for, 10 s", left.stderr.readline())
-            with mock.patch("s4d.store.service.say") as say:
-                self.run_store(get)
+        left = subprocess.Popen([S4SERVE, *doors, image_path(self.folder, 0)], stderr=subprocess.PIPE, text=True)
+        self.addCleanup(left.communicate)
+        self.addCleanup(left.kill)  # before it is waited for, also where this test fails
+        self.assertIn("that is waited for", left.stderr.readline())
+        with mock.patch("s4d.store.service.say") as say:
+            self.run_store(get)
         self.assertTrue([line for line, in (it[0] for it in say.call_args_list) if line.endswith(SERVED)])
     once_served = staticmethod(Starts.once_served)
 
