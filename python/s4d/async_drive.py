@@ -10,7 +10,7 @@ from . import wire
 from .addresses import Address, address_of
 from .connection import ENDED
 from .errors import BadReply, Disconnected, NotAsked, Refused, ReplyLost
-from .history import Search, Span, history_of
+from .history import Search, Span, history_of, shown_before
 from .moments import When, moment_of
 from .pieces import Steps, read_all, write_batches
 from .retry import NEVER, Retry
@@ -170,6 +170,9 @@ class AsyncDrive:
 
     async def history(self, object: int) -> List[Span]:
         return await self._search(history_of(object))
+
+    async def shown_before(self, object: int, found: Attributes) -> List[int]:
+        return await self._search(shown_before(object, found))
 
     async def _search(self, search: Search[T]) -> T:
         """What comes of requests of which several are sent together."""

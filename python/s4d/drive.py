@@ -11,7 +11,7 @@ from . import wire
 from .addresses import address_of
 from .connection import Connection, Peer, Reader, Writer, connected
 from .errors import BadFrame, Disconnected, Ended, NotAsked, ProgramFailed, Refused
-from .history import Search, Span, history_of
+from .history import Search, Span, history_of, shown_before
 from .moments import When, moment_of
 from .pieces import Steps, read_all, write_batches
 from .pipeline import Pipeline, Reply
@@ -107,6 +107,10 @@ class Drive:
         be found: see `audit`. The last span ends at the drive's clock, or at this machine's time where the clock is later.
         """
         return self._search(history_of(object))
+
+    def shown_before(self, object: int, found: Attributes) -> List[int]:
+        """Moments at which the earlier versions of an object can be read, whose attributes are those now: one of each, newest first."""
+        return self._search(shown_before(object, found))
 
     def pipeline(self) -> Pipeline:
         """Collects requests and sends them together."""

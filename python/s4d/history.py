@@ -269,6 +269,16 @@ def before_version(object: int, found: Attributes) -> Search[Tuple[Optional[int]
     raise before
 
 
+def shown_before(object: int, found: Attributes) -> Search[List[int]]:
+    """Moments at which the earlier versions of an object can be read, which now is as it was found: one of each, newest first."""
+    moments: List[int] = []
+    while True:
+        last, found, _ = yield from before_version(object, found)
+        if last is None:
+            return moments
+        moments.append(last)
+
+
 def without_overlaps(spans: List[Span]) -> List[Span]:
     """The spans with each version cut where a hidden span lies inside of it."""
     cut: List[Span] = []

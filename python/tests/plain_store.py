@@ -2,6 +2,7 @@
 import asyncio
 
 from s4d import Refused, wire
+from s4d.history import shown_before
 from s4d.moments import machine_time
 from s4d.rows import Listed
 from s4d.store.contents import Pieces
@@ -84,12 +85,21 @@ class PlainSession:
     async def attributes(self, object, at=None):
         return await self.ask(wire.attributes(object, at))
 
+    async def shown_before(self, object, found):
+        steps = shown_before(object, found)
+        try:
+            requests = next(steps)
+            while True:
+                requests = steps.send([it.answer(self.drive.answer("client", it.body)) for it in requests])
+        except StopIteration as end:
+            return end.value
+
 
 class PlainStoreDrive:
     """A drive of a store, in this process. One that is away answers nothing."""
 
-    def __init__(self, number, drive):
-        self.number, self.drive, self.is_away = number, drive, False
+    def __init__(self, number, drive, is_remote=False):
+        self.number, self.drive, self.is_away, self.is_remote = number, drive, False, is_remote
         self.loses = None  # a request of this kind is done, and its reply is lost
 
     async def ask(self, work):

@@ -54,7 +54,8 @@ class Commands(unittest.TestCase):
                             (["init", self.store, "--keep", "36501d"], "36501d is longer than 36,500 days"),
                             (["serve", self.store, "--listen", "9000"], "'9000' is no HOST:PORT"),
                             (["serve", self.store, "--cert", "x"], "--cert and --key need each other"),
-                            (["add", self.store], "required: --drives"), (["add", self.store, "--drives", "65"], "'65' is no number"),
+                            (["add", self.store], "--drives --remote is required"), (["add", self.store, "--drives", "65"], "'65' is no number"),
+                            (["add", self.store, "--remote", "host:1"], "'host:1' is no tls:HOST:PORT"),
                             (["remake", self.store], "invalid choice: 'remake'"), ([], "command")):
             status, printed, said = self.run_command(*words)
             self.assertEqual((status, printed, said.count("\n")), (2, "", 1), words)

@@ -17,6 +17,7 @@ from .xml import Node, document, parsed, text_in
 
 DAY = 86_400_000_000  # microseconds
 REGION = "us-east-1"
+OUTSIDE = "x-s4-outside-cut"  # the header of lists that names the drives of other machines
 
 
 def xml_answer(data: bytes) -> Answer:
@@ -41,7 +42,14 @@ class Buckets:
         found = [it for name, it in sorted(self._store.index.buckets.items())
                  if context.signed.key.sees(name) and (context.at is None or it.created <= context.at)]
         rows: List[Node] = [("Bucket", [("Name", it.name), ("CreationDate", stamp_of(it.created))]) for it in found]
-        return xml_answer(document("ListAllMyBucketsResult", [OWNER, ("Buckets", rows)]))
+        return self._list_answer(document("ListAllMyBucketsResult", [OWNER, ("Buckets", rows)]))
+
+    def _list_answer(self, data: bytes) -> Answer:
+        """A list, with the drives whose moments are another machine's: what they have isn't of the same cut."""
+        answer, remote = xml_answer(data), self._store.pieces.remote
+        if remote:
+            answer.headers[OUTSIDE] = ", ".join(map(str, remote))
+        return answer
 
     async def create(self, context: Context) -> Answer:
         if not is_bucket_name(context.bucket):
@@ -68,10 +76,10 @@ class Buckets:
         if kind not in (None, "1", "2"):
             raise S3Error("InvalidArgument", "The list-type is neither 1 nor 2.")
         listing = list_keys_2 if kind == "2" else list_keys
-        return xml_answer(listing(bucket, context.request, context.at))
+        return self._list_answer(listing(bucket, context.request, context.at))
 
     async def versions(self, context: Context) -> Answer:
-        return xml_answer(list_versions(self._store.bucket(context.bucket, context.at), context.request, context.at))
+        return self._list_answer(list_versions(self._store.bucket(context.bucket, context.at), context.request, context.at))
 
     async def uploads(self, context: Context) -> Answer:
         self._store.bucket(context.bucket, context.at)

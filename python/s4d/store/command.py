@@ -12,12 +12,13 @@ from typing import List, NoReturn, Optional, Sequence, Tuple
 
 from ..access_log import AccessLog
 from ..s3.past import moment_in
-from .adding import add_drives
+from .adding import add_drives, add_remote
 from .opening import OpenStore
 from .rebalance import Moves, Rebalance
 from .service import say
 from .serving import Past, Serving, Wanted
-from .settings import DRIVES, FRAMES, Programs, Settings, StoreFault, keys_path, make_store, microseconds
+from .settings import (DRIVES, FRAMES, REMOTE_NAMES, Programs, Settings, StoreFault, is_tls_address, keys_path, make_store,
+                       microseconds)
 
 OPEN_FILES = 4_096  # that 64 drives with all their sessions, and all connections, have, with room
 
@@ -59,6 +60,12 @@ def host_and_port(text: str) -> Tuple[str, int]:
     return host.strip("[]"), int(port)
 
 
+def tls_address(text: str) -> str:
+    if not is_tls_address(text):
+        raise argparse.ArgumentTypeError(f"{text!r} is no tls:HOST:PORT")
+    return text
+
+
 def port(text: str) -> int:
     return number_in(range(65_536), text)
 
@@ -87,7 +94,12 @@ def parser() -> Parser:
     serve.add_argument("--rebalance", action="store_true", help="does meanwhile what the command rebalance does")
     add = commands.add_parser("add", help="gives a store more drives, while it isn't served", allow_abbrev=False)
     add.add_argument("folder", metavar="DIR")
-    add.add_argument("--drives", type=drives, required=True, help="how many more")
+    which = add.add_mutually_exclusive_group(required=True)
+    which.add_argument("--drives", type=drives, help="how many more are made in its folder")
+    which.add_argument("--remote", metavar="tls:HOST:PORT", type=tls_address, help="one of another machine, which a bridge serves there")
+    add.add_argument("--ca", metavar="FILE", help="the authority of that bridge's certificate")
+    add.add_argument("--cert", metavar="FILE", help="the store's certificate, whose name has the role client there")
+    add.add_argument("--key", metavar="FILE", help="its key")
     add.add_argument("--s4d", metavar="PROGRAM", default="s4d", help="the program that makes a drive (s4d)")
     add.add_argument("--s4", metavar="PROGRAM", default="s4", help="the program that reads images (s4)")
     moving = commands.add_parser("rebalance", help="moves what a store has to the drives that have less", allow_abbrev=False)
@@ -174,7 +186,11 @@ async def moved_of(opened: OpenStore) -> Tuple[Moves, List[int]]:
 
 def add(found: argparse.Namespace) -> int:
     """Gives a store more drives, and says how they are used."""
-    count = add_drives(found.folder, found.drives, Programs(s4d=found.s4d, s4=found.s4))
+    programs = Programs(s4d=found.s4d, s4=found.s4)
+    if found.remote is not None:
+        count = add_remote(found.folder, found.remote, [found.ca, found.cert, found.key], programs)
+    else:
+        count = add_drives(found.folder, found.drives, programs)
     print(f"{found.folder} has {count} drives; what it has is moved to the new ones by: "
           f"python3 -m s4d.store rebalance {found.folder}")
     return 0
@@ -194,6 +210,10 @@ def main(words: Optional[Sequence[str]] = None) -> int:
     found = options.parse_args(words)
     if found.command == "serve" and (found.cert is None) != (found.key is None):
         options.error("--cert and --key need each other")
+    if found.command == "add":
+        files = [name for name in REMOTE_NAMES[1:] if getattr(found, name) is not None]
+        if len(files) != (0 if found.remote is None else 3):
+            options.error("--remote, --ca, --cert and --key need each other")
     if found.command == "serve":
         try:
             wanted_of(found)

@@ -16,6 +16,7 @@ T = TypeVar("T")
 
 IN_FLIGHT = 4  # pieces of one put, or of one get, that are written or read at once
 CLOCKS = 2_000  # microseconds by which the moments of two drives may differ, with room
+REMOTE_CLOCKS = (CLOCKS, 1_000_000, 60_000_000, 3_600_000_000)  # and those of drives of other machines: one after the other is tried
 FULL = (NoSpace, NoMemory)  # then the next drive is tried
 
 
@@ -50,6 +51,11 @@ class Pieces:
 
     def __init__(self, drives: Sequence[StoreDrive]) -> None:
         self.drives, self._turn = drives, 0
+
+    @property
+    def remote(self) -> List[int]:
+        """The numbers of the drives that are on other machines, whose clocks may be others."""
+        return [it.number for it in self.drives if it.is_remote]
 
     async def anywhere(self, first: int, work: Callable[[StoreDrive], Awaitable[T]]) -> T:
         """What comes of work on the first drive that has room for it, from this one on. StoreFull where none has; DriveAway
@@ -86,7 +92,7 @@ class Pieces:
 
     async def read(self, piece: Piece, life: Life) -> bytes:
         """The bytes of a piece of a version with this life. Gone where they can't be read any more."""
-        for at in moments_of(piece, life):
+        for at in moments_of(piece, life, REMOTE_CLOCKS if self.remote else (CLOCKS,)):
             try:
                 return await self._read_at(piece, at)
             except (Expired, Flushed, NoObject, Future):
@@ -141,18 +147,19 @@ class Pieces:
         return tuple(named), depth
 
 
-def moments_of(piece: Piece, life: Life) -> Iterator[Optional[int]]:
+def moments_of(piece: Piece, life: Life, clocks: Sequence[int]) -> Iterator[Optional[int]]:
     """The moments at which a piece is tried to be read, one after the other; None is now.
 
     A piece never changes, and its object is deleted when its version is replaced. So it is read at its own moment; where that has
-    expired now, if the version is current; and else just before it was replaced, or moved, which may have been meanwhile.
+    expired now, if the version is current; and else just before it was replaced, or moved, which may have been meanwhile: by as
+    much before as clocks may differ.
     """
     yield piece.moment
     if life.until is None:
         yield None
     for end in (life.until, life.moved):
-        if end is not None and end - CLOCKS > piece.moment:
-            yield end - CLOCKS
+        if end is not None:
+            yield from (end - apart for apart in clocks if end - apart > piece.moment)
 
 
 def writing(object: int, start: int, data: bytes) -> Callable[[AsyncDrive], Awaitable[int]]:

@@ -3,11 +3,11 @@ from __future__ import annotations
 
 import asyncio
 import contextlib
-from typing import Awaitable, Callable, List, Optional, TypeVar
+from typing import Awaitable, Callable, List, Optional, Protocol, Set, TypeVar
 
 from ..async_drive import AsyncDrive
 from ..errors import BadReply, Disconnected, ReplyLost
-from .service import Service, say
+from .service import say
 from .settings import StoreFault
 
 T = TypeVar("T")
@@ -26,13 +26,34 @@ class DriveAway(Exception):
         self.number, self.was_asked = number, was_asked
 
 
-class StoreDrive:
-    """`ask` lends one of the sessions for one request. `is_served` says whether one may be had now."""
+class Serves(Protocol):
+    """What serves a drive. `ended` waits until it doesn't any more, and `next_step` says what is done then."""
 
-    def __init__(self, number: int, service: Service) -> None:
-        self.number, self._service = number, service
+    async def start(self) -> None: ...
+
+    async def start_again(self) -> None: ...
+
+    async def ended(self) -> str: ...
+
+    def next_step(self, wait: float, /) -> str: ...
+
+    async def session(self, timeout: float, /) -> AsyncDrive: ...
+
+    def kill(self) -> None: ...
+
+    async def stop(self) -> None: ...
+
+
+class StoreDrive:
+    """`ask` lends one of the sessions for one request. `is_served` says whether one may be had now, `is_remote` whether the drive is
+    on another machine.
+    """
+
+    def __init__(self, number: int, service: Serves, is_remote: bool = False) -> None:
+        self.number, self._service, self.is_remote = number, service, is_remote
         self.is_served, self._is_stopping = False, False
         self._idle: List[AsyncDrive] = []
+        self._closing: Set[asyncio.Future[None]] = set()
         self._places = asyncio.Semaphore(SESSIONS)
         self._watching: Optional[asyncio.Future[None]] = None
 
@@ -51,13 +72,13 @@ class StoreDrive:
             said = await self._service.ended()
             self.is_served = False
             wait = FIRST_WAIT if loop.time() - since > LONGEST_WAIT else min(2 * wait, LONGEST_WAIT)
-            say(f"drive {self.number} isn't served any more: {said}; it is started again in {wait:g} s")
+            say(f"drive {self.number} isn't served any more: {said}; {self._service.next_step(wait)}")
             await asyncio.sleep(wait)
             await self._start_again()
 
     async def _start_again(self) -> None:
         try:
-            await self._service.start()
+            await self._service.start_again()
         except (StoreFault, OSError) as error:  # it is said, and tried again
             say(f"{error}")
             return
@@ -94,22 +115,33 @@ class StoreDrive:
                 except Disconnected:
                     continue
                 except BaseException:  # a refusal, or a cancellation: the next request's reply comes after this one's
-                    self._idle.append(session)
+                    self._take_back(session)
                     raise
-                self._idle.append(session)
+                self._take_back(session)
                 return found
         raise DriveAway(self.number, was_asked=False)
 
+    def _take_back(self, session: AsyncDrive) -> None:
+        """Takes a session that was lent. While the drive isn't served it holds no place there."""
+        if self.is_served or self._is_stopping:
+            self._idle.append(session)
+        else:
+            closing = asyncio.ensure_future(session.close())
+            self._closing.add(closing)
+            closing.add_done_callback(self._closing.discard)
+
     def _give_up(self) -> None:
         """Ends a service that has lost a reply, so that what was asked isn't done after somebody has looked whether it was."""
-        self.is_served, self._idle = False, []
+        self.is_served, idle, self._idle = False, self._idle, []
         self._service.kill()
+        for session in idle:
+            self._take_back(session)
 
     async def _session(self) -> AsyncDrive:
-        if self._idle:
-            return self._idle.pop()
         if not self.is_served or self._is_stopping:
             raise DriveAway(self.number, was_asked=False)
+        if self._idle:
+            return self._idle.pop()
         try:
             return await self._service.session(REPLY_SECONDS)
         except (OSError, Disconnected, BadReply) as error:

@@ -5,15 +5,17 @@ import asyncio
 import contextlib
 import fcntl
 import os
-from typing import Awaitable, List, Optional
+from typing import Awaitable, List, Optional, Union
 
 from ..errors import Error, Refused
+from .asking import found_by_asking
 from .contents import Pieces
 from .drives import DriveAway, StoreDrive
+from .elsewhere import QUIET_SECONDS, RemoteService
 from .layout import mark_attribute
 from .loading import IMAGES_AT_ONCE, Found, Loading, found_in
 from .service import Service, say
-from .settings import Programs, Settings, StoreFault, image_path, settings_in
+from .settings import Programs, Settings, StoreFault, image_path, settings_in, write_new
 from .store import Store
 from .upload_records import Upload
 
@@ -24,7 +26,9 @@ class OpenStore:
     def __init__(self, folder: str, programs: Programs, leap: Optional[str] = None) -> None:
         self.folder, self._programs, self._leap = folder, programs, leap
         self.settings: Settings = settings_in(folder)
+        self._remote = {it.drive: RemoteService(folder, it) for it in self.settings.remote}
         self._lock = locked(folder)
+        self._serving = os.path.join(folder, "serving")
         self.drives: List[StoreDrive] = []
         self._looking: Optional[asyncio.Future[None]] = None
         self.store: Optional[Store] = None
@@ -32,21 +36,49 @@ class OpenStore:
 
     async def start(self) -> Store:
         """Starts the drives, makes the index, and deletes what puts left that were cut. StoreFault where one can't be served."""
-        numbers = range(self.settings.drives)
-        services = [Service(self.folder, number, self._programs.s4serve, self._leap) for number in numbers]
-        self.drives = [StoreDrive(number, service) for number, service in enumerate(services)]
+        services = [self._service(number) for number in range(self.settings.drives)]
+        self.drives = [StoreDrive(number, it, isinstance(it, RemoteService)) for number, it in enumerate(services)]
         for service in services:
             service.take()
         await asyncio.gather(*[service.end_earlier() for service in services])
+        self._note_serving()
+        await all_done([drive.start() for drive, service in zip(self.drives, services) if not service.is_own])
         limit = asyncio.Semaphore(IMAGES_AT_ONCE)
-        paths = [image_path(self.folder, number) for number in numbers]
-        found = await asyncio.gather(*[found_in(path, self._programs.s4, limit) for path in paths])
+        found = await asyncio.gather(*[self._found(drive, limit) for drive in self.drives])
         unmarked = self._unmarked(found)
-        await all_done([drive.start() for drive in self.drives])
+        await all_done([drive.start() for drive, service in zip(self.drives, services) if service.is_own])
         await self._mark(unmarked)
         self.store = await self._loaded(found)
         self._looking = asyncio.ensure_future(self.store.look_after())
         return self.store
+
+    def _service(self, number: int) -> Union[Service, RemoteService]:
+        """What serves a drive."""
+        remote = self._remote.get(number)
+        if remote is None:
+            return Service(self.folder, number, self._programs.s4serve, self._leap)
+        return remote
+
+    def _note_serving(self) -> None:
+        """Notes in the folder that drives of other machines are asked. Where that is there, a program that noted it was killed."""
+        if not self._remote:
+            return
+        if os.path.exists(self._serving):
+            say(f"another program was killed: what it asked of drives elsewhere is waited for, {QUIET_SECONDS:g} s")
+            for service in self._remote.values():
+                service.wait_for_earlier()
+        else:
+            write_new(self._serving, "")
+
+    async def _found(self, drive: StoreDrive, limit: asyncio.Semaphore) -> Found:
+        """What a drive has: its image says it, or where that is elsewhere the drive itself."""
+        remote = self._remote.get(drive.number)
+        if remote is None:
+            return await found_in(image_path(self.folder, drive.number), self._programs.s4, limit)
+        try:
+            return await found_by_asking(drive, remote.numbers)
+        except (DriveAway, Error) as error:
+            raise StoreFault(f"drive {drive.number}: what it has can't be asked: {error}") from error
 
     def _unmarked(self, found: List[Found]) -> List[StoreDrive]:
         """The drives that don't say which they are. StoreFault where one says that it is another: nothing of it is deleted then."""
@@ -57,9 +89,13 @@ class OpenStore:
             if self.settings.id and marks and marks != [right] * len(marks):
                 store, _, number = marks[0][1:].decode("ascii", "replace").partition("/")
                 whose = f"drive {number} of this store" if store == self.settings.id else "a drive of another store"
-                raise StoreFault(f"drive {drive.number}: {image_path(self.folder, drive.number)} is {whose}: put it where it belongs")
+                raise StoreFault(f"drive {drive.number}: {self._place(drive.number)} is {whose}: put it where it belongs")
             unmarked += [] if marks or not self.settings.id else [drive]
         return unmarked
+
+    def _place(self, number: int) -> str:
+        """Where a drive is."""
+        return next((it.address for it in self.settings.remote if it.drive == number), image_path(self.folder, number))
 
     async def _mark(self, drives: List[StoreDrive]) -> None:
         """Makes the objects that say which drives these are. One without room goes without."""
@@ -94,6 +130,9 @@ class OpenStore:
         if self.store is not None:
             await self.store.close()
         await asyncio.gather(*[drive.stop() for drive in self.drives])
+        if not any(service.is_quiet() for service in self._remote.values()):
+            with contextlib.suppress(FileNotFoundError):
+                os.unlink(self._serving)
         os.close(self._lock)
 
 

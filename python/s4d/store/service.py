@@ -36,6 +36,8 @@ def let_go(opening: asyncio.Future[AsyncDrive]) -> None:
 class Service:
     """Starts and stops the process, and passes on what it says. Its sessions are asked for at `door`."""
 
+    is_own = True
+
     def __init__(self, folder: str, number: int, program: str, leap: Optional[str]) -> None:
         self._number, self._program = number, program
         self._doors = os.path.join(drive_folder(folder, number), "doors")
@@ -75,6 +77,13 @@ class Service:
                 raise StoreFault(f"drive {self._number} isn't served: {self._last}")
             await asyncio.sleep(AGAIN_SECONDS)
             await self.end_earlier()
+
+    async def start_again(self) -> None:
+        """The same, after it has ended."""
+        await self.start()
+
+    def next_step(self, wait: float) -> str:
+        return f"it is started again in {wait:g} s"
 
     async def _serves(self) -> bool:
         """Starts the process, and says whether sessions can be asked for. Where they can't, it has ended."""

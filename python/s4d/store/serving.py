@@ -86,7 +86,7 @@ class Serving:
     async def _start_status(self, port: int) -> None:
         drives, store = self._opened.drives, self._opened.store
         assert store is not None
-        images = [image_path(self._opened.folder, drive.number) for drive in drives]
+        images = {drive.number: image_path(self._opened.folder, drive.number) for drive in drives if not drive.is_remote}
         self._status = StoreStatus(port, drives, images, self._s4, store.index, self._families)
         await self._status.start()
 

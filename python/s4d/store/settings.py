@@ -7,8 +7,10 @@ import os
 import re
 import secrets
 import subprocess
-from dataclasses import dataclass, replace
-from typing import Any, Dict, List
+from dataclasses import asdict, dataclass, replace
+from typing import Any, Dict, List, Tuple
+
+from ..addresses import address_of
 
 DRIVES = range(1, 65)  # how many a store may have
 FRAMES = range(24, 1_025)
@@ -18,6 +20,7 @@ DURATION = re.compile(r"([1-9][0-9]{0,8})([smhdw])")
 ID = re.compile("([0-9a-f]{16})?")
 LONGEST = 36_500 * 86_400 * 1_000_000  # microseconds of a duration: times after it still have a date
 ROLES = ("client", "admin")  # the doors of each drive
+REMOTE_NAMES = ("address", "ca", "cert", "key")  # what is said of a drive of another machine
 
 
 class StoreFault(Exception):
@@ -25,15 +28,29 @@ class StoreFault(Exception):
 
 
 @dataclass(frozen=True)
+class Remote:
+    """A drive of another machine: its number, the address `tls:HOST:PORT` of its bridge, and paths of files in PEM: the authority of
+    that one's certificate, and the store's own certificate and key.
+    """
+
+    drive: int
+    address: str
+    ca: str
+    cert: str
+    key: str
+
+
+@dataclass(frozen=True)
 class Settings:
     """What a store was made with: how many drives of how many frames, and for how long they keep the past. Its id, which those
-    that were made first haven't, tells it from others.
+    that were made first haven't, tells it from others. `remote` are those of the drives that are on other machines.
     """
 
     drives: int
     frames: int
     keep: str
     id: str = ""
+    remote: Tuple[Remote, ...] = ()
 
     @property
     def window(self) -> int:
@@ -113,7 +130,10 @@ def make_drive(folder: str, number: int, settings: Settings, programs: Programs)
 def write_settings(folder: str, settings: Settings) -> None:
     """Writes the file `store.json`, which is whole whenever it is there."""
     path = os.path.join(folder, "store.json")
-    said = {"version": VERSION, "drives": settings.drives, "frames": settings.frames, "keep": settings.keep, "id": settings.id}
+    said: Dict[str, Any] = {"version": VERSION, "drives": settings.drives, "frames": settings.frames, "keep": settings.keep,
+                            "id": settings.id}
+    if settings.remote:
+        said["remote"] = [asdict(it) for it in settings.remote]
     with contextlib.suppress(FileNotFoundError):
         os.unlink(f"{path}.new")  # of a program that was killed
     write_new(f"{path}.new", json.dumps(said) + "\n")
@@ -164,7 +184,8 @@ def settings_of(said: Any, path: str) -> Settings:
     faults = faults_of(said)
     if faults:
         raise StoreFault(f"{path}: {faults[0]}")
-    return Settings(said["drives"], said["frames"], said["keep"], said.get("id", ""))
+    remote = tuple(Remote(**it) for it in said.get("remote", []))
+    return Settings(said["drives"], said["frames"], said["keep"], said.get("id", ""), remote)
 
 
 def faults_of(said: Dict[str, Any]) -> List[str]:
@@ -177,4 +198,24 @@ def faults_of(said: Dict[str, Any]) -> List[str]:
         microseconds(str(said.get("keep")))
     except ValueError as error:
         faults.append(f"keep: {error}")
-    return faults
+    return faults or faults_of_remote(said.get("remote", []), range(said["drives"]))
+
+
+def faults_of_remote(said: Any, drives: range) -> List[str]:
+    """What is wrong with what is said of drives of other machines."""
+    names = {"drive", *REMOTE_NAMES}
+    if not isinstance(said, list) or not all(isinstance(it, dict) and set(it) == names for it in said):
+        return [f"remote is no list of drives, each with {', '.join(('drive', *REMOTE_NAMES))}"]
+    numbers = [it["drive"] for it in said]
+    if not all(type(it) is int and it in drives for it in numbers) or len(set(numbers)) < len(numbers):
+        return ["remote: a drive is none of the store, or named twice"]
+    if not all(isinstance(it[name], str) for it in said for name in REMOTE_NAMES):
+        return [f"remote: {', '.join(REMOTE_NAMES)} are texts"]
+    return [f"remote: {it['address']!r} is no tls:HOST:PORT" for it in said if not is_tls_address(it["address"])]
+
+
+def is_tls_address(text: str) -> bool:
+    try:
+        return address_of(text).kind == "tls"
+    except ValueError:
+        return False

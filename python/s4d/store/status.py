@@ -16,17 +16,18 @@ IMAGES_AT_ONCE = 4  # that are read side by side
 class StoreStatus(StatusServer):
     """Answers on a port of 127.0.0.1. `more` are the metrics of others."""
 
-    def __init__(self, port: int, drives: Sequence[StoreDrive], images: Sequence[str], program: str, index: Index,
+    def __init__(self, port: int, drives: Sequence[StoreDrive], images: Dict[int, str], program: str, index: Index,
                  more: Callable[[], List[Family]]) -> None:
+        """The images are those of the drives that are here, by their numbers."""
         super().__init__(port, self._away, self._all, None)
         self._drives, self._index, self._more = drives, index, more
-        self._numbers = [DriveNumbers(image, program) for image in images]
+        self._numbers = {number: DriveNumbers(image, program) for number, image in images.items()}
         self._limit = asyncio.Semaphore(IMAGES_AT_ONCE)
-        self._infos: Sequence[Optional[Info]] = [None] * len(images)
+        self._infos: Dict[int, Optional[Info]] = {}
 
     async def _answer(self, head: bytes) -> Answer:
         if head.startswith(b"GET /metrics"):
-            self._infos = await asyncio.gather(*map(self._read, self._numbers))
+            self._infos = dict(zip(self._numbers, await asyncio.gather(*map(self._read, self._numbers.values()))))
         return await super()._answer(head)
 
     async def _read(self, numbers: DriveNumbers) -> Optional[Info]:
@@ -46,8 +47,8 @@ class StoreStatus(StatusServer):
 
     def _of_images(self) -> List[Family]:
         """What `s4 info` says of each image that can be read."""
-        found = {number: info for number, info in enumerate(self._infos) if info is not None}
-        return [of_drives("readable", "Whether the image could be read.", {n: int(n in found) for n in range(len(self._infos))}),
+        found = {number: info for number, info in self._infos.items() if info is not None}
+        return [of_drives("readable", "Whether the image could be read.", {n: int(n in found) for n in self._infos}),
                 of_drives("clock", "The drive's clock, a moment.", {n: it.clock for n, it in found.items()}),
                 of_drives("floor", "The earliest moment that can be read.", {n: it.floor for n, it in found.items()}),
                 of_drives("room_blocks", "Blocks of 512 bytes that changes may append.", {n: it.room for n, it in found.items()}),

@@ -295,11 +295,12 @@ class Store:
             pieces, lists = await self.pieces.all_of(contents_of(entry.version), entry)
             await self.pieces.delete(pieces + lists)
 
-    @staticmethod
-    async def passed(entry: Entry) -> None:
-        """Waits until each drive's moments are past the version's, so that a read at a moment is one cut over all of them."""
+    async def passed(self, entry: Entry) -> None:
+        """Waits until each drive's moments are past the version's, so that a read at a moment is one cut over all of them, but for
+        those of other machines.
+        """
         late = (entry.written + APART - machine_time()) / 1e6
-        if late > 0:
+        if late > 0 and not self.pieces.drives[entry.head.drive].is_remote:
             await asyncio.sleep(min(late, MOST_WAIT))
 
     def _later(self, work: Coroutine[None, None, None]) -> None:
