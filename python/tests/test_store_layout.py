@@ -15,6 +15,16 @@ def version(**changed):
                                **changed)
 
 
+class Counted(list):
+    """A list that counts how often somebody looks at one of its members."""
+
+    looks = 0
+
+    def __getitem__(self, place):
+        Counted.looks += 1
+        return super().__getitem__(place)
+
+
 class Layout(unittest.TestCase):
     def test_attributes(self):
         self.assertEqual(layout.bucket_attribute("photos"), b"Bphotos")
@@ -148,6 +158,23 @@ class Lists(unittest.TestCase):
         self.assertEqual(([it.version.id for it in page.entries], page.prefixes), (["50", "30", "10", "40"], ["b/"]))
         page = versions_page(self.bucket, "", "", ("a", "none"), 1_000)
         self.assertEqual([it.version.id for it in page.entries], ["20", "40"])
+
+    def test_a_page_looks_at_what_it_has(self):
+        """However many keys a bucket has: it looks at about as many names as come, and at those of a search by halves."""
+        looked = {}
+        for count in (1_000, 16_000):
+            bucket = Bucket("one", Place(0, 1), 5)
+            names = [f"{number:05}/k" for number in range(count)]
+            bucket.keys = {name: [Entry(Version("one", name, 1, "10", 10), Place(0, 2), 10)] for name in names}
+            bucket.names, bucket.live = Counted(names), Counted(names)
+            for delimiter in ("", "/"):
+                for after in ("", "00500/k"):
+                    Counted.looks = 0
+                    pages = keys_page(bucket, "", delimiter, after, 100), versions_page(bucket, "", delimiter, (after, ""), 100)
+                    self.assertEqual([len(page) for page in pages], [100, 100])
+                    looked.setdefault((delimiter, after), []).append(Counted.looks)
+        for (delimiter, _), (few, many) in looked.items():
+            self.assertLess(many - few, 20 + (2 * 100 * 6 if delimiter else 0))  # four more halves of each search, and one for each prefix
 
     def test_the_last_name_with_a_prefix(self):
         self.assertEqual([after_prefix(it) for it in ("a/", "a\U0010ffff", "\U0010ffff")], ["a0", "b", None])
