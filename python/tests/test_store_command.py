@@ -116,10 +116,10 @@ class Commands(unittest.TestCase):
                 time.sleep(0.01)
             moving.kill()
         ran = subprocess.run(words, cwd=PACKAGE, stdout=subprocess.PIPE, text=True, check=True)
-        self.assertRegex(ran.stdout, r"^moved [0-9]+ objects of [0-9]+ versions, 0 bytes in pieces; a drive has [0-9,]+ to [0-9,]+ bytes\n$")
-        self.assertEqual([len(self.heads(number)) for number in (0, 1)], [15, 15])
+        self.assertRegex(ran.stdout, r"^moved [0-9]+ objects of [0-9]+ versions and [01] buckets, 0 bytes in pieces; a drive has [0-9,]+ to [0-9,]+ bytes\n$")
+        self.assertIn([len(self.heads(number)) for number in (0, 1)], [[14, 16], [15, 15], [16, 14]])
         self.add(1)
-        self.fill("--rebalance", wanted=lambda: len(self.heads(2)) == 10)
+        self.fill("--rebalance", wanted=lambda: len(self.heads(2)) >= 9)
         self.assertEqual(sum(len(self.heads(number)) for number in range(3)), 30)
         self.assertEqual(len(set().union(*[self.heads(number) for number in range(3)])), 30)
 

@@ -38,13 +38,22 @@ class Layout(unittest.TestCase):
         pieces = (Piece(1, 2**63, 2**64 - 1, 98_304), Piece(0, 7, 8, 1))
         for it in (version(), version(contents=b"", size=0), version(contents=b"", size=98_305, pieces=pieces),
                    version(contents=b"", size=10**9, pieces=pieces, depth=2), version(headers={}), version(since=2**50),
-                   Version("photos", "a", 4, "10", 1_800, is_marker=True)):
+                   Version("photos", "a", 4, "10", 1_800, is_marker=True),
+                   Version("photos", "a", 4, "10", 1_800, is_marker=True, since=2**50)):
             head = layout.head_of(it)
             self.assertEqual(layout.version_in(head), it)
             self.assertEqual(layout.version_in(head + b"of a longer one that was there before"), it)
             for end in range(len(head)):
                 with self.assertRaises(BadHead):
                     layout.version_in(head[:end])
+
+    def test_buckets(self):
+        record = layout.bucket_record(2**50)
+        self.assertEqual(record, b"S4B1" + (2**50).to_bytes(8, "big"))
+        self.assertEqual([layout.created_in(it) for it in (record, b"")], [2**50, None])
+        for wrong in (record[:-1], record + b"\0", b"S4B2" + record[4:], b"S4H1"):
+            with self.assertRaises(BadHead):
+                layout.created_in(wrong)
 
     def test_a_head_to_the_byte(self):
         it = Version("one", "k", 1, "0f", 5, 2, "aa", False, {}, b"hi")

@@ -6,6 +6,7 @@ import random
 import unittest
 from unittest import mock
 
+from s4d.errors import NoSpace
 from s4d.store import contents, layout
 from s4d.store.drives import DriveAway
 from s4d.store.rebalance import Rebalance, taken
@@ -30,8 +31,9 @@ async def filled(store, keys=12):
 
 
 def facts(store):
-    """What a client may see of each version, but for its contents."""
-    return [(key, it.version.id, it.version.sequence, it.version.time, it.version.etag, it.version.headers, it.moment, it.until)
+    """What a client may see of each bucket and version, but for contents."""
+    buckets = [(it.name, it.created) for it in store.index.buckets.values()]
+    return buckets + [(key, it.version.id, it.version.sequence, it.version.time, it.version.etag, it.version.headers, it.moment, it.until)
             for bucket in store.index.buckets.values() for key in bucket.names for it in bucket.keys[key]]
 
 
@@ -95,6 +97,37 @@ class Rebalanced(Moving):
         self.assertEqual(await bytes_of(store), self.bytes)
         await store.close()
         self.assertEqual(self.live(), await needed(store))
+
+    def test_buckets_and_markers(self):
+        """They are moved too, and are there since when they were."""
+        async def fill(store):
+            for number in range(8):
+                await store.create_bucket(f"bucket{number}")
+                await store.put("bucket0", f"k{number}", body(b"mill"), {})
+                await store.delete("bucket0", f"k{number}")
+            self.before, self.bytes = facts(store), await bytes_of(store)
+            self.add()
+
+        async def move(store):
+            rebalance = Rebalance(store)
+            moves = await rebalance.run()
+            self.assertLessEqual({2, 3}, {it.place.drive for it in store.index.buckets.values()})
+            self.assertLessEqual({2, 3}, {it[-1].head.drive for it in store.bucket("bucket0").keys.values()})
+            self.assertIn(f"versions and {moves.buckets} buckets, 0 bytes in pieces", moves.lines(rebalance.loads)[0])
+            self.assertEqual((moves.objects, moves.kept), (moves.versions + moves.buckets, 0))
+            await self.check(store)
+
+        async def look(store):
+            self.assertEqual(self.stores.collected, 0)
+            await self.check(store)
+            for number in range(1, 8):
+                await store.delete_bucket(f"bucket{number}")
+
+        async def look_again(store):
+            self.assertEqual(list(store.index.buckets), ["bucket0"])
+            self.assertEqual(self.live()["B"], 1)
+
+        self.run_store(fill, move, look, look_again)
 
     def test_a_kill_at_each_request(self):
         """Nothing is lost, whichever was the last one, and the next run goes on."""
@@ -201,7 +234,7 @@ class Refusals(Moving):
             rebalance = Rebalance(store)
             moves = await rebalance.run()
             self.assertGreater(moves.kept, 0)
-            self.assertIn(f"{moves.kept} versions stay: a drive is full, or doesn't answer", moves.lines(rebalance.loads))
+            self.assertIn(f"{moves.kept} versions and buckets stay: a drive is full, or doesn't answer", moves.lines(rebalance.loads))
 
         async def look(store):
             self.assertEqual((facts(store), await bytes_of(store)), (self.before, self.bytes))
@@ -235,6 +268,48 @@ class Refusals(Moving):
             self.assertEqual(self.live(), {"B": 1, "H": 1, "P": 2})
 
         self.run_store(fill, move, look)
+
+    def test_a_bucket_whose_first_record_stays(self):
+        """Its drive is away: the bucket can't be deleted until all that says it can be; and a start leaves one."""
+        async def move(store):
+            for name in ("one", "two"):
+                await store.create_bucket(name)
+                bucket = store.bucket(name)
+                drives = [store.pieces.drives[it] for it in (bucket.place.drive, 1 - bucket.place.drive)]
+                drives[0].is_away = True
+                self.before[name] = (bucket.created, drives[1].number)
+                self.assertTrue(await store.move_bucket(bucket, drives[1]))
+                with self.assertRaises(DriveAway):
+                    await store.delete_bucket(name)
+                self.assertEqual((bucket.created, bucket.place.drive), self.before[name])
+                self.assertIs(store.bucket(name), bucket)
+                drives[0].is_away = False
+            self.assertEqual(self.live(), {"B": 4})
+            await store.delete_bucket("two")
+            self.assertEqual(self.live(), {"B": 2})
+
+        async def look(store):
+            self.assertEqual(self.stores.collected, 1)
+            bucket, = store.index.buckets.values()
+            self.assertEqual((bucket.created, bucket.place.drive), self.before["one"])
+
+        self.before = {}
+        self.run_store(move, look)
+        self.assertEqual(self.live(), {"B": 1})
+
+    def test_a_bucket_that_a_drive_has_no_room_for(self):
+        async def move(store):
+            await store.create_bucket("one")
+            bucket = store.bucket("one")
+            place, other = bucket.place, store.pieces.drives[1 - bucket.place.drive]
+            self.stores.drives[other.number].room = 10
+            with self.assertRaises(NoSpace):
+                await store.move_bucket(bucket, other)
+            self.assertEqual((bucket.place, bucket.others, self.live()), (place, [], {"B": 1}))
+            del store.index.buckets["one"]
+            self.assertFalse(await store.move_bucket(bucket, other))
+
+        self.run_store(move)
 
     def test_what_is_not_moved(self):
         """A version that was replaced, or moved by somebody else: nothing is written."""
@@ -317,6 +392,33 @@ class Old(Moving):
             self.assertEqual(await got(store, entry), BYTES[:9_500])
 
         self.run_store(work)
+
+    def test_a_marker_that_was_moved(self):
+        """It says since when the key isn't there, and leaves with the window, as its first head does."""
+        async def fill(store):
+            await store.create_bucket("one")
+            await store.put("one", "k", body(b"mill"), {})
+            await store.delete("one", "k")
+            self.add(1)
+
+        async def move(store):
+            entry = store.bucket("one").current("k")
+            self.assertTrue(await store.move(entry, entry.version, contents_of(entry.version), store.pieces.drives[2]))
+            self.moment = entry.moment
+
+        async def look(store):
+            entry = store.bucket("one").current("k")
+            self.assertEqual((entry.moment, entry.head.drive, entry.version.is_marker), (self.moment, 2, True))
+            self.assertEqual((len(store.bucket("one").keys["k"]), store.bucket("one").live), (2, []))
+            self.stores.clock.value += 2 * self.WINDOW
+            self.assertEqual(len(store.index.expire(self.stores.clock())), 2)
+            self.assertEqual(store.bucket("one").names, [])
+
+        async def look_again(store):
+            self.assertEqual(store.bucket("one").names, [])
+
+        self.run_store(fill, move, look, look_again)
+        self.assertEqual(self.live(), {"B": 1})
 
     def test_what_the_window_has_left(self):
         """A version that was moved stays, and its first head goes with the last version that needs it."""

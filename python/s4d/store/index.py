@@ -45,7 +45,8 @@ class Entry:
 @dataclass
 class Bucket:
     """A bucket: the object that says so, when it was made, in microseconds, and its keys. `names` are all keys in their order,
-    `live` those whose current version is no marker. The versions of a key ascend. `puts` are heads on their way.
+    `live` those whose current version is no marker. The versions of a key ascend. `puts` are heads on their way. `others` are objects
+    that may say so still, though it was moved.
     """
 
     name: str
@@ -55,6 +56,7 @@ class Bucket:
     names: List[str] = field(default_factory=list)
     live: List[str] = field(default_factory=list)
     puts: int = 0
+    others: List[Place] = field(default_factory=list)
 
     def current(self, key: str, at: Optional[int] = None) -> Optional[Entry]:
         """The newest version of a key, now or at a moment, which may be a marker."""

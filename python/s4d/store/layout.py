@@ -1,9 +1,10 @@
 """What a store's objects hold: attributes, heads, and lists of pieces. Nothing here asks a drive.
 
 An attribute says what an object is, and never changes: `B` and the bucket's name; `H` or `P`, head or piece, and the hash of
-bucket and key; `S`, the store's id and the drive's number. A version of a key is one Write of its head, so it is seen whole or not at all. Contents that are short are
-in the head; longer ones are in pieces, each of which the head names by drive, object and that object's own moment. A list
-that is too long for a head is in pieces itself, and so on: the depth says how often.
+bucket and key; `S`, the store's id and the drive's number. A bucket is there from the moment on at which its object was made; where
+that was moved it says the moment of the first one. A version of a key is one Write of its head, so it is seen whole or not at all.
+Contents that are short are in the head; longer ones are in pieces, each of which the head names by drive, object and that object's
+own moment. A list that is too long for a head is in pieces itself, and so on: the depth says how often.
 """
 from __future__ import annotations
 
@@ -23,6 +24,8 @@ HEAD_BYTES = READ_BYTES  # the most bytes of a head, so that one Write puts it a
 MOST_DEPTH = 4  # of lists; more pieces than any store has need two
 
 MAGIC = b"S4H1"
+MOVED = struct.Struct(">4sQ")  # of a bucket that was moved: the mark, and the moment at which the bucket was made
+BUCKET = b"S4B1"
 FRONT = struct.Struct(">4sII")  # the mark, and the lengths of the JSON and of the contents after it
 NAMED = struct.Struct(">HQQI")  # a piece in a list: drive, object, moment, size
 LISTED_PIECES = PIECE_BYTES // NAMED.size  # that one piece of a list names
@@ -75,6 +78,22 @@ def bucket_attribute(name: str) -> bytes:
     return b"B" + name.encode("ascii")
 
 
+def bucket_record(created: int) -> bytes:
+    """What the object of a bucket says that was moved."""
+    return MOVED.pack(BUCKET, created)
+
+
+def created_in(data: bytes) -> Optional[int]:
+    """The moment at which a bucket was made, by what its object says; None where that was never moved. BadHead where it says another
+    thing.
+    """
+    if not data:
+        return None
+    if len(data) != MOVED.size or data[:4] != BUCKET:
+        raise BadHead("it says no moment of a bucket")
+    return number(MOVED.unpack(data)[1])
+
+
 def mark_attribute(store: str, drive: int) -> bytes:
     """Of the object that says which drive of which store this is."""
     return f"S{store}/{drive}".encode("ascii")
@@ -109,10 +128,10 @@ def head_of(version: Version) -> bytes:
     else:
         said.update(size=version.size, etag=version.etag, headers=version.headers, pieces=version.pieces,
                     depth=version.depth)
-        if version.since is not None:
-            said["since"] = version.since
         if version.upload:
             said["upload"] = version.upload
+    if version.since is not None:
+        said["since"] = version.since
     text = json.dumps(said, ensure_ascii=False, separators=(",", ":")).encode()
     length = FRONT.size + len(text) + len(version.contents)
     if length > HEAD_BYTES:
@@ -139,14 +158,14 @@ def version_in(data: bytes) -> Version:
 def version_of(said: Dict[str, Any], contents: bytes) -> Version:
     """The version that a head's JSON says."""
     shared = (text(said["bucket"]), text(said["key"]), number(said["sequence"]), text(said["id"]), number(said["time"]))
+    since = number(said["since"]) if "since" in said else None
     if said.get("marker", False):
-        return Version(*shared, is_marker=True)
+        return Version(*shared, is_marker=True, since=since)
     headers = {text(name): text(value) for name, value in said["headers"].items()}
     pieces = tuple(Piece(*map(number, row)) for row in members(said["pieces"]))
     size, depth = number(said["size"]), number(said["depth"])
     if depth > MOST_DEPTH or (depth == 0 and size != len(contents) + sum(piece.size for piece in pieces)):
         raise ValueError("size and pieces don't agree")
-    since = number(said["since"]) if "since" in said else None
     return Version(*shared, size, text(said["etag"]), False, headers, contents, pieces, depth, since, text(said.get("upload", "")))
 
 

@@ -16,7 +16,7 @@ from ..wire import READ_BYTES
 from .contents import Gone, Pieces
 from .drives import StoreDrive
 from .index import Bucket, Entry, Index, Place, entry_of
-from .layout import BadHead, Piece, head_attribute, version_in
+from .layout import BadHead, Piece, created_in, head_attribute, version_in
 from .names import is_bucket_name
 from .service import say
 from .settings import StoreFault
@@ -61,6 +61,7 @@ class Loading:
     def __init__(self, pieces: Pieces, found: Sequence[Found], window: int) -> None:
         self._pieces, self._found, self._window, self._now = pieces, found, window, machine_time()
         self.index = Index(window)
+        self._buckets: List[Tuple[Place, Listed]] = []
         self._heads: List[Tuple[Place, bytes]] = []
         self._parts: List[Tuple[Place, bytes]] = []
         self._unread: Set[bytes] = set()  # hashes of keys, of which a head says something that isn't known here
@@ -73,6 +74,7 @@ class Loading:
         for number, found in enumerate(self._found):
             for row in found.objects:
                 self._take(Place(number, row.object), row)
+        await self._take_buckets()
         versions = await asyncio.gather(*[self._versions(place, attribute) for place, attribute in self._heads])
         moved: Set[Place] = set()
         for entry in sorted((it for each in versions for it in each), key=age):
@@ -92,9 +94,7 @@ class Loading:
         """Takes an object for what its attribute says."""
         kind, rest = row.attribute[:1], row.attribute[1:]
         if kind == b"B" and is_bucket_name(rest.decode("latin-1")):
-            bucket = Bucket(rest.decode("ascii"), place, row.created)
-            if self.index.buckets.setdefault(bucket.name, bucket) is not bucket:
-                self._left.append(place)  # its reply was lost, and it was made once more
+            self._buckets.append((place, row))
         elif kind == b"H" and row.size:
             self._heads.append((place, row.attribute))
         elif kind == b"H":
@@ -103,6 +103,27 @@ class Loading:
             self._parts.append((place, rest))
         elif kind == b"U":
             self._records.append((place, row.attribute))
+
+    async def _take_buckets(self) -> None:
+        """Makes the buckets. Of several objects that say of one that it is there, as where a reply was lost or a move was cut, the first
+        one counts, or where that was moved to.
+        """
+        found = await asyncio.gather(*[self._created(place, row) for place, row in self._buckets])
+        for created, _, place, name in sorted(found):
+            bucket = Bucket(name, place, created)
+            if self.index.buckets.setdefault(name, bucket) is not bucket:
+                self._left.append(place)
+
+    async def _created(self, place: Place, row: Listed) -> Tuple[int, bool, Place, str]:
+        """When a bucket was made, as an object says it, and whether that is the first one that did."""
+        created, name = None, row.attribute[1:].decode("ascii")
+        if row.size:
+            data = await self._pieces.drives[place.drive].ask(lambda session: session.read(place.object, 0, READ_BYTES))
+            try:
+                created = created_in(data)
+            except BadHead as error:
+                say(f"{named(place)}: {error}")
+        return (row.created if created is None else created), created is None, place, name
 
     async def _versions(self, place: Place, attribute: bytes) -> List[Entry]:
         """The versions of a head that can be read."""

@@ -1,4 +1,5 @@
-"""Moves current versions from the drives that have more to those that have less, as after drives were added.
+"""Moves buckets and current versions, markers among them, from the drives that have more to those that have less, as after drives were
+added. Versions that were replaced can't be moved: they are in the past of their drives, and leave with the window.
 
 A piece is put anew on another drive, then the head is written that names it there, then the piece that was is deleted. So a kill loses
 nothing: until the head is written the version is where it was, and what a move that was cut leaves is deleted at the next start.
@@ -13,8 +14,8 @@ from typing import Dict, Iterator, List, Optional, Sequence, Set, Tuple
 from ..errors import Refused
 from .contents import FULL, IN_FLIGHT, Contents, Gone, StoreFull
 from .drives import DriveAway, StoreDrive
-from .index import Entry
-from .layout import BadHead, Piece, Version, head_of, piece_attribute
+from .index import Bucket, Entry
+from .layout import MOVED, BadHead, Piece, Version, head_of, piece_attribute
 from .store import Store, contents_of
 
 BLOCK_BYTES = 512
@@ -24,19 +25,21 @@ SLACK = 0.05  # of what the drives have on average: those that differ by less ar
 
 @dataclass
 class Moves:
-    """What was moved: versions, objects of drives, and bytes of contents. `kept` are versions that couldn't be moved."""
+    """What was moved: buckets, versions, objects of drives, and bytes of contents. `kept` are buckets and versions that couldn't be
+    moved.
+    """
 
+    buckets: int = 0
     versions: int = 0
     objects: int = 0
     size: int = 0
     kept: int = 0
 
-
     def lines(self, loads: Sequence[int]) -> List[str]:
         """What is said of them, and of what each drive has then."""
-        found = [f"moved {self.objects:,} objects of {self.versions:,} versions, {self.size:,} bytes in pieces; "
-                 f"a drive has {min(loads):,} to {max(loads):,} bytes"]
-        return found + ([f"{self.kept:,} versions stay: a drive is full, or doesn't answer"] if self.kept else [])
+        found = [f"moved {self.objects:,} objects of {self.versions:,} versions and {self.buckets:,} buckets, {self.size:,} bytes in "
+                 f"pieces; a drive has {min(loads):,} to {max(loads):,} bytes"]
+        return found + ([f"{self.kept:,} versions and buckets stay: a drive is full, or doesn't answer"] if self.kept else [])
 
 
 @dataclass
@@ -56,6 +59,9 @@ def taken(size: int) -> int:
     return (-(-size // BLOCK_BYTES) + 1) * BLOCK_BYTES
 
 
+BUCKET_BYTES = taken(MOVED.size)  # of what says that a bucket is there
+
+
 class Rebalance:
     """`run` moves what there is to move. `loads` are about how many bytes of current versions each drive has."""
 
@@ -67,20 +73,53 @@ class Rebalance:
 
     async def run(self) -> Moves:
         """Moves what there is to move. Clients may be answered meanwhile."""
+        for bucket in self._buckets():
+            self.loads[bucket.place.drive] += BUCKET_BYTES
         for entry in self._entries():
             await self._count(entry)
+        for bucket in self._buckets():
+            while await self._is_bucket_to_try_again(bucket):
+                pass
         entries = self._entries()  # which several tasks take from
         await asyncio.gather(*[self._move_all(entries) for _ in range(KEYS_AT_ONCE)])
         return self.moves
 
-    def _entries(self) -> Iterator[Entry]:
-        """The current versions of the keys that were there when a bucket's turn came."""
+    def _buckets(self) -> Iterator[Bucket]:
+        """The buckets, while they are there."""
         for name in sorted(self._store.index.buckets):
             bucket = self._store.index.buckets.get(name)
-            for key in list(bucket.live) if bucket is not None else ():
-                entry = bucket.live_version(key, None) if bucket is not None else None
+            if bucket is not None:
+                yield bucket
+
+    def _entries(self) -> Iterator[Entry]:
+        """The current versions, markers among them, of the keys that were there when a bucket's turn came."""
+        for bucket in self._buckets():
+            for key in list(bucket.names):
+                entry = bucket.current(key)
                 if entry is not None:
                     yield entry
+
+    async def _is_bucket_to_try_again(self, bucket: Bucket) -> bool:
+        """Moves what says that a bucket is there. True where that failed by a drive to which nothing goes from now on."""
+        plan, known = Plan(), len(self._shut)
+        drive = self._better(plan, bucket.place.drive, BUCKET_BYTES)
+        if drive is None:
+            return False
+        try:
+            is_moved = await self._store.move_bucket(bucket, drive)
+            self.moves.buckets += is_moved
+            self.moves.objects += is_moved
+            return False
+        except FULL:
+            self._shut.add(drive.number)
+        except DriveAway as error:
+            self._shut.add(error.number)
+        except Refused:
+            pass
+        self._take_back(plan)
+        is_new = len(self._shut) > known
+        self.moves.kept += not is_new
+        return is_new
 
     async def _count(self, entry: Entry) -> None:
         version = entry.version

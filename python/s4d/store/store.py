@@ -7,13 +7,14 @@ import secrets
 from dataclasses import replace
 from typing import AsyncIterator, Callable, Coroutine, Dict, Iterator, NamedTuple, Optional, Set, Tuple, Type
 
-from ..errors import ChainFull, NoMemory, NoSpace, Refused
+from ..errors import ChainFull, NoMemory, NoObject, NoSpace, Refused
 from ..moments import machine_time
 from ..wire import READ_BYTES
 from .contents import Contents, Gone, Incoming, Pieces, stream
 from .drives import DriveAway, StoreDrive
 from .index import Bucket, Entry, Index, Place, entry_of
-from .layout import BadHead, Piece, Version, bucket_attribute, first_drive, head_attribute, head_of, piece_attribute, version_in
+from .layout import (BadHead, Piece, Version, bucket_attribute, bucket_record, first_drive, head_attribute, head_of, piece_attribute,
+                     version_in)
 from .locks import Locks
 
 APART = 1_000  # microseconds by which the moments of two drives of a machine may differ
@@ -122,11 +123,40 @@ class Store:
                 raise BucketUsed(name)
             del self.index.buckets[name]  # so that nothing is put there meanwhile
             try:
-                await self.pieces.drives[bucket.place.drive].ask(lambda session: session.delete(bucket.place.object))
+                await self._delete_others(bucket)
+                await self._delete_object(bucket.place)
             except (Refused, DriveAway) as error:
                 if not isinstance(error, DriveAway) or not error.was_asked:  # else it may be gone, and nothing may be put there
                     self.index.buckets[name] = bucket
                 raise
+
+    async def move_bucket(self, bucket: Bucket, drive: StoreDrive) -> bool:
+        """Says on another drive that the bucket is there, since when it was, and then no more where that was said up to now. False where
+        the bucket isn't there any more.
+        """
+        async with self._locks.hold(bucket.name):
+            if self.index.buckets.get(bucket.name) is not bucket:
+                return False
+            made = await drive.ask(lambda session: session.create(bucket_attribute(bucket.name)))
+            place = Place(drive.number, made.object)
+            bucket.others.append(place)  # until it is whole
+            try:
+                await drive.ask(lambda session: session.write(place.object, 0, bucket_record(bucket.created)))
+                bucket.others[-1], bucket.place = bucket.place, place
+            finally:
+                with contextlib.suppress(Refused, DriveAway):  # then it is deleted with the bucket, or at the next start
+                    await self._delete_others(bucket)
+            return True
+
+    async def _delete_others(self, bucket: Bucket) -> None:
+        """Deletes what else may say that a bucket is there."""
+        while bucket.others:
+            with contextlib.suppress(NoObject):
+                await self._delete_object(bucket.others[-1])
+            bucket.others.pop()
+
+    async def _delete_object(self, place: Place) -> None:
+        await self.pieces.drives[place.drive].ask(lambda session: session.delete(place.object))
 
     async def put(self, bucket: str, key: str, body: AsyncIterator[bytes], headers: Dict[str, str],
                   check: Check = unchecked) -> Entry:
