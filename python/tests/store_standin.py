@@ -60,7 +60,8 @@ def new(words):
 
 
 def serve(words):
-    doors = [word[len("--door="):].split("=", 1) for word in words if word.startswith("--door=")]
+    said = " ".join(words).replace("--door=", "--door ").split()
+    doors = [word.split("=", 1) for before, word in zip(said, said[1:]) if before == "--door"]
     folder = pathlib.Path(doors[0][1]).parent
     service = Service(folder, [])
     drive = LastingDrive(words[-1], int(os.environ.get("ROOM", 2**60)), int(os.environ.get("CHAIN", 2**60)))

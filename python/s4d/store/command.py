@@ -79,6 +79,7 @@ def parser() -> Parser:
     init.add_argument("--drives", type=drives, default=16, help="how many drives it has (16)")
     init.add_argument("--frames", type=frames, default=1_024, help="how many frames each has (1024)")
     init.add_argument("--keep", type=duration, default="30d", help="for how long versions are kept (30d)")
+    init.add_argument("--found", action="store_true", help="others start its drives, as systemd by s4serve@.service: it finds them served")
     init.add_argument("--s4d", metavar="PROGRAM", default="s4d", help="the program that makes a drive (s4d)")
     serve = commands.add_parser("serve", help="starts its drives, and a gateway before them", allow_abbrev=False)
     serve.add_argument("folder", metavar="DIR")
@@ -198,7 +199,7 @@ def add(found: argparse.Namespace) -> int:
 
 def init(found: argparse.Namespace) -> int:
     """Makes a store, and says how it is served."""
-    make_store(found.folder, Settings(found.drives, found.frames, found.keep), Programs(s4d=found.s4d))
+    make_store(found.folder, Settings(found.drives, found.frames, found.keep, finds=found.found), Programs(s4d=found.s4d))
     print(f"made {found.folder}; its access key is in {keys_path(found.folder)}; serve it by: "
           f"python3 -m s4d.store serve {found.folder}")
     return 0

@@ -1,7 +1,8 @@
 """The service of a drive that another program starts and stops: it is asked, and nothing else.
 
-On another machine it is reached by TLS, through the bridge there. The requests of a session may still be done for a while after
-their session was lost, as here nobody can end the service; so nothing is asked there until that has passed.
+The requests of a session that was lost may still be done for a while, as here nobody can end the service: so nothing is asked until
+that can't be any more. On another machine, reached by TLS through the bridge there, that is after some time; on this one it is as
+soon as the service has no other session.
 """
 from __future__ import annotations
 
@@ -11,16 +12,21 @@ import os
 from typing import Optional
 
 from ..addresses import address_of
-from ..async_drive import AsyncDrive, opened
-from ..errors import BadReply, Disconnected
+from ..async_drive import AsyncDrive, answered, opened
+from ..doors import Door, Seats
+from ..errors import BadReply, Disconnected, NotAsked
 from ..tls import Tls
 from ..wire import Created
 from .numbers import Numbers
-from .sessions import first_reply
+from .service import let_go, take_door
+from .sessions import first_reply, session_at
 from .settings import Remote, StoreFault, drive_folder
 
 LOST = (OSError, Disconnected, BadReply)  # what is met where it doesn't answer
-ANSWER_SECONDS = 30.0  # that it may take for a reply, and for a session
+ANSWER_SECONDS = 30.0  # that a drive of another machine may take for a reply, and for a session
+REPLY_SECONDS = 300.0  # that one of this machine may take for a reply
+DOOR_SECONDS = 1.0  # between looks whether it still reads at its door
+PLACES = 16  # of clients that a service serves at once
 LOOK_SECONDS = 15.0  # between looks whether it still answers
 AGAIN_SECONDS = 2.0  # between these while it doesn't
 QUIET_SECONDS = 10.0  # that a request may take to be done whose reply was lost
@@ -116,6 +122,43 @@ class Elsewhere:
     async def stop(self) -> None:
         """Ends what is asked of it."""
         await self._let_go()
+
+
+class FoundService(Elsewhere):
+    """A drive of this machine, by its door for clients, whose service another program looks after, as systemd does."""
+
+    def __init__(self, folder: str, number: int) -> None:
+        path = os.path.join(drive_folder(folder, number), "doors", "client")
+        super().__init__(number, path)
+        self._door = Door("client", path, Seats(0, 0, 0.0))
+
+    def take(self) -> None:
+        take_door(self._door, self._number)
+
+    async def _settle(self) -> None:
+        """Takes all places that the service has for clients at once: so no earlier session has one, and what was asked there is done."""
+        await self._let_go()
+        found = await asyncio.gather(*[self._open() for _ in range(PLACES)], return_exceptions=True)
+        await asyncio.gather(*[it.close() for it in found if isinstance(it, AsyncDrive)])
+        for it in found:
+            answered(it)
+
+    async def _open(self) -> AsyncDrive:
+        opening = asyncio.ensure_future(session_at(self._door, REPLY_SECONDS))
+        try:
+            while not opening.done():
+                await asyncio.wait({opening}, timeout=DOOR_SECONDS)
+                if not opening.done() and not self._door.has_service():
+                    raise NotAsked("no service reads at this door")
+            return opening.result()
+        except BaseException:
+            opening.cancel()
+            opening.add_done_callback(let_go)
+            raise
+
+    async def stop(self) -> None:
+        await super().stop()
+        self._door.close()
 
 
 class RemoteService(Elsewhere):

@@ -11,7 +11,7 @@ from ..errors import Error, Refused
 from .asking import found_by_asking
 from .contents import Pieces
 from .drives import DriveAway, StoreDrive
-from .elsewhere import QUIET_SECONDS, RemoteService
+from .elsewhere import QUIET_SECONDS, FoundService, RemoteService
 from .layout import mark_attribute
 from .loading import IMAGES_AT_ONCE, Found, Loading, found_in
 from .service import Service, say
@@ -35,7 +35,9 @@ class OpenStore:
         self.uploads: List[Upload] = []  # that were begun before, and aren't complete
 
     async def start(self) -> Store:
-        """Starts the drives, makes the index, and deletes what puts left that were cut. StoreFault where one can't be served."""
+        """Starts the drives, or finds them served, makes the index, and deletes what puts left that were cut. StoreFault where one can't
+        be served.
+        """
         services = [self._service(number) for number in range(self.settings.drives)]
         self.drives = [StoreDrive(number, it, isinstance(it, RemoteService)) for number, it in enumerate(services)]
         for service in services:
@@ -52,12 +54,14 @@ class OpenStore:
         self._looking = asyncio.ensure_future(self.store.look_after())
         return self.store
 
-    def _service(self, number: int) -> Union[Service, RemoteService]:
+    def _service(self, number: int) -> Union[Service, FoundService, RemoteService]:
         """What serves a drive."""
         remote = self._remote.get(number)
-        if remote is None:
-            return Service(self.folder, number, self._programs.s4serve, self._leap)
-        return remote
+        if remote is not None:
+            return remote
+        if self.settings.finds:
+            return FoundService(self.folder, number)
+        return Service(self.folder, number, self._programs.s4serve, self._leap)
 
     def _note_serving(self) -> None:
         """Notes in the folder that drives of other machines are asked. Where that is there, a program that noted it was killed."""

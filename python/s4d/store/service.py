@@ -33,6 +33,14 @@ def let_go(opening: asyncio.Future[AsyncDrive]) -> None:
         asyncio.ensure_future(opening.result().close())
 
 
+def take_door(door: Door, number: int) -> None:
+    """Takes the door of a drive, of which no other program may ask for sessions. StoreFault where another has it."""
+    try:
+        door.take()
+    except OSError as error:
+        raise StoreFault(f"drive {number}: {error.filename}: {error.strerror}") from error
+
+
 class Service:
     """Starts and stops the process, and passes on what it says. Its sessions are asked for at `door`."""
 
@@ -49,11 +57,7 @@ class Service:
         self._last = "it said nothing"
 
     def take(self) -> None:
-        """Takes the door, of which no other program may ask for sessions. StoreFault where another has it."""
-        try:
-            self.door.take()
-        except OSError as error:
-            raise StoreFault(f"drive {self._number}: {error.filename}: {error.strerror}") from error
+        take_door(self.door, self._number)
 
     async def end_earlier(self) -> None:
         """Ends the service that a killed program left, so that all it had accepted is in the image. StoreFault where it stays."""

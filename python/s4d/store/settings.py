@@ -8,7 +8,7 @@ import re
 import secrets
 import subprocess
 from dataclasses import asdict, dataclass, replace
-from typing import Any, Dict, List, Tuple
+from typing import Any, Dict, List, NamedTuple, Tuple
 
 from ..addresses import address_of
 
@@ -27,6 +27,20 @@ class StoreFault(Exception):
     """Something of a store can't be had: its one line says what, and what to do."""
 
 
+class Modes(NamedTuple):
+    """The modes of a store's folders and files."""
+
+    folder: int
+    file: int
+    door: int
+    fifo: int
+
+
+# Where the services are of another user than the gateway, their group is the gateway's, which reads the images and reaches the doors of
+# clients; those of administrators it doesn't. What it makes at a door is the group's, too.
+MODES = {False: Modes(0o700, 0o600, 0o700, 0o600), True: Modes(0o750, 0o640, 0o2770, 0o660)}
+
+
 @dataclass(frozen=True)
 class Remote:
     """A drive of another machine: its number, the address `tls:HOST:PORT` of its bridge, and paths of files in PEM: the authority of
@@ -43,7 +57,8 @@ class Remote:
 @dataclass(frozen=True)
 class Settings:
     """What a store was made with: how many drives of how many frames, and for how long they keep the past. Its id, which those
-    that were made first haven't, tells it from others. `remote` are those of the drives that are on other machines.
+    that were made first haven't, tells it from others. `remote` are those of the drives that are on other machines. Where it finds
+    the services of the others, some other program starts and stops them.
     """
 
     drives: int
@@ -51,6 +66,7 @@ class Settings:
     keep: str
     id: str = ""
     remote: Tuple[Remote, ...] = ()
+    finds: bool = False
 
     @property
     def window(self) -> int:
@@ -101,9 +117,11 @@ def make_store(folder: str, settings: Settings, programs: Programs) -> None:
         if os.listdir(folder):
             raise StoreFault(f"{folder} isn't empty: name another folder, or remove what is there")
         os.mkdir(drives, 0o700)
+        for path in (folder, drives) if settings.finds else ():
+            os.chmod(path, MODES[True].folder)
         for number in range(settings.drives):
             make_drive(folder, number, settings, programs)
-        write_new(keys_path(folder), keys_text())
+        write_new(keys_path(folder), keys_text(), MODES[settings.finds].file)
         for path in (drives, folder, os.path.dirname(os.path.abspath(folder))):
             sync_folder(path)
         write_settings(folder, replace(settings, id=secrets.token_hex(8)))
@@ -115,9 +133,11 @@ def make_drive(folder: str, number: int, settings: Settings, programs: Programs)
     """The folder of a drive: its doors and its image, whose program has it on the disk."""
     for role in ROLES:
         doors = os.path.join(drive_folder(folder, number), "doors", role)
+        modes = MODES[settings.finds and role == "client"]
         os.makedirs(doors)
-        os.chmod(doors, 0o700)
+        os.chmod(doors, modes.door)
         os.mkfifo(os.path.join(doors, "door"), 0o600)
+        os.chmod(os.path.join(doors, "door"), modes.fifo)
     words = [programs.s4d, "new", "--window", str(settings.window), image_path(folder, number), str(settings.frames)]
     ran = subprocess.run(words, stdin=subprocess.DEVNULL, stdout=subprocess.PIPE, stderr=subprocess.PIPE, check=False)
     if ran.returncode:
@@ -134,9 +154,11 @@ def write_settings(folder: str, settings: Settings) -> None:
                             "id": settings.id}
     if settings.remote:
         said["remote"] = [asdict(it) for it in settings.remote]
+    if settings.finds:
+        said["found"] = True
     with contextlib.suppress(FileNotFoundError):
         os.unlink(f"{path}.new")  # of a program that was killed
-    write_new(f"{path}.new", json.dumps(said) + "\n")
+    write_new(f"{path}.new", json.dumps(said) + "\n", MODES[settings.finds].file)
     os.rename(f"{path}.new", path)
     sync_folder(folder)
 
@@ -146,10 +168,11 @@ def keys_text() -> str:
     return f"# access key, secret, read or write, buckets\ns4{secrets.token_hex(9)} {secrets.token_urlsafe(30)} write *\n"
 
 
-def write_new(path: str, text: str) -> None:
-    """Writes a file that isn't there, for its owner alone, and waits until it is on the disk."""
+def write_new(path: str, text: str, mode: int = 0o600) -> None:
+    """Writes a file that isn't there, mostly for its owner alone, and waits until it is on the disk."""
     number = os.open(path, os.O_WRONLY | os.O_CREAT | os.O_EXCL | os.O_CLOEXEC, 0o600)
     with open(number, "w", encoding="utf-8") as file:
+        os.fchmod(number, mode)
         file.write(text)
         file.flush()
         os.fsync(number)
@@ -185,7 +208,7 @@ def settings_of(said: Any, path: str) -> Settings:
     if faults:
         raise StoreFault(f"{path}: {faults[0]}")
     remote = tuple(Remote(**it) for it in said.get("remote", []))
-    return Settings(said["drives"], said["frames"], said["keep"], said.get("id", ""), remote)
+    return Settings(said["drives"], said["frames"], said["keep"], said.get("id", ""), remote, said.get("found", False))
 
 
 def faults_of(said: Dict[str, Any]) -> List[str]:
@@ -194,6 +217,8 @@ def faults_of(said: Dict[str, Any]) -> List[str]:
               if type(said.get(name)) is not int or said[name] not in known]
     if not isinstance(said.get("id", ""), str) or ID.fullmatch(said.get("id", "")) is None:
         faults.append("id is none of a store")
+    if not isinstance(said.get("found", False), bool):
+        faults.append("found is neither true nor false")
     try:
         microseconds(str(said.get("keep")))
     except ValueError as error:
