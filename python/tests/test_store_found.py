@@ -13,7 +13,7 @@ import tempfile
 import unittest
 from unittest import mock
 
-from s4d.errors import Disconnected
+from s4d.errors import NotAsked
 from s4d.store import OpenStore, Programs, Settings, StoreFault, elsewhere, make_store
 from s4d.store.drives import DriveAway
 from s4d.store.layout import first_drive
@@ -150,7 +150,7 @@ class Found(unittest.TestCase):
             await session.close()
             await asyncio.wait_for(starting, PATIENCE)
             self.kill(0)
-            with self.assertRaises((OSError, Disconnected)):
+            with self.assertRaises(NotAsked):
                 await service.session(1.0)
             self.assertIn("doors/client: ", await asyncio.wait_for(service.ended(), PATIENCE))
             await service.stop()

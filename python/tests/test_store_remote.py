@@ -3,23 +3,28 @@ import asyncio
 import contextlib
 import io
 import json
+import os
 import pathlib
+import subprocess
 import tempfile
 import unittest
 from unittest import mock
 
+from s4d.errors import NotAsked
+from s4d.image import Image
 from s4d.moments import machine_time
 from s4d.store import OpenStore, Programs, Settings, StoreFault, elsewhere, make_store
+from s4d.store.adding import ahead_of, say_clock
 from s4d.store.asking import found_by_asking
 from s4d.store.command import main
 from s4d.store.contents import Gone
 from s4d.store.drives import DriveAway
 from s4d.store.layout import first_drive
 from s4d.store.numbers import LEAST, ROOM, Numbers
-from s4d.store.settings import settings_of
+from s4d.store.settings import Remote, settings_of
 
-from .bridged import PATIENCE, Bridged, Certificates, free_port, needs_openssl
-from .built import PROGRAM, S4, S4SERVE
+from .bridged import PATIENCE, Bridged, Certificates, free_port, needs_openssl, wait_until
+from .built import PROGRAM, S4, S4SERVE, needs_program, needs_s4, needs_s4serve
 from .plain_store import PlainStoreDrive, PlainStores, TimedDrive
 from .s3_client import Gatewayed
 from .store_standin import programs
@@ -53,7 +58,8 @@ class Elsewhere(Bridged):
         built = all(pathlib.Path(it).exists() for it in (PROGRAM, S4, S4SERVE))
         self.programs = Programs(PROGRAM, S4, S4SERVE) if built else Programs(**programs(self.folder))
         make_store(self.store, Settings(1, 64, "30d"), self.programs)
-        for name, value in (("ANSWER_SECONDS", PATIENCE), ("LOOK_SECONDS", PATIENCE), ("QUIET_SECONDS", 0.5), ("AGAIN_SECONDS", 0.1)):
+        for name, value in (("CONNECT_SECONDS", PATIENCE), ("ANSWER_SECONDS", PATIENCE), ("LOOK_SECONDS", PATIENCE), ("QUIET_SECONDS", 0.5),
+                            ("AGAIN_SECONDS", 0.1)):
             patch = mock.patch.object(elsewhere, name, value)
             patch.start()
             self.addCleanup(patch.stop)
@@ -180,7 +186,7 @@ class Stored(Elsewhere):
         self.run_store(put)
         (self.folder / "store/serving").touch()  # as of a program that was killed
         self.run_store(look)
-        self.assertIn("another program was killed: what it asked of drives elsewhere is waited for", self.last_said)
+        self.assertIn("drives elsewhere may still do what an earlier program asked: that is waited for, ", self.last_said)
 
     def test_drives_that_can_not_be_added(self):
         """One that isn't served, one that takes the store for an administrator, and one of others: the store stays as it was."""
@@ -205,6 +211,37 @@ class Stored(Elsewhere):
                          (2, "s4store: --remote, --ca, --cert and --key need each other; --help lists the options\n"))
 
 
+@needs_program
+@needs_s4
+@needs_s4serve
+class RealStored(Elsewhere):
+    """The same over a drive itself."""
+
+    test_all_is_found = Stored.test_all_is_found_and_what_is_away_answers_that
+    facts, end_bridge = staticmethod(Stored.facts), Stored.end_bridge
+
+    def bridge(self):
+        if self.service is None:
+            self.service = mock.Mock(drive=TimedDrive())
+            self.begin_service()
+        super().bridge()
+
+    def begin_service(self):
+        doors = [self.folder / "doors" / role for role in ("client", "admin")]
+        for door in doors:
+            door.mkdir(parents=True)
+            os.mkfifo(door / "door")
+        words = [S4SERVE, "--create", "64", "--keep", "30d", *(f"--door={it.name}={it}" for it in doors), f"{self.folder}/image"]
+        with open(self.folder / "service", "wb") as said:
+            service = subprocess.Popen(words, stdin=subprocess.DEVNULL, stderr=said)
+        self.addCleanup(service.wait)
+        self.addCleanup(service.kill)
+        wait_until(lambda: "serves" in (self.folder / "service").read_text(encoding="utf-8"), "the drive is served")
+
+    def live(self, kind):
+        return sum(row.attribute[:1] == kind for row in Image(f"{self.folder}/image", s4=S4).list())
+
+
 class Files(unittest.TestCase):
     def test_settings(self):
         one = {"drive": 1, "address": "tls:host:7401", "ca": "ca", "cert": "cert", "key": "key"}
@@ -215,6 +252,29 @@ class Files(unittest.TestCase):
                              ({}, "is no list of drives"), ([{**one, "ca": 5}], "address, ca, cert, key are texts")):
             with self.assertRaisesRegex(StoreFault, line):
                 settings_of({**said, "remote": remote}, "x")
+
+    def test_clocks(self):
+        for ahead, line in ((500_000, ""), (-500_000, ""), (2_500_000, "s4store: x: its clock is 2.5 s ahead of this machine's\n"),
+                            (-61_000_000, "s4store: x: its clock is 61.0 s behind this machine's\n")):
+            said = io.StringIO()
+            with contextlib.redirect_stderr(said):
+                say_clock("x", ahead)
+            self.assertEqual(said.getvalue(), line)
+        self.assertEqual([ahead_of(it, 10, 20) for it in (5, 10, 15, 20, 26)], [-5, 0, 0, 0, 6])
+
+    def test_a_session_that_fails_at_first(self):
+        """It is tried once more; then the drive is away, and it is said why."""
+        async def work():
+            service = elsewhere.RemoteService("/nowhere", Remote(1, "tls:a:1", "", "", ""))
+            service._look = mock.AsyncMock()
+            service._open = mock.AsyncMock(side_effect=[ConnectionResetError(), "a session", OSError("late"), ConnectionResetError()])
+            await service.start()
+            self.assertEqual(await service.session(1.0), "a session")
+            with self.assertRaisesRegex(NotAsked, "^tls:a:1: ConnectionResetError$"):
+                await service.session(1.0)
+            self.assertEqual(await service.ended(), "tls:a:1: ConnectionResetError")
+
+        asyncio.run(work())
 
     def test_numbers(self):
         """What may be used is on the disk before it is; what was there once is asked for alone."""

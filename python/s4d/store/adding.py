@@ -81,7 +81,9 @@ async def claim(folder: str, remote: Remote, store: str) -> None:
         await drive.start()
         if await drive.ask(is_administrator):
             raise StoreFault(f"{remote.address} takes the store for an administrator: give its certificate's name the role client")
+        before = machine_time()
         made = await drive.ask(lambda session: session.create(attribute))
+        say_clock(remote.address, ahead_of(made.moment, before, machine_time()))
         others = await objects_of(drive, range(1, made.object))
         earlier = [it.object for it in others if it.attribute == attribute]  # of an earlier program that was killed
         is_empty = len(earlier) == len(others)
@@ -92,11 +94,15 @@ async def claim(folder: str, remote: Remote, store: str) -> None:
         raise StoreFault(f"{remote.address}: {error}") from error
     finally:
         await drive.stop()
-    say_clock(remote.address, made.moment - machine_time())
 
 
 def deleting(number: int) -> Callable[[AsyncDrive], Awaitable[int]]:
     return lambda session: session.delete(number)
+
+
+def ahead_of(moment: int, before: int, after: int) -> int:
+    """By how much a clock is ahead, at least, that gave a moment between two times of this machine; below zero where it is behind."""
+    return max(moment - after, 0) + min(moment - before, 0)
 
 
 def say_clock(address: str, ahead: int) -> None:

@@ -14,7 +14,7 @@ from typing import Optional
 from ..addresses import address_of
 from ..async_drive import AsyncDrive, answered, opened
 from ..doors import Door, Seats
-from ..errors import BadReply, Disconnected, NotAsked
+from ..errors import Error, NotAsked
 from ..tls import Tls
 from ..wire import Created
 from .numbers import Numbers
@@ -22,8 +22,10 @@ from .service import let_go, take_door
 from .sessions import first_reply, session_at
 from .settings import Remote, StoreFault, drive_folder
 
-LOST = (OSError, Disconnected, BadReply)  # what is met where it doesn't answer
-ANSWER_SECONDS = 30.0  # that a drive of another machine may take for a reply, and for a session
+LOST = (OSError, Error)  # what is met where it doesn't answer, or has no room for a session
+CONNECT_SECONDS = 10.0  # that another machine may take until it is connected
+OPENINGS = 2  # handshakes at once: a bridge performs four of an address
+ANSWER_SECONDS = 30.0  # that a drive there may take for a reply
 REPLY_SECONDS = 300.0  # that one of this machine may take for a reply
 DOOR_SECONDS = 1.0  # between looks whether it still reads at its door
 PLACES = 16  # of clients that a service serves at once
@@ -55,7 +57,7 @@ class Elsewhere:
             await self._settle()
             await self._look()
         except LOST as error:
-            raise StoreFault(f"drive {self._number} isn't served: {self._name}: {error}") from error
+            raise StoreFault(f"drive {self._number} isn't served: {self._named(error)}") from error
         self._lost = asyncio.get_running_loop().create_future()
 
     async def start_again(self) -> None:
@@ -79,7 +81,16 @@ class Elsewhere:
             with contextlib.suppress(*LOST):
                 return await first_reply(self._kept)
             await self._let_go()
-        self._kept = await self._open()
+        self._kept = await self._opened()
+
+    async def _opened(self) -> AsyncDrive:
+        """A session, of a second try where the first fails: a bridge ends a handshake that takes too long, as when many come."""
+        with contextlib.suppress(*LOST):
+            return await self._open()
+        return await self._open()
+
+    def _named(self, error: Exception) -> str:
+        return f"{self._name}: {str(error) or type(error).__name__}"
 
     async def _let_go(self) -> None:
         kept, self._kept = self._kept, None
@@ -100,24 +111,24 @@ class Elsewhere:
                 if not lost.done():
                     await self._look()
             except LOST as error:
-                self._lose(str(error))
+                self._lose(self._named(error))
         return lost.result()
 
     def _lose(self, why: str) -> None:
         if self._lost is not None and not self._lost.done():
-            self._lost.set_result(f"{self._name}: {why}")
+            self._lost.set_result(why)
 
     async def session(self, _timeout: float) -> AsyncDrive:
-        """A session that has answered. One of LOST where none is to be had."""
+        """A session that has answered. NotAsked where none is to be had."""
         try:
-            return await self._open()
+            return await self._opened()
         except LOST as error:
-            self._lose(str(error))
-            raise
+            self._lose(self._named(error))
+            raise NotAsked(self._named(error)) from error
 
     def kill(self) -> None:
         """A reply was lost: nothing is asked until what was asked is done, or never will be."""
-        self._lose("a reply was lost")
+        self._lose(f"{self._name}: a reply was lost")
 
     async def stop(self) -> None:
         """Ends what is asked of it."""
@@ -167,6 +178,7 @@ class RemoteService(Elsewhere):
     def __init__(self, folder: str, remote: Remote) -> None:
         super().__init__(remote.drive, remote.address)
         self._remote, self.quiet = remote, 0.0
+        self._openings = asyncio.Semaphore(OPENINGS)
         self.numbers = Numbers(os.path.join(drive_folder(folder, remote.drive), "numbers"))
 
     def wait_for_earlier(self) -> None:
@@ -178,7 +190,8 @@ class RemoteService(Elsewhere):
         return self.quiet > asyncio.get_running_loop().time()
 
     def kill(self) -> None:
-        self.wait_for_earlier()
+        if self._lost is not None:  # else nothing was asked yet
+            self.wait_for_earlier()
         super().kill()
 
     async def _settle(self) -> None:
@@ -188,9 +201,10 @@ class RemoteService(Elsewhere):
     async def _open(self) -> AsyncDrive:
         tls = Tls(self._remote.ca, self._remote.cert, self._remote.key)
         try:
-            reader, writer = await asyncio.wait_for(opened(address_of(self._remote.address), tls), ANSWER_SECONDS)
+            async with self._openings:
+                reader, writer = await asyncio.wait_for(opened(address_of(self._remote.address), tls), CONNECT_SECONDS)
         except asyncio.TimeoutError:
-            raise TimeoutError(f"timed out after {ANSWER_SECONDS:g} seconds") from None
+            raise TimeoutError(f"timed out after {CONNECT_SECONDS:g} seconds") from None
         session = NumberedDrive(self.numbers, reader, writer)
         try:
             await first_reply(session)

@@ -64,11 +64,13 @@ class OpenStore:
         return Service(self.folder, number, self._programs.s4serve, self._leap)
 
     def _note_serving(self) -> None:
-        """Notes in the folder that drives of other machines are asked. Where that is there, a program that noted it was killed."""
+        """Notes in the folder that drives of other machines are asked. Where that is there, a program that noted it was killed, or left
+        something that may still be done.
+        """
         if not self._remote:
             return
         if os.path.exists(self._serving):
-            say(f"another program was killed: what it asked of drives elsewhere is waited for, {QUIET_SECONDS:g} s")
+            say(f"drives elsewhere may still do what an earlier program asked: that is waited for, {QUIET_SECONDS:g} s")
             for service in self._remote.values():
                 service.wait_for_earlier()
         else:
