@@ -265,7 +265,9 @@ class Files(unittest.TestCase):
     def test_a_session_that_fails_at_first(self):
         """It is tried once more; then the drive is away, and it is said why."""
         async def work():
-            service = elsewhere.RemoteService("/nowhere", Remote(1, "tls:a:1", "", "", ""))
+            with self.assertRaisesRegex(StoreFault, "^drive 1: /nowhere/cert: No such file or directory$"):
+                await elsewhere.RemoteService("/nowhere", Remote(1, "tls:a:1", __file__, "/nowhere/cert", __file__)).start()
+            service = elsewhere.RemoteService("/nowhere", Remote(1, "tls:a:1", *[__file__] * 3))
             service._look = mock.AsyncMock()
             service._open = mock.AsyncMock(side_effect=[ConnectionResetError(), "a session", OSError("late"), ConnectionResetError()])
             await service.start()

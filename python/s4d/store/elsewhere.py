@@ -181,6 +181,16 @@ class RemoteService(Elsewhere):
         self._openings = asyncio.Semaphore(OPENINGS)
         self.numbers = Numbers(os.path.join(drive_folder(folder, remote.drive), "numbers"))
 
+    async def start(self) -> None:
+        """The same; StoreFault names a file of the certificates that can't be read, which TLS itself doesn't."""
+        try:
+            for path in (self._remote.ca, self._remote.cert, self._remote.key):
+                with open(path, "rb"):
+                    pass
+        except OSError as error:
+            raise StoreFault(f"drive {self._number}: {error.filename}: {error.strerror}") from error
+        await super().start()
+
     def wait_for_earlier(self) -> None:
         """What another program has asked may still be done: it is waited for at the start."""
         self.quiet = asyncio.get_running_loop().time() + QUIET_SECONDS
