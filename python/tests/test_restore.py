@@ -14,6 +14,8 @@ from s4d.moments import machine_time
 from s4d.restore import Asker, Fault, Restore, Sayer, Wanted, plans
 from s4d.restore.command import main
 from s4d.restore.ledger import NEAR_RUNS, Ledger, Runs
+from s4d.restore.room import Versions
+from s4d.restore.standins import StandIns
 from s4d.restore.words import text_of, word_in
 
 from .bridged import PACKAGE, PATIENCE, wait_until
@@ -109,9 +111,85 @@ class Ledgers(unittest.TestCase):
             ledger.add(AuditRow(31 + len(found), AuditKind.FLUSH_OBJECT, 1, *span))
         self.assertEqual(found, [(20, 29), (9, 19), (7, 8)])
         self.assertIsNone(Ledger(rows[:1]).newest_hidable(1, 6))
+        self.assertEqual([Ledger(rows).newest_hidable(1, moment) for moment in (9, 20)], [(20, 29), None])
+
+    def test_oldest_versions(self):
+        """Those of several objects in the order in which they began; present ones stay, until others follow."""
+        def written(moment, object):
+            return AuditRow(moment, AuditKind.WRITE, object, 0, 1)
+
+        ledger = Ledger([written(5, 1), written(6, 2), written(11, 2), written(12, 1), written(13, 2), written(14, 2), written(15, 1), written(16, 3)])
+        versions = Versions(ledger, 10)
+        for object in (1, 2, 3):
+            versions.offer(object)
+        self.assertEqual(versions.take(2), [(2, 11, 12), (1, 12, 14)])
+        ledger.add(AuditRow(17, AuditKind.FLUSH_OBJECT, 2, 11, 12))
+        ledger.add(AuditRow(18, AuditKind.FLUSH_OBJECT, 1, 12, 14))
+        self.assertEqual((versions.take(9), versions.take(9)), ([(2, 13, 13)], []))
+        ledger.add(written(19, 3))
+        ledger.add(written(20, 1))
+        ledger.add(written(21, 3))
+        for _ in range(2):
+            versions.offer(3)
+            versions.offer(1)
+        self.assertEqual(versions.take(9), [(1, 15, 19), (3, 16, 20)])
+        ledger.add(written(22, 1))
+        ledger.add(AuditRow(23, AuditKind.FLUSH, 0, 1, 22))
+        versions.offer(1)
+        self.assertEqual(versions.take(9), [])
+
+    def test_many_objects(self):
+        """What is done for each doesn't grow with how many there are."""
+        rows = [AuditRow(place + 1, AuditKind.WRITE, place % 3_000 + 1, 0, 1) for place in range(6_000)]
         ledger = Ledger(rows)
-        self.assertEqual([ledger.newest_hidable(1, 6, count) for count in (2, 9)], [(9, 29), (7, 29)])
-        self.assertEqual([ledger.newest_hidable(1, moment, 9) for moment in (7, 9, 20)], [(9, 29), (20, 29), None])
+        versions, looked = Versions(ledger, 0), []
+        hides = ledger.runs.hides
+
+        def counted(*span):
+            looked.append(span)
+            return hides(*span)
+
+        ledger.runs.hides = counted
+        for object in range(1, 3_001):
+            versions.offer(object)
+        taken = [versions.take(1)[0][0] for _ in range(3_000)]
+        self.assertEqual((taken, versions.take(1), len(looked)), (list(range(1, 3_001)), [], 3_000))
+
+
+class Counting:
+    """What an `Asker` is asked, of a plain drive."""
+
+    def __init__(self, drive):
+        self.drive, self.asked = drive, 0
+
+    def all(self, requests):
+        self.asked += len(requests)
+        return [self.reply(request) for request in requests]
+
+    def reply(self, request):
+        answer = request.answer(self.drive.answer("admin", request.body))
+        return mock.Mock(refusal=lambda: answer if isinstance(answer, s4d.Refused) else None, result=lambda: answer)
+
+    versions = Asker.versions
+
+
+class ManyStandIns(unittest.TestCase):
+    def test_those_of_one_size(self):
+        """Each is read once, however many there are that could be one another's."""
+        drive, count = PlainDrive(), 300
+        for place in range(count):
+            drive.answer("client", wire.create(b"note").body)
+            drive.answer("client", wire.append(place + 1, b"%9d" % (place // 2)).body)
+        at = drive.clock
+        for place in range(count):
+            drive.answer("client", wire.delete(place + 1).body)
+        for place in range(count):
+            drive.answer("client", wire.create(b"note").body)
+            drive.answer("client", wire.append(count + place + 1, b"%9d" % (place // 2 + 10)).body)
+        asker = Counting(drive)
+        found = StandIns(asker, range(count + 1, 2 * count + 1)).of(range(1, count + 1), at)
+        self.assertEqual(found, {object: object + count - 20 for object in range(21, count + 1)})
+        self.assertEqual(asker.asked, 3 * 2 * count)  # attributes twice, and one Read
 
     def test_words(self):
         now = 1_795_785_482_000_123

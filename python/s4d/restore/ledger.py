@@ -6,7 +6,6 @@ from dataclasses import dataclass, field
 from typing import Dict, Iterable, List, Optional, Tuple
 
 from ..wire import AuditKind, AuditRow
-from .plans import BLOCK_BYTES
 
 MOST_RUNS = 65_536  # runs of hidden moments of all lists
 NEAR_RUNS = MOST_RUNS - 4_096  # from here on it is said how many are left
@@ -96,20 +95,15 @@ class Ledger:
         """The first number that the audit saw given: those below it were given before."""
         return min((object for object, life in self.lives.items() if life.made is not None), default=None)
 
-    def newest_hidable(self, object: int, moment: int, count: int = 1) -> Optional[Tuple[int, int]]:
-        """The moments of so many of the newest versions of an object that aren't hidden, or of as many as there are, but for the
-        present one; each begins after a moment. None where there is no such version.
+    def newest_hidable(self, object: int, moment: int) -> Optional[Tuple[int, int]]:
+        """The moments of the newest version of an object that isn't hidden, but for the present one; it begins after a moment. None
+        where there is no such version.
         """
         begun = self.lives[object].begun
-        found: Optional[Tuple[int, int]] = None
-        for first, after in zip(begun[-2::-1], begun[:0:-1]):
-            if first <= moment or count == 0:
+        for place in range(len(begun) - 2, -1, -1):
+            first, last = begun[place], begun[place + 1] - 1
+            if first <= moment:
                 break
-            if found is not None or not self.runs.hides(object, first, after - 1):
-                found, count = (first, after - 1 if found is None else found[1]), count - 1
-        return found
-
-    def written_since(self, object: int, moment: int) -> int:
-        """About how many blocks hold what an object became after a moment: one at least for each of its versions."""
-        life = self.lives[object]
-        return life.written // BLOCK_BYTES + len(life.begun) - bisect_right(life.begun, moment)
+            if not self.runs.hides(object, first, last):
+                return first, last
+        return None
