@@ -171,7 +171,7 @@ class Bridge:
             await self._pace.pass_on(account, asked.is_change, size)
             unanswered += 1
 
-        session = Relay(client, pipes, report, self._log.settle, pass_on)
+        session = Relay(client, pipes, report, self._log.settle, pass_on, lambda: account.unanswered)
         self._relays[session] = client.role
         self._pace.begin(account)
         counts.sessions += 1
