@@ -10,8 +10,9 @@ import unittest
 from s4d import bridge, pace
 from s4d.access_log import AccessLog
 from s4d.doors import Seats, TurnedAway
+from s4d.metrics import of_peers, text_of
 from s4d.pace import MOST_PEERS, OTHERS, Bucket, Overdue, Pace, Share, share_of
-from s4d.refused import Refusals
+from s4d.refused import MOST_SOURCES, Refusals
 
 
 async def settle():
@@ -267,6 +268,11 @@ class Remembered(unittest.TestCase):
             self.assertEqual(sum(each.changes for each in used), 3 * MOST_PEERS + 1)
             self.assertEqual([each.peer for each in used if each.sessions], ["stays"])
             self.assertEqual(used[-1].peer, OTHERS)
+            for number in range(10_000):
+                it.pace.leave(it.pace.enter("client", f"name {number}", True))
+            used = it.pace.used()
+            self.assertEqual((len(used), text_of(of_peers(used)).count("\n")), (MOST_PEERS + 1, 4 * (MOST_PEERS + 3)))
+            self.assertEqual(sum(each.changes for each in used), 3 * MOST_PEERS + 1)
             self.assertIs(it.pace.enter("client", "stays", True), stays)
             self.assertIsNot(it.pace.enter("other", "stays", True), stays)
 
@@ -403,6 +409,27 @@ class Lines(unittest.TestCase):
             self.assertEqual([line.get("more", line.get("alice")) for line in self.lines()[4:]], [2, {"NoSpace": 1}])
 
         asyncio.run(trial())
+
+
+    def test_refusals_of_many_peers(self):
+        """Lines and memory don't grow with how many come, as by ever new addresses."""
+        async def trial():
+            log = AccessLog(str(self.path))
+            refusals = Refusals(log)
+            for number in range(10_000):
+                for event in ("refused", "turned away"):
+                    refusals.note(event, "client", f"uid {number}", "NoSpace", {"peer": {"uid": number}})
+            self.assertEqual(len(refusals._counted), MOST_SOURCES + 2)
+            refusals.note("refused", "client", "uid 3", "NoSpace", {})
+            refusals.close()
+            log.close()
+
+        asyncio.run(trial())
+        lines = self.lines()
+        self.assertEqual([line["peer"]["uid"] for line in lines[:MOST_SOURCES + 2]], [it // 2 for it in range(MOST_SOURCES + 2)])
+        rest = 10_000 - MOST_SOURCES // 2 - 1
+        self.assertEqual([(line.get("peer"), line["more"]) for line in lines[MOST_SOURCES + 2:]],
+                         [({"uid": 3}, {"NoSpace": 1}), (None, {"NoSpace": rest}), (None, {"NoSpace": rest})])
 
 
 class Words(unittest.TestCase):
