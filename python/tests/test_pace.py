@@ -6,6 +6,7 @@ import json
 import pathlib
 import tempfile
 import unittest
+from unittest import mock
 
 from s4d import bridge, pace
 from s4d.access_log import AccessLog
@@ -212,7 +213,6 @@ class Turns(unittest.TestCase):
 
         with_asking(trial, Share())
 
-
     def test_many_sessions_have_little_more_of_the_service(self):
         """While another asks; and where replies don't come, requests aren't held back for ever."""
         async def trial(it):
@@ -397,7 +397,8 @@ class Lines(unittest.TestCase):
             refusals.note("turned away", "client", "uid 7", "queue full", {"away": 1})
             await log.settle()
             self.assertEqual([set(line) - {"time"} for line in self.lines()], [{"number"}, {"alice"}, {"away"}])
-            await asyncio.sleep(1.2)
+            for source in list(refusals._counted):  # the second of each is over
+                refusals._say(source)
             await log.settle()
             (line,) = self.lines()[3:]
             self.assertEqual((line["event"], line["role"], line["peer"]), ("refused", "client", {"uid": 7}))
@@ -408,8 +409,22 @@ class Lines(unittest.TestCase):
             log.close()
             self.assertEqual([line.get("more", line.get("alice")) for line in self.lines()[4:]], [2, {"NoSpace": 1}])
 
-        asyncio.run(trial())
+        with mock.patch("s4d.refused.QUIET_SECONDS", 60):
+            asyncio.run(trial())
 
+    def test_a_second_is_over_by_itself(self):
+        async def trial():
+            log = AccessLog(str(self.path))
+            refusals = Refusals(log)
+            for _ in range(3):
+                refusals.note("refused", "client", "uid 7", "NoSpace", {})
+            while refusals._counted:
+                await asyncio.sleep(0.01)
+            log.close()
+
+        with mock.patch("s4d.refused.QUIET_SECONDS", 0.05):
+            asyncio.run(trial())
+        self.assertEqual([line.get("more") for line in self.lines()], [None, {"NoSpace": 2}])
 
     def test_refusals_of_many_peers(self):
         """Lines and memory don't grow with how many come, as by ever new addresses."""
