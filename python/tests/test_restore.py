@@ -329,6 +329,23 @@ class Numbers(Plain):
         drive.rows[:] = rows
         self.assertEqual(self.command("--at", rows[0][0], "--dry-run")[0], 0)
 
+    def test_an_audit_that_lacks_a_creation(self):
+        """An object was made and the image migrated, both since: only what it became later has rows."""
+        at = self.story()
+        with self.connect() as it:
+            it.append(5, b"more")
+        drive = self.server.drive
+        for number in (1, 2, 3, 4):
+            drive.versions[number] = [version for version in drive.versions[number] if version.moment <= at]
+        drive.rows[:] = [row for row in drive.rows if row[0] > at and row[2] == 5 and row[1] != 1]
+        with self.connect() as it:
+            it.create(b"later")
+        why = (f"s4d.restore: the audit doesn't reach back to {at}: object 5 was changed since, and it has no row of that, as where the image was "
+               "migrated since; stop the service, and use s4 restore\n")
+        asked = len(drive.rows)
+        self.assertEqual(self.command("--at", at), (1, [], why))
+        self.assertEqual(len(drive.rows), asked)
+
     def test_what_is_said_of_an_interruption(self):
         at = self.story()
         for error, said in ((KeyboardInterrupt, ""), (s4d.Disconnected("the stream ended"), "s4d.restore: the stream ended\n")):
@@ -404,6 +421,9 @@ class Numbers(Plain):
         for near, said in ((2, why), (3, "")):
             with mock.patch("s4d.restore.room.NEAR_RUNS", near):
                 self.assertEqual(self.command("--at", at, "--dry-run")[2].partition("s4d.restore: 2 would")[0], said)
+        self.server.drive.floor = 3  # one of them has aged
+        with mock.patch("s4d.restore.room.NEAR_RUNS", 2):
+            self.assertEqual(self.command("--at", at, "--dry-run")[2].partition("s4d.restore: 2 would")[0], "")
 
 
 @needs_program
@@ -565,6 +585,33 @@ class Floods(Served):
         with self.session("admin") as admin:
             self.assertEqual({number: it for number, it in zip(numbers, Asker(admin).versions([(it, at) for it in numbers]))}, before)
 
+    def test_a_small_drive_full_of_live_objects(self):
+        """What was overwritten first is hidden and restored first, and so makes room for what was overwritten next."""
+        self.begin_anew()
+        self.start(64)
+        draw, replies = random.Random(7), []
+        with self.session() as drive:
+            numbers = [reply.result().object for reply in self.asked(drive, [wire.create(b"owned")] * 60)]
+            self.asked(drive, [wire.write(number, 0, draw.randbytes(2_000)) for number in numbers])
+            before, at = present_of(drive, numbers), machine_time()
+            while not all(reply.refusal() for reply in replies) or not replies:
+                draw.shuffle(numbers)
+                replies = self.asked(drive, [wire.write(number, 0, draw.randbytes(2_000)) for number in numbers])
+        without, _ = self.check(before, at)
+        self.assertGreater(without.failed, 30)  # an administrator has room for some fifteen of them
+        done, printed = self.check(before, at, flush=True)
+        self.assertEqual((without.changed + done.changed, done.failed), (60, 0), printed)
+        with self.session("admin") as admin:
+            self.assertEqual(Asker(admin).versions([(it, at) for it in numbers]), [before[it] for it in numbers])
+
+    @staticmethod
+    def asked(drive, requests):
+        """The replies to requests that are sent together."""
+        batch = drive.pipeline()
+        for request in requests:
+            batch.add(request)
+        return batch.run()
+
     def test_a_full_journal(self):
         drive, before, at = self.owned(256)
         number = drive.create().object
@@ -651,6 +698,24 @@ class Interrupted(Served):
 
         asker.change = counted
         Restore(asker, Wanted(at), Sayer(io.StringIO(), io.StringIO())).run()
+
+
+@needs_s4serve
+class Windows(Served):
+    def test_a_moment_near_the_floor(self):
+        """A drive that keeps a minute: the window is widened before anything else, by what the audit or the floor says of it."""
+        self.start(24, "1m")
+        with self.session() as drive, self.session("admin") as admin:
+            number = drive.create(b"note").object
+            drive.write(number, 0, b"mill")
+            at = machine_time()
+            drive.write(number, 0, b"evil")
+            done, printed, _ = restored(admin, at)
+            self.assertEqual((done.widened.before, done.changed), (60_000_000, 1))
+            self.assertRegex(printed[0], r"^window 60000000 widened to 1\d{9}; SetWindow 60000000 puts it back$")
+            rows = [row.kind for row in admin.audit(at)]
+            self.assertEqual(rows, [AuditKind.WRITE, AuditKind.SET_WINDOW, AuditKind.WRITE])
+            self.assertEqual((drive.read(number), restored(admin, at)[0].widened), (b"mill", None))
 
 
 @needs_s4serve

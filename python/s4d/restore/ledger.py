@@ -32,6 +32,12 @@ class Runs:
         self.count += 1 - (high - low)
         runs[low:high] = [(first, last)]
 
+    def forget_below(self, floor: int) -> None:
+        """Drops the runs that have aged, as the drive does."""
+        kept = {object: [run for run in runs if run[1] >= floor] for object, runs in self._lists.items()}
+        self._lists = {object: runs for object, runs in kept.items() if runs}
+        self.count = sum(map(len, self._lists.values()))
+
     def hides(self, object: int, first: int, last: int) -> bool:
         """Whether all these moments of the object are hidden, by one run."""
         for runs in (self._lists.get(object, []), self._lists.get(0, [])):

@@ -13,7 +13,7 @@ from .plans import BLOCK_BYTES, hide
 from .saying import Sayer
 from .words import span_text
 
-WAITS = (0.02, 0.05, 0.1, 0.2, 0.4, 0.8, 1.6)  # seconds, one after the other, while nothing is accepted
+WAITS = (0.02, 0.05, 0.1, 0.2, 0.4, 0.8, 1.6, 3.2)  # seconds, one after the other, while nothing is accepted
 FEW = 2  # of these waits, before more is hidden
 FIRST_STEP, LONGEST_STEP = 8, 512  # objects that are gone, or versions, whose moments are hidden at once
 
@@ -109,10 +109,13 @@ class Room:
 
     def warn(self) -> None:
         """Says, once, that few more runs of moments can be hidden."""
-        count = self._asker.ledger.runs.count
-        if count >= NEAR_RUNS and not self._is_warned:
+        runs = self._asker.ledger.runs
+        if self._is_warned or runs.count < NEAR_RUNS:
+            return
+        runs.forget_below(self._asker.floor())
+        if runs.count >= NEAR_RUNS:
             self._is_warned = True
-            self._sayer.say(f"{count:,} runs of moments are hidden, and there can be {MOST_RUNS:,}; where none is left nothing more can be hidden")
+            self._sayer.say(f"{runs.count:,} runs of moments are hidden, and there can be {MOST_RUNS:,}; where none is left nothing more can be hidden")
 
     def _hide_objects(self) -> bool:
         """Hides moments of the next objects that are gone: first of those that hold most, in the order of their creation."""
