@@ -20,7 +20,7 @@ from s4d.restore.words import text_of, word_in
 
 from .bridged import PACKAGE, PATIENCE, wait_until
 from .built import PROGRAM, S4, S4SERVE, needs_program, needs_s4, needs_s4serve
-from .plain_drive import PlainDrive
+from .plain_drive import PlainDrive, Refusal
 from .served import Served, restore_words
 from .test_sockets import Served as Plain
 
@@ -406,6 +406,31 @@ class Numbers(Plain):
         states = [it.strip() for it in shown.getvalue().split("\r") if it.strip()]
         self.assertEqual(states[0], "1 of 5 objects, 0 not restored, 0 spans of moments hidden")
         self.assertEqual((states[-1][:6], plain.getvalue()), ("5 of 5", ""))
+
+    def test_what_is_said_where_room_is_short(self):
+        at = self.story()
+        for words, more in (((), "--flush hides moments of what is deleted, "), (("--flush",), "no more may be hidden: what objects held at the moment ")):
+            with mock.patch.object(PlainDrive, "_create", side_effect=Refusal(9)), mock.patch("s4d.restore.room.WAITS", ()):
+                status, printed, said = self.command("--at", at, *words)
+            self.assertEqual((status, printed[-1]), (1, "         2  not restored (no room for its blocks)"))
+            self.assertRegex(said.splitlines()[-1], f"^s4d.restore: {more}")
+        self.assertEqual(self.command("--at", at)[0], 0)
+
+    def test_what_was_made_anew_in_part_goes(self):
+        at = self.story()
+        write, lacks = PlainDrive._changed, [True]
+
+        def changed(drive, kind, number, *more):
+            if kind == 4 and number == 6 and lacks:
+                raise Refusal(9)
+            return write(drive, kind, number, *more)
+
+        with mock.patch.object(PlainDrive, "_changed", changed), mock.patch("s4d.restore.room.WAITS", ()):
+            status, printed, _ = self.command("--at", at)
+        self.assertEqual((status, printed[-1]), (1, "         2  not restored (no room for its blocks)"))
+        with self.connect() as it, self.assertRaises(s4d.NoObject):
+            it.attributes(6)
+        self.assertEqual(self.command("--at", at)[:2], (0, ["         2  made anew as 7"]))
 
     def test_who_is_not_there(self):
         address = f"{self.address}-other"
