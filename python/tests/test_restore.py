@@ -1,9 +1,11 @@
 """A way back without stopping: objects of a drive that is served are made what they were at a moment."""
 import contextlib
 import io
+import lzma
 import os
 import random
 import subprocess
+import tempfile
 import threading
 import unittest
 from unittest import mock
@@ -19,7 +21,7 @@ from s4d.restore.standins import StandIns
 from s4d.restore.words import text_of, word_in
 
 from .bridged import PACKAGE, PATIENCE, wait_until
-from .built import PROGRAM, S4, S4SERVE, needs_program, needs_s4, needs_s4serve
+from .built import PROGRAM, S4, S4SERVE, TOP, needs_program, needs_s4, needs_s4serve
 from .plain_drive import PlainDrive, Refusal
 from .served import Served, restore_words
 from .test_sockets import Served as Plain
@@ -723,6 +725,36 @@ class Interrupted(Served):
 
         asker.change = counted
         Restore(asker, Wanted(at), Sayer(io.StringIO(), io.StringIO())).run()
+
+
+@needs_program
+@needs_s4
+class Migrated(unittest.TestCase):
+    """An image that an earlier version made, without an audit, and that was migrated."""
+
+    def setUp(self):
+        folder = tempfile.TemporaryDirectory()
+        self.addCleanup(folder.cleanup)
+        earlier, path = (os.path.join(folder.name, name) for name in ("earlier", "image"))
+        with open(earlier, "wb") as file:
+            file.write(lzma.decompress((TOP / "tests" / "images" / "v2" / "attributes.xz").read_bytes()))
+        subprocess.run([PROGRAM, "migrate", earlier, path], check=True, capture_output=True, timeout=PATIENCE)
+        self.image = s4d.Image(path, PROGRAM, S4)
+
+    def test_a_moment_before_the_audit_begins(self):
+        facts, at = self.image.info(), 40
+        with self.image.session("admin", upkeep=False) as drive:
+            with self.assertRaisesRegex(Fault, "^the audit has nothing up to 40, so whether it reaches back can't be known; give --image IMAGE$"):
+                restored(drive, at)
+            made = drive.create(b"made")
+            for known in (facts, None):
+                with self.assertRaisesRegex(Fault, r"^the audit doesn't reach back to 40: object \d+ was changed since, "):
+                    restored(drive, at, facts=known)
+            drive.write(1, 0, b"evil")
+            with self.assertRaisesRegex(Fault, r"^the audit doesn't reach back to 40: "):
+                restored(drive, at)
+            self.assertEqual(len(list(drive.audit())), 2)
+            self.assertEqual(restored(drive, made.moment)[0].changed, 1)  # all rows since are there
 
 
 @needs_s4serve
