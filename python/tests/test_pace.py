@@ -391,7 +391,7 @@ class Lines(unittest.TestCase):
         async def trial():
             log = AccessLog(str(self.path))
             refusals = Refusals(log)
-            for number in range(1_000):
+            for number in range(100_000):
                 refusals.note("refused", "client", "uid 7", "NoSpace" if number % 4 else "BadFrame", {"number": number})
             refusals.note("refused", "client", "name alice", "NoSpace", {"alice": 1})
             refusals.note("turned away", "client", "uid 7", "queue full", {"away": 1})
@@ -402,7 +402,7 @@ class Lines(unittest.TestCase):
             await log.settle()
             (line,) = self.lines()[3:]
             self.assertEqual((line["event"], line["role"], line["peer"]), ("refused", "client", {"uid": 7}))
-            self.assertEqual(line["more"], {"BadFrame": 249, "NoSpace": 750})
+            self.assertEqual(line["more"], {"BadFrame": 24_999, "NoSpace": 75_000})
             refusals.note("refused", "client", "uid 7", "NoSpace", {})  # still in the second after that line
             refusals.note("refused", "client", "name alice", "NoSpace", {"alice": 2})
             refusals.close()
