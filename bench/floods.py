@@ -12,6 +12,7 @@ delete after each; 1: not after one."""
 import contextlib
 import json
 import os
+import random
 import signal
 import socket
 import subprocess
@@ -116,6 +117,18 @@ def journals(link):
             yield [wire.truncate(made, size % 2).frame() for size in range(16)]
 
 
+def at_random(link):
+    """Each kind of change, of a few objects."""
+    draw = random.Random(link.create())
+    made = [link.create() for _ in range(8)]
+    kinds = (lambda _: wire.create(b"x" * draw.randrange(65)), wire.delete, lambda it: wire.append(it, b"x" * draw.randrange(1, 2_000)),
+             lambda it: wire.write(it, draw.randrange(60_000), b"x" * draw.randrange(1, 30_000)), lambda it: wire.truncate(it, draw.randrange(98_304)),
+             lambda it: wire.set_attribute(it, b"x" * draw.randrange(65)), lambda it: wire.write(it, draw.randrange(2_000), b"x"))
+    while True:
+        yield [draw.choice(kinds)(draw.choice(made)).frame() for _ in range(16)]
+        made[draw.randrange(8)] = link.create()
+
+
 def reads(link):
     made = link.create()
     link.ask([wire.truncate(made, wire.READ_BYTES).frame()])
@@ -147,7 +160,7 @@ def half_frames(link):
 
 
 FILLING = {"empty Creates": creates, "large Writes": large_writes, "small Writes": small_writes, "overwrites of one object": overwrites,
-           "SetAttrs": set_attributes, "Appends": appends, "journals of many objects": journals}
+           "SetAttrs": set_attributes, "Appends": appends, "journals of many objects": journals, "changes at random": at_random}
 OTHERS = {"Reads": reads, "frames that are no request": bad_frames, "sessions that come and go": come_and_go,
           "sessions that hold seats": seats, "half frames": half_frames, "silent connections": None}
 
@@ -274,10 +287,26 @@ class Trial:
             deletes = outcome(lambda: it.delete(self.mine))
         with self.bridge.session("admin") as it:
             hides = outcome(lambda: it.flush(0, 1))
-            made = next(row.object for row in it.audit() if row.kind is s4d.AuditKind.CREATE and row.object != self.mine)
-            removes = outcome(lambda: it.delete(made))
+            rows = list(it.audit())
+            gone = {row.object for row in rows if row.kind is s4d.AuditKind.DELETE}
+            made = next(row.object for row in rows if row.kind is s4d.AuditKind.CREATE and row.object not in gone | {self.mine})
+            removes = outcome(lambda: remove(it, made))
         said = f"the other: Read {'yes' if reads else 'no'}, Write {changes}, Delete {deletes}; an administrator: Flush {hides}, Delete {removes}"
         return said, (hides, removes) == ("yes", "yes")
+
+
+def remove(admin, number):
+    """Deletes an object, as an administrator does it: where its journal is full what it became since it was made is hidden first."""
+    end = time.monotonic() + service.PATIENCE
+    while True:
+        try:
+            return admin.delete(number)
+        except s4d.ChainFull:
+            if time.monotonic() > end:
+                raise
+        moments = [row.moment for row in admin.audit() if row.object == number and row.kind is not s4d.AuditKind.FLUSH_OBJECT]
+        admin.flush_object(number, moments[1], moments[-1] - 1)
+        time.sleep(0.2)  # for the cleaner
 
 
 def outcome(ask):

@@ -29,8 +29,10 @@ from . import relay
 from .access_log import AccessLog, say
 from .doors import Door, Seats, TurnedAway
 from .frames import Asked, Said
+from .leaving import Leaving
 from .listeners import Listener, Peer, TlsListener, UnixListener
 from .metrics import Counts, Family, of_bridge, of_peers
+from .open_files import allow_open_files
 from .pace import Account, Pace
 from .refused import Refusals
 from .relay import Client, Relay, who_of
@@ -60,7 +62,7 @@ class Bridge:
         self._relays: Dict[Relay, str] = {}
         self._strangers: Counts = Counts()  # who had no role yet
         self._status: Optional[StatusServer] = None
-        self._is_stopping, self._dismissed = False, 0
+        self._is_stopping, self._dismissed, self._leaving = False, 0, Leaving()
 
     async def start(self) -> None:
         """Takes doors and sockets. OSError or ValueError where one can't be had."""
@@ -125,8 +127,6 @@ class Bridge:
                 door.seats.leave(who)
             if end == relay.OVER_SHARE:
                 await self._dismiss(client)
-                client.close()
-            await client.closed()  # so that the end of the bridge doesn't reset a connection with replies on their way
         except TurnedAway as turned:
             self._turn_away(client.role, client.peer, turned)
             await self._dismiss(client)
@@ -135,6 +135,7 @@ class Bridge:
         finally:
             client.close()
             self._pace.leave(account)
+        await self._leaving.wait(client)
 
     async def _dismiss(self, client: Client) -> None:
         client.dismiss()
@@ -171,7 +172,7 @@ class Bridge:
             await self._pace.pass_on(account, asked.is_change, size)
             unanswered += 1
 
-        session = Relay(client, pipes, report, self._log.settle, pass_on)
+        session = Relay(client, pipes, report, self._log.settle, pass_on, lambda: account.unanswered)
         self._relays[session] = client.role
         self._pace.begin(account)
         counts.sessions += 1
@@ -339,7 +340,9 @@ async def serve(settings: Settings) -> int:
 
 def main(words: Optional[Sequence[str]] = None) -> int:
     """The program: its status."""
-    return asyncio.run(serve(settings_of(sys.argv[1:] if words is None else words)))
+    settings = settings_of(sys.argv[1:] if words is None else words)
+    allow_open_files()
+    return asyncio.run(serve(settings))
 
 
 if __name__ == "__main__":

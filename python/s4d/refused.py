@@ -9,6 +9,7 @@ from typing import Counter as Counted
 from .access_log import AccessLog
 
 QUIET_SECONDS = 1.0  # after a line in which what else its peer is refused is only counted
+MOST_SOURCES = 64  # that have lines of their own in that time: refusals of others are counted together
 
 
 class Source(NamedTuple):
@@ -16,16 +17,20 @@ class Source(NamedTuple):
 
     event: str
     role: Optional[str]
-    who: str
+    who: Optional[str]  # None: of all that have no line of their own
 
-    def peer(self) -> Dict[str, Any]:
+    def peer(self) -> Optional[Dict[str, Any]]:
         """The peer, as a line says it."""
+        if self.who is None:
+            return None
         kind, _, name = self.who.partition(" ")
         return {kind: int(name) if kind == "uid" else name}
 
 
 class Refusals:
-    """The first refusal of a peer has its line; those of the second that follows have one together, with how many of each there were."""
+    """The first refusal of a peer has its line; those of the second that follows have one together, with how many of each there were. Where
+    more peers are refused at once than have such lines, as by ever new addresses, the rest have theirs together, without a peer.
+    """
 
     def __init__(self, log: AccessLog) -> None:
         self._log = log
@@ -34,6 +39,8 @@ class Refusals:
     def note(self, event: str, role: Optional[str], who: str, why: str, line: Dict[str, Any]) -> None:
         """Takes a refusal, and the line that it would have by itself."""
         source = Source(event, role, who)
+        if source not in self._counted and len(self._counted) >= MOST_SOURCES:
+            source = Source(event, role, None)
         counted = self._counted.get(source)
         if counted is not None:
             counted[why] += 1

@@ -15,7 +15,10 @@ from .handshakes import origin_of
 from .pace import Overdue
 from .wire import BODY_BYTES, TURNED_AWAY
 
-MOST_ASKED = 64  # requests of a session that may wait for replies; more aren't taken from its client meanwhile
+# Requests of a session that may wait for replies; more aren't taken from its client meanwhile. A service keeps all that it finds in a pipe
+# at once, so of a client with a pipeline it does as many changes a flush.
+MOST_ASKED = 1_024
+ALWAYS_ASKED = 64  # of them, where those of its peer have MOST_ASKED together: one loop has all replies, and others wait for it
 LINGER_SECONDS = 5.0  # that what was written may take to leave, and the end of a client of TLS to come
 DISMISS_SECONDS = 1.0  # that what a client still sends is taken once it is turned away
 
@@ -102,13 +105,15 @@ def who_of(peer: Dict[str, Any]) -> str:
 Report = Callable[[Asked, Optional[Said], float], None]  # a request, what its reply said or None, and how long it took
 Settle = Callable[[], Awaitable[None]]  # waits until what was reported is in the log
 PassOn = Callable[[Asked, int], Awaitable[None]]  # waits until a request of so many bytes may be passed on; Overdue where it may not
+Unanswered = Callable[[], int]  # requests that wait for replies, of all sessions of a peer
 
 
 class Relay:
     """Passes whole requests on, so that a client that ends inside one, or sends one too long, changes nothing there."""
 
-    def __init__(self, client: Client, pipes: Pipes, report: Report, settle: Settle, pass_on: PassOn) -> None:
+    def __init__(self, client: Client, pipes: Pipes, report: Report, settle: Settle, pass_on: PassOn, unanswered: Unanswered) -> None:
         self.client, self._pipes, self._report, self._settle, self._pass_on = client, pipes, report, settle, pass_on
+        self._unanswered = unanswered
         self._asked: Deque[Asked] = deque()
         self._room = asyncio.Event()
         self._room.set()
@@ -219,9 +224,14 @@ class Relay:
         return None
 
     async def _wait_for_room(self) -> None:
-        if len(self._asked) >= MOST_ASKED:
+        while not self._has_room():
             self._room.clear()
-            await self._room.wait()
+            await self._room.wait()  # for a reply of its own, of which some are due
+
+    def _has_room(self) -> bool:
+        """Whether one more request may wait for its reply."""
+        count = len(self._asked)
+        return count < ALWAYS_ASKED or count < MOST_ASKED and self._unanswered() < MOST_ASKED
 
     async def _pass_replies(self) -> None:
         """Ends with the replies, or where the client can't be written to."""

@@ -6,12 +6,14 @@ import json
 import pathlib
 import tempfile
 import unittest
+from unittest import mock
 
 from s4d import bridge, pace
 from s4d.access_log import AccessLog
 from s4d.doors import Seats, TurnedAway
+from s4d.metrics import of_peers, text_of
 from s4d.pace import MOST_PEERS, OTHERS, Bucket, Overdue, Pace, Share, share_of
-from s4d.refused import Refusals
+from s4d.refused import MOST_SOURCES, Refusals
 
 
 async def settle():
@@ -211,7 +213,6 @@ class Turns(unittest.TestCase):
 
         with_asking(trial, Share())
 
-
     def test_many_sessions_have_little_more_of_the_service(self):
         """While another asks; and where replies don't come, requests aren't held back for ever."""
         async def trial(it):
@@ -267,6 +268,11 @@ class Remembered(unittest.TestCase):
             self.assertEqual(sum(each.changes for each in used), 3 * MOST_PEERS + 1)
             self.assertEqual([each.peer for each in used if each.sessions], ["stays"])
             self.assertEqual(used[-1].peer, OTHERS)
+            for number in range(10_000):
+                it.pace.leave(it.pace.enter("client", f"name {number}", True))
+            used = it.pace.used()
+            self.assertEqual((len(used), text_of(of_peers(used)).count("\n")), (MOST_PEERS + 1, 4 * (MOST_PEERS + 3)))
+            self.assertEqual(sum(each.changes for each in used), 3 * MOST_PEERS + 1)
             self.assertIs(it.pace.enter("client", "stays", True), stays)
             self.assertIsNot(it.pace.enter("other", "stays", True), stays)
 
@@ -385,24 +391,60 @@ class Lines(unittest.TestCase):
         async def trial():
             log = AccessLog(str(self.path))
             refusals = Refusals(log)
-            for number in range(1_000):
+            for number in range(100_000):
                 refusals.note("refused", "client", "uid 7", "NoSpace" if number % 4 else "BadFrame", {"number": number})
             refusals.note("refused", "client", "name alice", "NoSpace", {"alice": 1})
             refusals.note("turned away", "client", "uid 7", "queue full", {"away": 1})
             await log.settle()
             self.assertEqual([set(line) - {"time"} for line in self.lines()], [{"number"}, {"alice"}, {"away"}])
-            await asyncio.sleep(1.2)
+            for source in list(refusals._counted):  # the second of each is over
+                refusals._say(source)
             await log.settle()
             (line,) = self.lines()[3:]
             self.assertEqual((line["event"], line["role"], line["peer"]), ("refused", "client", {"uid": 7}))
-            self.assertEqual(line["more"], {"BadFrame": 249, "NoSpace": 750})
+            self.assertEqual(line["more"], {"BadFrame": 24_999, "NoSpace": 75_000})
             refusals.note("refused", "client", "uid 7", "NoSpace", {})  # still in the second after that line
             refusals.note("refused", "client", "name alice", "NoSpace", {"alice": 2})
             refusals.close()
             log.close()
             self.assertEqual([line.get("more", line.get("alice")) for line in self.lines()[4:]], [2, {"NoSpace": 1}])
 
+        with mock.patch("s4d.refused.QUIET_SECONDS", 60):
+            asyncio.run(trial())
+
+    def test_a_second_is_over_by_itself(self):
+        async def trial():
+            log = AccessLog(str(self.path))
+            refusals = Refusals(log)
+            for _ in range(3):
+                refusals.note("refused", "client", "uid 7", "NoSpace", {})
+            while refusals._counted:
+                await asyncio.sleep(0.01)
+            log.close()
+
+        with mock.patch("s4d.refused.QUIET_SECONDS", 0.05):
+            asyncio.run(trial())
+        self.assertEqual([line.get("more") for line in self.lines()], [None, {"NoSpace": 2}])
+
+    def test_refusals_of_many_peers(self):
+        """Lines and memory don't grow with how many come, as by ever new addresses."""
+        async def trial():
+            log = AccessLog(str(self.path))
+            refusals = Refusals(log)
+            for number in range(10_000):
+                for event in ("refused", "turned away"):
+                    refusals.note(event, "client", f"uid {number}", "NoSpace", {"peer": {"uid": number}})
+            self.assertEqual(len(refusals._counted), MOST_SOURCES + 2)
+            refusals.note("refused", "client", "uid 3", "NoSpace", {})
+            refusals.close()
+            log.close()
+
         asyncio.run(trial())
+        lines = self.lines()
+        self.assertEqual([line["peer"]["uid"] for line in lines[:MOST_SOURCES + 2]], [it // 2 for it in range(MOST_SOURCES + 2)])
+        rest = 10_000 - MOST_SOURCES // 2 - 1
+        self.assertEqual([(line.get("peer"), line["more"]) for line in lines[MOST_SOURCES + 2:]],
+                         [({"uid": 3}, {"NoSpace": 1}), (None, {"NoSpace": rest}), (None, {"NoSpace": rest})])
 
 
 class Words(unittest.TestCase):

@@ -1,9 +1,11 @@
 """A way back without stopping: objects of a drive that is served are made what they were at a moment."""
 import contextlib
 import io
+import lzma
 import os
 import random
 import subprocess
+import tempfile
 import threading
 import unittest
 from unittest import mock
@@ -14,11 +16,13 @@ from s4d.moments import machine_time
 from s4d.restore import Asker, Fault, Restore, Sayer, Wanted, plans
 from s4d.restore.command import main
 from s4d.restore.ledger import NEAR_RUNS, Ledger, Runs
+from s4d.restore.room import Versions
+from s4d.restore.standins import StandIns
 from s4d.restore.words import text_of, word_in
 
 from .bridged import PACKAGE, PATIENCE, wait_until
-from .built import PROGRAM, S4, S4SERVE, needs_program, needs_s4, needs_s4serve
-from .plain_drive import PlainDrive
+from .built import PROGRAM, S4, S4SERVE, TOP, needs_program, needs_s4, needs_s4serve
+from .plain_drive import PlainDrive, Refusal
 from .served import Served, restore_words
 from .test_sockets import Served as Plain
 
@@ -109,9 +113,85 @@ class Ledgers(unittest.TestCase):
             ledger.add(AuditRow(31 + len(found), AuditKind.FLUSH_OBJECT, 1, *span))
         self.assertEqual(found, [(20, 29), (9, 19), (7, 8)])
         self.assertIsNone(Ledger(rows[:1]).newest_hidable(1, 6))
+        self.assertEqual([Ledger(rows).newest_hidable(1, moment) for moment in (9, 20)], [(20, 29), None])
+
+    def test_oldest_versions(self):
+        """Those of several objects in the order in which they began; present ones stay, until others follow."""
+        def written(moment, object):
+            return AuditRow(moment, AuditKind.WRITE, object, 0, 1)
+
+        ledger = Ledger([written(5, 1), written(6, 2), written(11, 2), written(12, 1), written(13, 2), written(14, 2), written(15, 1), written(16, 3)])
+        versions = Versions(ledger, 10)
+        for object in (1, 2, 3):
+            versions.offer(object)
+        self.assertEqual(versions.take(2), [(2, 11, 12), (1, 12, 14)])
+        ledger.add(AuditRow(17, AuditKind.FLUSH_OBJECT, 2, 11, 12))
+        ledger.add(AuditRow(18, AuditKind.FLUSH_OBJECT, 1, 12, 14))
+        self.assertEqual((versions.take(9), versions.take(9)), ([(2, 13, 13)], []))
+        ledger.add(written(19, 3))
+        ledger.add(written(20, 1))
+        ledger.add(written(21, 3))
+        for _ in range(2):
+            versions.offer(3)
+            versions.offer(1)
+        self.assertEqual(versions.take(9), [(1, 15, 19), (3, 16, 20)])
+        ledger.add(written(22, 1))
+        ledger.add(AuditRow(23, AuditKind.FLUSH, 0, 1, 22))
+        versions.offer(1)
+        self.assertEqual(versions.take(9), [])
+
+    def test_many_objects(self):
+        """What is done for each doesn't grow with how many there are."""
+        rows = [AuditRow(place + 1, AuditKind.WRITE, place % 3_000 + 1, 0, 1) for place in range(6_000)]
         ledger = Ledger(rows)
-        self.assertEqual([ledger.newest_hidable(1, 6, count) for count in (2, 9)], [(9, 29), (7, 29)])
-        self.assertEqual([ledger.newest_hidable(1, moment, 9) for moment in (7, 9, 20)], [(9, 29), (20, 29), None])
+        versions, looked = Versions(ledger, 0), []
+        hides = ledger.runs.hides
+
+        def counted(*span):
+            looked.append(span)
+            return hides(*span)
+
+        ledger.runs.hides = counted
+        for object in range(1, 3_001):
+            versions.offer(object)
+        taken = [versions.take(1)[0][0] for _ in range(3_000)]
+        self.assertEqual((taken, versions.take(1), len(looked)), (list(range(1, 3_001)), [], 3_000))
+
+
+class Counting:
+    """What an `Asker` is asked, of a plain drive."""
+
+    def __init__(self, drive):
+        self.drive, self.asked = drive, 0
+
+    def all(self, requests):
+        self.asked += len(requests)
+        return [self.reply(request) for request in requests]
+
+    def reply(self, request):
+        answer = request.answer(self.drive.answer("admin", request.body))
+        return mock.Mock(refusal=lambda: answer if isinstance(answer, s4d.Refused) else None, result=lambda: answer)
+
+    versions = Asker.versions
+
+
+class ManyStandIns(unittest.TestCase):
+    def test_those_of_one_size(self):
+        """Each is read once, however many there are that could be one another's."""
+        drive, count = PlainDrive(), 300
+        for place in range(count):
+            drive.answer("client", wire.create(b"note").body)
+            drive.answer("client", wire.append(place + 1, b"%9d" % (place // 2)).body)
+        at = drive.clock
+        for place in range(count):
+            drive.answer("client", wire.delete(place + 1).body)
+        for place in range(count):
+            drive.answer("client", wire.create(b"note").body)
+            drive.answer("client", wire.append(count + place + 1, b"%9d" % (place // 2 + 10)).body)
+        asker = Counting(drive)
+        found = StandIns(asker, range(count + 1, 2 * count + 1)).of(range(1, count + 1), at)
+        self.assertEqual(found, {object: object + count - 20 for object in range(21, count + 1)})
+        self.assertEqual(asker.asked, 3 * 2 * count)  # attributes twice, and one Read
 
     def test_words(self):
         now = 1_795_785_482_000_123
@@ -251,6 +331,23 @@ class Numbers(Plain):
         drive.rows[:] = rows
         self.assertEqual(self.command("--at", rows[0][0], "--dry-run")[0], 0)
 
+    def test_an_audit_that_lacks_a_creation(self):
+        """An object was made and the image migrated, both since: only what it became later has rows."""
+        at = self.story()
+        with self.connect() as it:
+            it.append(5, b"more")
+        drive = self.server.drive
+        for number in (1, 2, 3, 4):
+            drive.versions[number] = [version for version in drive.versions[number] if version.moment <= at]
+        drive.rows[:] = [row for row in drive.rows if row[0] > at and row[2] == 5 and row[1] != 1]
+        with self.connect() as it:
+            it.create(b"later")
+        why = (f"s4d.restore: the audit doesn't reach back to {at}: object 5 was changed since, and it has no row of that, as where the image was "
+               "migrated since; stop the service, and use s4 restore\n")
+        asked = len(drive.rows)
+        self.assertEqual(self.command("--at", at), (1, [], why))
+        self.assertEqual(len(drive.rows), asked)
+
     def test_what_is_said_of_an_interruption(self):
         at = self.story()
         for error, said in ((KeyboardInterrupt, ""), (s4d.Disconnected("the stream ended"), "s4d.restore: the stream ended\n")):
@@ -312,6 +409,31 @@ class Numbers(Plain):
         self.assertEqual(states[0], "1 of 5 objects, 0 not restored, 0 spans of moments hidden")
         self.assertEqual((states[-1][:6], plain.getvalue()), ("5 of 5", ""))
 
+    def test_what_is_said_where_room_is_short(self):
+        at = self.story()
+        for words, more in (((), "--flush hides moments of what is deleted, "), (("--flush",), "no more may be hidden: what objects held at the moment ")):
+            with mock.patch.object(PlainDrive, "_create", side_effect=Refusal(9)), mock.patch("s4d.restore.room.WAITS", ()):
+                status, printed, said = self.command("--at", at, *words)
+            self.assertEqual((status, printed[-1]), (1, "         2  not restored (no room for its blocks)"))
+            self.assertRegex(said.splitlines()[-1], f"^s4d.restore: {more}")
+        self.assertEqual(self.command("--at", at)[0], 0)
+
+    def test_what_was_made_anew_in_part_goes(self):
+        at = self.story()
+        write, lacks = PlainDrive._changed, [True]
+
+        def changed(drive, kind, number, *more):
+            if kind == 4 and number == 6 and lacks:
+                raise Refusal(9)
+            return write(drive, kind, number, *more)
+
+        with mock.patch.object(PlainDrive, "_changed", changed), mock.patch("s4d.restore.room.WAITS", ()):
+            status, printed, _ = self.command("--at", at)
+        self.assertEqual((status, printed[-1]), (1, "         2  not restored (no room for its blocks)"))
+        with self.connect() as it, self.assertRaises(s4d.NoObject):
+            it.attributes(6)
+        self.assertEqual(self.command("--at", at)[:2], (0, ["         2  made anew as 7"]))
+
     def test_who_is_not_there(self):
         address = f"{self.address}-other"
         status, _, said = self.command("--connect", address, "--at", 1)
@@ -326,6 +448,9 @@ class Numbers(Plain):
         for near, said in ((2, why), (3, "")):
             with mock.patch("s4d.restore.room.NEAR_RUNS", near):
                 self.assertEqual(self.command("--at", at, "--dry-run")[2].partition("s4d.restore: 2 would")[0], said)
+        self.server.drive.floor = 3  # one of them has aged
+        with mock.patch("s4d.restore.room.NEAR_RUNS", 2):
+            self.assertEqual(self.command("--at", at, "--dry-run")[2].partition("s4d.restore: 2 would")[0], "")
 
 
 @needs_program
@@ -487,6 +612,33 @@ class Floods(Served):
         with self.session("admin") as admin:
             self.assertEqual({number: it for number, it in zip(numbers, Asker(admin).versions([(it, at) for it in numbers]))}, before)
 
+    def test_a_small_drive_full_of_live_objects(self):
+        """What was overwritten first is hidden and restored first, and so makes room for what was overwritten next."""
+        self.begin_anew()
+        self.start(64)
+        draw, replies = random.Random(7), []
+        with self.session() as drive:
+            numbers = [reply.result().object for reply in self.asked(drive, [wire.create(b"owned")] * 60)]
+            self.asked(drive, [wire.write(number, 0, draw.randbytes(2_000)) for number in numbers])
+            before, at = present_of(drive, numbers), machine_time()
+            while not all(reply.refusal() for reply in replies) or not replies:
+                draw.shuffle(numbers)
+                replies = self.asked(drive, [wire.write(number, 0, draw.randbytes(2_000)) for number in numbers])
+        without, _ = self.check(before, at)
+        self.assertGreater(without.failed, 30)  # an administrator has room for some fifteen of them
+        done, printed = self.check(before, at, flush=True)
+        self.assertEqual((without.changed + done.changed, done.failed), (60, 0), printed)
+        with self.session("admin") as admin:
+            self.assertEqual(Asker(admin).versions([(it, at) for it in numbers]), [before[it] for it in numbers])
+
+    @staticmethod
+    def asked(drive, requests):
+        """The replies to requests that are sent together."""
+        batch = drive.pipeline()
+        for request in requests:
+            batch.add(request)
+        return batch.run()
+
     def test_a_full_journal(self):
         drive, before, at = self.owned(256)
         number = drive.create().object
@@ -573,6 +725,54 @@ class Interrupted(Served):
 
         asker.change = counted
         Restore(asker, Wanted(at), Sayer(io.StringIO(), io.StringIO())).run()
+
+
+@needs_program
+@needs_s4
+class Migrated(unittest.TestCase):
+    """An image that an earlier version made, without an audit, and that was migrated."""
+
+    def setUp(self):
+        folder = tempfile.TemporaryDirectory()
+        self.addCleanup(folder.cleanup)
+        earlier, path = (os.path.join(folder.name, name) for name in ("earlier", "image"))
+        with open(earlier, "wb") as file:
+            file.write(lzma.decompress((TOP / "tests" / "images" / "v2" / "attributes.xz").read_bytes()))
+        subprocess.run([PROGRAM, "migrate", earlier, path], check=True, capture_output=True, timeout=PATIENCE)
+        self.image = s4d.Image(path, PROGRAM, S4)
+
+    def test_a_moment_before_the_audit_begins(self):
+        facts, at = self.image.info(), 40
+        with self.image.session("admin", upkeep=False) as drive:
+            with self.assertRaisesRegex(Fault, "^the audit has nothing up to 40, so whether it reaches back can't be known; give --image IMAGE$"):
+                restored(drive, at)
+            made = drive.create(b"made")
+            for known in (facts, None):
+                with self.assertRaisesRegex(Fault, r"^the audit doesn't reach back to 40: object \d+ was changed since, "):
+                    restored(drive, at, facts=known)
+            drive.write(1, 0, b"evil")
+            with self.assertRaisesRegex(Fault, r"^the audit doesn't reach back to 40: "):
+                restored(drive, at)
+            self.assertEqual(len(list(drive.audit())), 2)
+            self.assertEqual(restored(drive, made.moment)[0].changed, 1)  # all rows since are there
+
+
+@needs_s4serve
+class Windows(Served):
+    def test_a_moment_near_the_floor(self):
+        """A drive that keeps a minute: the window is widened before anything else, by what the audit or the floor says of it."""
+        self.start(24, "1m")
+        with self.session() as drive, self.session("admin") as admin:
+            number = drive.create(b"note").object
+            drive.write(number, 0, b"mill")
+            at = machine_time()
+            drive.write(number, 0, b"evil")
+            done, printed, _ = restored(admin, at)
+            self.assertEqual((done.widened.before, done.changed), (60_000_000, 1))
+            self.assertRegex(printed[0], r"^window 60000000 widened to 1\d{9}; SetWindow 60000000 puts it back$")
+            rows = [row.kind for row in admin.audit(at)]
+            self.assertEqual(rows, [AuditKind.WRITE, AuditKind.SET_WINDOW, AuditKind.WRITE])
+            self.assertEqual((drive.read(number), restored(admin, at)[0].widened), (b"mill", None))
 
 
 @needs_s4serve

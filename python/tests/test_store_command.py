@@ -16,7 +16,8 @@ from unittest import mock
 
 from s4d.image import Image
 from s4d.s3.keys import keys_in
-from s4d.store.command import OPEN_FILES, allow_open_files, main
+from s4d.open_files import OPEN_FILES, allow_open_files
+from s4d.store.command import main
 from s4d.store.opening import locked
 from s4d.store.settings import image_path
 

@@ -7,7 +7,7 @@ from typing import List, Optional, Sequence, Set, Tuple, TypeVar, Union
 from .. import wire
 from ..drive import Drive
 from ..errors import NotAdmin, Refused
-from ..history import TIMES
+from ..history import TIMES, floor_below
 from ..pipeline import Reply
 from ..wire import READ_BYTES, Attributes, AuditRow, Created, Request
 from .ledger import Ledger
@@ -42,6 +42,10 @@ class Asker:
         """The clock is at a moment, or later."""
         if moment > self._clock:
             self._clock, self._since = moment, time.monotonic_ns()
+
+    def floor(self) -> int:
+        """The earliest moment that can be read."""
+        return self.drive._search(floor_below(self.clock))
 
     def read_audit(self) -> None:
         """Reads what was accepted up to now. Fault where the session may not."""

@@ -21,6 +21,11 @@ from .saying import Sayer, standard
 from .words import Word, text_of, word_in
 
 
+TO_FLUSH = "--flush hides moments of what is deleted, and of full journals, in steps until that serves"
+NO_MORE_ROOM = ("no more may be hidden: what objects held at the moment stays readable, so the drive has to have room for that, for what they hold "
+                "now, and for what they get; objects that are deleted first, or a larger drive, give some")
+
+
 class Parser(argparse.ArgumentParser):
     """A parser that says a fault in one line."""
 
@@ -106,8 +111,8 @@ def restore(found: argparse.Namespace, drive: Drive, sayer: Sayer) -> int:
         sayer.say(f"interrupted; the same command with --at {at} goes on where it was")
         raise
     sayer.say(summary_of(done, wanted, time.monotonic() - begun))
-    if done.is_short and not wanted.flush:
-        sayer.say("--flush hides moments of what is deleted, and of full journals, in steps until that serves")
+    if done.is_short:
+        sayer.say(TO_FLUSH if not wanted.flush else NO_MORE_ROOM)
     return 1 if done.failed else 0
 
 

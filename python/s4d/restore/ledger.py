@@ -6,7 +6,6 @@ from dataclasses import dataclass, field
 from typing import Dict, Iterable, List, Optional, Tuple
 
 from ..wire import AuditKind, AuditRow
-from .plans import BLOCK_BYTES
 
 MOST_RUNS = 65_536  # runs of hidden moments of all lists
 NEAR_RUNS = MOST_RUNS - 4_096  # from here on it is said how many are left
@@ -32,6 +31,12 @@ class Runs:
             first, last, high = min(first, runs[high][0]), max(last, runs[high][1]), high + 1
         self.count += 1 - (high - low)
         runs[low:high] = [(first, last)]
+
+    def forget_below(self, floor: int) -> None:
+        """Drops the runs that have aged, as the drive does."""
+        kept = {object: [run for run in runs if run[1] >= floor] for object, runs in self._lists.items()}
+        self._lists = {object: runs for object, runs in kept.items() if runs}
+        self.count = sum(map(len, self._lists.values()))
 
     def hides(self, object: int, first: int, last: int) -> bool:
         """Whether all these moments of the object are hidden, by one run."""
@@ -96,20 +101,15 @@ class Ledger:
         """The first number that the audit saw given: those below it were given before."""
         return min((object for object, life in self.lives.items() if life.made is not None), default=None)
 
-    def newest_hidable(self, object: int, moment: int, count: int = 1) -> Optional[Tuple[int, int]]:
-        """The moments of so many of the newest versions of an object that aren't hidden, or of as many as there are, but for the
-        present one; each begins after a moment. None where there is no such version.
+    def newest_hidable(self, object: int, moment: int) -> Optional[Tuple[int, int]]:
+        """The moments of the newest version of an object that isn't hidden, but for the present one; it begins after a moment. None
+        where there is no such version.
         """
         begun = self.lives[object].begun
-        found: Optional[Tuple[int, int]] = None
-        for first, after in zip(begun[-2::-1], begun[:0:-1]):
-            if first <= moment or count == 0:
+        for place in range(len(begun) - 2, -1, -1):
+            first, last = begun[place], begun[place + 1] - 1
+            if first <= moment:
                 break
-            if found is not None or not self.runs.hides(object, first, after - 1):
-                found, count = (first, after - 1 if found is None else found[1]), count - 1
-        return found
-
-    def written_since(self, object: int, moment: int) -> int:
-        """About how many blocks hold what an object became after a moment: one at least for each of its versions."""
-        life = self.lives[object]
-        return life.written // BLOCK_BYTES + len(life.begun) - bisect_right(life.begun, moment)
+            if not self.runs.hides(object, first, last):
+                return first, last
+        return None

@@ -6,7 +6,7 @@ from typing import List, NamedTuple, Optional
 
 from .. import wire
 from ..errors import Expired, Flushed, Future, NoObject, Refused
-from ..history import TIMES, floor_below
+from ..history import TIMES
 from ..rows import Info
 from ..wire import Attributes
 from .asking import Asker, Fault
@@ -17,7 +17,7 @@ from .words import text_of
 NOBODY = 0  # no object has this number: what is asked of it says of the moment alone
 SECOND = 1_000_000  # microseconds
 TIME_NEAR, COUNT_NEAR = 600 * SECOND, 4_096  # so near the floor that a moment may expire while objects are restored
-CLOSE = SECOND // 10  # within which a window is one of whole seconds, as `s4serve --keep` makes them
+CLOSE = SECOND * 2 // 5  # within which a window is one of whole seconds, as `s4serve --keep` makes them, by requests that take their time
 LOOK_SECONDS = 30.0  # after which it is looked again whether a moment is near the floor
 SCANNED = 4_096  # objects that are looked at together
 
@@ -76,7 +76,8 @@ class Window:
 
     def _found(self) -> int:
         """The window that the floor shows, which has risen."""
-        size = self._asker.clock - self._asker.drive._search(floor_below(self._asker.clock))
+        floor = self._asker.floor()  # which rises while it is looked for
+        size = self._asker.clock - floor
         seconds = (size + SECOND // 2) // SECOND * SECOND
         return seconds if self._at >= TIMES and abs(seconds - size) < CLOSE else size
 
@@ -94,10 +95,17 @@ def check_audit(asker: Asker, at: int, facts: Optional[Info]) -> None:
     if after is None:
         raise Fault(f"the audit has nothing up to {text_of(at)}, so whether it reaches back can't be known; give --image IMAGE")
     unnamed = [object for object in range(1, after) if object not in ledger.lives]
-    changed = first_changed(asker, unnamed, at)
+    older = sorted(object for object, life in ledger.lives.items() if life.made is None)
+    changed = first_changed(asker, unnamed, at) or first_made(asker, older, at)
     if changed is not None:
         raise Fault(f"the audit doesn't reach back to {text_of(at)}: object {changed} was changed since, and it has no row of that, as "
                     "where the image was migrated since; stop the service, and use s4 restore")
+
+
+def first_made(asker: Asker, objects: List[int], at: int) -> Optional[int]:
+    """The first of these objects that wasn't there at a moment."""
+    replies = asker.all([wire.attributes(object, at) for object in objects])
+    return next((object for object, reply in zip(objects, replies) if isinstance(reply.refusal(), NoObject)), None)
 
 
 def first_changed(asker: Asker, objects: List[int], at: int) -> Optional[int]:

@@ -4,7 +4,7 @@ from __future__ import annotations
 import time
 from collections import deque
 from dataclasses import dataclass, field
-from typing import Callable, Deque, Dict, Iterable, List, Optional, Sequence, Tuple
+from typing import Callable, Dict, List, Optional, Sequence, Tuple
 
 from .. import wire
 from ..errors import Busy, ChainFull, Expired, Flushed, NoMemory, NoObject, NoSpace, Refused
@@ -20,6 +20,7 @@ from .words import text_of
 
 GROUP = 64  # objects that are changed together, at most
 DELETED = 512  # objects that are deleted together, at most
+ROUNDS = 8  # in which those are tried again for which there was no room, while others give some
 TRIES = 6  # of what may pass by itself, as an object that another session changes meanwhile
 TRY_SECONDS = 0.02  # by which the first of them waits; each next one waits twice as long
 
@@ -95,6 +96,7 @@ class Restore:
 
     def __init__(self, asker: Asker, wanted: Wanted, sayer: Sayer, facts: Optional[Info] = None) -> None:
         self._asker, self._wanted, self._sayer, self._facts = asker, wanted, sayer, facts
+        self._named = frozenset(wanted.objects)
         self._room = Room(asker, sayer, wanted.at, wanted.flush)
         self._window: Optional[Window] = None
         self._done, self._finished, self._count = Done(), 0, 0
@@ -131,6 +133,8 @@ class Restore:
         for object in chosen:
             life = lives[object]
             is_newer = life.made is not None and life.made > at
+            if not is_newer:
+                self._room.offer_versions([object])
             if not is_newer and life.deleted is not None:
                 gone.append(object)
             elif not is_newer:
@@ -142,6 +146,7 @@ class Restore:
         jobs.there = self._stand_ins(gone)
         taken = set(jobs.there.values())
         jobs.deleted = [job for job in jobs.deleted if job.object not in taken]
+        jobs.changed.sort(key=lambda job: lives[job.object].begun[-1])  # as the drive wrote what is hidden then, where room is short
         jobs.changed += [Job(object, None) for object in gone if object not in jobs.there]
         return jobs
 
@@ -149,7 +154,7 @@ class Restore:
         wanted = self._wanted
         made = self._asker.ledger.lives[object].made
         is_new = wanted.created_since is not None and made is not None and made >= wanted.created_since
-        return wanted.is_whole or object in wanted.objects or is_new
+        return wanted.is_whole or object in self._named or is_new
 
     def _check_named(self) -> None:
         """Fault where an object that is named was never there, as far as can be read."""
@@ -202,13 +207,25 @@ class Restore:
     def _perform(self, jobs: Jobs) -> None:
         """What was made since goes first, so that there is more room for the others."""
         self._count = jobs.count
-        self._room.offer_versions([job.object for job in jobs.changed if job.target is not None])
-        self._work(jobs.deleted, DELETED, self._delete)
-        self._work(jobs.changed, GROUP, self._change)
+        short = self._work(jobs.deleted, DELETED, self._delete)
+        short = self._work(jobs.changed, GROUP, self._change) + self._work(short, DELETED, self._delete)
+        self._done.is_short = self._done.is_short or bool(short)
+        for job in short:
+            self._give_up(job, FAILURES["NoSpace"])
 
-    def _work(self, jobs: Iterable[Job], most: int, do: Callable[[List[Job]], List[Outcome]]) -> None:
-        """Does what is to be done to objects, in groups; room is made wherever it is short."""
-        waiting, size = deque(jobs), most
+    def _work(self, jobs: List[Job], most: int, do: Callable[[List[Job]], List[Outcome]]) -> List[Job]:
+        """Does what is to be done to objects: those for which there is no room. They are tried again while others have had some, since these
+        may give more.
+        """
+        for _ in range(ROUNDS):
+            count, jobs = len(jobs), self._round(jobs, most, do)
+            if len(jobs) in (0, count):
+                break
+        return jobs
+
+    def _round(self, jobs: List[Job], most: int, do: Callable[[List[Job]], List[Outcome]]) -> List[Job]:
+        """Tries each object, in groups; room is made wherever it is short: those for which there is none."""
+        waiting, size, lacking = deque(jobs), most, []
         while waiting:
             self._keep_in_reach()
             group = [waiting.popleft() for _ in range(min(size, len(waiting)))]
@@ -220,21 +237,16 @@ class Restore:
             again = [job for job, refusal in others if self._tries_again(job, refusal)]
             if any(isinstance(refusal, (Busy, NoMemory)) for _, refusal in others):
                 time.sleep(TRY_SECONDS * 2**max(job.tries for job, _ in others))
-            size = self._made_room(short, waiting, max(len(group) - len(short), 1)) if short else min(2 * size, most)
+            size = min(2 * size, most)
+            if short and self._room.make():
+                size = max(len(group) - len(short), 1)
+            elif short:  # one by one, since a smaller one may have room
+                lacking.append(short.pop(0))
+                size = 1
+            waiting.extendleft(reversed(short))
             waiting.extendleft(reversed(again))
             self._show()
-
-    def _made_room(self, short: List[Job], waiting: Deque[Job], fitted: int) -> int:
-        """Makes room for those for which it was short, which wait again: how many are tried together next. Where there is no way
-        they are tried one by one, since a smaller one may have room.
-        """
-        if self._room.make():
-            waiting.extendleft(reversed(short))
-            return fitted
-        self._done.is_short = True
-        self._give_up(short[0], FAILURES["NoSpace"])
-        waiting.extendleft(reversed(short[1:]))
-        return 1
+        return lacking
 
     def _tries_again(self, job: Job, refusal: Refused) -> bool:
         """Whether what was refused may be accepted the next time; else it is said why not."""
@@ -287,6 +299,7 @@ class Restore:
                 outcomes[job.object] = now
         compared += self._remade(missing, outcomes)
         self._ask_changes(compared, outcomes)
+        self._room.offer_versions(job.object for job, _, _ in compared if job.is_changed and job.target == job.object)
         for job, _, _ in compared:
             if outcomes.get(job.object) is None:
                 self._finish(job, self._word_of(job))
@@ -329,6 +342,11 @@ class Restore:
         done.remade += what.startswith("made anew")
 
     def _give_up(self, job: Job, why: str) -> None:
+        """An object isn't restored. Of what was made anew for it nothing stays, since that is a part at most."""
+        if job.target is not None and job.target != job.object:
+            _, refusal = self._asker.change([delete(job.target)])[0]
+            if refusal is None:
+                self._room.offer(job.target)
         self._finished += 1
         self._done.failed += 1
         self._sayer.of(job.object, f"not restored ({why})")

@@ -11,6 +11,8 @@ from .. import wire
 from ..errors import Refused
 from .asking import Asker, Version
 
+READ_AT_ONCE = 64  # objects that are read together, so that few are in memory
+
 Head = Tuple[int, bytes]  # size and attribute
 
 
@@ -19,23 +21,26 @@ class StandIns:
 
     def __init__(self, asker: Asker, made: Sequence[int]) -> None:
         self._asker = asker
-        self._digests: Dict[int, Optional[bytes]] = {}
-        self._by_head: Dict[Head, List[int]] = {}
+        self._made: Dict[Head, List[int]] = {}
         for object, head in self._heads([(it, None) for it in made]):
-            self._by_head.setdefault(head, []).append(object)
+            self._made.setdefault(head, []).append(object)
 
     def of(self, gone: Sequence[int], at: int) -> Dict[int, int]:
         """The stand-ins of objects as they were at a moment, by their numbers. Of several the one that was made last, and for the last of
         several objects that held the same: as a restore makes them.
         """
+        wanted = [(object, head) for object, head in reversed(self._heads([(it, at) for it in gone])) if head in self._made]
+        known: Dict[Tuple[Head, bytes], List[int]] = {}
+        for head in {head for _, head in wanted}:
+            made = self._made[head]
+            for object, digest in zip(made, self._digests([(it, None) for it in made])):
+                if digest is not None:
+                    known.setdefault((head, digest), []).append(object)
         found: Dict[int, int] = {}
-        for object, head in reversed(self._heads([(it, at) for it in gone])):
-            candidates = self._by_head.get(head, [])
-            wanted = self._digest(object, at) if candidates else None
-            stand_in = next((it for it in reversed(candidates) if wanted is not None and self._known(it) == wanted), None)
-            if stand_in is not None:
-                candidates.remove(stand_in)
-                found[object] = stand_in
+        for (object, head), digest in zip(wanted, self._digests([(object, at) for object, _ in wanted])):
+            candidates = [] if digest is None else known.get((head, digest), [])
+            if candidates:
+                found[object] = candidates.pop()
         return found
 
     def _heads(self, wanted: Sequence[Tuple[int, Optional[int]]]) -> List[Tuple[int, Head]]:
@@ -46,13 +51,12 @@ class StandIns:
                 heads.append((object, (reply.result().size, reply.result().attribute)))
         return heads
 
-    def _known(self, object: int) -> Optional[bytes]:
-        if object not in self._digests:
-            self._digests[object] = self._digest(object, None)
-        return self._digests[object]
-
-    def _digest(self, object: int, at: Optional[int]) -> Optional[bytes]:
-        return digest_of(self._asker.versions([(object, at)])[0])
+    def _digests(self, wanted: Sequence[Tuple[int, Optional[int]]]) -> List[Optional[bytes]]:
+        """A digest of what each object holds at a moment, or now; none where it can't be read."""
+        digests: List[Optional[bytes]] = []
+        for start in range(0, len(wanted), READ_AT_ONCE):
+            digests += [digest_of(it) for it in self._asker.versions(wanted[start:start + READ_AT_ONCE])]
+        return digests
 
 
 def digest_of(version: Version) -> Optional[bytes]:

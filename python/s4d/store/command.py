@@ -5,12 +5,12 @@ from __future__ import annotations
 
 import argparse
 import asyncio
-import resource
 import signal
 import sys
 from typing import List, NoReturn, Optional, Sequence, Tuple
 
 from ..access_log import AccessLog
+from ..open_files import allow_open_files
 from ..s3.past import moment_in
 from .adding import add_drives, add_remote
 from .opening import OpenStore
@@ -19,8 +19,6 @@ from .service import say
 from .serving import Past, Serving, Wanted
 from .settings import (DRIVES, FRAMES, REMOTE_NAMES, Programs, Settings, StoreFault, is_tls_address, keys_path, make_store,
                        microseconds)
-
-OPEN_FILES = 4_096  # that 64 drives with all their sessions, and all connections, have, with room
 
 
 class Parser(argparse.ArgumentParser):
@@ -117,14 +115,6 @@ def fault_of(error: Exception) -> str:
     if isinstance(error, OSError) and error.filename is not None:
         return f"{error.filename}: {error.strerror}"
     return str(error)
-
-
-def allow_open_files() -> None:
-    """Lets this program have as many files open as it may need, or as it may have."""
-    soft, hard = resource.getrlimit(resource.RLIMIT_NOFILE)
-    wanted = OPEN_FILES if hard == resource.RLIM_INFINITY else min(OPEN_FILES, hard)
-    if soft != resource.RLIM_INFINITY and soft < wanted:
-        resource.setrlimit(resource.RLIMIT_NOFILE, (wanted, hard))
 
 
 def wanted_of(found: argparse.Namespace) -> Wanted:
