@@ -73,7 +73,7 @@ def tried(kind, frames):
 
 def main():
     kinds = ("creates", "large", "small", "journals")
-    parser = argparse.ArgumentParser(description=__doc__.split("\n", maxsplit=1)[0])
+    parser = argparse.ArgumentParser(description=__doc__, formatter_class=argparse.RawDescriptionHelpFormatter)
     parser.add_argument("--frames", type=int, default=1_024)
     parser.add_argument("kinds", nargs="*", metavar="KIND")
     found = parser.parse_args()
