@@ -1,8 +1,8 @@
 #!/usr/bin/env bash
 # Runs the tests of the Python package and of the examples over the built programs, the story, a service, one stream on two
-# drives, and the sweep of limits, and ends with one line.
+# drives, and the sweep of limits, side by side, and ends with one line.
 #     test.sh [--quick]    S4D names the program, else it is the one that `rt ci` or `rt run` left in crates/s4d/out; --quick leaves
-#                          out the sweep of limits, which takes minutes
+#                          out the sweep of limits, which takes more than a minute
 set -uo pipefail
 . "$(dirname "$0")/program.sh"
 help_where_asked "$@"
@@ -12,25 +12,19 @@ if [ -z "${S4D:-}" ] && [ ! -x "$proved" ]; then
 fi
 find_program
 export S4D=$program
+cd "$here" || exit 1
+also=(--also "./serve.sh 2>&1 | diff serve.txt -" --also "./story.sh 2>&1 | diff story.txt -" --also ./twice.sh)
+swept='no limits'
+if [ "${1:-}" != --quick ]; then
+    also=(--also "python3 -B limits.py first_requests.hex '$program' ${S4:+'$S4'}" "${also[@]}")
+    swept='limits: 0 faults'
+fi
 log=$(mktemp)
-trap 'rm -f "$log"' EXIT
-
-tests() {
-    cd "$1" && timeout "$2" python3 -B -m unittest "${@:3}"
-}
-
-limits() {
-    if [ "${1:-}" = --quick ]; then
-        echo "no limits"
-    else
-        timeout 1800 python3 -B limits.py first_requests.hex "$program"
-    fi
-}
-
-if (tests "$top/python" 1800 && tests "$here" 900 test_examples test_documents test_install test_completions test_report && timeout 300 ./story.sh 2>&1 | diff story.txt - &&
-    timeout 300 ./serve.sh 2>&1 | diff serve.txt - &&
-    timeout 300 ./twice.sh && limits "$@") > "$log" 2>&1; then
-    echo "examples: $(awk '/^Ran / { ran += $2 } END { print ran }' "$log") tests, $(tail -n 1 "$log"), ok"
+python3 -B "$top/python/tests/side_by_side.py" "${also[@]}" "$top"/python/tests/test_*.py test_*.py > "$log" 2>&1 &
+runner=$!
+trap 'kill "$runner" 2> /dev/null; wait; rm -f "$log"' EXIT
+if wait "$runner"; then
+    echo "examples: $(awk '/^Ran / { ran = $2 } END { print ran }' "$log") tests, $swept, ok"
 else
     cat "$log"
     echo "examples: FAILED"

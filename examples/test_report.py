@@ -5,13 +5,15 @@ import os
 import pathlib
 import shutil
 import subprocess
+import sys
 import tempfile
 import unittest
 from html.parser import HTMLParser
 
-from s4d import Image
-
 TOP = pathlib.Path(__file__).resolve().parents[1]
+sys.path.insert(0, str(TOP / "python"))
+from s4d import Image  # noqa: E402: from this repository, also where it isn't installed
+
 S4D = os.environ.get("S4D", str(TOP / "crates/s4d/out/s4d"))
 S4 = os.environ.get("S4", str(TOP / "crates/s4/out/s4"))
 BROWSER = next(filter(None, map(shutil.which, ("chromium", "chromium-browser", "google-chrome"))), None)

@@ -1,4 +1,6 @@
 """A bridge that runs as a program of its own before a stand-in for the service, and certificates for its clients."""
+import contextlib
+import itertools
 import json
 import os
 import pathlib
@@ -14,6 +16,7 @@ import time
 import unittest
 import urllib.error
 import urllib.request
+from typing import List
 
 import s4d
 
@@ -21,6 +24,8 @@ from .standin import Service
 
 PACKAGE = pathlib.Path(__file__).resolve().parents[1]
 PATIENCE = 120  # seconds for what takes none on a machine without other work
+PORTS = itertools.count(20_000)  # below those that the system gives to who asks for any
+CLAIMS: List[socket.socket] = []  # for the ports that this process has been given
 
 needs_openssl = unittest.skipUnless(shutil.which("openssl"), "openssl isn't installed")
 
@@ -35,8 +40,17 @@ def wait_until(holds, what):
 
 
 def free_port():
-    with socket.create_server(("127.0.0.1", 0)) as listener:
-        return listener.getsockname()[1]
+    """A port for a program that this one starts. No other of these tests gets it as long as this process lives, also where they run
+    side by side: each keeps a socket of the port's name. Nor does the system give it to who asks for any.
+    """
+    while True:
+        port = next(PORTS)
+        claim = socket.socket(socket.AF_UNIX, socket.SOCK_DGRAM)
+        with contextlib.suppress(OSError), socket.create_server(("127.0.0.1", port)):
+            claim.bind(f"\0s4-tests-port-{port}")
+            CLAIMS.append(claim)
+            return port
+        claim.close()
 
 
 def words_of(folder, *more):
