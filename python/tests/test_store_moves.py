@@ -9,7 +9,7 @@ from unittest import mock
 from s4d.errors import NoSpace
 from s4d.store import contents, layout
 from s4d.store.drives import DriveAway
-from s4d.store.rebalance import Rebalance, taken
+from s4d.store.rebalance import Rebalance
 from s4d.store.store import Moved, contents_of
 
 from .bridged import PATIENCE
@@ -76,7 +76,7 @@ class Rebalanced(Moving):
             moves = await rebalance.run()
             self.assertGreater(moves.versions, 4)
             self.assertEqual(moves.kept, 0)
-            self.assertLess(max(rebalance.loads) - min(rebalance.loads), 2 * taken(1_000) + 1)
+            self.assertLess(max(rebalance.loads), 2 * min(rebalance.loads))  # lists of pieces come wherever it is their turn
             await self.check(store)
             self.assertEqual({it.number for it in store.pieces.drives if self.stores.drives[it.number].live(b"P")}, {0, 1, 2, 3})
             again = await Rebalance(store).run()  # heads are a little longer now
