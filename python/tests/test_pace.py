@@ -67,6 +67,32 @@ class Buckets(unittest.TestCase):
         self.assertEqual(bucket.seconds_until(1, 0), 541)
 
 
+class Timeless(asyncio.SelectorEventLoop):
+    """A loop whose time goes on only where all wait: then it is at once as late as they wait. So no test waits, nor is it a matter of
+    the machine's speed what comes first.
+    """
+
+    def __init__(self):
+        super().__init__()
+        self._now, self._select = 0.0, self._selector.select
+        self._selector.select = self._wait
+
+    def time(self):
+        return self._now
+
+    def _wait(self, seconds):
+        self._now += seconds or 0.0
+        return self._select(0 if seconds is not None else None)
+
+
+def run_timeless(work):
+    loop = Timeless()
+    try:
+        loop.run_until_complete(work)
+    finally:
+        loop.close()
+
+
 class Asking:
     """Requests of peers, in the order in which they were passed on."""
 
@@ -106,7 +132,7 @@ def with_asking(trial, *how):
         finally:
             await asking.end()
 
-    asyncio.run(run())
+    run_timeless(run())
 
 
 class Tokens(unittest.TestCase):
@@ -145,7 +171,7 @@ class Tokens(unittest.TestCase):
             began = loop.time()
             tasks = [it.ask(peer) for _ in range(610)]
             await asyncio.wait(tasks)
-            self.assertGreaterEqual(loop.time() - began, 0.999)
+            self.assertAlmostEqual(loop.time() - began, 1)
             self.assertEqual(it.passed.count("first"), 610)
             self.assertGreater(peer.used().waited, 0.1)
 
@@ -326,7 +352,7 @@ class SeatsOfPeers(unittest.TestCase):
                     task.cancel()
                 await asyncio.gather(*sitting.tasks.values(), return_exceptions=True)
 
-        asyncio.run(run())
+        run_timeless(run())
 
     def test_no_peer_takes_more_than_its_own(self):
         async def trial(it):
