@@ -16,6 +16,7 @@ from unittest import mock
 import s4d
 from s4d import Attributes, Created, program
 
+from .bridged import wait_until
 from .built import PROGRAM, TOP, needs_program
 
 
@@ -203,7 +204,7 @@ class Timeouts(unittest.TestCase):
         patch.start()
         self.addCleanup(patch.stop)
 
-    def silent(self, line="exec sleep 60"):
+    def silent(self, line="exec sleep 600"):
         with open(self.program, "w", encoding="utf-8") as file:
             file.write(f"#!/bin/sh\n{line}\n")
         os.chmod(self.program, 0o700)
@@ -213,7 +214,7 @@ class Timeouts(unittest.TestCase):
         self.assertIsNone(it.ended)
         with self.assertRaisesRegex(s4d.ProgramFailed, r"killed after 0.2 seconds \(status -9\)"):
             it.close()
-        self.assertLess(time.monotonic() - self.start, 30)
+        self.assertLess(time.monotonic() - self.start, 300)
 
     def test_a_reply_that_does_not_come(self):
         self.silent()
@@ -233,14 +234,15 @@ class Timeouts(unittest.TestCase):
         self.check_killed(it)
 
     def test_a_program_that_does_not_end(self):
-        self.silent("printf '\\0\\0\\0\\21\\2\\0\\0\\0\\0\\0\\0\\0\\1\\0\\0\\0\\0\\0\\0\\0\\1'; exec sleep 60")
+        self.silent("printf '\\0\\0\\0\\21\\2\\0\\0\\0\\0\\0\\0\\0\\1\\0\\0\\0\\0\\0\\0\\0\\1'; : > \"$0.said\"; exec sleep 600")
         it = s4d.Drive.pipe(self.program, timeout=0.2)
+        wait_until(lambda: os.path.exists(f"{self.program}.said"), "the reply is there")
         self.assertEqual(it.create(), Created(1, 1))
         self.check_killed(it)
 
     def test_a_program_that_ends_is_no_timeout(self):
         self.silent("echo wrong >&2; exit 3")
-        with self.assertRaises(s4d.Disconnected) as caught, s4d.Drive.pipe(self.program, timeout=30) as it:
+        with self.assertRaises(s4d.Disconnected) as caught, s4d.Drive.pipe(self.program, timeout=600) as it:
             it.create()
         self.assertEqual(caught.exception.ended, s4d.Ended(3, "wrong"))
 

@@ -383,7 +383,7 @@ class Fakes(unittest.TestCase):
         self.assertEqual((found.changed, found.changed_time), (2**64 - 1, None))
 
     def test_timeouts(self):
-        image = self.image("exec sleep 60")
+        image = self.image("exec sleep 600")
         image.program, image.timeout = image.s4, 0.2
         for ask in (image.verify, image.list, image.compact, lambda: image.diff(1), lambda: image.read(1, 1)):
             with self.assertRaisesRegex(s4d.ProgramFailed, r"killed after 0.2 seconds \(status -9\)"):

@@ -538,7 +538,7 @@ class Held(unittest.TestCase):
                 await http.write_answer(stuck, http.Answer(body=b"x"), False)
             stuck.transport.abort.assert_called_once_with()
             stuck = Stuck()
-            with mock.patch.object(server, "BODY_SECONDS", 0.5), mock.patch.object(gateway.server, "_serve", mock.AsyncMock()):
+            with mock.patch.object(server, "BODY_SECONDS", 2), mock.patch.object(gateway.server, "_serve", mock.AsyncMock()):
                 attending = asyncio.ensure_future(gateway.server._attend(mock.Mock(), stuck))
                 await asyncio.sleep(0.01)
                 self.assertEqual(len(gateway.server._tasks), 2)
@@ -579,17 +579,18 @@ class Held(unittest.TestCase):
         """Its request counts for its key until it is."""
         async def work(gateway, it):
             await nobody_works(gateway)
-            taking, write_answer = asyncio.Event(), http.write_answer
+            taking, write_answer, answers = asyncio.Event(), http.write_answer, []
 
             async def slowly(*words):
+                answers.append(words)
                 await taking.wait()
                 await write_answer(*words)
 
             with mock.patch.object(server, "write_answer", slowly), mock.patch("s4d.s3.gateway.KEY_REQUESTS", 2):
                 asks = [asyncio.ensure_future((await gateway.connect()).ask("GET", "/one")) for _ in range(3)]
-                while gateway.gateway._working["owner"] < 2:
+                while len(answers) < 3:
                     await asyncio.sleep(0.01)
-                await asyncio.sleep(0.1)
+                self.assertEqual(gateway.gateway._working["owner"], 2)
                 taking.set()
                 self.assertEqual(sorted(it.status for it in await asyncio.gather(*asks)), [200, 200, 503])
             await nobody_works(gateway)

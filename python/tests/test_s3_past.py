@@ -9,6 +9,7 @@ from s4d.s3.gateway import Gateway
 from s4d.s3.past import moment_asked, moment_in
 from s4d.s3.server import Server
 
+from .bridged import PATIENCE
 from .plain_store import DAY
 from .s3_client import OWNER, Client
 from .test_s3 import with_client
@@ -157,7 +158,7 @@ class Cuts(Stores):
             while not asks:
                 await asyncio.sleep(0.001)
             early = machine_time() - 1_000_000
-            await asyncio.wait_for(store.cut(early, "one"), 10)
+            await asyncio.wait_for(store.cut(early, "one"), PATIENCE)
             cut = asyncio.ensure_future(store.cut(machine_time(), "one"))
             await asyncio.sleep(0.05)
             self.assertFalse(cut.done())

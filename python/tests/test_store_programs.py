@@ -16,6 +16,7 @@ from s4d.store.adding import add_drives
 from s4d.store.drives import DriveAway
 from s4d.store.layout import first_drive
 from s4d.store.rebalance import Rebalance
+from s4d.store.sessions import OPEN_SECONDS
 from s4d.store.settings import image_path
 
 from .bridged import PACKAGE, PATIENCE
@@ -91,10 +92,11 @@ class Starts(Served):
                 await drive._idle.pop().close()
             os.kill(drive._service._process.pid, signal.SIGSTOP)
             asking = asyncio.ensure_future(drive.ask(lambda session: session.attributes(0)))
-            await asyncio.sleep(0.1)
+            while len(os.listdir(f"{self.folder}/drives/00/doors/client")) < 3:  # the door, and a session's pipes
+                await asyncio.sleep(0.01)
             drive._service.kill()
             with self.assertRaises(DriveAway):
-                await asyncio.wait_for(asking, 20)
+                await asyncio.wait_for(asking, OPEN_SECONDS / 2)
             killed = drive._service._process
             while drive._service._process is killed:
                 await asyncio.sleep(0.01)
@@ -269,15 +271,28 @@ class RealStarts(Real, Served):
             self.assertEqual(await got(store, store.bucket("one").current("k")), b"mill")
             self.assertEqual(await asyncio.get_running_loop().run_in_executor(None, left.wait, PATIENCE), 0)
 
+        def hear(line):
+            """Lets it go on once it is seen that it has the image."""
+            said.append(line)
+            if line.endswith(SERVED):
+                left.send_signal(signal.SIGCONT)
+
+        said = []
         self.run_store(put)
-        doors = [f"--door={role}={self.folder}/drives/00/doors/{role}" for role in ("client", "admin")]
-        left = subprocess.Popen([S4SERVE, *doors, image_path(self.folder, 0)], stderr=subprocess.PIPE, text=True)
-        self.addCleanup(left.communicate)
-        self.addCleanup(left.kill)  # before it is waited for, also where this test fails
-        self.assertIn("that is waited for", left.stderr.readline())
-        with mock.patch("s4d.store.service.say") as say:
+        left = self.waiting_service()
+        with mock.patch("s4d.store.service.say", hear):
             self.run_store(get)
-        self.assertTrue([line for line, in (it[0] for it in say.call_args_list) if line.endswith(SERVED)])
+        self.assertTrue([line for line in said if line.endswith(SERVED)])
+
+    def waiting_service(self):
+        """A service that waits for the machine's time, and is held there, however late the next start comes."""
+        doors = [f"--door={role}={self.folder}/drives/00/doors/{role}" for role in ("client", "admin")]
+        service = subprocess.Popen([S4SERVE, *doors, image_path(self.folder, 0)], stderr=subprocess.PIPE, text=True)
+        self.addCleanup(service.communicate)
+        self.addCleanup(service.kill)  # before it is waited for, also where this test fails
+        self.assertIn("that is waited for", service.stderr.readline())
+        service.send_signal(signal.SIGSTOP)
+        return service
     once_served = staticmethod(Starts.once_served)
 
 

@@ -1,4 +1,5 @@
 """A store's program: reads at a moment, TLS, its numbers, what SIGHUP reads again, and how SIGTERM ends it."""
+import contextlib
 import json
 import os
 import pathlib
@@ -94,9 +95,17 @@ class Numbers(Served):
                      "s4_store_answer_seconds_count 4", "s4_store_connections 1", "s4_store_log_lines_lost_total 4", *self.of_images):
             self.assertIn(f"{line}\n", text)
         self.assertEqual(serving.status("/other")[0], 404)
-        serving.kill_service(1)
-        wait_until(lambda: serving.status("/health") == (503, "drive 1 isn't served\n"), "a drive that is away")
+        with self.no_start():
+            serving.kill_service(1)
+            wait_until(lambda: serving.status("/health") == (503, "drive 1 isn't served\n"), "a drive that is away")
         wait_until(lambda: serving.status("/health")[0] == 200, "a drive that is served again")
+
+    @contextlib.contextmanager
+    def no_start(self):
+        """No service can be started meanwhile, so that whoever looks late sees it, too."""
+        os.rename(self.programs.s4serve, f"{self.programs.s4serve}.away")
+        yield
+        os.rename(f"{self.programs.s4serve}.away", self.programs.s4serve)
 
     of_images = ('s4_store_drive_readable{drive="00"} 0',)  # of a stand-in nothing can be read
 
@@ -108,7 +117,14 @@ class RealNumbers(Numbers):
     of_images = ('s4_store_drive_readable{drive="00"} 1', 's4_store_drive_readable{drive="01"} 1')
 
     def programs_in(self, _folder):
-        return Programs(PROGRAM, S4, S4SERVE)
+        return Programs(PROGRAM, S4, os.path.join(self.linked(), "s4serve"))
+
+    def linked(self):
+        """A folder with a link to the service's program."""
+        folder = tempfile.TemporaryDirectory()
+        self.addCleanup(folder.cleanup)
+        os.symlink(S4SERVE, f"{folder.name}/s4serve")
+        return folder.name
 
 
 class Signals(Served):
@@ -139,9 +155,10 @@ class Signals(Served):
         data = bytes(range(256)) * 1_200
         headers = {**Signer(serving.key).headers("PUT", "/one/k", [], data, {}), "content-length": str(len(data))}
         with socket.create_connection(("127.0.0.1", serving.port)) as client:
-            lines = ["PUT /one/k HTTP/1.1", *(f"{name}: {value}" for name, value in headers.items()), "", ""]
-            client.sendall("\r\n".join(lines).encode() + data[:200_000])
-            time.sleep(0.3)
+            lines = ["PUT /one/k HTTP/1.1", "expect: 100-continue", *(f"{name}: {value}" for name, value in headers.items()), "", ""]
+            client.sendall("\r\n".join(lines).encode())
+            self.assertEqual(client.recv(65_536), b"HTTP/1.1 100 Continue\r\n\r\n")  # so it was begun
+            client.sendall(data[:200_000])
             serving.process.send_signal(signal.SIGTERM)
             wait_until(lambda: not self.is_open(serving.port), "a gateway that accepts no more")
             self.assertIsNone(serving.process.poll())
