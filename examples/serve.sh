@@ -21,9 +21,9 @@ trap end EXIT
 cd "$folder"
 export PYTHONPATH=$top/python PYTHONDONTWRITEBYTECODE=1
 
-# Waits until a command succeeds, for 30 seconds: a service that was killed begins after ten at most.
+# Waits until a command succeeds, for two minutes at least: a service that was killed begins after ten seconds at most.
 await() {
-    for _ in $(seq 300); do
+    for _ in $(seq 1200); do
         if "$@" 2> /dev/null; then return; fi
         sleep 0.1
     done

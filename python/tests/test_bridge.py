@@ -1,6 +1,7 @@
 """The bridge from sockets to a service's doors, before a stand-in for the service."""
 import asyncio
 import contextlib
+import fcntl
 import io
 import itertools
 import json
@@ -10,6 +11,8 @@ import signal
 import socket
 import ssl
 import subprocess
+import sys
+import termios
 import threading
 import time
 import unittest
@@ -27,6 +30,7 @@ from .standin import Service, frame
 
 BAD_FRAME = frame(b"\0\x0f")
 AWAY = frame(wire.TURNED_AWAY)
+SHORT = 4  # seconds that one waits in vain: the service has to open a session within them, on a busy machine too
 
 
 def received(link, count):
@@ -165,13 +169,14 @@ class Clients(Bridged):
             first.append(1, b"")
             with self.connect() as third:
                 self.assertEqual(third.create().object, 3)
+            self.wait_for_line(event="session", end="idle")
             self.assertEqual(len(self.lines(event="session", end="idle")), 1)
             with self.assertRaises(s4d.ReplyLost):
                 first.append(1, b"")
                 second.append(1, b"")
 
     def test_who_waits_for_the_service_is_not_idle(self):
-        self.start("--sessions", "client=1", "--idle", "0.1", "--wait", "1")
+        self.start("--sessions", "client=1", "--idle", "0.1", "--wait", SHORT)
         link = self.raw()
         self.service.may_answer.clear()
         link.sendall(wire.create(b"").frame())
@@ -201,7 +206,7 @@ class Limits(Bridged):
         self.assertEqual(self.service.most_open["client"], 1)
 
     def test_a_queue_has_a_time(self):
-        self.start("--sessions", "client=1", "--wait", "1")
+        self.start("--sessions", "client=1", "--wait", SHORT)
         with self.connect() as it:
             it.create()
             self.assertEqual(rest_of(self.raw()), AWAY)
@@ -287,7 +292,7 @@ class Limits(Bridged):
             door.unlink()
 
     def test_a_service_that_does_not_open_a_session(self):
-        self.start("--wait", "0.5")
+        self.start("--wait", SHORT)
         self.service.opens = False
         with self.assertRaises(s4d.ReplyLost), self.connect() as it:
             it.create()
@@ -299,9 +304,9 @@ class Limits(Bridged):
         self.assertTrue(self.wait_for_line(2, event="request")["lost"])
 
     def test_a_slow_service_is_waited_for(self):
-        self.start("--wait", "1")
+        self.start("--wait", SHORT)
         self.service.may_answer.clear()
-        threading.Timer(2, self.service.may_answer.set).start()
+        threading.Timer(SHORT + 1, self.service.may_answer.set).start()
         with self.connect() as it:
             self.assertEqual(it.create().object, 1)
 
@@ -321,7 +326,7 @@ class Killed(Bridged):
             service.send_signal(signal.SIGSTOP)
             link = self.raw()
             link.sendall(wire.create(b"").frame())
-            wait_until(lambda: len(self.pipes()) == 4, "the pipes of two sessions")
+            wait_until(lambda: any(self.unread(name) for name in self.pipes()), "a request is passed on")
             service.kill()
             with self.assertRaisesRegex(s4d.ReplyLost, "append of object 1: "):
                 it.append(1, b"x")
@@ -331,6 +336,15 @@ class Killed(Bridged):
         self.assertEqual(got(port, "/health"), (503, "client: no service\nadmin: no service\n"))
         self.assertEqual(self.pipes(), [])
 
+    def unread(self, name):
+        """How many bytes of requests nobody has read in the pipe of a session."""
+        if not name.endswith(".in"):
+            return 0
+        pipe = os.open(self.folder / "doors" / "client" / name, os.O_RDONLY | os.O_NONBLOCK)
+        try:
+            return int.from_bytes(fcntl.ioctl(pipe, termios.FIONREAD, bytes(4)), sys.byteorder)
+        finally:
+            os.close(pipe)
 
     def test_bridges_that_are_killed(self):
         """What was acknowledged is there, and in the log, whenever the bridge is killed."""
@@ -985,7 +999,7 @@ class Ends(Bridged):
         self.service.may_answer.clear()
         busy, waiting, idle = self.raw(), self.raw(), self.raw("admin")
         busy.sendall(wire.create(b"").frame() * 3 + b"\0")
-        wait_until(lambda: self.service.open_sessions == {"client": 1, "admin": 1}, "two sessions")
+        wait_until(lambda: self.service.asked and self.service.open_sessions == {"client": 1, "admin": 1}, "two sessions, and a request")
         self.process.send_signal(signal.SIGTERM)
         self.assertEqual((rest_of(waiting), rest_of(idle)), (AWAY, b""))
         self.assertFalse((self.folder / "client.sock").exists())
@@ -1001,7 +1015,7 @@ class Ends(Bridged):
         self.service.may_answer.clear()
         link = self.raw()
         link.sendall(wire.create(b"").frame())
-        wait_until(lambda: self.service.open_sessions["client"] == 1, "a session")
+        wait_until(lambda: self.service.asked, "a request")
         self.assertEqual((self.stop(), rest_of(link)), (0, b""))
         self.assertEqual(len(self.lines(event="request", lost=True)), 1)
 

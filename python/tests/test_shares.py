@@ -15,7 +15,7 @@ from s4d.access_log import LOG_FILES
 from .bridged import PATIENCE, Bridged, Certificates, free_port, got, needs_openssl, value_of, wait_until
 from .built import S4SERVE, needs_s4serve
 from .standin import frame
-from .test_bridge import AWAY, BAD_FRAME, received, rest_of, tls_words
+from .test_bridge import AWAY, BAD_FRAME, SHORT, received, rest_of, tls_words
 
 CREATE = wire.create(b"").frame()
 CREATED = 21  # bytes of a reply to it
@@ -80,10 +80,10 @@ class Served(Bridged):
         self.assertEqual(self.metric("s4_bridge_peer_change_bytes_total", peer=self.uid), len(CREATE) + 32 * len(change))
         waited = self.metric("s4_bridge_peer_waited_seconds_total", peer=self.uid)
         self.assertLessEqual(waited, seconds)
-        self.assertTrue(waited > 0 or full > 5, (waited, full))  # else the bucket was filled as fast as it was asked
+        self.assertTrue(waited > 0 or full > 1, (waited, full))  # else the bucket was filled as fast as it was asked
 
     def test_a_share_of_bytes(self):
-        self.begin("--share", "bytes=100KiB/min", "--wait", "0.3")
+        self.begin("--share", "bytes=100KiB/min", "--wait", SHORT)
         with self.connect() as it:
             made = it.create().object
             for _ in range(3):
@@ -94,7 +94,7 @@ class Served(Bridged):
             self.assertEqual(it.read(made), b"x" * 24_576 + b"x" * (32_000 - 24_576))  # reading takes none of it
 
     def test_who_waits_too_long_gets_what_is_due(self):
-        self.begin("--share", "changes=2/min", "--wait", "0.5")
+        self.begin("--share", "changes=2/min", "--wait", SHORT)
         link = self.raw()
         read = wire.attributes(1, None).frame()
         link.sendall(CREATE + wire.append(1, b"x").frame() + read * 5 + wire.append(1, b"never").frame() * 3 + read)
@@ -109,7 +109,7 @@ class Served(Bridged):
         wait_until(lambda: self.metric("s4_bridge_sessions") == 0, "its seat is free")
 
     def test_a_session_that_is_over_is_not_asked_again(self):
-        self.begin("--share", "changes=1/min", "--wait", "0.3")
+        self.begin("--share", "changes=1/min", "--wait", SHORT)
         with self.connect() as it:
             made = it.create().object
             batch = it.pipeline()
@@ -125,7 +125,7 @@ class Served(Bridged):
         self.assertEqual(self.audited(), 1)
 
     def test_tasks_whose_session_is_over(self):
-        self.begin("--share", "changes=1/min", "--wait", "0.3")
+        self.begin("--share", "changes=1/min", "--wait", SHORT)
 
         async def ask():
             async with await s4d.AsyncDrive.connect(f"unix:{self.folder}/client.sock", PATIENCE) as it:
@@ -139,7 +139,7 @@ class Served(Bridged):
         self.assertEqual(self.audited(), 1)
 
     def test_administrators_have_no_share(self):
-        self.begin("--share", "sessions=1,changes=1/min,bytes=1KiB/min", "--wait", "0.3")
+        self.begin("--share", "sessions=1,changes=1/min,bytes=1KiB/min", "--wait", SHORT)
         with contextlib.ExitStack() as sessions:
             admins = [sessions.enter_context(self.connect("admin")) for _ in range(4)]
             made = admins[0].create().object
@@ -151,7 +151,7 @@ class Served(Bridged):
         self.assertEqual(self.audited(), 101)
 
     def test_a_hangup_fills_no_bucket(self):
-        self.begin("--share", "changes=1/min", "--wait", "0.3")
+        self.begin("--share", "changes=1/min", "--wait", SHORT)
         with self.connect() as it:
             it.create()
         (self.folder / "access.log").rename(self.folder / "old.log")
@@ -174,7 +174,7 @@ class Served(Bridged):
         """Twelve sessions of one peer flood; another makes at least half of the changes that it makes alone."""
         (alice,) = self.certify("alice")
         self.begin(*tls_words(self.folder, self.port), "--share", "changes=100/min")
-        for _ in range(3):
+        for _ in range(10):
             alone = self.made_in(2, alice)
             flood = [self.raw() for _ in range(12)]
             for link in flood:
@@ -203,7 +203,7 @@ class Served(Bridged):
     @needs_openssl
     def test_each_name_has_a_share_of_its_own(self):
         alice, bob = self.certify("alice", "bob")
-        self.begin(*tls_words(self.folder, self.port), "--share", "changes=1/min", "--wait", "0.3")
+        self.begin(*tls_words(self.folder, self.port), "--share", "changes=1/min", "--wait", SHORT)
         with self.certified(alice) as first, self.certified(alice) as second, self.certified(bob) as other, self.connect() as user:
             made = first.create().object
             with self.assertRaisesRegex(s4d.NotAsked, "nothing was passed on"):  # it was this session's first request

@@ -165,7 +165,7 @@ class Stored(Elsewhere):
             await store.create_bucket("one")
             await store.put("one", THERE[0], body(b"old"), {})
             self.service.may_answer.clear()
-            asked = self.service.asked
+            asked, rows = self.service.asked, len(self.service.drive.rows)
             putting = asyncio.ensure_future(store.put("one", THERE[0], body(b"new"), {}))
             while self.service.asked == asked:
                 await asyncio.sleep(0.01)
@@ -176,6 +176,8 @@ class Stored(Elsewhere):
             with self.assertRaises(DriveAway):
                 await store.settle("one", THERE[0])
             self.service.may_answer.set()
+            while len(self.service.drive.rows) == rows:  # else it might be done after half a second, which is taken for long enough here
+                await asyncio.sleep(0.01)
             self.bridge()
             await self.once_served(lambda: store.settle("one", THERE[0]))
             self.assertEqual([await got(store, it) for it in store.bucket("one").keys[THERE[0]]], [b"old", b"new"])
