@@ -20,8 +20,8 @@ import tempfile
 import time
 
 HERE = pathlib.Path(__file__).resolve().parent
-LONGEST = ["test_store_kills", "test_bridge", "test_restore", "test_store_programs", "test_store_serving", "test_shares", "test_install",
-           "test_store_found", "test_store_remote", "test_store_command"]
+LONGEST = ["test_store_kills", "test_bridge", "test_restore", "test_store_programs", "test_shares", "test_store_kills_of_programs",
+           "test_store_serving", "test_install", "test_store_found", "test_store_remote", "test_store_command"]
 LOOK = 0.05  # seconds between two looks at what has ended
 SUBREAPER = 36  # PR_SET_CHILD_SUBREAPER of prctl(2)
 

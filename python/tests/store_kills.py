@@ -12,8 +12,10 @@ import random
 import signal
 import subprocess
 import sys
+import tempfile
 import threading
 import time
+import unittest
 
 from s4d.image import Image
 from s4d.moments import machine_time
@@ -404,6 +406,16 @@ class Trial:
             self.serving.kill()
         for number in range(self.drives):
             self.serving.kill_service(number)
+
+
+class Killing(unittest.TestCase):
+    def kill(self, count, kinds, make):
+        """So many kills, unless STORE_KILLS in the environment says how many."""
+        with tempfile.TemporaryDirectory() as folder:
+            count = int(os.environ.get("STORE_KILLS", count))
+            faults, kills, versions = run_kills(f"{folder}/store", make(folder), random.Random(1), count, kinds)
+        self.assertEqual((faults, kills), ([], count))
+        self.assertGreaterEqual(versions, count)
 
 
 def run_kills(folder, programs, draw, count, kinds=KINDS):

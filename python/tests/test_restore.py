@@ -763,16 +763,16 @@ class Migrated(unittest.TestCase):
 @needs_s4serve
 class Windows(Served):
     def test_a_moment_near_the_floor(self):
-        """A drive that keeps a minute: the window is widened before anything else, by what the audit or the floor says of it."""
-        self.start(24, "1m")
+        """A drive that keeps five minutes: the window is widened before anything else, by what the audit or the floor says of it."""
+        self.start(24, "5m")
         with self.session() as drive, self.session("admin") as admin:
             number = drive.create(b"note").object
             drive.write(number, 0, b"mill")
             at = machine_time()
             drive.write(number, 0, b"evil")
             done, printed, _ = restored(admin, at)
-            self.assertEqual((done.widened.before, done.changed), (60_000_000, 1))
-            self.assertRegex(printed[0], r"^window 60000000 widened to 1\d{9}; SetWindow 60000000 puts it back$")
+            self.assertEqual((done.widened.before, done.changed), (300_000_000, 1))
+            self.assertRegex(printed[0], r"^window 300000000 widened to 1\d{9}; SetWindow 300000000 puts it back$")
             rows = [row.kind for row in admin.audit(at)]
             self.assertEqual(rows, [AuditKind.WRITE, AuditKind.SET_WINDOW, AuditKind.WRITE])
             self.assertEqual((drive.read(number), restored(admin, at)[0].widened), (b"mill", None))
