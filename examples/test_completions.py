@@ -77,7 +77,7 @@ CASES = [
 
 def completed(shell, folder, words):
     ran = subprocess.run([TOP / "tests/bin/completions", shell, *words], cwd=folder, stdin=subprocess.DEVNULL, capture_output=True,
-                         text=True, timeout=60, check=False)
+                         text=True, timeout=600, check=False)
     return ran.stdout.splitlines(), ran.stderr, ran.returncode
 
 

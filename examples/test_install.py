@@ -13,7 +13,7 @@ import unittest
 
 TOP = pathlib.Path(__file__).resolve().parents[1]
 BUILT = {name.upper(): os.environ.get(name.upper(), f"{TOP}/crates/{name}/out/{name}") for name in ("s4d", "s4serve", "s4")}
-PATIENCE = 120  # seconds for what takes a few on a machine without other work
+PATIENCE = 300  # seconds for what takes a few on a machine without other work
 MANUALS = {f"share/man/man1/{name}.1": f"{name}.1" for name in ("s4d", "s4serve", "s4")}
 COMPLETIONS = {f"share/{folder}{name}{ending}": f"completions/{source}" for name in ("s4d", "s4serve", "s4")
                for folder, ending, source in (("bash-completion/completions/", "", f"{name}.bash"), ("zsh/site-functions/_", "", f"_{name}"),

@@ -23,7 +23,7 @@ import s4d
 from .standin import Service
 
 PACKAGE = pathlib.Path(__file__).resolve().parents[1]
-PATIENCE = 120  # seconds for what takes none on a machine without other work
+PATIENCE = 300  # seconds for what takes none on a machine without other work
 PORTS = itertools.count(20_000)  # below those that the system gives to who asks for any
 CLAIMS: List[socket.socket] = []  # for the ports that this process has been given
 
