@@ -747,6 +747,7 @@ class Certified(Bridged):
         perform(lambda: side.write(wire.create(b"").frame()))
         self.assertEqual(len(perform(lambda: side.read(21))), 21)
         second, _, _ = self.greeted(alice)
+        wait_until(lambda: self.is_waiting("client"), "its handshake is done at the other side, too")
         waiting = self.drive(alice)
         second.sendall(b"no record of TLS")
         self.wait_for_line(event="turned away", why="client gone")  # else it could get the seat that the first one leaves
