@@ -11,7 +11,7 @@ import tempfile
 import threading
 import warnings
 import weakref
-from typing import IO, Any, NamedTuple, Optional, Sequence
+from typing import IO, Any, NamedTuple, Optional, Sequence, Tuple
 
 from .connection import Peer, Reader, Writer
 from .errors import Ended, ProgramFailed
@@ -186,6 +186,11 @@ def output_of(words: Sequence[str], timeout: Optional[float] = None, differs: Op
 
     The status `differs` isn't a failure either, where the command has no line on standard error but such notes.
     """
+    return outputs_of(words, timeout, differs)[0]
+
+
+def outputs_of(words: Sequence[str], timeout: Optional[float] = None, differs: Optional[int] = None) -> Tuple[bytes, str]:
+    """The same, and its text on standard error."""
     try:
         ran = subprocess.run(words, stdin=subprocess.DEVNULL, stdout=subprocess.PIPE, stderr=subprocess.PIPE,
                              check=False, timeout=timeout)
@@ -195,4 +200,4 @@ def output_of(words: Sequence[str], timeout: Optional[float] = None, differs: Op
     has_complaint = not all(NOTE.fullmatch(line) for line in ended.said.splitlines())
     if ended.status and (ended.status != differs or has_complaint):
         raise ProgramFailed(ended)
-    return ran.stdout
+    return ran.stdout, ended.said
