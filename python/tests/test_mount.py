@@ -413,3 +413,353 @@ class Modules(unittest.TestCase):
                 self.assertIs(fuse_module(), found)
         with mock.patch.dict(sys.modules, {"fusepy": None, "fuse": other}), self.assertRaisesRegex(NoFuse, "python3-fusepy"):
             fuse_module()
+
+
+def fill(image, attributes, role="client"):
+    """Gives an image an object for each attribute, whose bytes are its number and its attribute."""
+    with image.session(role) as drive:
+        for attribute in attributes:
+            object = drive.create(attribute).object
+            drive.write(object, 0, b"%d %s" % (object, attribute))
+
+
+def counting(folder):
+    """A program `s4` that writes its command's name into a file, and that file."""
+    path, log = pathlib.Path(folder, "s4"), pathlib.Path(folder, "s4.log")
+    path.write_text(f'#!/bin/sh\necho "$1" >> "{log}"\nexec "{S4}" "$@"\n', encoding="utf-8")
+    path.chmod(0o700)
+    return str(path), log
+
+
+@needs_program
+@needs_s4
+class Exports(unittest.TestCase):
+    """Moments of an image, as `s4` gives them."""
+
+    def setUp(self):
+        folder = tempfile.TemporaryDirectory()
+        self.addCleanup(folder.cleanup)
+        self.folder, self.said = folder.name, []
+        self.image = s4d.Image(f"{folder.name}/-image", PROGRAM, S4, timeout=PATIENCE)
+        self.image.make(24, window=20)
+        fill(self.image, [b"note", b"/srv/a"])
+        with self.image.session("admin") as drive:
+            drive.write(1, 2, b"else")
+            drive.delete(2)
+            drive.flush(3, 3)
+        self.view = View(self.image, self.said.append)
+        self.addCleanup(self.view.end)
+
+    def read(self, path):
+        handle = self.view.open(path)
+        try:
+            return self.view.read(handle, 98_304, 0)
+        finally:
+            self.view.close(handle)
+
+    def test_export(self):
+        found = self.image.export(f"{self.folder}/out", 4)
+        self.assertEqual([(it.object, it.file, it.size, it.created, it.changed, it.attribute, it.attribute_text) for it in found.objects],
+                         [(1, "object-1", 6, 1, 2, b"note", "note"), (2, "object-2", 8, 3, 4, b"/srv/a", "/srv/a")])
+        self.assertFalse(found.is_clock)
+        self.assertEqual(pathlib.Path(f"{self.folder}/out/object-2").read_bytes(), b"2 /srv/a")
+        with self.assertRaisesRegex(s4d.ProgramFailed, "out"):
+            self.image.export(f"{self.folder}/out")
+        self.assertEqual([it.object for it in self.image.export(f"{self.folder}/else").objects], [1])
+
+    def test_moments(self):
+        self.assertEqual((self.read(b"/2/note"), self.read(b"/4/srv/a"), self.read(b"/now/note")), (b"1 note", b"2 /srv/a", b"1 else"))
+        self.assertEqual(self.view.in_folder(b"/now"), [b"note", b"by-number"])
+        self.assertEqual(self.view.in_folder(b"/0"), [b"by-number"])
+        for name in (b"3", b"99", b"2h", b"2026-11-29T10:00:00Z"):
+            with self.assertRaises(FileNotFoundError):
+                self.view.entry(b"/" + name)
+        self.assertRegex("\n".join(self.said), r"3: .* hidden or expired; .*\n99: .* to come; .*\n2h: .* numbers, .*\n2026-11-29T10:00:00Z: .* numbers")
+
+    def test_a_moment_that_expires(self):
+        self.read(b"/2/note")
+        with self.image.session() as drive:
+            for _ in range(30):
+                drive.append(1, b".")
+        self.view._clock = lambda: time.monotonic() + PAST_SECONDS
+        with self.assertRaises(FileNotFoundError):
+            self.view.entry(b"/2")
+        self.assertIn("hidden or expired", self.said[0])
+
+    def test_an_image_that_is_damaged_or_gone(self):
+        data = pathlib.Path(self.image.path).read_bytes()
+        for fault in (lambda: os.truncate(self.image.path, 1_000), lambda: os.unlink(self.image.path)):
+            fault()
+            with self.assertRaises(OSError) as caught:
+                self.view.entry(b"/now")
+            self.assertEqual(caught.exception.errno, errno.EIO)
+            self.assertEqual(len(self.said), 1, self.said)
+            self.said.clear()
+            self.view._clock = lambda: time.monotonic() + PAST_SECONDS
+        pathlib.Path(self.image.path).write_bytes(data)
+        self.view._clock = lambda: time.monotonic() + 2 * PAST_SECONDS
+        self.assertEqual(self.read(b"/now/note"), b"1 else")
+
+    def test_commands_that_can_not_be_done(self):
+        for words, line in (((self.image.path, f"{self.folder}/none"), "none"), ((f"{self.folder}/none", self.folder), "not empty|isn't empty"),
+                            ((), "required: IMAGE, DIR; --help lists the options")):
+            said = subprocess.run([sys.executable, "-B", "-m", "s4d.mount", "--s4", S4, *words], cwd=PACKAGE, stdin=subprocess.DEVNULL,
+                                  stdout=subprocess.PIPE, stderr=subprocess.PIPE, check=False)
+            text = said.stderr.decode()
+            self.assertIn(said.returncode, (1, 2))
+            self.assertEqual((said.stdout, text.count("\n"), text[:11]), (b"", 1, "s4d.mount: "))
+            if PYTHON == sys.executable or said.returncode == 2:
+                self.assertRegex(text, line)
+
+
+class Mounted:
+    """A mount that each test starts as it needs it, and that is gone at its end."""
+
+    def start_mount(self, image):
+        base = tempfile.mkdtemp()
+        self.addCleanup(shutil.rmtree, base, True)
+        self.mounted, self.temporary = pathlib.Path(base, "-mounted"), pathlib.Path(base, "tmp")
+        self.mounted.mkdir()
+        self.temporary.mkdir()
+        program, self.calls = counting(base)
+        words = [PYTHON, "-B", "-m", "s4d.mount", "--s4", program, "--", str(image), str(self.mounted)]
+        self.log = open(f"{base}/log", "w+b")  # pylint: disable=consider-using-with
+        self.addCleanup(self.log.close)
+        self.program = subprocess.Popen(words, cwd=PACKAGE, env={**os.environ, "TMPDIR": str(self.temporary)}, stdin=subprocess.DEVNULL,
+                                        stdout=subprocess.PIPE, stderr=self.log)
+        self.addCleanup(self.end_mount)
+        self.assertEqual(self.program.stdout.readline().decode(), f"{image} is mounted at {self.mounted}\n", self.lines())
+
+    def end_mount(self):
+        """Whatever has become of it, nothing is left."""
+        if self.program.poll() is None:
+            self.program.kill()
+        self.program.wait()
+        self.program.stdout.close()
+        if is_mounted(self.mounted):
+            subprocess.run(["fusermount", "-u", "-z", str(self.mounted)], check=False)
+
+    def lines(self):
+        self.log.seek(0)
+        return self.log.read().decode()
+
+    def exports(self):
+        return self.calls.read_text(encoding="utf-8").split().count("export")
+
+    def assert_ended(self):
+        """The program has ended in order, and left nothing."""
+        self.assertEqual(self.program.wait(PATIENCE), 0, self.lines())
+        self.assertFalse(is_mounted(self.mounted))
+        self.assertEqual(list(self.temporary.iterdir()), [])
+
+
+def is_mounted(path):
+    return f" {path} " in pathlib.Path("/proc/self/mounts").read_text(encoding="utf-8")
+
+
+@needs_program
+@needs_s4
+@needs_fuse
+class Mounts(Mounted, unittest.TestCase):
+    """A mount of an image that nobody serves."""
+
+    def setUp(self):
+        folder = tempfile.TemporaryDirectory()
+        self.addCleanup(folder.cleanup)
+        self.folder = folder.name
+        self.image = s4d.Image(f"{folder.name}/image", PROGRAM, S4, timeout=PATIENCE)
+        self.image.make(256, window=10_000)
+
+    def start(self, *attributes):
+        fill(self.image, attributes)
+        os.utime(self.image.path, (1_000_000_000, 1_000_000_000))
+        self.start_mount(self.image.path)
+
+    def test_a_thousand_files_by_one_program(self):
+        attributes = [b"/srv/%d/file %d" % (number % 7, number) for number in range(1_000)]
+        self.start(*attributes)
+        for moment in ("now", "2000"):
+            found = {}
+            for top, folders, files in os.walk(f"{self.mounted}/{moment}"):
+                for name in files:
+                    path = os.path.join(top, name)
+                    if not os.path.islink(path):
+                        found[path] = pathlib.Path(path).read_bytes()
+            self.assertEqual(found, {f"{self.mounted}/{moment}{attribute.decode()}": b"%d %s" % (object, attribute)
+                                     for object, attribute in enumerate(attributes, 1)})
+        self.assertEqual(self.exports(), 2)
+        self.assertEqual(os.readlink(f"{self.mounted}/now/by-number/8"), "../srv/0/file 7")
+        self.assertEqual(pathlib.Path(f"{self.mounted}/now/by-number/8").read_bytes(), b"8 /srv/0/file 7")
+        self.assertEqual(len(os.listdir(f"{self.mounted}/now/by-number")), 1_000)
+
+    def test_large_ones(self):
+        with self.image.session() as drive:
+            data = random.Random(1).randbytes(98_304) if sys.version_info >= (3, 9) else os.urandom(98_304)
+            drive.write_pieces(drive.create(b"large").object, 0, data)
+        self.start()
+        path = f"{self.mounted}/now/large"
+        self.assertEqual(pathlib.Path(path).read_bytes(), data)
+        with open(path, "rb") as large:
+            large.seek(50_001)
+            self.assertEqual(large.read(511), data[50_001:50_512])
+            self.assertEqual(mmap.mmap(large.fileno(), 0, mmap.MAP_PRIVATE, mmap.PROT_READ)[:], data)
+
+    def test_nothing_can_be_changed(self):
+        self.start(b"note", b"srv/a")
+        now = f"{self.mounted}/now"
+        for ask in (lambda: open(f"{now}/note", "ab"), lambda: open(f"{now}/note", "r+b"), lambda: open(f"{now}/new", "wb"), lambda: os.unlink(f"{now}/note"),
+                    lambda: os.truncate(f"{now}/note", 0), lambda: os.rename(f"{now}/note", f"{now}/b"), lambda: os.mkdir(f"{now}/new"),
+                    lambda: os.rmdir(f"{now}/srv"), lambda: os.chmod(f"{now}/note", 0o777), lambda: os.utime(f"{now}/note"), lambda: os.symlink("a", f"{now}/b"),
+                    lambda: os.link(f"{now}/note", f"{now}/b"), lambda: os.setxattr(f"{now}/note", "user.a", b""), lambda: os.mkdir(f"{self.mounted}/7")):
+            with self.assertRaises(OSError) as caught:
+                ask()
+            self.assertEqual(caught.exception.errno, errno.EROFS)
+        found = os.stat(f"{now}/note")
+        self.assertEqual((found.st_mode, found.st_size, found.st_uid, found.st_gid, found.st_nlink, found.st_mtime),
+                         (stat.S_IFREG | 0o444, 6, os.getuid(), os.getgid(), 1, 1_000_000_000))
+        for folder in (str(self.mounted), now, f"{now}/srv", f"{now}/by-number"):
+            self.assertEqual(os.stat(folder).st_mode, stat.S_IFDIR | 0o555)
+        self.assertEqual(self.image.verify().clock, 4)
+
+    def test_names_of_enemies(self):
+        attributes = [b"../../etc/passwd", b"\x1b[2J", b"\xff\xfe", "\U0001f600".encode() * 16, b"note", b"note", b"srv", b"srv/a", b"by-number/1", b"object-1",
+                      "tööl".encode(), b"", b"a\\b\"'$(x)", b"/".join([b"d"] * 32)]
+        self.start(*attributes)
+        top = os.fsencode(f"{self.mounted}/now")
+        found = {os.path.relpath(os.path.join(here, name), top) for here, _, files in os.walk(top) for name in files
+                 if not os.path.islink(os.path.join(here, name))}
+        plain = {b"object-%d" % number for number in (1, 2, 3, 6, 7, 9, 10, 12)}
+        self.assertEqual(found, plain | {attributes[at] for at in (3, 4, 7, 10, 12, 13)})
+        for number, attribute in enumerate(attributes, 1):
+            self.assertEqual(pathlib.Path(f"{self.mounted}/now/by-number/{number}").read_bytes(), b"%d %s" % (number, attribute))
+        for name in (b"\xff", b"\x1b[2J", b"x" * 255, b"\n"):
+            with self.assertRaises(FileNotFoundError):
+                os.stat(top + b"/" + name)
+            with self.assertRaises(FileNotFoundError):
+                os.stat(os.path.join(os.fsencode(self.mounted), name))
+        self.assertEqual(self.lines(), "")
+
+    def test_moments_that_are_none(self):
+        self.start(b"note")
+        for name in ("99", "2h", "2026-11-29T10:00:00Z", "else"):
+            self.assertFalse(os.path.exists(f"{self.mounted}/{name}"))
+        self.assertEqual([line.split(":")[1] for line in self.lines().splitlines()], [" 99", " 2h", " 2026-11-29T10"])
+        self.assertEqual(os.listdir(self.mounted), ["now"])
+
+    def test_an_unmount_while_a_file_is_open(self):
+        self.start(b"note")
+        with open(f"{self.mounted}/now/note", "rb", 0) as note:
+            self.assertNotEqual(subprocess.run(["fusermount", "-u", str(self.mounted)], capture_output=True, check=False).returncode, 0)
+            subprocess.run(["fusermount", "-u", "-z", str(self.mounted)], check=True)
+            self.assertEqual(note.read(), b"1 note")
+            self.assertIsNone(self.program.poll())
+        self.assert_ended()
+
+    def test_an_unmount(self):
+        self.start(b"note")
+        os.stat(f"{self.mounted}/now/note")
+        subprocess.run(["fusermount", "-u", str(self.mounted)], check=True)
+        self.assert_ended()
+
+    def test_signals(self):
+        for number in (signal.SIGTERM, signal.SIGINT):
+            with self.subTest(number):
+                self.start(b"note")
+                note = os.open(f"{self.mounted}/now/note", os.O_RDONLY)
+                self.assertNotEqual(list(self.temporary.iterdir()), [])
+                self.program.send_signal(number)
+                self.assert_ended()
+                for ask in (lambda: os.read(note, 1), lambda: os.close(note)):
+                    with self.assertRaises(OSError):
+                        ask()
+                self.end_mount()
+
+    def test_a_name_that_becomes_a_folder(self):
+        self.start(b"srv")
+        path = f"{self.mounted}/now/srv"
+        self.assertEqual(pathlib.Path(path).read_bytes(), b"1 srv")
+        fill(self.image, [b"srv/a"])
+        wait_until(lambda: os.path.isdir(path), "the folder is there")
+        self.assertEqual(pathlib.Path(f"{path}/a").read_bytes(), b"2 srv/a")
+        self.assertEqual(pathlib.Path(f"{self.mounted}/now/object-1").read_bytes(), b"1 srv")
+
+    def test_an_image_that_is_replaced_or_removed(self):
+        self.start(b"note")
+        self.assertEqual(os.listdir(f"{self.mounted}/now"), ["note", "by-number"])
+        other = s4d.Image(f"{self.folder}/other", PROGRAM, S4, timeout=PATIENCE)
+        other.make(24)
+        fill(other, [b"else"])
+        os.replace(other.path, self.image.path)
+        wait_until(lambda: os.listdir(f"{self.mounted}/now") == ["else", "by-number"], "the other image is seen")
+        os.unlink(self.image.path)
+        wait_until(lambda: not os.path.exists(f"{self.mounted}/now"), "the image isn't there")
+        with self.assertRaises(OSError) as caught:
+            os.listdir(f"{self.mounted}/now")
+        self.assertEqual(caught.exception.errno, errno.EIO)
+        self.assertEqual(self.lines().count("\n"), 1, self.lines())
+
+
+@needs_s4
+@needs_s4serve
+@needs_fuse
+class MountsOfServed(Mounted, Served):
+    """A mount beside a service that changes the image."""
+
+    def test_now_follows(self):
+        self.start(64)
+        self.start_mount(self.image)
+        now = pathlib.Path(self.mounted, "now")
+        with self.session() as drive:
+            note = drive.create(b"note").object
+            for number in range(5):
+                at = drive.write(note, 0, b"%d" % number)
+                wait_until(lambda: (now / "note").exists() and (now / "note").read_bytes() == b"%d" % number, "the change is seen")
+            self.assertEqual(int((now / "note").stat().st_mtime * 1_000_000) // 10, at // 10)
+            with open(now / "note", "rb", 0) as held:
+                drive.truncate(note, 0)
+                drive.delete(note)
+                wait_until(lambda: not (now / "note").exists(), "the object is gone")
+                self.assertEqual(held.read(), b"4")
+        time_of = (s4d.moments.EPOCH + at * s4d.moments.MICROSECOND).isoformat().replace("+00:00", "Z")
+        self.assertEqual((self.mounted / time_of / "note").read_bytes(), b"4")
+        self.assertEqual((self.mounted / str(at) / "by-number" / "1").read_bytes(), b"4")
+        self.assertEqual(os.listdir(self.mounted / "0s"), ["by-number"])
+        self.assertFalse((self.mounted / "2999-01-01T00:00:00Z").exists())
+        self.assertEqual(self.lines(), "s4d.mount: 2999-01-01T00:00:00Z: it lies ahead\n")
+        self.stop()
+        self.assertEqual(os.listdir(now), ["by-number"])
+
+    def test_each_state_is_one_that_was(self):
+        """While two objects are changed one after the other without end, `now` never has the second one ahead."""
+        self.start(256)
+        self.start_mount(self.image)
+        ended = threading.Event()
+
+        def change():
+            with self.session() as drive:
+                objects = [drive.create(name).object for name in (b"first", b"second")]
+                number = 0
+                while not ended.is_set():
+                    number += 1
+                    for object in objects:
+                        drive.write(object, 0, b"%08d" % number)
+                    time.sleep(0.01)
+        thread = threading.Thread(target=change)
+        thread.start()
+        try:
+            path = self.mounted / "now"
+            wait_until((path / "second").exists, "the objects are there")
+            seen = set()
+            while len(seen) < 3:
+                second = int((path / "second").read_bytes() or b"0")
+                first = int((path / "first").read_bytes() or b"0")
+                self.assertGreaterEqual(first, second)
+                seen.add(first)
+        finally:
+            ended.set()
+            thread.join(PATIENCE)
+        self.assertEqual(self.lines(), "")
+
+
+if __name__ == "__main__":
+    unittest.main()
