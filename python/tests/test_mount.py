@@ -197,7 +197,7 @@ class Views(unittest.TestCase):
 
     def test_paths(self):
         self.assertEqual(self.view.in_folder(b"/"), [b"now"])
-        self.assertEqual(self.view.in_folder(b"/now"), [b"note", b"srv", b"by-number"])
+        self.assertEqual(self.view.in_folder(b"/now"), [b"note", b"srv"])
         self.assertEqual(self.view.in_folder(b"/now/srv"), [b"a"])
         self.assertEqual(self.view.in_folder(b"/now/by-number"), [b"1", b"2"])
         self.assertEqual(self.view.target(b"/now/by-number/2"), b"../srv/a")
@@ -391,7 +391,7 @@ class Views(unittest.TestCase):
         self.assertEqual(self.said, ["ready"])
         self.image.objects[4] = ("tööl".encode(), b"", 9)
         name = "tööl".encode().decode("latin-1")
-        self.assertEqual(asks("readdir", "/now", 0), [".", "..", "note", "srv", name, "by-number"])
+        self.assertEqual(asks("readdir", "/now", 0), [".", "..", "note", "srv", name])
         self.assertEqual(asks("getattr", f"/now/{name}")["st_mode"], stat.S_IFREG | 0o444)
         self.assertEqual(asks("readlink", "/now/by-number/4"), f"../{name}")
         handle = asks("open", "/now/note", os.O_RDONLY)
@@ -415,12 +415,13 @@ class Modules(unittest.TestCase):
             fuse_module()
 
 
-def fill(image, attributes, role="client"):
+def fill(image, attributes):
     """Gives an image an object for each attribute, whose bytes are its number and its attribute."""
-    with image.session(role) as drive:
-        for attribute in attributes:
-            object = drive.create(attribute).object
-            drive.write(object, 0, b"%d %s" % (object, attribute))
+    first = image.info().next
+    with image.session() as drive, drive.pipeline() as batch:
+        for object, attribute in enumerate(attributes, first):
+            batch.create(attribute)
+            batch.write(object, 0, b"%d %s" % (object, attribute))
 
 
 def counting(folder):
@@ -469,8 +470,8 @@ class Exports(unittest.TestCase):
 
     def test_moments(self):
         self.assertEqual((self.read(b"/2/note"), self.read(b"/4/srv/a"), self.read(b"/now/note")), (b"1 note", b"2 /srv/a", b"1 else"))
-        self.assertEqual(self.view.in_folder(b"/now"), [b"note", b"by-number"])
-        self.assertEqual(self.view.in_folder(b"/0"), [b"by-number"])
+        self.assertEqual(self.view.in_folder(b"/now"), [b"note"])
+        self.assertEqual(self.view.in_folder(b"/0"), [])
         for name in (b"3", b"99", b"2h", b"2026-11-29T10:00:00Z"):
             with self.assertRaises(FileNotFoundError):
                 self.view.entry(b"/" + name)
@@ -578,15 +579,16 @@ class Mounts(Mounted, unittest.TestCase):
     def test_a_thousand_files_by_one_program(self):
         attributes = [b"/srv/%d/file %d" % (number % 7, number) for number in range(1_000)]
         self.start(*attributes)
-        for moment in ("now", "2000"):
-            found = {}
-            for top, folders, files in os.walk(f"{self.mounted}/{moment}"):
-                for name in files:
-                    path = os.path.join(top, name)
-                    if not os.path.islink(path):
-                        found[path] = pathlib.Path(path).read_bytes()
-            self.assertEqual(found, {f"{self.mounted}/{moment}{attribute.decode()}": b"%d %s" % (object, attribute)
-                                     for object, attribute in enumerate(attributes, 1)})
+        found = {}
+        for top, _, files in os.walk(f"{self.mounted}/now"):
+            for name in files:
+                found[os.path.join(top, name)] = pathlib.Path(top, name).read_bytes()
+        self.assertEqual(found, {f"{self.mounted}/now{attribute.decode()}": b"%d %s" % (object, attribute)
+                                 for object, attribute in enumerate(attributes, 1)})
+        self.assertEqual(self.exports(), 1)
+        before = pathlib.Path(self.mounted, "1000/srv")
+        self.assertEqual([len(list(folder.iterdir())) for folder in sorted(before.iterdir())], [72] * 3 + [71] * 4)
+        self.assertEqual((before / "2/file 499").read_bytes(), b"500 /srv/2/file 499")
         self.assertEqual(self.exports(), 2)
         self.assertEqual(os.readlink(f"{self.mounted}/now/by-number/8"), "../srv/0/file 7")
         self.assertEqual(pathlib.Path(f"{self.mounted}/now/by-number/8").read_bytes(), b"8 /srv/0/file 7")
@@ -626,8 +628,7 @@ class Mounts(Mounted, unittest.TestCase):
                       "tööl".encode(), b"", b"a\\b\"'$(x)", b"/".join([b"d"] * 32)]
         self.start(*attributes)
         top = os.fsencode(f"{self.mounted}/now")
-        found = {os.path.relpath(os.path.join(here, name), top) for here, _, files in os.walk(top) for name in files
-                 if not os.path.islink(os.path.join(here, name))}
+        found = {os.path.relpath(os.path.join(here, name), top) for here, _, files in os.walk(top) for name in files}
         plain = {b"object-%d" % number for number in (1, 2, 3, 6, 7, 9, 10, 12)}
         self.assertEqual(found, plain | {attributes[at] for at in (3, 4, 7, 10, 12, 13)})
         for number, attribute in enumerate(attributes, 1):
@@ -685,12 +686,12 @@ class Mounts(Mounted, unittest.TestCase):
 
     def test_an_image_that_is_replaced_or_removed(self):
         self.start(b"note")
-        self.assertEqual(os.listdir(f"{self.mounted}/now"), ["note", "by-number"])
+        self.assertEqual(os.listdir(f"{self.mounted}/now"), ["note"])
         other = s4d.Image(f"{self.folder}/other", PROGRAM, S4, timeout=PATIENCE)
         other.make(24)
         fill(other, [b"else"])
         os.replace(other.path, self.image.path)
-        wait_until(lambda: os.listdir(f"{self.mounted}/now") == ["else", "by-number"], "the other image is seen")
+        wait_until(lambda: os.listdir(f"{self.mounted}/now") == ["else"], "the other image is seen")
         os.unlink(self.image.path)
         wait_until(lambda: not os.path.exists(f"{self.mounted}/now"), "the image isn't there")
         with self.assertRaises(OSError) as caught:
@@ -714,7 +715,7 @@ class MountsOfServed(Mounted, Served):
             for number in range(5):
                 at = drive.write(note, 0, b"%d" % number)
                 wait_until(lambda: (now / "note").exists() and (now / "note").read_bytes() == b"%d" % number, "the change is seen")
-            self.assertEqual(int((now / "note").stat().st_mtime * 1_000_000) // 10, at // 10)
+            wait_until(lambda: (now / "note").stat().st_mtime_ns == at * 1_000, "its time is that of the change")
             with open(now / "note", "rb", 0) as held:
                 drive.truncate(note, 0)
                 drive.delete(note)
@@ -723,11 +724,11 @@ class MountsOfServed(Mounted, Served):
         time_of = (s4d.moments.EPOCH + at * s4d.moments.MICROSECOND).isoformat().replace("+00:00", "Z")
         self.assertEqual((self.mounted / time_of / "note").read_bytes(), b"4")
         self.assertEqual((self.mounted / str(at) / "by-number" / "1").read_bytes(), b"4")
-        self.assertEqual(os.listdir(self.mounted / "0s"), ["by-number"])
+        self.assertEqual(os.listdir(self.mounted / "0s"), [])
         self.assertFalse((self.mounted / "2999-01-01T00:00:00Z").exists())
         self.assertEqual(self.lines(), "s4d.mount: 2999-01-01T00:00:00Z: it lies ahead\n")
         self.stop()
-        self.assertEqual(os.listdir(now), ["by-number"])
+        self.assertEqual(os.listdir(now), [])
 
     def test_each_state_is_one_that_was(self):
         """While two objects are changed one after the other without end, `now` never has the second one ahead."""

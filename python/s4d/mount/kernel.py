@@ -11,8 +11,9 @@ from .snapshots import Entry, Kind
 from .view import View, failure
 
 BYTES = "latin-1"  # the module hands over paths as texts: of this encoding each byte is a character
+PATH_SECONDS = 0.25  # for which the kernel doesn't ask again what a path is: else each file takes twice the time
 MODES = {Kind.FOLDER: stat.S_IFDIR | 0o555, Kind.FILE: stat.S_IFREG | 0o444, Kind.LINK: stat.S_IFLNK | 0o777}
-HOW_TO_HAVE_IT = "it needs Debian's python3-fusepy, or `pip install fusepy`, and libfuse.so.2"
+HOW_TO_HAVE_IT = "it needs Debian's python3-fusepy and fuse3, or `pip install fusepy`, libfuse.so.2 and fusermount"
 
 
 class NoFuse(Exception):
@@ -84,12 +85,12 @@ def status_of(entry: Entry) -> Dict[str, int]:
 def mount(view: View, folder: str, ready: Callable[[], None]) -> None:
     """Shows a view in a folder until it is unmounted, or SIGTERM or SIGINT comes. NoFuse where that can't be.
 
-    The kernel keeps nothing: neither what a path is, nor bytes, so that a file that is open keeps its own.
+    The kernel keeps no bytes, so that a file that is open keeps its own, and only for a short time what a path is.
     """
     module = fuse_module()
     try:
         module.FUSE(Requests(view, ready), os.fsencode(folder).decode(BYTES), encoding=BYTES, foreground=True, ro=True,
-                    nosuid=True, nodev=True, direct_io=True, default_permissions=True, attr_timeout=0, entry_timeout=0,
+                    nosuid=True, nodev=True, direct_io=True, default_permissions=True, attr_timeout=PATH_SECONDS, entry_timeout=PATH_SECONDS,
                     fsname="s4d", subtype="s4d")
     except RuntimeError as error:
         raise NoFuse(f"{folder}: it couldn't be mounted there ({error}); the line above says why") from None

@@ -65,10 +65,10 @@ class Snapshot:
         return self._folder() if self._names.is_folder(path) else None
 
     def in_folder(self, path: bytes) -> List[bytes]:
-        """The names in a folder."""
+        """The names in a folder. `by-number` isn't among them, so that who compares or copies all has each object once."""
         if path == BY_NUMBER:
             return [b"%d" % object for object in self._names.numbers()]
-        return self._names.in_folder(path) + ([] if path else [BY_NUMBER])
+        return self._names.in_folder(path)
 
     def open(self, path: bytes) -> int:
         """A descriptor of an object's bytes. FileNotFoundError where they are gone, or no object has this path."""
