@@ -39,7 +39,7 @@ HAS_MODULE = "from s4d.mount.kernel import fuse_module; fuse_module()"
 
 def python_with_fuse():
     """The Python that has the module, this one or the system's; None where none has it, or the machine has no FUSE."""
-    if not os.access("/dev/fuse", os.R_OK | os.W_OK):
+    if not os.access("/dev/fuse", os.R_OK | os.W_OK) or shutil.which("fusermount") is None:
         return None
     for python in (sys.executable, "/usr/bin/python3"):
         with contextlib.suppress(OSError):
@@ -49,7 +49,7 @@ def python_with_fuse():
 
 
 PYTHON = python_with_fuse()
-needs_fuse = unittest.skipUnless(PYTHON, "no /dev/fuse that may be opened, or no python3-fusepy")
+needs_fuse = unittest.skipUnless(PYTHON, "no /dev/fuse that may be opened, no fusermount, or no python3-fusepy")
 
 
 def walked(names, path=b""):
@@ -275,6 +275,7 @@ class Views(unittest.TestCase):
                 self.time = 100 + seconds
                 self.view.entry(b"/2h")
         self.assertEqual(self.image.asked, ["2025-11-29T08:01:40Z", "2025-11-29T08:02:41Z"])
+        self.assertEqual(self.view.in_folder(b"/"), [b"now"])
         self.assert_fault(errno.ENOENT, self.view.entry, b"/99999w")
         self.assertEqual(self.said, ["99999w: 99999w ago lies before 1970"])
 

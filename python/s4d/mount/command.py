@@ -11,7 +11,7 @@ from ..errors import Error
 from ..image import Image
 from ..open_files import allow_open_files
 from .kernel import NoFuse, fuse_module, mount
-from .view import View
+from .view import View, why_of
 
 EXPORT_SECONDS = 120.0  # that `s4` has for a moment
 
@@ -51,7 +51,7 @@ def main(words: Optional[Sequence[str]] = None) -> int:
             raise NoFuse(f"{found.folder}: the folder isn't empty")
         image.info()
     except (NoFuse, Error, OSError) as error:
-        say(" ".join(str(error).split()))
+        say(why_of(error))
         return 1
     allow_open_files()
     view = View(image, say)

@@ -73,10 +73,10 @@ class View:
         return Entry(Kind.FOLDER, 0, self._begun) if path == b"/" else self._place(path).entry
 
     def in_folder(self, path: bytes) -> List[bytes]:
-        """The names in a folder: at the top those of the moments that are kept, and `now`."""
+        """The names in a folder: at the top `now`, and the times and numbers that are kept."""
         if path == b"/":
             with self._lock:
-                return [NOW.name, *(asked.name for asked in self._kept if asked != NOW)]
+                return [NOW.name, *(asked.name for asked in self._kept if asked.moment is not None)]
         place = self._place(path)
         if place.entry.kind is not Kind.FOLDER:
             raise failure(errno.ENOTDIR)
@@ -232,9 +232,13 @@ def failure(number: int) -> OSError:
 
 
 def why_of(error: Exception) -> str:
-    """What is said of a moment that couldn't be made."""
-    said = error.ended.said if isinstance(error, ProgramFailed) else ""
-    return " ".join((said or str(error)).split())[:LINE]
+    """What is said of something that couldn't be had."""
+    said = str(error)
+    if isinstance(error, OSError) and error.filename is not None:
+        said = f"{os.fsdecode(error.filename)}: {error.strerror}"
+    elif isinstance(error, ProgramFailed) and error.ended.said:
+        said = error.ended.said
+    return " ".join(said.split())[:LINE]
 
 
 def number_of(error: Exception) -> int:
