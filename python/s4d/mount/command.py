@@ -53,10 +53,16 @@ def main(words: Optional[Sequence[str]] = None) -> int:
     except (NoFuse, Error, OSError) as error:
         say(why_of(error))
         return 1
+    except KeyboardInterrupt:
+        return 1
     allow_open_files()
     view = View(image, say)
+
+    def ready() -> None:
+        with contextlib.suppress(OSError, ValueError):  # where nobody reads it
+            print(f"{found.image} is mounted at {found.folder}", flush=True)
     try:
-        mount(view, folder, lambda: print(f"{found.image} is mounted at {found.folder}", flush=True))
+        mount(view, folder, ready)
         return 0
     except NoFuse as error:
         say(str(error))

@@ -216,12 +216,14 @@ class View:
         place.snapshot.remove()
 
     def _fail(self, asked: Asked, number: int, why: str) -> NoReturn:
-        """Says why a moment isn't to be had, once."""
+        """Says why a moment isn't to be had, once, and keeps nothing of it."""
         with self._lock:
-            before = self._failed.pop(asked, None)
+            before, old = self._failed.pop(asked, None), self._kept.pop(asked, None)
             self._failed[asked] = Failure(self._clock() + NOW_SECONDS, number, why)
             if len(self._failed) > MOST_FAILURES:
                 self._failed.popitem(last=False)
+        if old is not None:
+            old.snapshot.remove()
         if before is None or before.why != why:
             self._say(f"{asked.name.decode()}: {why}")
         raise failure(number)
