@@ -613,9 +613,9 @@ class Mounts(Mounted, unittest.TestCase):
         now = f"{self.mounted}/now"
         note, new = f"{now}/note", f"{now}/new"
         for ask in (lambda: open(note, "ab"), lambda: open(note, "r+b"), lambda: open(new, "wb"), lambda: os.unlink(note),
-                    lambda: os.truncate(note, 0), lambda: os.rename(note, new), lambda: os.mkdir(new), lambda: os.rmdir(f"{now}/srv"), lambda: os.chmod(note, 0o777),
-                    lambda: os.utime(note), lambda: os.symlink("a", new), lambda: os.link(note, new), lambda: os.setxattr(note, "user.a", b""),
-                    lambda: os.mkdir(f"{self.mounted}/7")):
+                    lambda: os.truncate(note, 0), lambda: os.rename(note, new), lambda: os.mkdir(new), lambda: os.rmdir(f"{now}/srv"),
+                    lambda: os.chmod(note, 0o777), lambda: os.utime(note), lambda: os.symlink("a", new),
+                    lambda: os.link(note, new), lambda: os.setxattr(note, "user.a", b""), lambda: os.mkdir(f"{self.mounted}/7")):
             with self.assertRaises(OSError) as caught:
                 ask()
             self.assertEqual(caught.exception.errno, errno.EROFS)
