@@ -3,7 +3,7 @@ from __future__ import annotations
 
 import os
 from datetime import datetime, timedelta, timezone
-from typing import Iterable, List, NamedTuple, NoReturn, Optional, Tuple, Union
+from typing import Callable, Iterable, List, NamedTuple, NoReturn, Optional, Tuple, Union
 
 from . import rows
 from .drive import Drive
@@ -133,13 +133,15 @@ class Image:
         """The bytes of an object, by its number or its attribute, at a moment, now where none is given."""
         return self._s4("cat", [] if object is None else [str(object)], name=name, at=at)
 
-    def export(self, folder: Union[str, os.PathLike[str]], at: Optional[Moment] = None) -> Export:
+    def export(self, folder: Union[str, os.PathLike[str]], at: Optional[Moment] = None,
+               is_ended: Optional[Callable[[], bool]] = None) -> Export:
         """Writes the bytes of each object that is live at a moment, now where none is given, into a folder.
 
         The folder is made where it isn't there, and has to be empty. Where it fails, what was written by then stays there.
+        It fails too where `is_ended` says so, which is asked from time to time.
         """
         path = os.fspath(folder)
-        said = self._s4_outputs("export", [path], at=at)[1]
+        said = outputs_of(self._words("export", [path], at=at), self.timeout, is_ended=is_ended)[1]
         with open(os.path.join(path, MANIFEST), "rb") as manifest:
             return Export(rows.rows_of(manifest.read(), rows.exported), said.endswith(AT_CLOCK))
 
@@ -178,13 +180,12 @@ class Image:
     def _s4(self, command: str, operands: List[str], differs: Optional[int] = None,
             **options: Option) -> bytes:
         """What a command prints, of this image, with operands that follow it, and with options by their names."""
-        return self._s4_outputs(command, operands, differs, **options)[0]
+        return output_of(self._words(command, operands, **options), self.timeout, differs)
 
-    def _s4_outputs(self, command: str, operands: List[str], differs: Optional[int] = None,
-                    **options: Option) -> Tuple[bytes, str]:
-        """The same, and its text on standard error."""
+    def _words(self, command: str, operands: List[str], **options: Option) -> List[str]:
+        """The words of a command of `s4`."""
         given = [word for name, value in options.items() for word in option_of(name, value)]
-        return outputs_of([self.s4, command, *given, "--", self.path, *operands], self.timeout, differs)
+        return [self.s4, command, *given, "--", self.path, *operands]
 
 
 def option_of(name: str, value: Option) -> List[str]:

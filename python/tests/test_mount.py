@@ -155,7 +155,7 @@ class Standin:
         self.count = getattr(self, "count", 0) + 1
         os.utime(self.path, ns=(0, time.time_ns() - seconds * 1_000_000_000 + self.count))
 
-    def export(self, folder, at=None):
+    def export(self, folder, at=None, is_ended=None):
         self.asked.append(at)
         os.mkdir(folder)
         for object, (_, data, _) in self.objects.items():
@@ -176,7 +176,7 @@ class Views(unittest.TestCase):
         patched.start()
         self.addCleanup(patched.stop)
         self.image, self.said, self.time = Standin(folder.name), [], 100.0
-        self.view = View(self.image, self.said.append, lambda: self.time)
+        self.view = View(self.image, self.said.append, clock=lambda: self.time)
         self.addCleanup(self.view.end)
 
     def read(self, path):
@@ -368,7 +368,7 @@ class Views(unittest.TestCase):
         """One program is asked for a moment, however many ask; and `now` doesn't wait for another moment."""
         export, begun, go = self.image.export, threading.Event(), threading.Event()
 
-        def slow(folder, at=None):
+        def slow(folder, at=None, is_ended=None):
             if at is not None:
                 begun.set()
                 self.assertTrue(go.wait(PATIENCE))
@@ -477,6 +477,17 @@ class Exports(unittest.TestCase):
             with self.assertRaises(FileNotFoundError):
                 self.view.entry(b"/" + name)
         self.assertRegex("\n".join(self.said), r"3: .* hidden or expired; .*\n99: .* to come; .*\n2h: .* numbers, .*\n2026-.*Z: .* numbers")
+
+    def test_an_export_for_which_nobody_waits(self):
+        asked = []
+        self.image.s4 = f"{self.folder}/s4"
+        pathlib.Path(self.image.s4).write_text("#!/bin/sh\nexec sleep 600\n", encoding="utf-8")
+        os.chmod(self.image.s4, 0o700)
+        with self.assertRaisesRegex(s4d.ProgramFailed, "nobody waits"):
+            self.image.export(f"{self.folder}/out", is_ended=lambda: asked.append(1) or len(asked) == 3)
+        self.image.timeout = 0.3
+        with self.assertRaisesRegex(s4d.ProgramFailed, "killed after 0.3 seconds"):
+            self.image.export(f"{self.folder}/out", is_ended=lambda: False)
 
     def test_a_moment_that_expires(self):
         self.read(b"/2/note")
@@ -677,6 +688,21 @@ class Mounts(Mounted, unittest.TestCase):
                     with self.assertRaises(OSError):
                         ask()
                 self.end_mount()
+
+    def test_a_signal_while_a_moment_is_made(self):
+        self.start(b"note")
+        begun = pathlib.Path(self.folder, "begun")
+        program = self.calls.with_name("s4")
+        program.write_text(f'#!/bin/sh\ntouch "{begun}"; exec sleep 600\n', encoding="utf-8")
+        asker = subprocess.Popen(["ls", f"{self.mounted}/now"], stdout=subprocess.DEVNULL, stderr=subprocess.DEVNULL)
+        try:
+            wait_until(begun.exists, "the moment is made")
+            self.program.terminate()
+            self.assert_ended()
+            self.assertNotEqual(asker.wait(PATIENCE), 0)
+        finally:
+            asker.kill()
+            asker.wait()
 
     def test_a_name_that_becomes_a_folder(self):
         self.start(b"srv")

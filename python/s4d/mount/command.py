@@ -10,7 +10,7 @@ from typing import NoReturn, Optional, Sequence
 from ..errors import Error
 from ..image import Image
 from ..open_files import allow_open_files
-from .kernel import NoFuse, fuse_module, mount
+from .kernel import NoFuse, fuse_module, is_ending, mount
 from .view import View, why_of
 
 EXPORT_SECONDS = 120.0  # that `s4` has for a moment
@@ -46,7 +46,7 @@ def main(words: Optional[Sequence[str]] = None) -> int:
     folder = os.path.abspath(found.folder)
     image = Image(os.path.abspath(found.image), s4=found.s4, timeout=EXPORT_SECONDS)
     try:
-        fuse_module()
+        module = fuse_module()
         if os.listdir(folder):
             raise NoFuse(f"{found.folder}: the folder isn't empty")
         image.info()
@@ -56,13 +56,13 @@ def main(words: Optional[Sequence[str]] = None) -> int:
     except KeyboardInterrupt:
         return 1
     allow_open_files()
-    view = View(image, say)
+    view = View(image, say, lambda: is_ending(module))
 
     def ready() -> None:
         with contextlib.suppress(OSError, ValueError):  # where nobody reads it
             print(f"{found.image} is mounted at {found.folder}", flush=True)
     try:
-        mount(view, folder, ready)
+        mount(module, view, folder, ready)
         return 0
     except NoFuse as error:
         say(str(error))

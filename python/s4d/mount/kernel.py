@@ -1,6 +1,7 @@
 """A view as FUSE asks for it, by the module `fusepy`, which PyPI names `fuse`."""
 from __future__ import annotations
 
+import ctypes
 import errno
 import importlib
 import os
@@ -32,6 +33,12 @@ def fuse_module() -> Any:
         if hasattr(found, "FUSE"):
             return found
     raise NoFuse(f"there is no module fusepy; {HOW_TO_HAVE_IT}")
+
+
+def is_ending(module: Any) -> bool:
+    """Whether the mount is to end, as a signal says, in a thread that answers FUSE."""
+    context = module._libfuse.fuse_get_context()
+    return bool(module._libfuse.fuse_exited(ctypes.c_void_p(context.contents.fuse)))
 
 
 class Requests:
@@ -82,12 +89,11 @@ def status_of(entry: Entry) -> Dict[str, int]:
             "st_blocks": -(-entry.size // 512), "st_atime": entry.time, "st_mtime": entry.time, "st_ctime": entry.time}
 
 
-def mount(view: View, folder: str, ready: Callable[[], None]) -> None:
+def mount(module: Any, view: View, folder: str, ready: Callable[[], None]) -> None:
     """Shows a view in a folder until it is unmounted, or SIGTERM or SIGINT comes. NoFuse where that can't be.
 
     The kernel keeps no bytes, so that a file that is open keeps its own, and only for a short time what a path is.
     """
-    module = fuse_module()
     try:
         module.FUSE(Requests(view, ready), os.fsencode(folder).decode(BYTES), encoding=BYTES, foreground=True, ro=True,
                     nosuid=True, nodev=True, direct_io=True, default_permissions=True, attr_timeout=PATH_SECONDS, entry_timeout=PATH_SECONDS,

@@ -5,7 +5,7 @@ import os
 import shutil
 import time
 from enum import Enum
-from typing import List, NamedTuple, Optional, Tuple
+from typing import Callable, List, NamedTuple, Optional, Tuple
 
 from ..history import TIMES
 from ..image import Export, Image
@@ -111,12 +111,14 @@ def seen_of(path: str, now: int) -> Optional[Seen]:
     return found.st_dev, found.st_ino, found.st_size, found.st_mtime_ns, found.st_ctime_ns
 
 
-def made(image: Image, folder: str, at: Optional[str]) -> Snapshot:
-    """The objects of a moment, in a folder that isn't there yet, and isn't there afterwards where this fails."""
+def made(image: Image, folder: str, at: Optional[str], is_ended: Callable[[], bool]) -> Snapshot:
+    """The objects of a moment, in a folder that isn't there yet, and isn't there afterwards where this fails, as it does
+    where `is_ended` says so.
+    """
     now = time.time_ns()
     seen = seen_of(image.path, now)
     try:
-        return Snapshot(folder, image.export(folder, at), seen, now if seen is None else seen[3])
+        return Snapshot(folder, image.export(folder, at, is_ended), seen, now if seen is None else seen[3])
     except BaseException:
         shutil.rmtree(folder, ignore_errors=True)
         raise

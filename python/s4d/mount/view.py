@@ -55,11 +55,13 @@ class Place(NamedTuple):
 
 class View:
     """All that FUSE shows. Its paths are bytes, begin with `/`, and have no other at their end. What isn't there is raised
-    as an OSError with its number. Methods may be called by many threads at once.
+    as an OSError with its number. Methods may be called by many threads at once. Where `is_ended` says so no moment is
+    made any more, which is asked in the thread that makes it.
     """
 
-    def __init__(self, image: Image, say: Callable[[str], None], clock: Callable[[], float] = time.monotonic) -> None:
-        self._image, self._say, self._clock, self._begun = image, say, clock, time.time_ns()
+    def __init__(self, image: Image, say: Callable[[str], None], is_ended: Callable[[], bool] = lambda: False,
+                 clock: Callable[[], float] = time.monotonic) -> None:
+        self._image, self._say, self._is_ended, self._clock, self._begun = image, say, is_ended, clock, time.time_ns()
         self._lock = threading.Lock()
         self._making = {True: threading.Lock(), False: threading.Lock()}  # whether it is `now`: so two programs run at most
         self._kept: OrderedDict[Asked, Kept] = OrderedDict()
@@ -170,7 +172,7 @@ class View:
     def _made(self, asked: Asked) -> Snapshot:
         begun = self._clock()
         try:
-            snapshot = made(self._image, self._new_folder(), asked.at())
+            snapshot = made(self._image, self._new_folder(), asked.at(), self._is_ended)
         except (Error, OSError, ValueError) as error:
             self._fail(asked, number_of(error), why_of(error))
         if snapshot.is_clock and asked.moment is not None and asked.moment > machine_time():
