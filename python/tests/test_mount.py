@@ -402,7 +402,7 @@ class Views(unittest.TestCase):
         for name in ("write", "create", "unlink", "truncate", "rename", "chmod", "mkdir"):
             self.assert_fault(errno.EROFS, asks, name, "/now/note", 0, 0)
         found = status_of(self.view.entry(b"/now"))
-        self.assertEqual((found["st_mode"], found["st_nlink"]), (stat.S_IFDIR | 0o555, 2))
+        self.assertEqual((found["st_mode"], found["st_nlink"]), (stat.S_IFDIR | 0o555, 1))
 
 
 class Modules(unittest.TestCase):

@@ -85,7 +85,8 @@ class Requests:
 
 
 def status_of(entry: Entry) -> Dict[str, int]:
-    return {"st_mode": MODES[entry.kind], "st_nlink": 2 if entry.kind is Kind.FOLDER else 1, "st_size": entry.size,
+    """What the kernel is given. One link of a folder, where others have two, says that its folders aren't counted in that."""
+    return {"st_mode": MODES[entry.kind], "st_nlink": 1, "st_size": entry.size,
             "st_blocks": -(-entry.size // 512), "st_atime": entry.time, "st_mtime": entry.time, "st_ctime": entry.time}
 
 
@@ -96,7 +97,7 @@ def mount(module: Any, view: View, folder: str, ready: Callable[[], None]) -> No
     """
     try:
         module.FUSE(Requests(view, ready), os.fsencode(folder).decode(BYTES), encoding=BYTES, foreground=True, ro=True,
-                    nosuid=True, nodev=True, direct_io=True, default_permissions=True, attr_timeout=PATH_SECONDS, entry_timeout=PATH_SECONDS,
-                    fsname="s4d", subtype="s4d")
+                    nosuid=True, nodev=True, direct_io=True, default_permissions=True, attr_timeout=PATH_SECONDS,
+                    entry_timeout=PATH_SECONDS, fsname="s4d", subtype="s4d")
     except RuntimeError as error:
         raise NoFuse(f"{folder}: it couldn't be mounted there ({error}); the line above says why") from None

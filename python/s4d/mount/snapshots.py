@@ -28,7 +28,7 @@ class Kind(Enum):
 
 
 class Entry(NamedTuple):
-    """What a path is, its size in bytes, the nanoseconds from 1970 to its last change, and what a link leads to."""
+    """What a path is, its size in bytes, the nanoseconds from 1970 to its last change, and the target of a link."""
 
     kind: Kind
     size: int

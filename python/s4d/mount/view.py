@@ -85,7 +85,7 @@ class View:
         return place.snapshot.in_folder(place.path)
 
     def target(self, path: bytes) -> bytes:
-        """What a link leads to."""
+        """The target of a link."""
         entry = self.entry(path)
         if entry.kind is not Kind.LINK:
             raise failure(errno.EINVAL)
