@@ -28,12 +28,12 @@ from .errors import (REFUSALS, BadAttr, BadFrame, BadReply, BadSpan, Busy, Chain
                      Error, Expired, Flushed, Future, ImageServed, InUse, NoMemory, NoObject, NoRoom, NoSpace, NotAdmin,
                      NotAsked, ProgramFailed, Refused, ReplyLost, Stale, TooLarge, TooManySpans)
 from .history import Kind, Span
-from .image import Facts, Image, Moment
+from .image import Export, Facts, Image, Moment
 from .moments import When
 from .pipeline import Pipeline, Reply
 from .retry import NEVER, Retry
-from .rows import (Aged, Change, ChangeKind, Checked, Compacted, Difference, Flush, Hidden, HiddenCounts,
-                   HiddenVersions, Info, Listed, Range, Restored, Stat, Times, Widened)
+from .rows import (Aged, Change, ChangeKind, Checked, Compacted, Difference, Exported, Flush, Hidden,
+                   HiddenCounts, HiddenVersions, Info, Listed, Range, Restored, Stat, Times, Widened)
 from .tls import Tls
 from .wire import ATTRIBUTE_BYTES, AUDIT_ROWS, BODY_BYTES, LAST, OBJECT_BYTES, READ_BYTES, WRITE_BYTES
 from .wire import Attributes, AuditKind, AuditRow, Created
@@ -44,7 +44,7 @@ __all__ = [
     "ATTRIBUTE_BYTES", "AUDIT_ROWS", "Aged", "AsyncDrive", "AsyncPast", "Attributes", "AuditKind", "AuditRow",
     "BODY_BYTES", "BadAttr", "BadFrame", "BadReply", "BadSpan", "Busy", "ChainFull", "Change", "ChangeKind", "Checked",
     "ClockEnd",
-    "Compacted", "Created", "Difference", "Disconnected", "Drive", "Ended", "Error", "Expired", "Facts", "Flush",
+    "Compacted", "Created", "Difference", "Disconnected", "Drive", "Ended", "Error", "Expired", "Export", "Exported", "Facts", "Flush",
     "Flushed", "Future", "Hidden", "HiddenCounts", "HiddenVersions", "Image", "ImageServed", "InUse", "Info", "Kind", "LAST",
     "Listed", "Moment", "NEVER", "NoMemory", "NoObject", "NoRoom", "NoSpace", "NotAdmin", "NotAsked", "OBJECT_BYTES",
     "Past", "Peer", "Pipeline", "ProgramFailed", "READ_BYTES", "REFUSALS", "Range", "Reader", "Refused", "Reply", "ReplyLost",

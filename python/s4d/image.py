@@ -3,19 +3,21 @@ from __future__ import annotations
 
 import os
 from datetime import datetime, timedelta, timezone
-from typing import Iterable, List, NamedTuple, NoReturn, Optional, Tuple, Union
+from typing import Callable, Iterable, List, NamedTuple, NoReturn, Optional, Tuple, Union
 
 from . import rows
 from .drive import Drive
 from .errors import REFUSALS, ProgramFailed
 from .moments import EPOCH, MICROSECOND, When, checked_age, moment_of, with_offset
-from .program import output_of
+from .program import output_of, outputs_of
 from .retry import NEVER, Retry
-from .rows import (Aged, Change, ChangeKind, Checked, Compacted, Difference, Flush, Hidden, HiddenVersions, Info,
-                   Listed, Restored, Stat, Widened)
+from .rows import (Aged, Change, ChangeKind, Checked, Compacted, Difference, Exported, Flush, Hidden, HiddenVersions,
+                   Info, Listed, Restored, Stat, Widened)
 from .wire import AuditKind, AuditRow
 
 DIFFERS = 1  # the status of `diff` where anything differs
+MANIFEST = "manifest.jsonl"  # the file that `export` writes last, a row for each object
+AT_CLOCK = ", where the clock is"  # how the note ends of a time above the clock
 
 Moment = Union[When, str]
 Option = Union[Moment, ChangeKind, AuditKind, Tuple[int, ...], None]
@@ -32,6 +34,13 @@ class Facts(NamedTuple):
     clock: int
     window: int
     floor: int
+
+
+class Export(NamedTuple):
+    """What `export` wrote, by ascending number. A time above the clock is the clock, so that these are the objects as they are."""
+
+    objects: List[Exported]
+    is_clock: bool
 
 
 class Image:
@@ -124,6 +133,18 @@ class Image:
         """The bytes of an object, by its number or its attribute, at a moment, now where none is given."""
         return self._s4("cat", [] if object is None else [str(object)], name=name, at=at)
 
+    def export(self, folder: Union[str, os.PathLike[str]], at: Optional[Moment] = None,
+               is_ended: Optional[Callable[[], bool]] = None) -> Export:
+        """Writes the bytes of each object that is live at a moment, now where none is given, into a folder.
+
+        The folder is made where it isn't there, and has to be empty. Where it fails, what was written by then stays there.
+        It fails too where `is_ended` says so, which is asked from time to time.
+        """
+        path = os.fspath(folder)
+        said = outputs_of(self._words("export", [path], at=at), self.timeout, is_ended=is_ended)[1]
+        with open(os.path.join(path, MANIFEST), "rb") as manifest:
+            return Export(rows.rows_of(manifest.read(), rows.exported), said.endswith(AT_CLOCK))
+
     def restore(self, at: Moment, *, objects: Iterable[int] = (), name: Optional[str] = None, dry_run: bool = False,
                 flush: bool = False, skip: bool = False, keep_newer: bool = False, to_nothing: bool = False,
                 leap: Optional[timedelta] = None) -> List[Union[Restored, HiddenVersions, Widened, Aged]]:
@@ -159,8 +180,12 @@ class Image:
     def _s4(self, command: str, operands: List[str], differs: Optional[int] = None,
             **options: Option) -> bytes:
         """What a command prints, of this image, with operands that follow it, and with options by their names."""
+        return output_of(self._words(command, operands, **options), self.timeout, differs)
+
+    def _words(self, command: str, operands: List[str], **options: Option) -> List[str]:
+        """The words of a command of `s4`."""
         given = [word for name, value in options.items() for word in option_of(name, value)]
-        return output_of([self.s4, command, *given, "--", self.path, *operands], self.timeout, differs)
+        return [self.s4, command, *given, "--", self.path, *operands]
 
 
 def option_of(name: str, value: Option) -> List[str]:

@@ -9,14 +9,16 @@ import signal
 import subprocess
 import tempfile
 import threading
+import time
 import warnings
 import weakref
-from typing import IO, Any, NamedTuple, Optional, Sequence
+from typing import IO, Any, Callable, NamedTuple, Optional, Sequence, Tuple
 
 from .connection import Peer, Reader, Writer
 from .errors import Ended, ProgramFailed
 
 SECONDS_TO_END = 10  # that a program has to end by itself once its session is over
+ASKING_SECONDS = 0.2  # between two questions whether a command is to end
 NOTE = re.compile(r"s4: \S+ is \S+Z(, where the clock is)?")  # says as which moment a time is read
 
 
@@ -186,13 +188,39 @@ def output_of(words: Sequence[str], timeout: Optional[float] = None, differs: Op
 
     The status `differs` isn't a failure either, where the command has no line on standard error but such notes.
     """
-    try:
-        ran = subprocess.run(words, stdin=subprocess.DEVNULL, stdout=subprocess.PIPE, stderr=subprocess.PIPE,
-                             check=False, timeout=timeout)
-    except subprocess.TimeoutExpired:
-        raise ProgramFailed(killed(-signal.SIGKILL, timeout)) from None
-    ended = Ended(ran.returncode, text_of(ran.stderr))
+    return outputs_of(words, timeout, differs)[0]
+
+
+def outputs_of(words: Sequence[str], timeout: Optional[float] = None, differs: Optional[int] = None,
+               is_ended: Optional[Callable[[], bool]] = None) -> Tuple[bytes, str]:
+    """The same, and its text on standard error. ProgramFailed too where `is_ended`, which is asked from time to time, says so."""
+    with subprocess.Popen(words, stdin=subprocess.DEVNULL, stdout=subprocess.PIPE, stderr=subprocess.PIPE) as process:
+        try:
+            printed, said = communicated(process, timeout, is_ended)
+        except subprocess.TimeoutExpired:
+            process.kill()
+            raise ProgramFailed(killed(-signal.SIGKILL, timeout)) from None
+        except BaseException:
+            process.kill()
+            raise
+    ended = Ended(process.returncode, text_of(said))
     has_complaint = not all(NOTE.fullmatch(line) for line in ended.said.splitlines())
     if ended.status and (ended.status != differs or has_complaint):
         raise ProgramFailed(ended)
-    return ran.stdout
+    return printed, ended.said
+
+
+def communicated(process: subprocess.Popen[bytes], timeout: Optional[float],
+                 is_ended: Optional[Callable[[], bool]]) -> Tuple[bytes, bytes]:
+    """What a command writes on both streams; TimeoutExpired where it takes longer."""
+    if is_ended is None:
+        return process.communicate(timeout=timeout)
+    end = None if timeout is None else time.monotonic() + timeout
+    while True:
+        try:
+            return process.communicate(timeout=ASKING_SECONDS)
+        except subprocess.TimeoutExpired:
+            if is_ended():
+                raise ProgramFailed(Ended(-signal.SIGKILL, "killed since nobody waits for it any more")) from None
+            if end is not None and time.monotonic() > end:
+                raise

@@ -239,6 +239,23 @@ class Compacted:
     past: int
 
 
+@dataclass(frozen=True)
+class Exported:
+    """An object whose bytes `export` wrote: its file in the folder, and the SHA-256 of its bytes in hex.
+
+    Moments are numbers here. The text is None where the attribute is no UTF-8.
+    """
+
+    object: int
+    file: str
+    size: int
+    created: int
+    changed: int
+    attribute: bytes
+    attribute_text: Optional[str]
+    sha256: str
+
+
 def rows_of(printed: bytes, meaning: Callable[[Json], T]) -> List[T]:
     """The rows that lines of JSON are; BadReply where one isn't what it should be."""
     return [row_of(line, meaning) for line in printed.splitlines()]
@@ -308,6 +325,11 @@ def restored(row: Json) -> Union[Restored, HiddenVersions, Widened, Aged]:
     if row["done"] == "widened":
         return Widened(row["from"], row["to"])
     return Restored(row["object"], row["done"], row.get("number"))
+
+
+def exported(row: Json) -> Exported:
+    return Exported(row["object"], row["file"], row["size"], row["created"], row["changed"], bytes.fromhex(row["attribute"]),
+                    row["attribute_text"], row["sha256"])
 
 
 def info(row: Json) -> Info:
