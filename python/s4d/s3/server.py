@@ -13,6 +13,7 @@ from .faults import is_known
 from .gateway import Gateway, error_answer
 from .http import Answer, Body, Ended, Request, read_head, request_of, write_answer
 from .limits import BODY_SECONDS, CONNECTIONS, DRAINED_BYTES, HEAD_BYTES, HEAD_SECONDS, LINGER_SECONDS, PIECE_BYTES
+from .record import Record
 
 NOBODY = Request("GET", "/", "/", [], {}, False)
 CONTINUE = b"HTTP/1.1 100 Continue\r\n\r\n"
@@ -80,7 +81,7 @@ class Server:
     async def _serve(self, reader: asyncio.StreamReader, writer: asyncio.StreamWriter) -> None:
         if not self._has_room():
             with contextlib.suppress(Ended):
-                await write_answer(writer, error_answer(S3Error("SlowDown"), NOBODY, "", {}), False)
+                await write_answer(writer, error_answer(S3Error("SlowDown"), NOBODY, Record(NOBODY, peer_of(writer))), False)
             return
         try:
             while not self._is_stopping and await self._serve_one(reader, writer):
@@ -113,7 +114,7 @@ class Server:
             request = request_of(head)
             body = Body(reader, request.headers, lambda: begin(request, writer))
         except S3Error as error:
-            await write_answer(writer, with_end(error_answer(error, request, "", {})), request.method == "HEAD")
+            await write_answer(writer, with_end(error_answer(error, request, Record(request, peer_of(writer)))), request.method == "HEAD")
             await dropped(reader, writer)
             return False
         finally:
