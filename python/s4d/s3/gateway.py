@@ -12,6 +12,7 @@ from ..moments import machine_time
 from ..store.drives import DriveAway
 from ..store.service import say
 from ..store.store import Store
+from ..store.shares import ASKER
 from ..store.uploads import Uploads
 from .answers import date_of
 from .buckets import Buckets
@@ -98,6 +99,7 @@ class Gateway:
         signed = verified(request, self.keys, datetime.now(timezone.utc))
         access = signed.key.access
         record.sign(access)
+        ASKER.set(access)  # until the connection's next request, so that its answer's body is asked for by the same
         bucket, _, key = request.path[1:].partition("/")
         context = Context(request, body, signed, record, bucket, key, self._moment(request, record))
         call = self._call(context)
