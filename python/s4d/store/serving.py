@@ -3,7 +3,9 @@ from __future__ import annotations
 
 import asyncio
 import ssl
+from collections import Counter
 from dataclasses import dataclass
+from typing import Counter as Counted
 from typing import List, NamedTuple, Optional, Sequence
 
 from ..access_log import AccessLog
@@ -120,7 +122,12 @@ class Serving:
         """What is counted of requests, connections and the log."""
         connections = sum(server.connections for server in self._servers)
         lost = [] if self._log is None else [Sample("", {}, self._log.lost)]
+        turned: Counted[str] = Counter()
+        for server in self._servers:
+            turned.update(server.turned_away)
         return [*self._counts.families(), Family("s4_store_connections", "gauge", "Connections.", [Sample("", {}, connections)]),
+                Family("s4_store_turned_away_total", "counter", "Connections of which no TLS came about.",
+                       [Sample("", {"why": why}, count) for why, count in sorted(turned.items())]),
                 Family("s4_store_log_lines_lost_total", "counter", "Lines of the access log that couldn't be written.", lost)]
 
     async def close(self) -> None:
