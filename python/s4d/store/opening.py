@@ -12,8 +12,9 @@ from .asking import found_by_asking
 from .contents import Pieces
 from .drives import DriveAway, StoreDrive
 from .elsewhere import QUIET_SECONDS, FoundService, RemoteService
+from .found import IMAGES_AT_ONCE, Found, found_in
 from .layout import mark_attribute
-from .loading import IMAGES_AT_ONCE, Found, Loading, found_in
+from .loading import Loading
 from .service import Service, say
 from .settings import Programs, Settings, StoreFault, image_path, settings_in, write_new
 from .store import Store
