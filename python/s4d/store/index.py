@@ -4,7 +4,7 @@ from __future__ import annotations
 import heapq
 from bisect import bisect_left, insort
 from dataclasses import dataclass, field
-from typing import Callable, Dict, List, NamedTuple, Optional, Tuple
+from typing import Callable, Dict, Iterable, List, NamedTuple, Optional, Set, Tuple
 
 from .layout import Version
 
@@ -113,23 +113,35 @@ class Index:
         to then, where no version needs that any more.
         """
         bucket, key = self.buckets[entry.version.bucket], entry.version.key
-        known = bucket.keys.get(key)
+        before = bucket.current(key)
+        was_live, left = bucket.live_version(key, None) is not None, self._take(bucket, entry)
+        if before is None:
+            insort(bucket.names, key)
+        if was_live and entry.version.is_marker:
+            remove(bucket.live, key)
+        elif not was_live and not entry.version.is_marker:
+            insort(bucket.live, key)
+        return left
+
+    def fill(self, entries: Iterable[Entry]) -> Set[Place]:
+        """Takes all versions of buckets that have none, as `add` takes one after the other. The heads that it gives."""
+        left = {self._take(self.buckets[it.version.bucket], it) for it in entries}
+        for bucket in self.buckets.values():
+            bucket.names = sorted(bucket.keys)  # once: one by one they take long where they are many
+            bucket.live = [key for key in bucket.names if bucket.live_version(key, None) is not None]
+        return {it for it in left if it is not None}
+
+    def _take(self, bucket: Bucket, entry: Entry) -> Optional[Place]:
+        """The same without the bucket's names."""
+        known = bucket.keys.setdefault(entry.version.key, [])
         if known and known[-1].version.id == entry.version.id:
             return move(known, entry)
-        if known is None:
-            known = bucket.keys[key] = []
-            insort(bucket.names, key)
-        was_live = bool(known) and not known[-1].version.is_marker
         if known:
             known[-1].until = entry.moment
             self._leaves(entry.moment, known[-1])
         known.append(entry)
         if entry.version.is_marker:
             self._leaves(entry.moment, entry)
-        if was_live and entry.version.is_marker:
-            remove(bucket.live, key)
-        elif not was_live and not entry.version.is_marker:
-            insort(bucket.live, key)
         return None
 
     def _leaves(self, moment: int, entry: Entry) -> None:

@@ -44,13 +44,9 @@ class Loading:
             for row in found.objects:
                 self._take(Place(number, row.object), row)
         await self._take_buckets()
-        moved: Set[Place] = set()
-        for entry in sorted(await self._entries(), key=age):
-            if entry.version.bucket in self.index.buckets:
-                left = self.index.add(entry)
-                moved |= set() if left is None else {left}
-            else:
-                self._alone[entry.version.bucket, entry.version.key] = entry
+        entries = sorted(await self._entries(), key=age)
+        moved = self.index.fill(it for it in entries if it.version.bucket in self.index.buckets)
+        self._alone = {(it.version.bucket, it.version.key): it for it in entries if it.version.bucket not in self.index.buckets}
         self._left += moved - self._heads_named() if moved else []
         return self.index
 
