@@ -4,7 +4,7 @@
 
 Each change is in the file before its reply, so a kill loses nothing that was replied. The name by which it is called says which
 program it is. ROOM in its environment is how many bytes all changes may write, CHAIN how many changes an object may have. Where it has
-EARLIER, `s4 list` has no versions.
+EARLIER, `s4 list` has no versions; where it has BROKEN, images with that in their paths can't be served.
 """
 import json
 import os
@@ -65,6 +65,8 @@ def serve(words):
     doors = [word.split("=", 1) for before, word in zip(said, said[1:]) if before == "--door"]
     folder = pathlib.Path(doors[0][1]).parent
     service = Service(folder, [])
+    if os.environ.get("BROKEN", "\0") in words[-1]:
+        sys.exit(f"s4serve: {words[-1]}: Read-only file system")
     drive = LastingDrive(words[-1], int(os.environ.get("ROOM", 2**60)), int(os.environ.get("CHAIN", 2**60)))
     drive.file = os.open(words[-1], os.O_WRONLY | os.O_APPEND)
     service.drive = drive

@@ -64,6 +64,10 @@ class StoreDrive:
         self.is_served = True
         self._watching = asyncio.ensure_future(self._watch())
 
+    def start_away(self) -> None:
+        """It isn't served: that is tried again and again."""
+        self._watching = asyncio.ensure_future(self._watch())
+
     async def _watch(self) -> None:
         """Starts the service again where it ends."""
         wait = FIRST_WAIT

@@ -69,7 +69,7 @@ class Serving:
         wanted = self._wanted
         keys, self._tls = keys_in(wanted.keys), tls_of(wanted)
         store, window = await self._opened.start(), self._opened.settings.window
-        uploads = Uploads(store, OBJECT_BYTES, self._opened.uploads)
+        uploads = Uploads(store, OBJECT_BYTES, self._opened.uploads, self._opened.away)
         self._tasks.append(asyncio.ensure_future(uploads.look_after()))
         for host, port, at in [*((it.host, it.port, it.moment) for it in wanted.past), (wanted.host, wanted.port, None)]:
             fault = None if at is None else fault_of(at, window)
