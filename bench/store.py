@@ -8,8 +8,10 @@
 
 S4D, S4 and S4SERVE name the programs. Puts and gets: each client is a process with one connection, which signs each request; the store keeps a
 second of its past, so that room comes back. A store is made for each number of drives (1 and 4), of so many frames (1,024); each line is N seconds
-(5) of puts, and then of gets, by so many clients (1 and 16) of so many bytes (1,000 and 100,000). Refused is what was answered by an error. Memory is the most that the
-gateway took, and the most that one service took. The others have their files in a folder of the same disk, and sign nothing; nginx doesn't
+(5) of puts, and then of gets, by so many clients (1 and 16) of so many bytes (1,000 and 100,000), where the drives have room for what these put
+at once, beside what they replace. A request that was begun counts with the time that it takes, and after its rate are the milliseconds of
+the processor that it takes in all processes of the server, which say more on a busy machine. Refused is what was answered by an error. Memory
+is the most that the gateway took, and the most that one service took. The others have their files in a folder of the same disk, and sign nothing; nginx doesn't
 wait for the disk, nor does rclone. Pages: the seconds of the processor that a list takes in the gateway, the least of several,
 at the start and in the midst of the bucket, without connections and signatures; among 8,000 and 80,000 keys. A start: small objects are put
 until no drive has room, then the program is ended and begun, in order and after a kill."""
@@ -30,15 +32,17 @@ import service  # noqa: E402
 from s4d.s3.http import Request  # noqa: E402
 from s4d.s3.lists import list_keys_2, list_versions, token_of  # noqa: E402
 from s4d.store import Programs, Settings, make_store  # noqa: E402
+from s4d.store.found import lists_versions  # noqa: E402
 from s4d.store.index import Bucket, Entry, Index, Place  # noqa: E402
 from s4d.store.layout import Version  # noqa: E402
 from tests.bridged import free_port  # noqa: E402
 from tests.s3_blocking import SECONDS, BlockingClient  # noqa: E402
 from tests.store_kills import Serving  # noqa: E402
 
-KEYS = 20  # of each client at most
+KEYS = 10  # of each client at most
 LIVE_BYTES = 1_700_000  # of all keys together, so that what a second keeps beside them has room on one drive
 TRIES = 7  # of a page
+FRAME_BYTES = 15 * 512  # that a frame has for what is put
 SMALL = 100  # bytes of the objects that fill drives
 MICROSECOND = 1_000_000
 DONE = (200, 201, 204)
@@ -104,21 +108,21 @@ class FileServing:
 
 
 def work(port, key, name, keys, kind, size, until, counts):
-    """A client's requests of its keys until a time: how many were done, and how many refused."""
-    client = BlockingClient(port, key) if key is not None else FileClient(port)
+    """A client's requests of its keys until a time: how many were done a second, and how many refused."""
+    client = client_of(port, key)
     draw, done, refused = random.Random(name), 0, 0
-    data = draw.randbytes(size)
+    data, began = draw.randbytes(size), time.monotonic()
     try:
         while time.monotonic() < until:
             reply = client.ask(kind, f"/one/{name}-{draw.randrange(keys)}", data if kind == "PUT" else b"")
             done, refused = done + (reply.status in DONE), refused + (reply.status not in DONE)
     except (OSError, http.client.HTTPException) as error:
         print(f"client {name}: {error!r}", file=sys.stderr)
-    counts.put((done, refused))
+    counts.put((done / max(time.monotonic() - began, 1e-9), done, refused))
 
 
 def run_clients(serving, kind, count, size, seconds):
-    """Requests a second of so many clients, and how many were refused."""
+    """Requests a second of so many clients, how many were done, and how many refused."""
     counts, until, keys = multiprocessing.Queue(), time.monotonic() + seconds, keys_of_each(count, size)
     children = [multiprocessing.Process(target=work, args=(serving.port, serving.key, number, keys, kind, size, until, counts))
                 for number in range(count)]
@@ -127,7 +131,32 @@ def run_clients(serving, kind, count, size, seconds):
     found = [counts.get() for _ in children]
     for it in children:
         it.join()
-    return sum(done for done, _ in found) / seconds, sum(refused for _, refused in found)
+    return sum(rate for rate, *_ in found), sum(done for _, done, _ in found), sum(refused for *_, refused in found)
+
+
+def run_kind(serving, kind, clients, size, seconds):
+    """What is printed of requests of a kind."""
+    before = processor_of(serving)
+    rate, done, refused = run_clients(serving, kind, clients, size, seconds)
+    spent = 1e3 * (processor_of(serving) - before) / max(done, 1)
+    return f"{rate:,.1f} a second, {spent:,.2f} ms" + (f", {refused} refused" if refused else "")
+
+
+def processor_of(serving):
+    """The seconds of the processor that a server's process and those that it has begun have taken."""
+    return sum(map(seconds_of_process, family(serving.process.pid)))
+
+
+def family(pid):
+    """A process, and those that it has begun."""
+    with open(f"/proc/{pid}/task/{pid}/children", encoding="ascii") as file:
+        return [pid, *(it for child in file.read().split() for it in family(int(child)))]
+
+
+def seconds_of_process(pid):
+    with open(f"/proc/{pid}/stat", encoding="ascii") as file:
+        words = file.read().rpartition(")")[2].split()
+    return (int(words[11]) + int(words[12])) / os.sysconf("SC_CLK_TCK")
 
 
 def most_memory(pid):
@@ -138,10 +167,22 @@ def most_memory(pid):
 
 def fill_keys(serving, clients, size):
     """Puts each key that clients will get."""
-    client = serving.client()
-    for number in range(clients):
-        for key in range(keys_of_each(clients, size)):
-            client.ask("PUT", f"/one/{number}-{key}", bytes(size))
+    children = [multiprocessing.Process(target=fill_one, args=(serving.port, serving.key, number, keys_of_each(clients, size), size))
+                for number in range(clients)]
+    for it in children:
+        it.start()
+    for it in children:
+        it.join()
+
+
+def client_of(port, key):
+    return BlockingClient(port, key) if key is not None else FileClient(port)
+
+
+def fill_one(port, key, name, keys, size):
+    client = client_of(port, key)
+    for number in range(keys):
+        client.ask("PUT", f"/one/{name}-{number}", bytes(size))
 
 
 def measure(drives, found):
@@ -151,22 +192,23 @@ def measure(drives, found):
         serving.start()
         try:
             serving.client().ask("PUT", "/one")
-            run_all(serving, f"{drives} drives", found)
+            run_all(serving, f"{drives} drives", found, drives * found.frames * FRAME_BYTES)
             services = [most_memory(pid) for number in range(drives) for pid in serving.services(number)]
             print(f"{drives} drives: the gateway took {most_memory(serving.process.pid):,} KiB, a service {max(services):,} KiB")
         finally:
             serving.stop()
 
 
-def run_all(serving, said, found):
-    """Puts and gets of each size by each number of clients."""
+def run_all(serving, said, found, room=None):
+    """Puts and gets of each size by each number of clients, where there is room for that."""
     for size in found.sizes:
         for clients in found.clients:
+            if room is not None and 3 * clients * size > room:
+                print(f"{said}, {clients} clients, {size:,} bytes: no room", flush=True)
+                continue
             fill_keys(serving, clients, size)
-            puts, refused = run_clients(serving, "PUT", clients, size, found.seconds)
-            gets, missed = run_clients(serving, "GET", clients, size, found.seconds)
-            print(f"{said}, {clients} clients, {size:,} bytes: {puts:,.1f} puts, {gets:,.1f} gets a second; {refused + missed} refused",
-                  flush=True)
+            puts, gets = (run_kind(serving, kind, clients, size, found.seconds) for kind in ("PUT", "GET"))
+            print(f"{said}, {clients} clients, {size:,} bytes: puts {puts}; gets {gets}", flush=True)
 
 
 def beside(name, found):
@@ -244,6 +286,7 @@ def full(drives, frames):
 
 
 def fill_and_start(serving, said):
+    way = "a list of versions" if lists_versions(programs().s4) else "asking for versions"
     serving.client().ask("PUT", "/one")
     began = time.monotonic()
     count = fill(serving)
@@ -252,7 +295,8 @@ def fill_and_start(serving, said):
         end()
         began = time.monotonic()
         serving.start()
-        print(f"a start after an end {how}: {time.monotonic() - began:.1f} s; {most_memory(serving.process.pid):,} KiB", flush=True)
+        print(f"a start after an end {how}, by {way}: {time.monotonic() - began:.1f} s; {most_memory(serving.process.pid):,} KiB",
+              flush=True)
 
 
 def numbers(text):

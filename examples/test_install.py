@@ -5,6 +5,7 @@ import pathlib
 import re
 import shutil
 import signal
+import socket
 import subprocess
 import sys
 import tempfile
@@ -79,6 +80,26 @@ class Install(unittest.TestCase):
         self.assertIn("./install.sh PREFIX", said)
 
 
+def curl_signs():
+    """Whether there is a curl that signs requests of S3."""
+    if shutil.which("curl") is None:
+        return False
+    said = subprocess.run(["curl", "--version"], capture_output=True, text=True, check=True).stdout
+    return tuple(map(int, re.match(r"curl (\d+)\.(\d+)", said).groups())) >= (7, 88)
+
+
+def is_free(port):
+    """Whether nobody listens at a port of this machine."""
+    with socket.socket() as probe:
+        return probe.connect_ex(("127.0.0.1", port)) != 0
+
+
+def free_port():
+    with socket.socket() as probe:
+        probe.bind(("127.0.0.1", 0))
+        return probe.getsockname()[1]
+
+
 @unittest.skipUnless(all(os.access(path, os.X_OK) for path in BUILT.values()), "a program isn't built")
 class Readme(unittest.TestCase):
     def block(self):
@@ -111,15 +132,16 @@ class Readme(unittest.TestCase):
             self.assertIn("<html", pathlib.Path(f"{folder}/report.html").read_text(encoding="utf-8").lower())
 
 
-    def test_the_service_runs_as_it_is_typed(self):
-        """A client gets its session at the first try, and what was begun has ended with the last line."""
+    def typed(self, mark, change=lambda it: it):
+        """What README's block with the mark prints, typed in the folder python, and what it says; all that it began has ended then."""
         blocks = re.findall(r"(?m)(?:^    .*\n)+", (TOP / "README.md").read_text(encoding="utf-8"))
-        typed = textwrap.dedent(next(block for block in blocks if "s4d.bridge" in block))
+        typed = change(textwrap.dedent(next(block for block in blocks if mark in block)))
         with tempfile.TemporaryDirectory() as folder:
             os.mkdir(f"{folder}/bin")
             for name in ("s4d", "s4serve", "s4"):
                 os.symlink(os.path.realpath(BUILT[name.upper()]), f"{folder}/bin/{name}")
-            os.symlink(TOP / "python" / "s4d", f"{folder}/s4d")  # as in the folder python
+            for name in ("s4d", "README.md"):
+                os.symlink(TOP / "python" / name, f"{folder}/{name}")
             env = {**os.environ, "PATH": f"{folder}/bin:{os.environ['PATH']}", "PYTHONDONTWRITEBYTECODE": "1"}
             with subprocess.Popen(["bash"], cwd=folder, env=env, stdin=subprocess.PIPE, stdout=subprocess.PIPE, stderr=subprocess.PIPE,
                                   text=True, start_new_session=True) as shell:
@@ -130,8 +152,23 @@ class Readme(unittest.TestCase):
                 finally:
                     with contextlib.suppress(ProcessLookupError):
                         os.killpg(shell.pid, signal.SIGKILL)
-            self.assertRegex(printed, r"\Aready\nCreated\(object=1, moment=\d{16}\)\n\Z")
             self.assertEqual((shell.returncode, [line for line in said.splitlines() if not line.startswith("s4serve: ")]), (0, []))
+            return printed
+
+    def test_the_service_runs_as_it_is_typed(self):
+        """A client gets its session at the first try, and what was begun has ended with the last line."""
+        self.assertRegex(self.typed("s4d.bridge"), r"\Aready\nCreated\(object=1, moment=\d{16}\)\n\Z")
+
+    @unittest.skipUnless(curl_signs(), "curl is older than 7.88, or isn't here")
+    def test_the_store_runs_as_it_is_typed(self):
+        """What curl puts is there, and once it is deleted it can be read as it was before."""
+        port = 9000 if is_free(9000) else free_port()
+
+        def elsewhere(typed):
+            return typed.replace(":9000", f":{port}").replace("serve store", f"serve store --listen 127.0.0.1:{port}")
+
+        printed = self.typed("s4d.store", elsewhere if port != 9000 else lambda it: it)
+        self.assertEqual(printed.splitlines()[1:], [f"ready: http://127.0.0.1:{port}", "# `s4d` for Python"])
 
 
 def python_that_builds():

@@ -25,6 +25,7 @@ BACKLOG = 128
 
 Peer = Dict[str, Any]
 Serve = Callable[[Client], Awaitable[None]]
+Judge = Callable[[Client], None]  # TurnedAway where who came is no client
 TurnAway = Callable[[Optional[str], Peer, TurnedAway], None]  # a role where one is known, who it was, and why
 
 
@@ -132,10 +133,14 @@ class Listener:
         """
         raise NotImplementedError
 
-    async def close(self, seconds: float) -> None:
-        """Accepts no more, and waits for the clients' sessions; what takes longer is cancelled."""
+    async def accept_no_more(self) -> None:
+        """Who isn't a client yet becomes none any more."""
         await cancelled({*self._greeting, *([self._accepting] if self._accepting else [])})
         self._link.close()
+
+    async def close(self, seconds: float) -> None:
+        """Accepts no more, and waits for the clients' sessions; what takes longer is cancelled."""
+        await self.accept_no_more()
         if self._serving:
             await asyncio.wait(set(self._serving), timeout=seconds)
         await cancelled(set(self._serving))
@@ -171,71 +176,32 @@ class UnixListener(Listener):
         await super().close(seconds)
 
 
-class TlsListener(Listener):
-    """A port for TLS. The common name of a client's certificate says its role. A handshake may take as many `seconds`."""
+class HandshakeListener(Listener):
+    """A port for TLS. A handshake may take as many `seconds`, and has its turn. Readers of clients have a `limit`."""
 
-    def __init__(self, tls: Tls, seconds: float, take_door: Callable[[str], None], serve: Serve, turn_away: TurnAway) -> None:
-        self._tls, self._take_door, self._handshakes = tls, take_door, Handshakes(seconds)
+    def __init__(self, link: socket.socket, seconds: float, serve: Serve, turn_away: TurnAway, limit: int = BODY_BYTES) -> None:
+        super().__init__(link, serve, turn_away)
+        self._handshakes, self._limit = Handshakes(seconds), limit
         self._refused = 0  # connections to which it is still said why
-        self._trust = self._read()
-        super().__init__(listen_tcp(tls.host, tls.port), serve, turn_away)
 
-    def _read(self) -> Trust:
-        """Certificates and roles, of which each has its door. OSError or ValueError where something can't be had."""
-        trust = trust_of(self._tls)
-        for role in sorted(set(trust.roles.values())):
-            self._take_door(role)
-        return trust
-
-    def reload(self) -> List[Client]:
-        """Takes certificates and roles anew, and notes of each client what it has lost thereby: these clients.
-
-        At OSError or ValueError all stay as they were.
-        """
-        earlier, self._trust = self._trust, self._read()
-        for client in self._serving.values():
-            client.lost = client.lost or self._trust.loss(client.role, client.certificate, earlier)
-        return [client for client in self._serving.values() if client.lost]
-
-    async def _client(self, link: socket.socket, address: Tuple[Any, ...]) -> Client:
-        peer = {"address": f"{address[0]}:{address[1]}"}
+    async def _greeted(self, link: socket.socket, address: Tuple[Any, ...], context: ssl.SSLContext, judge: Judge) -> Client:
+        """The client, after its handshake, and once it was judged. TurnedAway, which was said already, where it is none."""
+        peer: Peer = {"address": f"{address[0]}:{address[1]}"}
+        client: Optional[Client] = None
         try:
-            return await self._greeted(link, str(address[0]), peer)
-        except TurnedAway as turned:
-            self._turn_away(None, peer, turned)
-            raise
-
-    async def _greeted(self, link: socket.socket, host: str, peer: Peer) -> Client:
-        """The client, after its handshake. TurnedAway where it is none."""
-        trust, client = self._trust, None
-        try:
-            async with self._handshakes.turn(link, host) as seconds:
-                reader, writer = await tls_streams(link, trust.context)
+            async with self._handshakes.turn(link, str(address[0])) as seconds:
+                reader, writer = await tls_streams(link, context, self._limit)
                 client = Client("", peer, reader, writer)
                 client.certificate = await certificate_of(writer, seconds)
-                self._judge(client, trust)
+                judge(client)
             return client
-        except TurnedAway:
+        except TurnedAway as turned:
             await self._refuse(link, client)
+            self._turn_away(None, peer, turned)
             raise
         except asyncio.CancelledError:
             self._drop(link, client)
             raise
-
-    def _judge(self, client: Client, trust: Trust) -> None:
-        """Gives a client its role by its certificate, which a trust took that may be an earlier one now, and the name in it to
-        the log. TurnedAway where it has no role.
-        """
-        client.peer["name"] = common_name(client.certificate)
-        role = self._trust.role_of(client.certificate)
-        if role is None:
-            client.dismiss()
-            raise TurnedAway("no role")
-        lost = self._trust.loss(role, client.certificate, trust)
-        if lost is not None:
-            client.dismiss()
-            raise TurnedAway(lost)
-        client.role = role
 
     async def _refuse(self, link: socket.socket, client: Optional[Client]) -> None:
         """Closes a connection, where TLS has begun once the other side knows why."""
@@ -255,6 +221,51 @@ class TlsListener(Listener):
             client.abort()
         else:
             link.close()
+
+
+class TlsListener(HandshakeListener):
+    """The same, where the common name of a client's certificate says its role."""
+
+    def __init__(self, tls: Tls, seconds: float, take_door: Callable[[str], None], serve: Serve, turn_away: TurnAway) -> None:
+        self._tls, self._take_door = tls, take_door
+        self._trust = self._read()
+        super().__init__(listen_tcp(tls.host, tls.port), seconds, serve, turn_away)
+
+    def _read(self) -> Trust:
+        """Certificates and roles, of which each has its door. OSError or ValueError where something can't be had."""
+        trust = trust_of(self._tls)
+        for role in sorted(set(trust.roles.values())):
+            self._take_door(role)
+        return trust
+
+    def reload(self) -> List[Client]:
+        """Takes certificates and roles anew, and notes of each client what it has lost thereby: these clients.
+
+        At OSError or ValueError all stay as they were.
+        """
+        earlier, self._trust = self._trust, self._read()
+        for client in self._serving.values():
+            client.lost = client.lost or self._trust.loss(client.role, client.certificate, earlier)
+        return [client for client in self._serving.values() if client.lost]
+
+    async def _client(self, link: socket.socket, address: Tuple[Any, ...]) -> Client:
+        trust = self._trust
+        return await self._greeted(link, address, trust.context, lambda client: self._judge(client, trust))
+
+    def _judge(self, client: Client, trust: Trust) -> None:
+        """Gives a client its role by its certificate, which a trust took that may be an earlier one now, and the name in it to
+        the log. TurnedAway where it has no role.
+        """
+        client.peer["name"] = common_name(client.certificate)
+        role = self._trust.role_of(client.certificate)
+        if role is None:
+            client.dismiss()
+            raise TurnedAway("no role")
+        lost = self._trust.loss(role, client.certificate, trust)
+        if lost is not None:
+            client.dismiss()
+            raise TurnedAway(lost)
+        client.role = role
 
 
 async def certificate_of(writer: TlsWriter, seconds: float) -> Certificate:

@@ -133,9 +133,9 @@ class TlsWriter(asyncio.StreamWriter):
             self._tls.close(self.transport)
 
 
-async def tls_streams(link: socket.socket, context: ssl.SSLContext) -> Tuple[asyncio.StreamReader, TlsWriter]:
-    """The streams of a connected socket, whose handshake is still to be awaited."""
-    reader = asyncio.StreamReader(limit=BODY_BYTES)
+async def tls_streams(link: socket.socket, context: ssl.SSLContext, limit: int = BODY_BYTES) -> Tuple[asyncio.StreamReader, TlsWriter]:
+    """The streams of a connected socket, whose handshake is still to be awaited. The limit is that of the reader."""
+    reader = asyncio.StreamReader(limit=limit)
     protocol = TlsProtocol(reader, context)
     transport, _ = await asyncio.get_running_loop().connect_accepted_socket(lambda: protocol, link)
     return reader, TlsWriter(transport, protocol, reader)

@@ -7,7 +7,8 @@ from s4d.moments import machine_time
 from s4d.rows import Listed
 from s4d.store.contents import Pieces
 from s4d.store.drives import DriveAway
-from s4d.store.loading import Found, Loading
+from s4d.store.found import Found, Kept
+from s4d.store.loading import Loading
 from s4d.store.store import Store
 
 from .plain_drive import PlainDrive
@@ -30,6 +31,8 @@ class Clock:
 class TimedDrive(PlainDrive):
     """A plain drive whose clock is the machine's time, with room for so many bytes of writes, and changes of an object."""
 
+    tells_versions = False  # whether `s4 list` prints them
+
     def __init__(self, window=30 * DAY, room=2**60, chain=2**60, clock=machine_time):
         super().__init__(window)
         self.room, self.chain, self.now = room, chain, clock
@@ -49,8 +52,16 @@ class TimedDrive(PlainDrive):
         """What `s4 list` and `s4 log` say of it."""
         live = [Listed(number, "live", len(it.data), it.created, None, it.moment, None, it.attribute, None)
                 for number, (*_, it) in sorted(self.versions.items()) if it.is_live]
+        if self.tells_versions:
+            return Found(live, {}, {it.object: self.readable(it.object) for it in live if it.attribute[:1] != b"P"})
         moments = {number: [it.moment for it in versions] for number, versions in self.versions.items()}
         return Found(live, moments)
+
+    def readable(self, number):
+        """The versions of an object that can be read at some moment."""
+        versions = self.versions[number]
+        ends = [*(it.moment for it in versions[1:]), self.clock + 1]
+        return [Kept(it.moment, it.data) for it, end in zip(versions, ends) if end > self.floor]
 
     def live(self, kind):
         """How many live objects of a kind there are."""

@@ -1,9 +1,10 @@
 """A stand-in for the programs `s4d`, `s4` and `s4serve`, as far as a store calls them, over a drive in a file of changes.
 
-    s4d new --window W IMAGE FRAMES;  s4serve --door ROLE=DIR.. IMAGE;  s4 list|log --json -- IMAGE
+    s4d new --window W IMAGE FRAMES;  s4serve --door ROLE=DIR.. IMAGE;  s4 list|log --json -- IMAGE;  s4 list --json --versions --contents ..
 
 Each change is in the file before its reply, so a kill loses nothing that was replied. The name by which it is called says which
-program it is. ROOM in its environment is how many bytes all changes may write, CHAIN how many changes an object may have.
+program it is. ROOM in its environment is how many bytes all changes may write, CHAIN how many changes an object may have. Where it has
+EARLIER, `s4 list` has no versions; where it has BROKEN, images with that in their paths can't be served.
 """
 import json
 import os
@@ -64,6 +65,8 @@ def serve(words):
     doors = [word.split("=", 1) for before, word in zip(said, said[1:]) if before == "--door"]
     folder = pathlib.Path(doors[0][1]).parent
     service = Service(folder, [])
+    if os.environ.get("BROKEN", "\0") in words[-1]:
+        sys.exit(f"s4serve: {words[-1]}: Read-only file system")
     drive = LastingDrive(words[-1], int(os.environ.get("ROOM", 2**60)), int(os.environ.get("CHAIN", 2**60)))
     drive.file = os.open(words[-1], os.O_WRONLY | os.O_APPEND)
     service.drive = drive
@@ -77,13 +80,20 @@ def serve(words):
 
 
 def listed(words):
+    if words == ["--help"]:
+        print("--json" if "EARLIER" in os.environ else "--json --versions --contents")
+        return
     drive = LastingDrive(words[-1], 2**60, 2**60)
     for number, versions in sorted(drive.versions.items()):
         last = versions[-1]
         if last.is_live:
-            print(json.dumps({
-                "object": number, "state": "live", "size": len(last.data), "created": last.created, "created_time": None,
-                "changed": last.moment, "changed_time": None, "attribute": last.attribute.hex(), "attribute_text": None}))
+            row = {"object": number, "state": "live", "size": len(last.data), "created": last.created, "created_time": None,
+                   "changed": last.moment, "changed_time": None, "attribute": last.attribute.hex(), "attribute_text": None}
+            if "--versions" in words:
+                ends = [*(it.moment for it in versions[1:]), drive.clock + 1]
+                row["versions"] = [{"moment": it.moment, "size": len(it.data), "contents": it.data.hex()}
+                                   for it, end in zip(versions, ends) if end > drive.floor]
+            print(json.dumps(row))
 
 
 def logged(words):

@@ -24,6 +24,8 @@ from .bridged import PATIENCE
 from .s3_client import OWNER, Gatewayed
 from .test_store import BYTES
 
+LISTS = 10_000  # of an intruder
+
 is_long = unittest.skipUnless(os.environ.get("STORE_CLIENTS"), "clients of S3 are tried where STORE_CLIENTS=1 is set")
 needs_mounts = unittest.skipUnless(os.access("/dev/fuse", os.W_OK) and os.geteuid() == 0, "there is no /dev/fuse, or who runs this may not mount")
 needs_boto3 = unittest.skipUnless(importlib.util.find_spec("boto3"), "boto3 isn't installed")
@@ -111,6 +113,21 @@ class Clients(unittest.TestCase):
         for name, size in (("empty", 0), ("small", 10), ("deep/long", 300_000), ("deep/ü b", 500)):
             (folder / name).write_bytes(BYTES[:size])
         return folder
+
+    def wait_for_sizes(self, bucket, folder):
+        """Waits until a bucket has the files of a folder."""
+        wanted = {str(it.relative_to(folder)): it.stat().st_size for it in folder.rglob("*") if it.is_file()}
+        end = time.monotonic() + PATIENCE
+        while self.sizes(bucket) != wanted:
+            self.assertLess(time.monotonic(), end, "files that were written aren't put")
+            time.sleep(0.05)
+
+    def sizes(self, bucket):
+        async def look():
+            found = self.gateway.store.bucket(bucket)
+            return {key: found.current(key).version.size for key in found.live if not key.endswith("/")}
+
+        return asyncio.run_coroutine_threadsafe(look(), self.loop).result(PATIENCE)
 
     def check_files(self, folder):
         found = {str(it.relative_to(folder)): it.stat().st_size for it in folder.rglob("*") if it.is_file()}
@@ -252,6 +269,10 @@ class S3cmd(Clients):
         (self.folder / "back").mkdir()
         self.run_program(*words, "get", "--recursive", "s3://one/files/", f"{self.folder}/back/")
         self.check_files(self.folder / "back")
+        for asked in ("s3://one", "s3://one/files/small"):  # which asks for policies, CORS, owners and the like
+            self.assertRegex(self.run_program(*words, "info", asked), r"(?i)policy: +none\n *cors: +none\n")
+        self.run_program(*words, "del", "s3://one/files/small")
+        self.assertEqual(len(self.run_program(*words, "ls", "--recursive", "s3://one").splitlines()), 3)
 
 
 class Remotes(Clients):
@@ -268,7 +289,20 @@ class Remotes(Clients):
 
 @needs("rclone")
 class Rclone(Remotes):
+    def flood(self, lists, connections=8):
+        """Asks for so many lists, by the client's key, on some connections: the statuses, once all are answered."""
+        async def ask(count):
+            it = await self.gateway.connect()
+            return {(await it.ask("GET", "/one", query=[("list-type", "2")] if number % 2 else [("versions", "")])).status
+                    for number in range(count)}
+
+        async def all_of():
+            return set().union(*await asyncio.gather(*[ask(lists // connections) for _ in range(connections)]))
+
+        return asyncio.run_coroutine_threadsafe(all_of(), self.loop)
+
     def test_a_moment_before_an_intruder(self):
+        """Who has the client's key overwrites, deletes and lists without end; one line gives the owner everything back meanwhile."""
         files = self.make_files()
         self.rclone("mkdir", "s4:one")
         self.rclone("sync", files, "s4:one/files")
@@ -276,6 +310,7 @@ class Rclone(Remotes):
         time.sleep(1.1)  # its times are whole seconds
         before = datetime.now(timezone.utc).strftime("%Y-%m-%dT%H:%M:%SZ")
         time.sleep(1.1)
+        lists = self.flood(LISTS)
         self.rclone("copyto", files / "small", "s4:one/files/deep/long")  # overwritten
         self.rclone("delete", "s4:one/files")
         self.assertEqual(self.rclone("lsf", "-R", "--files-only", "s4:one"), "")
@@ -284,7 +319,7 @@ class Rclone(Remotes):
         self.check_files(self.folder / "back")
         self.rclone("sync", self.folder / "back", "s4:one/files")  # and all is there again
         self.rclone("check", "--download", files, "s4:one/files")
-
+        self.assertEqual(lists.result(5 * PATIENCE), {200})
 
     @needs_mounts
     def test_mounts(self):
@@ -295,6 +330,7 @@ class Rclone(Remotes):
                           f"--cache-dir={self.folder}/cache", **self.remote()) as folder:
             shutil.copytree(files, folder, dirs_exist_ok=True)
             self.check_files(folder)
+            self.wait_for_sizes("one", files)  # rclone puts them later, and at its end no more
         self.rclone("check", files, "s4:one")
         time.sleep(1.1)
         before = datetime.now(timezone.utc).strftime("%Y-%m-%dT%H:%M:%SZ")

@@ -58,7 +58,8 @@ class Buckets:
         body = await context.xml()
         if body:
             parsed(body, "CreateBucketConfiguration")
-        await self._store.create_bucket(context.bucket)
+        made = await self._store.create_bucket(context.bucket)
+        context.record.changed(context.bucket, "", made.change)
         return Answer(headers={"Location": f"/{context.bucket}"})
 
     async def head(self, context: Context) -> Answer:
@@ -68,7 +69,7 @@ class Buckets:
     async def delete(self, context: Context) -> Answer:
         if self._uploads.in_bucket(context.bucket):
             raise S3Error("BucketNotEmpty")
-        await self._store.delete_bucket(context.bucket)
+        context.record.changed(context.bucket, "", await self._store.delete_bucket(context.bucket))
         return Answer(204)
 
     async def keys(self, context: Context) -> Answer:

@@ -1,29 +1,30 @@
 """A request that is signed as it should be, and what it is about."""
 from __future__ import annotations
 
-from dataclasses import dataclass, field
-from typing import Dict, Optional
+from dataclasses import dataclass
+from typing import Optional
 
 from .errors import S3Error
 from .http import Body, Request
 from .limits import OBJECT_BYTES, XML_BYTES
 from .payload import Payload
+from .record import Record
 from .signature import Signed
 
 
 @dataclass
 class Context:
     """The bucket and the key are empty where the request names none. `at` is the moment that is read, or None where that is now.
-    `said` is for the log.
+    `record` is for the log.
     """
 
     request: Request
     body: Body
     signed: Signed
+    record: Record
     bucket: str
     key: str
     at: Optional[int] = None
-    said: Dict[str, str] = field(default_factory=dict)
 
     def payload(self) -> Payload:
         """The body, as the contents of an object. EntityTooLarge where it says so of itself."""

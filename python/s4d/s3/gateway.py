@@ -2,17 +2,17 @@
 from __future__ import annotations
 
 import contextlib
-import secrets
-import time
 from collections import Counter
 from datetime import datetime, timezone
-from typing import Any, AsyncIterator, Awaitable, Callable, Dict, Iterator, Mapping, Optional
+from typing import AsyncIterator, Awaitable, Callable, Iterator, Mapping, Optional
 from typing import Counter as Counted
 
 from ..access_log import AccessLog
 from ..moments import machine_time
+from ..store.drives import DriveAway
 from ..store.service import say
 from ..store.store import Store
+from ..store.shares import ASKER
 from ..store.uploads import Uploads
 from .answers import date_of
 from .buckets import Buckets
@@ -22,10 +22,11 @@ from .errors import S3Error
 from .faults import error_of, is_known
 from .http import METHODS, Answer, Body, Request
 from .keys import Key
-from .limits import KEY_REQUESTS, LOGGED_PATH, OBJECT_BYTES
+from .limits import KEY_REQUESTS, OBJECT_BYTES
 from .multipart import Multipart
 from .objects import Objects
 from .past import moment_asked
+from .record import Record
 from .signature import AT, verified
 from .xml import error_document
 
@@ -65,36 +66,42 @@ class Gateway:
             yield await self._answer(request, body, peer, held)
 
     async def _answer(self, request: Request, body: Body, peer: str, held: contextlib.ExitStack) -> Answer:
-        began, id = time.monotonic(), secrets.token_hex(8)
-        said: Dict[str, Any] = {"request": id, "peer": peer, "method": request.method, "path": request.path[:LOGGED_PATH]}
+        record = Record(request, peer)
         try:
-            answer = await self._answered(request, body, said, held)
+            answer = await self._answered(request, body, record, held)
         except Exception as fault:
             if not is_known(fault):  # of this program: the other requests go on
-                say(f"request {id} failed: {fault!r}")
-            answer = error_answer(error_of(fault), request, id, said)
-        answer.is_signed = "key" in said
-        answer.headers.update({"x-amz-request-id": id, "Server": "s4d", "Date": date_of(machine_time())})
-        seconds = time.monotonic() - began
-        self._count(request, body, answer, said.get("error"), seconds)
+                say(f"request {record.id} failed: {fault!r}")
+            if isinstance(fault, DriveAway):
+                record.away(fault)
+            answer = error_answer(error_of(fault), request, record)
+        except BaseException:  # it is cancelled, and what it asked may have been done
+            if self._log is not None:
+                record.write(self._log, lost=True)
+            raise
+        answer.is_signed = record.is_signed
+        answer.headers.update({"x-amz-request-id": record.id, "Server": "s4d", "Date": date_of(machine_time())})
+        self._count(request, body, answer, record)
         if self._log is not None:
-            self._log.write(event="request", **said, status=answer.status, bytes=answer.content_length(), seconds=round(seconds, 6))
+            record.write(self._log, status=answer.status, bytes=answer.content_length())
             await self._log.settle()
         return answer
 
-    def _count(self, request: Request, body: Body, answer: Answer, code: Optional[str], seconds: float) -> None:
+    def _count(self, request: Request, body: Body, answer: Answer, record: Record) -> None:
         method = request.method if request.method in METHODS else "other"
-        self._counts.add(method, answer.status, code, seconds)
+        self._counts.add(method, answer.status, record.error, record.seconds())
         self._counts.taken += body.taken
         self._counts.given += answer.content_length() if method != "HEAD" else 0
 
-    async def _answered(self, request: Request, body: Body, said: Dict[str, Any], held: contextlib.ExitStack) -> Answer:
+    async def _answered(self, request: Request, body: Body, record: Record, held: contextlib.ExitStack) -> Answer:
         if request.method not in METHODS:
             raise S3Error("MethodNotAllowed")
         signed = verified(request, self.keys, datetime.now(timezone.utc))
-        access = said["key"] = signed.key.access
+        access = signed.key.access
+        record.sign(access)
+        ASKER.set(access)  # until the connection's next request, so that its answer's body is asked for by the same
         bucket, _, key = request.path[1:].partition("/")
-        context = Context(request, body, signed, bucket, key, self._moment(request, said), said)
+        context = Context(request, body, signed, record, bucket, key, self._moment(request, record))
         call = self._call(context)
         if bucket and not signed.key.may(bucket, request.method in WRITES):
             raise S3Error("AccessDenied")
@@ -103,14 +110,15 @@ class Gateway:
             await self._store.cut(context.at, bucket)
         return await call(context)
 
-    def _moment(self, request: Request, said: Dict[str, Any]) -> Optional[int]:
+    def _moment(self, request: Request, record: Record) -> Optional[int]:
         """The moment that is read: of the header, or of this gateway; None where it is now. S3Error where it can't be, or where
         something is to be changed.
         """
         text = request.headers.get(AT)
         if text is None and self._at is None:
             return None
-        at = said["at"] = moment_asked(text if text is not None else str(self._at), self._window)
+        at = moment_asked(text if text is not None else str(self._at), self._window)
+        record.say(at=at)
         if request.method in WRITES:
             raise S3Error("MethodNotAllowed", "At a moment that has passed nothing can be changed.")
         if "uploads" in request.names or "uploadId" in request.names:
@@ -155,10 +163,10 @@ def is_strange(name: str, value: str, method: str) -> bool:
     return not is_known and (method in WRITES or not value)
 
 
-def error_answer(error: S3Error, request: Request, id: str, said: Dict[str, Any]) -> Answer:
+def error_answer(error: S3Error, request: Request, record: Record) -> Answer:
     """The answer that says an error."""
-    said["error"] = error.code
+    record.say(error=error.code)
     if error.status == 304:
         return Answer(304, headers=dict(error.headers))
-    body = error_document([("Code", error.code), ("Message", error.message), ("Resource", request.path), ("RequestId", id)])
+    body = error_document([("Code", error.code), ("Message", error.message), ("Resource", request.path), ("RequestId", record.id)])
     return Answer(error.status, body, {**error.headers, "Content-Type": "application/xml"})

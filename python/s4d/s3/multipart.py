@@ -68,7 +68,8 @@ class Multipart:
         if entry is None:
             upload = self.upload(context)
             entry = await self._uploads.complete(upload, named, lambda before: check_write(context.request.headers, before))
-        context.said["version"] = entry.version.id
+            context.record.made(entry)
+        context.record.say(version=entry.version.id)
         answer = xml_answer(document("CompleteMultipartUploadResult", [
             ("Location", f"/{context.bucket}/{context.key}"), ("Bucket", context.bucket), ("Key", context.key),
             ("ETag", quoted(entry.version.etag))]))

@@ -71,7 +71,7 @@ class Objects:
         headers.update({name.title(): value for name in OVERRIDES if (value := request.parameter(f"response-{name}"))})
         if part is not None:
             headers["Content-Range"] = f"bytes {first}-{last}/{size}"
-        context.said["version"] = entry.version.id
+        context.record.say(version=entry.version.id)
         body = self._store.stream(entry, first, last)
         if request.method == "HEAD":
             return Answer(200 if part is None else 206, body, headers, last - first + 1)
@@ -85,7 +85,7 @@ class Objects:
         payload = context.payload()
         entry = await self._store.put(context.bucket, context.key, payload.data(), headers,
                                       lambda before: check_write(context.request.headers, before))
-        context.said["version"] = entry.version.id
+        context.record.made(entry)
         return Answer(headers={"ETag": quoted(entry.version.etag), "x-amz-version-id": entry.version.id})
 
     def kept(self, context: Context) -> Dict[str, str]:
@@ -127,7 +127,7 @@ class Objects:
         body = self._store.stream(entry, 0, entry.version.size - 1)
         made = await self._store.put(context.bucket, context.key, body, headers,
                                      lambda before: check_write(context.request.headers, before))
-        context.said["version"] = made.version.id
+        context.record.made(made)
         answer = xml_answer(document("CopyObjectResult", [("ETag", quoted(made.version.etag)),
                                                           ("LastModified", stamp_of(made.version.time))]))
         answer.headers.update({"x-amz-version-id": made.version.id, "x-amz-copy-source-version-id": entry.version.id})
@@ -135,11 +135,12 @@ class Objects:
 
     async def delete(self, context: Context) -> Answer:
         """DeleteObject: a marker, where something is there. A version that can be read isn't deleted."""
-        found = await self._delete(context.bucket, context.key, context.version())
-        context.said.update(version=found.get("x-amz-version-id", ""))
+        found = await self._delete(context, context.key, context.version())
+        context.record.say(version=found.get("x-amz-version-id"))
         return Answer(204, headers=found)
 
-    async def _delete(self, bucket: str, key: str, id: Optional[str]) -> Dict[str, str]:
+    async def _delete(self, context: Context, key: str, id: Optional[str]) -> Dict[str, str]:
+        bucket = context.bucket
         await self._store.settle(bucket, key)
         entry = self._store.bucket(bucket).current(key)
         if id is not None:
@@ -150,6 +151,7 @@ class Objects:
             return {}
         if not entry.version.is_marker:
             entry = await self._store.delete(bucket, key)
+            context.record.made(entry)
         return {"x-amz-delete-marker": "true", "x-amz-version-id": entry.version.id}
 
     async def delete_many(self, context: Context) -> Answer:
@@ -162,14 +164,14 @@ class Objects:
         is_quiet = root.findtext("Quiet") == "true"
         found: List[Node] = []
         for start in range(0, len(rows), DELETES):
-            deletes = [self._delete_one(context.bucket, key, id, is_quiet) for key, id in rows[start:start + DELETES]]
+            deletes = [self._delete_one(context, key, id, is_quiet) for key, id in rows[start:start + DELETES]]
             found += [node for nodes in await asyncio.gather(*deletes) for node in nodes]
         return xml_answer(document("DeleteResult", found))
 
-    async def _delete_one(self, bucket: str, key: str, id: Optional[str], is_quiet: bool) -> List[Node]:
+    async def _delete_one(self, context: Context, key: str, id: Optional[str], is_quiet: bool) -> List[Node]:
         named: List[Node] = [("Key", key), *([("VersionId", id)] if id else [])]
         try:
-            found = await self._delete(bucket, key, id)
+            found = await self._delete(context, key, id)
         except Exception as fault:
             if not is_known(fault):
                 raise
@@ -232,7 +234,7 @@ class Objects:
                 raise S3Error("OperationAborted")
 
         made = await self._store.relabel(entry, with_tags(entry.version.headers, tags), unchanged)
-        context.said["version"] = made.version.id
+        context.record.made(made)
         return Answer(200 if is_put else 204, headers={"x-amz-version-id": made.version.id})
 
     async def attributes(self, context: Context) -> Answer:

@@ -3,19 +3,37 @@ from __future__ import annotations
 
 import asyncio
 import contextlib
+import socket
 import ssl
-from typing import Dict, Optional, Set
+from collections import Counter
+from typing import Any, Dict, Optional, Set, Tuple
+from typing import Counter as Counted
 
-from ..listeners import listen_tcp
+from ..doors import TurnedAway
+from ..handshakes import HANDSHAKE_SECONDS
+from ..listeners import HandshakeListener, Peer, Serve, TurnAway, listen_tcp
+from ..relay import Client
 from ..store.service import say
 from .errors import S3Error
 from .faults import is_known
 from .gateway import Gateway, error_answer
 from .http import Answer, Body, Ended, Request, read_head, request_of, write_answer
-from .limits import BODY_SECONDS, CONNECTIONS, DRAINED_BYTES, HEAD_BYTES, HEAD_SECONDS, LINGER_SECONDS, PIECE_BYTES
+from .limits import BODY_SECONDS, CONNECTIONS, DRAINED_BYTES, HEAD_BYTES, LINGER_SECONDS, PIECE_BYTES
+from .record import Record
 
 NOBODY = Request("GET", "/", "/", [], {}, False)
 CONTINUE = b"HTTP/1.1 100 Continue\r\n\r\n"
+
+
+class TlsConnections(HandshakeListener):
+    """Connections that come for TLS. Whoever signs may ask: nobody needs a certificate."""
+
+    def __init__(self, link: socket.socket, context: ssl.SSLContext, serve: Serve, turn_away: TurnAway) -> None:
+        super().__init__(link, HANDSHAKE_SECONDS, serve, turn_away, HEAD_BYTES)
+        self._context = context
+
+    async def _client(self, link: socket.socket, address: Tuple[Any, ...]) -> Client:
+        return await self._greeted(link, address, self._context, lambda _client: None)
 
 
 class Server:
@@ -25,6 +43,8 @@ class Server:
         self._gateway, self._tls = gateway, tls
         self._listener = listen_tcp(host, port)
         self._server: Optional[asyncio.AbstractServer] = None
+        self._secure: Optional[TlsConnections] = None
+        self.turned_away: Counted[str] = Counter()  # connections of which no TLS came about, by few texts that say why
         self._idle: Dict[asyncio.StreamWriter, None] = {}  # connections without a request, in the order of their waits
         self._tasks: Set[asyncio.Future[None]] = set()
         self._is_stopping = False
@@ -38,15 +58,19 @@ class Server:
         return len(self._tasks)
 
     async def start(self) -> None:
-        handshake = HEAD_SECONDS if self._tls is not None else None
-        self._server = await asyncio.start_server(self._attend, sock=self._listener, limit=HEAD_BYTES, ssl=self._tls,
-                                                  ssl_handshake_timeout=handshake)
+        if self._tls is None:
+            self._server = await asyncio.start_server(self._attend, sock=self._listener, limit=HEAD_BYTES)
+        else:
+            self._secure = TlsConnections(self._listener, self._tls, self._attend_client, self._turn_away)
+            self._secure.start()
 
     async def close(self, seconds: float) -> None:
         """Accepts no more, and waits for the requests that are worked on; what takes longer is cancelled."""
         self._is_stopping = True
         if self._server is not None:
             self._server.close()
+        if self._secure is not None:
+            await self._secure.accept_no_more()
         for writer in list(self._idle):
             writer.transport.abort()
         if self._tasks:
@@ -55,6 +79,12 @@ class Server:
             task.cancel()
         if self._tasks:
             await asyncio.wait(set(self._tasks))
+
+    def _turn_away(self, _role: Optional[str], _peer: Peer, turned: TurnedAway) -> None:
+        self.turned_away[turned.why] += 1
+
+    async def _attend_client(self, client: Client) -> None:
+        await self._attend(client.reader, client.writer)
 
     async def _attend(self, reader: asyncio.StreamReader, writer: asyncio.StreamWriter) -> None:
         """All that becomes of a connection. Nothing that goes wrong with one reaches another."""
@@ -69,6 +99,7 @@ class Server:
         """Serves a connection, which counts until it is closed, and that has an end where the other side takes nothing more."""
         try:
             await self._serve(reader, writer)
+            self._idle[writer] = None  # who leaves it open holds no place so
             writer.close()
             await asyncio.wait_for(writer.wait_closed(), BODY_SECONDS)
         except (OSError, asyncio.TimeoutError):
@@ -80,7 +111,7 @@ class Server:
     async def _serve(self, reader: asyncio.StreamReader, writer: asyncio.StreamWriter) -> None:
         if not self._has_room():
             with contextlib.suppress(Ended):
-                await write_answer(writer, error_answer(S3Error("SlowDown"), NOBODY, "", {}), False)
+                await write_answer(writer, error_answer(S3Error("SlowDown"), NOBODY, Record(NOBODY, peer_of(writer))), False)
             return
         try:
             while not self._is_stopping and await self._serve_one(reader, writer):
@@ -113,7 +144,7 @@ class Server:
             request = request_of(head)
             body = Body(reader, request.headers, lambda: begin(request, writer))
         except S3Error as error:
-            await write_answer(writer, with_end(error_answer(error, request, "", {})), request.method == "HEAD")
+            await write_answer(writer, with_end(error_answer(error, request, Record(request, peer_of(writer)))), request.method == "HEAD")
             await dropped(reader, writer)
             return False
         finally:

@@ -9,7 +9,7 @@ from ..errors import NoObject
 from ..rows import Listed
 from ..wire import Attributes
 from .drives import StoreDrive
-from .loading import Found
+from .found import Found
 from .numbers import Numbers
 
 AT_ONCE = 32  # objects that a session asks for together: a bridge takes up to 64 requests

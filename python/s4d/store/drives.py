@@ -9,10 +9,11 @@ from ..async_drive import AsyncDrive
 from ..errors import BadReply, Disconnected, ReplyLost
 from .service import say
 from .settings import StoreFault
+from .shares import Shares
 
 T = TypeVar("T")
 
-SESSIONS = 8  # of a drive at once, of the sixteen that it serves: each has one request in flight
+SESSIONS = 8  # of a drive at once, of the sixteen that it serves: each has one request in flight, and access keys take turns
 REPLY_SECONDS = 300.0  # that a drive may take for a reply
 FIRST_WAIT = 0.5
 LONGEST_WAIT = 60.0  # seconds between starts of a service that ends again and again
@@ -54,13 +55,17 @@ class StoreDrive:
         self.is_served, self._is_stopping = False, False
         self._idle: List[AsyncDrive] = []
         self._closing: Set[asyncio.Future[None]] = set()
-        self._places = asyncio.Semaphore(SESSIONS)
+        self._shares = Shares(SESSIONS)
         self._watching: Optional[asyncio.Future[None]] = None
 
     async def start(self) -> None:
         """Returns once it is served. StoreFault where it can't be."""
         await self._service.start()
         self.is_served = True
+        self._watching = asyncio.ensure_future(self._watch())
+
+    def start_away(self) -> None:
+        """It isn't served: that is tried again and again."""
         self._watching = asyncio.ensure_future(self._watch())
 
     async def _watch(self) -> None:
@@ -104,7 +109,7 @@ class StoreDrive:
 
         DriveAway where there is no answer.
         """
-        async with self._places:
+        async with self._shares.place():
             for _ in range(SESSIONS + 1):  # each session that is left from an earlier service, and a new one
                 session = await self._session()
                 try:

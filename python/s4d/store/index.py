@@ -4,7 +4,7 @@ from __future__ import annotations
 import heapq
 from bisect import bisect_left, insort
 from dataclasses import dataclass, field
-from typing import Callable, Dict, List, NamedTuple, Optional, Tuple
+from typing import Callable, Dict, Iterable, List, NamedTuple, Optional, Set, Tuple
 
 from .layout import Version
 
@@ -16,10 +16,20 @@ class Place(NamedTuple):
     object: int
 
 
+class Change(NamedTuple):
+    """A change of a drive: what the access log has of it, by the names that a bridge's log gives it."""
+
+    drive: int
+    session: Optional[str]  # the name of the session in which it was asked, where that is known
+    request: str
+    object: int
+    moment: int
+
+
 @dataclass
 class Entry:
     """A version, the object that is its head, its moment, and that of the version that replaced it. Where it was moved, `moved` is
-    the moment of the Write that did that; its own stays that of the first.
+    the moment of the Write that did that; its own stays that of the first. `change` is its first Write, where this program made it.
     """
 
     version: Version
@@ -27,6 +37,7 @@ class Entry:
     moment: int
     until: Optional[int] = None
     moved: Optional[int] = None
+    change: Optional[Change] = None
 
     @property
     def written(self) -> int:
@@ -46,7 +57,7 @@ class Entry:
 class Bucket:
     """A bucket: the object that says so, when it was made, in microseconds, and its keys. `names` are all keys in their order,
     `live` those whose current version is no marker. The versions of a key ascend. `puts` are heads on their way. `others` are objects
-    that may say so still, though it was moved.
+    that may say so still, though it was moved. `change` is what made it, where this program did.
     """
 
     name: str
@@ -57,6 +68,7 @@ class Bucket:
     live: List[str] = field(default_factory=list)
     puts: int = 0
     others: List[Place] = field(default_factory=list)
+    change: Optional[Change] = None
 
     def current(self, key: str, at: Optional[int] = None) -> Optional[Entry]:
         """The newest version of a key, now or at a moment, which may be a marker."""
@@ -72,10 +84,10 @@ class Bucket:
         return None if found is None or found.version.is_marker else found
 
 
-def entry_of(version: Version, head: Place, written: int) -> Entry:
-    """A version whose head was written at a moment."""
+def entry_of(version: Version, head: Place, written: int, change: Optional[Change] = None) -> Entry:
+    """A version whose head was written at a moment, by a change."""
     if version.since is None:
-        return Entry(version, head, written)
+        return Entry(version, head, written, change=change)
     return Entry(version, head, version.since, moved=written)
 
 
@@ -101,23 +113,35 @@ class Index:
         to then, where no version needs that any more.
         """
         bucket, key = self.buckets[entry.version.bucket], entry.version.key
-        known = bucket.keys.get(key)
+        before = bucket.current(key)
+        was_live, left = bucket.live_version(key, None) is not None, self._take(bucket, entry)
+        if before is None:
+            insort(bucket.names, key)
+        if was_live and entry.version.is_marker:
+            remove(bucket.live, key)
+        elif not was_live and not entry.version.is_marker:
+            insort(bucket.live, key)
+        return left
+
+    def fill(self, entries: Iterable[Entry]) -> Set[Place]:
+        """Takes all versions of buckets that have none, as `add` takes one after the other. The heads that it gives."""
+        left = {self._take(self.buckets[it.version.bucket], it) for it in entries}
+        for bucket in self.buckets.values():
+            bucket.names = sorted(bucket.keys)  # once: one by one they take long where they are many
+            bucket.live = [key for key in bucket.names if bucket.live_version(key, None) is not None]
+        return {it for it in left if it is not None}
+
+    def _take(self, bucket: Bucket, entry: Entry) -> Optional[Place]:
+        """The same without the bucket's names."""
+        known = bucket.keys.setdefault(entry.version.key, [])
         if known and known[-1].version.id == entry.version.id:
             return move(known, entry)
-        if known is None:
-            known = bucket.keys[key] = []
-            insort(bucket.names, key)
-        was_live = bool(known) and not known[-1].version.is_marker
         if known:
             known[-1].until = entry.moment
             self._leaves(entry.moment, known[-1])
         known.append(entry)
         if entry.version.is_marker:
             self._leaves(entry.moment, entry)
-        if was_live and entry.version.is_marker:
-            remove(bucket.live, key)
-        elif not was_live and not entry.version.is_marker:
-            insort(bucket.live, key)
         return None
 
     def _leaves(self, moment: int, entry: Entry) -> None:

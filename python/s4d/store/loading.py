@@ -1,20 +1,20 @@
 """A store's index at a start, from the images and by asking, and what earlier puts left behind.
 
-Which objects there are, and when each was changed, is in the images, which `s4` reads before the drives are served. What
-each version of a head says is asked for: the current one now, each other at the moment before the change that replaced it.
+Which objects there are is in the images, and what each version of a head says. Where `s4` doesn't print that, or the image is on
+another machine, versions are asked for: the current one now, each other at the moment before the change that replaced it.
 """
 from __future__ import annotations
 
 import asyncio
-from typing import Dict, List, NamedTuple, Optional, Sequence, Set, Tuple
+from typing import Dict, List, Optional, Sequence, Set, Tuple
 
-from ..errors import BadReply, Expired, Flushed, NoObject, ProgramFailed
-from ..image import Image
+from ..errors import Expired, Flushed, NoObject
 from ..moments import machine_time
 from ..rows import Listed
 from ..wire import READ_BYTES
 from .contents import Gone, Pieces
 from .drives import StoreDrive
+from .found import Found
 from .index import Bucket, Entry, Index, Place, entry_of
 from .layout import BadHead, Piece, created_in, head_attribute, version_in
 from .names import is_bucket_name
@@ -23,37 +23,6 @@ from .settings import StoreFault
 from .store import contents_of
 from .upload_records import Upload
 from .uploads_found import FoundUploads
-
-IMAGES_AT_ONCE = 4  # that are read side by side
-
-Moments = Dict[int, List[int]]  # of each object, the moments of its changes
-
-
-class Found(NamedTuple):
-    """What an image has: its live objects, and when each was changed."""
-
-    objects: List[Listed]
-    moments: Moments
-
-
-async def found_in(path: str, program: str, limit: asyncio.Semaphore) -> Found:
-    """What the image at a path has; StoreFault where it can't be read."""
-    async with limit:
-        loop = asyncio.get_running_loop()
-        try:
-            return await loop.run_in_executor(None, read_image, Image(path, s4=program))
-        except (ProgramFailed, BadReply) as error:
-            raise StoreFault(f"{path}: {error}") from error
-        except OSError as error:
-            raise StoreFault(f"{program}: {error.strerror}") from error
-
-
-def read_image(image: Image) -> Found:
-    moments: Moments = {}
-    for row in image.log():
-        moments.setdefault(row.object, []).append(row.moment)
-    return Found(image.list(), moments)
-
 
 class Loading:
     """Makes the index of what was found, and deletes what no version needs."""
@@ -75,14 +44,9 @@ class Loading:
             for row in found.objects:
                 self._take(Place(number, row.object), row)
         await self._take_buckets()
-        versions = await asyncio.gather(*[self._versions(place, attribute) for place, attribute in self._heads])
-        moved: Set[Place] = set()
-        for entry in sorted((it for each in versions for it in each), key=age):
-            if entry.version.bucket in self.index.buckets:
-                left = self.index.add(entry)
-                moved |= set() if left is None else {left}
-            else:
-                self._alone[entry.version.bucket, entry.version.key] = entry
+        entries = sorted(await self._entries(), key=age)
+        moved = self.index.fill(it for it in entries if it.version.bucket in self.index.buckets)
+        self._alone = {(it.version.bucket, it.version.key): it for it in entries if it.version.bucket not in self.index.buckets}
         self._left += moved - self._heads_named() if moved else []
         return self.index
 
@@ -118,15 +82,33 @@ class Loading:
         """When a bucket was made, as an object says it, and whether that is the first one that did."""
         created, name = None, row.attribute[1:].decode("ascii")
         if row.size:
-            data = await self._pieces.drives[place.drive].ask(lambda session: session.read(place.object, 0, READ_BYTES))
             try:
-                created = created_in(data)
+                created = created_in(await self._data(place))
             except BadHead as error:
                 say(f"{named(place)}: {error}")
         return (row.created if created is None else created), created is None, place, name
 
+    async def _entries(self) -> List[Entry]:
+        """The versions of all heads that can be read."""
+        found = [entry for place, attribute in self._heads for entry in self._known_versions(place, attribute)]
+        asked = [self._versions(place, attribute) for place, attribute in self._heads if self._found[place.drive].versions is None]
+        return found + [entry for each in await asyncio.gather(*asked) for entry in each]
+
+    def _known_versions(self, place: Place, attribute: bytes) -> List[Entry]:
+        """Those of a head that were found; none where they have to be asked for."""
+        known = (self._found[place.drive].versions or {}).get(place.object, [])
+        entries = [self._entry(place, attribute, it.data, it.moment) for it in known]
+        return [it for it in entries if it is not None]
+
+    async def _data(self, place: Place) -> bytes:
+        """What an object has now."""
+        known = self._found[place.drive].versions
+        if known is not None and known.get(place.object):
+            return known[place.object][-1].data
+        return await self._pieces.drives[place.drive].ask(lambda session: session.read(place.object, 0, READ_BYTES))
+
     async def _versions(self, place: Place, attribute: bytes) -> List[Entry]:
-        """The versions of a head that can be read."""
+        """The versions of a head that can be read, by asking."""
         drive = self._pieces.drives[place.drive]
         moments = sorted(set(self._found[place.drive].moments.get(place.object, [])))
         points: List[Optional[int]] = [moment - 1 for moment in moments if moment > 0]
@@ -140,6 +122,10 @@ class Loading:
             data = await drive.ask(lambda session: session.read(place.object, 0, READ_BYTES, at))
         except (Expired, Flushed, NoObject):
             return None
+        return self._entry(place, attribute, data, changed)
+
+    def _entry(self, place: Place, attribute: bytes, data: bytes, changed: int) -> Optional[Entry]:
+        """The version that a head has since a change; None where it has none, or none that is understood."""
         if not data:
             return None  # it was made, and not written yet
         try:
@@ -174,7 +160,7 @@ class Loading:
 
     async def _take_record(self, found: FoundUploads, place: Place, attribute: bytes) -> None:
         """Takes what an object says of an upload. Where that isn't understood, the pieces of its key stay, and so does it."""
-        data = await self._pieces.drives[place.drive].ask(lambda session: session.read(place.object, 0, READ_BYTES))
+        data = await self._data(place)
         try:
             found.take(place, data, attribute)
         except BadHead as error:

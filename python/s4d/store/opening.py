@@ -12,12 +12,16 @@ from .asking import found_by_asking
 from .contents import Pieces
 from .drives import DriveAway, StoreDrive
 from .elsewhere import QUIET_SECONDS, FoundService, RemoteService
+from .found import IMAGES_AT_ONCE, Found, found_in
 from .layout import mark_attribute
-from .loading import IMAGES_AT_ONCE, Found, Loading, found_in
+from .loading import Loading
 from .service import Service, say
 from .settings import Programs, Settings, StoreFault, image_path, settings_in, write_new
 from .store import Store
 from .upload_records import Upload
+
+
+NEWER = ".s4serve.new"  # after the name of an image: of what a service couldn't put in its place
 
 
 class OpenStore:
@@ -33,10 +37,11 @@ class OpenStore:
         self._looking: Optional[asyncio.Future[None]] = None
         self.store: Optional[Store] = None
         self.uploads: List[Upload] = []  # that were begun before, and aren't complete
+        self.away: List[int] = []  # drives that weren't served at the start: uploads that were begun before aren't known then
 
     async def start(self) -> Store:
-        """Starts the drives, or finds them served, makes the index, and deletes what puts left that were cut. StoreFault where one can't
-        be served.
+        """Starts the drives, or finds them served, makes the index, and deletes what puts left that were cut. StoreFault where what one has
+        can't be known. Where one of those here isn't served, and its image says all, it is away, and nothing is deleted.
         """
         services = [self._service(number) for number in range(self.settings.drives)]
         self.drives = [StoreDrive(number, it, isinstance(it, RemoteService)) for number, it in enumerate(services)]
@@ -48,8 +53,8 @@ class OpenStore:
         limit = asyncio.Semaphore(IMAGES_AT_ONCE)
         found = await asyncio.gather(*[self._found(drive, limit) for drive in self.drives])
         unmarked = self._unmarked(found)
-        await all_done([drive.start() for drive, service in zip(self.drives, services) if service.is_own])
-        await self._mark(unmarked)
+        await self._start_own([drive for drive, service in zip(self.drives, services) if service.is_own], found)
+        await self._mark([drive for drive in unmarked if drive.number not in self.away])
         self.store = await self._loaded(found)
         self._looking = asyncio.ensure_future(self.store.look_after())
         return self.store
@@ -62,6 +67,19 @@ class OpenStore:
         if self.settings.finds:
             return FoundService(self.folder, number)
         return Service(self.folder, number, self._programs.s4serve, self._leap)
+
+    async def _start_own(self, drives: List[StoreDrive], found: List[Found]) -> None:
+        """Starts those that this program serves. One that can't be served is away, where nothing that it has can be unknown."""
+        results = await asyncio.gather(*[drive.start() for drive in drives], return_exceptions=True)
+        faults = [(drive, it) for drive, it in zip(drives, results) if it is not None]
+        for drive, fault in faults:
+            newer = os.path.exists(image_path(self.folder, drive.number) + NEWER)  # which may have what was acknowledged
+            if not isinstance(fault, StoreFault) or len(faults) == len(self.drives) or newer or found[drive.number].versions is None:
+                raise fault
+        for drive, fault in faults:
+            say(f"{fault}; what it has answers 503 until it is served, and nothing is deleted before the next start")
+            self.away.append(drive.number)
+            drive.start_away()
 
     def _note_serving(self) -> None:
         """Notes in the folder that drives of other machines are asked. Where that is there, a program that noted it was killed, or left
@@ -119,7 +137,7 @@ class OpenStore:
         loading = Loading(pieces, found, self.settings.window)
         try:
             index = await loading.load()
-            count = await loading.collect()
+            count = 0 if self.away else await loading.collect()
             self.uploads = loading.uploads
         except (DriveAway, Error) as error:
             raise StoreFault(f"the index can't be made: {error}") from error

@@ -3,7 +3,9 @@ from __future__ import annotations
 
 import asyncio
 import ssl
+from collections import Counter
 from dataclasses import dataclass
+from typing import Counter as Counted
 from typing import List, NamedTuple, Optional, Sequence
 
 from ..access_log import AccessLog
@@ -67,7 +69,7 @@ class Serving:
         wanted = self._wanted
         keys, self._tls = keys_in(wanted.keys), tls_of(wanted)
         store, window = await self._opened.start(), self._opened.settings.window
-        uploads = Uploads(store, OBJECT_BYTES, self._opened.uploads)
+        uploads = Uploads(store, OBJECT_BYTES, self._opened.uploads, self._opened.away)
         self._tasks.append(asyncio.ensure_future(uploads.look_after()))
         for host, port, at in [*((it.host, it.port, it.moment) for it in wanted.past), (wanted.host, wanted.port, None)]:
             fault = None if at is None else fault_of(at, window)
@@ -120,7 +122,12 @@ class Serving:
         """What is counted of requests, connections and the log."""
         connections = sum(server.connections for server in self._servers)
         lost = [] if self._log is None else [Sample("", {}, self._log.lost)]
+        turned: Counted[str] = Counter()
+        for server in self._servers:
+            turned.update(server.turned_away)
         return [*self._counts.families(), Family("s4_store_connections", "gauge", "Connections.", [Sample("", {}, connections)]),
+                Family("s4_store_turned_away_total", "counter", "Connections of which no TLS came about.",
+                       [Sample("", {"why": why}, count) for why, count in sorted(turned.items())]),
                 Family("s4_store_log_lines_lost_total", "counter", "Lines of the access log that couldn't be written.", lost)]
 
     async def close(self) -> None:

@@ -3,7 +3,7 @@ from __future__ import annotations
 
 import asyncio
 import os
-from typing import Tuple
+from typing import Optional, Tuple
 
 from ..async_drive import AsyncDrive
 from ..doors import Door, TurnedAway
@@ -13,15 +13,28 @@ OPEN_SECONDS = 120.0  # that a service may take to open a session
 NO_OBJECT = 0  # the number that no object has
 
 
+class NamedDrive(AsyncDrive):
+    """A session whose name at the service's door is known."""
+
+    name: Optional[str] = None
+
+
+def name_of(session: AsyncDrive) -> Optional[str]:
+    """The name of a session; None where it isn't known here, as where a bridge elsewhere gave it."""
+    return session.name if isinstance(session, NamedDrive) else None
+
+
 async def session_at(door: Door, timeout: float) -> AsyncDrive:
     """A session that the service has opened. NotAsked where it doesn't. Its FIFOs have no names any more."""
+    name = door.new_name()
     try:
-        pipes = door.ask_for(door.new_name())
+        pipes = door.ask_for(name)
     except TurnedAway as turned:
         raise NotAsked(f"no session was to be had: {turned.fault}") from turned
     try:
         reader, writer, replies = await pipe_streams(*pipes.take_ends())
-        drive = AsyncDrive(reader, writer, timeout)
+        drive = NamedDrive(reader, writer, timeout)
+        drive.name = name
         try:
             await asyncio.wait_for(first_reply(drive), OPEN_SECONDS)
         except BaseException as error:

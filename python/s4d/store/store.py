@@ -7,15 +7,17 @@ import secrets
 from dataclasses import replace
 from typing import AsyncIterator, Callable, Coroutine, Dict, Iterator, NamedTuple, Optional, Set, Tuple, Type
 
+from ..async_drive import AsyncDrive
 from ..errors import ChainFull, NoMemory, NoObject, NoSpace, Refused
 from ..moments import machine_time
 from ..wire import READ_BYTES
 from .contents import Contents, Gone, Incoming, Pieces, stream
 from .drives import DriveAway, StoreDrive
-from .index import Bucket, Entry, Index, Place, entry_of
+from .index import Bucket, Change, Entry, Index, Place, entry_of
 from .layout import (BadHead, Piece, Version, bucket_attribute, bucket_record, first_drive, head_attribute, head_of, piece_attribute,
                      version_in)
 from .locks import Locks
+from .sessions import name_of
 
 APART = 1_000  # microseconds by which the moments of two drives of a machine may differ
 MOST_WAIT = 0.1  # seconds that an answer waits for the machine's time, which may have been set back
@@ -107,16 +109,20 @@ class Store:
             attribute = bucket_attribute(name)
 
             async def make(drive: StoreDrive) -> Bucket:
-                made = await drive.ask(lambda session: session.create(attribute))
-                return Bucket(name, Place(drive.number, made.object), made.moment)
+                async def create(session: AsyncDrive) -> Bucket:
+                    made = await session.create(attribute)
+                    change = Change(drive.number, name_of(session), "create", made.object, made.moment)
+                    return Bucket(name, Place(drive.number, made.object), made.moment, change=change)
+
+                return await drive.ask(create)
 
             with self._written_soon():
                 bucket = await self.pieces.anywhere(first_drive(name, "", len(self.pieces.drives)), make)
                 self.index.buckets[name] = bucket
             return bucket
 
-    async def delete_bucket(self, name: str) -> None:
-        """Deletes a bucket; BucketUsed where it has versions that can be read."""
+    async def delete_bucket(self, name: str) -> Change:
+        """Deletes a bucket: by which change. BucketUsed where it has versions that can be read."""
         async with self._locks.hold(name):
             bucket = self.bucket(name)
             if bucket.keys or bucket.puts or any(of == name for of, _ in self._doubts):
@@ -124,7 +130,7 @@ class Store:
             del self.index.buckets[name]  # so that nothing is put there meanwhile
             try:
                 await self._delete_others(bucket)
-                await self._delete_object(bucket.place)
+                return await self._delete_object(bucket.place)
             except (Refused, DriveAway) as error:
                 if not isinstance(error, DriveAway) or not error.was_asked:  # else it may be gone, and nothing may be put there
                     self.index.buckets[name] = bucket
@@ -155,8 +161,11 @@ class Store:
                 await self._delete_object(bucket.others[-1])
             bucket.others.pop()
 
-    async def _delete_object(self, place: Place) -> None:
-        await self.pieces.drives[place.drive].ask(lambda session: session.delete(place.object))
+    async def _delete_object(self, place: Place) -> Change:
+        async def delete(session: AsyncDrive) -> Change:
+            return Change(place.drive, name_of(session), "delete", place.object, await session.delete(place.object))
+
+        return await self.pieces.drives[place.drive].ask(delete)
 
     async def put(self, bucket: str, key: str, body: AsyncIterator[bytes], headers: Dict[str, str],
                   check: Check = unchecked) -> Entry:
@@ -284,9 +293,12 @@ class Store:
             raise
 
     async def _write_to(self, version: Version, place: Place, data: bytes) -> Entry:
-        drive = self.pieces.drives[place.drive]
+        async def write(session: AsyncDrive) -> Entry:
+            written = await session.write(place.object, 0, data)
+            return entry_of(version, place, written, Change(place.drive, name_of(session), "write", place.object, written))
+
         try:
-            return entry_of(version, place, await drive.ask(lambda session: session.write(place.object, 0, data)))
+            return await self.pieces.drives[place.drive].ask(write)
         except Refused:
             raise
         except BaseException as error:  # a cancellation, too, doesn't take the request back

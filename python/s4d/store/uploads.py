@@ -47,10 +47,12 @@ class UploadTooLarge(Exception):
 
 
 class Uploads:
-    """The uploads of a store, with those that its start found. A version may have at most `most` bytes."""
+    """The uploads of a store, with those that its start found. A version may have at most `most` bytes. Where drives were `away` at
+    the start, those that were begun before aren't known: DriveAway is raised where one of them may be asked for.
+    """
 
-    def __init__(self, store: Store, most: int, found: Iterable[Upload] = ()) -> None:
-        self._store, self._most = store, most
+    def __init__(self, store: Store, most: int, found: Iterable[Upload] = (), away: Sequence[int] = ()) -> None:
+        self._store, self._most, self._away = store, most, away
         self._uploads: Dict[str, Upload] = {it.id: it for it in found}
         self._locks = Locks()
 
@@ -73,12 +75,18 @@ class Uploads:
         """The upload of this id; NoUpload where it isn't there."""
         found = self._uploads.get(id)
         if found is None or (found.bucket, found.key) != (bucket, key):
+            self._check_known()
             raise NoUpload(id)
         return found
 
     def in_bucket(self, bucket: str) -> List[Upload]:
         """The uploads of a bucket, by key and time."""
+        self._check_known()
         return sorted((it for it in self._uploads.values() if it.bucket == bucket), key=lambda it: (it.key, it.time))
+
+    def _check_known(self) -> None:
+        for number in self._away:
+            raise DriveAway(number, was_asked=False)
 
     def version_of(self, bucket: str, key: str, id: str) -> Optional[Entry]:
         """The version that an upload has become, where it can be read."""
