@@ -76,7 +76,7 @@ impl<'a> EarlierImage<'a> {
     pub fn with_rows(self, rows: Vec<ImageRow>) -> Self
         requires { length rows.items < 2 ^ 32 }
         ensures { result
-            ≡ record self { header = record self.header { rows = length rows.items }; rows = rows.items } }
+            ≡ record self.entry { header = record self.entry.header { rows = length rows.items }; rows = rows.items } }
     {
         let mut image = self;
         image.header.rows = rows.len() as u32;

@@ -13,4 +13,4 @@ mod Fronts
 mod Filled
 mod Done
 mod Left
-mod Copies
+mod CopiedImages

@@ -1,6 +1,6 @@
 //! Copies of images of the present version.
 ghost use Rattle.std.specs.Prelude.{◌≡◌, ◌⊎◌, ◌≤◌, ℕ, List, Some, IfOk, IfErr, length, min};
-ghost use Rattle.std.specs.Prelude.{◌==◌, unwrap_or};
+ghost use Rattle.std.specs.Prelude.{◌==◌, ◌<◌, unwrap_or};
 ghost use Rattle.std.specs.List.{list_any};
 ghost use Rattle.s4_types.specs.declared.limits.TheConstants.{MOST_FRAMES};
 ghost use Rattle.s4_types.specs.declared.refusals.Cause.{Cause as Found};
@@ -66,9 +66,10 @@ fn left_of(
 {
     let mut left = Vec::new(alloc);
     for row in rows {
-        if asked.stays(row) {
-            left.push(*row)?;
+        if !asked.stays(row) {
+            continue;
         }
+        left.push(*row)?;
     }
     Ok(left)
 }

@@ -1,5 +1,5 @@
 use Rattle.migration.proofs.Then.{Laws}
-use Rattle.migration.proofs.Copies.{copies, no_more, source_of}
+use Rattle.migration.proofs.CopiedImages.{copies, no_more, source_of}
 use Rattle.migration.proofs.Left.{source_left}
 use Rattle.migration.proofs.copy_laws.what_was_laid_out_is_a_copy.Goals as goal
 

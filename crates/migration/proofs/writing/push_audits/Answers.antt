@@ -1,7 +1,7 @@
-use Rattle.std.proofs.Common.{◌<◌, ◌++◌, ◌∙◌, ap, length, take, arith}
+use Rattle.std.proofs.Common.{◌<◌, ◌++◌, ◌∙◌, ap, get_or, length, sym, take, arith}
 use Rattle.std.specs.List.{flat_map}
 use Rattle.image_parts.specs.Audit.{audit_bytes}
-use Rattle.verifier.proofs.Lists.{flat_more}
+use Rattle.std.proofs.lemmas.List.{flat_map_more, take_more}
 use Rattle.migration.proofs.writing.push_audits.Goals as goal
 
 pub loop-row-preserved : goal.loop-row-preserved
@@ -11,4 +11,5 @@ loop-row-preserved c =
     c.in_ok-push_audit.ensures.items
     ∙ ap (λ b. b ++ audit_bytes c.row-item.result) c.loop-row.invariant
     ∙ ap (λ r. (c.args.out.now.items ++ flat_map audit_bytes (take i c.args.rows.now)) ++ audit_bytes r) c.row-item.is
-    ∙ flat_more audit_bytes c.args.out.now.items c.args.rows.now i c.row-item.result lt
+    ∙ flat_map_more audit_bytes c.args.out.now.items (take i c.args.rows.now) (get_or c.args.rows.now i c.row-item.result)
+    ∙ ap (λ rows. c.args.out.now.items ++ flat_map audit_bytes rows) (sym (take_more c.args.rows.now i c.row-item.result lt))

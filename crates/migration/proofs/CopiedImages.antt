@@ -1,7 +1,8 @@
 -- What was laid out of the rows that stay is a copy.
-use Rattle.std.proofs.Common.{◌≡◌, ℕ, ◌<◌, ◌≤◌, ◌==◌, if◌then◌else◌, List, [], ◌∷◌, length, Option, Some, None, refl, sym, ap, subst, ◌∙◌, arith}
+use Rattle.std.proofs.Common.{inl, inr, ◌≡◌, ℕ, ◌<◌, ◌≤◌, ◌==◌, if◌then◌else◌, List, [], ◌∷◌, length, Option, Some, None, refl, sym, ap, subst, ◌∙◌, arith}
 use Rattle.std.specs.Prelude.{unwrap_or}
 use Rattle.s4_types.specs.Pointer.{Place}
+use Rattle.s4_types.specs.declared.refusals.Cause.{Cause}
 use Rattle.s4_types.specs.declared.audit_rows.AuditRow.{AuditRow}
 use Rattle.s4_model.specs.Audit.{AreAuditRows}
 use Rattle.block_log.specs.Log.{Stored}
@@ -12,6 +13,7 @@ use Rattle.codec.specs.declared.versions.ImageVersion.TheVariants.{Second}
 use Rattle.undo_redo.specs.Runs.{inode_after}
 use Rattle.segment_table.specs.Used.{used_at}
 use Rattle.image_parts.specs.declared.marks.ImageMark.TheVariants.{Third}
+use Rattle.image_parts.specs.Causes.{FirstSplitCause}
 use Rattle.image_parts.specs.Image.{Image}
 use Rattle.image_objects.specs.declared.rows.ImageRow.{ImageRow}
 use Rattle.image_objects.specs.Chains.{entries_used}
@@ -20,7 +22,7 @@ use Rattle.image_objects.specs.Objects.{inode_used}
 use Rattle.image_objects.specs.Versions.{entries_used_by, first_used_by, inode_used_by}
 use Rattle.image_objects.proofs.Seconds.{same_entries, same_first}
 use Rattle.version_store.specs.Versions.{version_by}
-use Rattle.verifier.specs.Grammar.{SpellsDrive}
+use Rattle.verifier.specs.Grammar.{FirstFault, SpellsDrive}
 use Rattle.verifier.specs.Opened.{inode_of_rows, version_of_rows}
 use Rattle.earlier_images.specs.Images.{EarlierFields, IsEarlierOf}
 use Rattle.earlier_images.specs.Used.{used_in}
@@ -49,6 +51,15 @@ second_inodes used (row ∷ rows) o t =
 
 second_version : (v : ImageVersion) (used : Place → Option Stored) (rows : List ImageRow) (o t : ℕ) → v ≡ Second → version_of_earlier v used rows o t ≡ version_of_rows used rows o t
 second_version v used rows o t is = subst (λ (w : ImageVersion). version_of_earlier w used rows o t ≡ version_of_rows used rows o t) (sym is) (ap (version_by used) (second_inodes used rows o t))
+
+-- ---- bytes that have no parts
+
+-- what can't be split into parts is refused by all tests of an image, for the same cause
+pub split_fault : (bytes : List ℕ) (cause : Cause) → FirstSplitCause bytes (Some cause) → FirstFault bytes (Some cause)
+split_fault bytes cause (inl bad) = inl bad
+split_fault bytes cause (inr (long, inl bad)) = inr (long, inl bad)
+split_fault bytes cause (inr (long, inr (header, inl bad))) = inr (long, inr (header, inl bad))
+split_fault bytes cause (inr (long, inr (header, inr (filled, none)))) = absurd cc
 
 -- ---- the copy
 
