@@ -19,10 +19,7 @@ use verifier::spans_of;
 /// What an image of the present version has whose parts these are, in the form in which an earlier
 /// one is read: its records are those of the second version. The rows of its audit stay in its
 /// parts. NoMemory alone.
-pub fn read_present<'a>(
-    alloc: Global,
-    parts: &ImageParts<'a>,
-) -> Result<EarlierImage<'a>, Refusal>
+pub fn read_present<'a>(alloc: Global, parts: &ImageParts<'a>) -> Result<EarlierImage<'a>, Refusal>
     requires rules { KeepsRules parts.now }
     requires chains { ChainsStand parts.now }
     ensures read { IfOk result (λ image. IsEarlierOf Second parts.now image) }

@@ -1,9 +1,8 @@
 -- What was laid out of the rows that stay is a copy.
-use Rattle.std.proofs.Common.{inl, inr, ◌≡◌, ℕ, ◌<◌, ◌≤◌, ◌==◌, if◌then◌else◌, List, [], ◌∷◌, length, Option, Some, None, refl, sym, ap, subst, ◌∙◌, arith}
+use Rattle.std.proofs.Common.{inl, inr, ◌≡◌, ℕ, ◌<◌, ◌≤◌, ◌==◌, if◌then◌else◌, List, [], ◌∷◌, length, Option, Some, refl, sym, ap, subst, ◌∙◌, arith}
 use Rattle.std.specs.Prelude.{unwrap_or}
 use Rattle.s4_types.specs.Pointer.{Place}
 use Rattle.s4_types.specs.declared.refusals.Cause.{Cause}
-use Rattle.s4_types.specs.declared.audit_rows.AuditRow.{AuditRow}
 use Rattle.s4_model.specs.Audit.{AreAuditRows}
 use Rattle.block_log.specs.Log.{Stored}
 use Rattle.codec.specs.Entry.{EntryFields}
@@ -16,10 +15,9 @@ use Rattle.image_parts.specs.declared.marks.ImageMark.TheVariants.{Third}
 use Rattle.image_parts.specs.Causes.{FirstSplitCause}
 use Rattle.image_parts.specs.Image.{Image}
 use Rattle.image_objects.specs.declared.rows.ImageRow.{ImageRow}
-use Rattle.image_objects.specs.Chains.{entries_used}
 use Rattle.image_objects.specs.Inodes.{first_used}
 use Rattle.image_objects.specs.Objects.{inode_used}
-use Rattle.image_objects.specs.Versions.{entries_used_by, first_used_by, inode_used_by}
+use Rattle.image_objects.specs.Versions.{entries_used_by, inode_used_by}
 use Rattle.image_objects.proofs.Seconds.{same_entries, same_first}
 use Rattle.version_store.specs.Versions.{version_by}
 use Rattle.verifier.specs.Grammar.{FirstFault, SpellsDrive}
@@ -27,14 +25,14 @@ use Rattle.verifier.specs.Opened.{inode_of_rows, version_of_rows}
 use Rattle.earlier_images.specs.Images.{EarlierFields, IsEarlierOf}
 use Rattle.earlier_images.specs.Used.{used_in}
 use Rattle.migration.specs.declared.copying.CopyAsked.{CopyAsked}
-use Rattle.migration.specs.Migrated.{inode_of_earlier, rows_then, version_of_earlier}
-use Rattle.migration.specs.Copies.{Copies, IsTooMuchToCopy, frames_allowed, frames_copied, rows_left}
+use Rattle.migration.specs.Migrated.{inode_of_earlier, version_of_earlier}
+use Rattle.migration.specs.Copies.{Copies, IsTooMuchToCopy, frames_allowed, frames_copied, rows_left, stays}
 use Rattle.migration.specs.private.Left.{with_left, with_parts_left}
 use Rattle.migration.specs.private.Written.{IsLaid, IsSource, MayHaveAudit}
 use Rattle.migration.proofs.Done.{OneRead, ReadAgain, are_then, written}
-use Rattle.migration.proofs.Left.{source_left}
+use Rattle.migration.proofs.Left.{few_left, source_left}
 use Rattle.migration.proofs.Then.{Laws, same_versions}
-use Rattle.migration.proofs.Whole.{image_written}
+use Rattle.migration.proofs.Whole.{as_many_rows, as_many_then, image_written}
 
 -- ---- versions, as rows of the second version have them
 
@@ -100,6 +98,11 @@ copies laws asked bytes new was image read of fits laid =
       frames = laid.parts.table;
       laters = laid.laters;
       rows = laid.parts.rows.spelled;
+      fewer =
+          let most = as_many_then laid.parts.parts (rows_left asked image.rows) laid.laters laid.parts.rows.spelled in
+          let fewer = few_left (λ (row : ImageRow). stays asked row.object row.created) image.rows in
+          let same = as_many_rows was.rows image.rows of.spelled in
+          omega (arith, most, fewer, same);
       versions = λ o time. same_versions image.version (used_in image.frames) (used_at laid.t) (rows_left asked image.rows) laid.laters image.clock o time (are_then laws Third (with_parts_left asked was) left was.audit frames new source laid)
           ∙ second_version image.version (used_in image.frames) (rows_left asked image.rows) o time of.version_is;
       copied = laid.copied;

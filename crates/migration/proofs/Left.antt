@@ -1,5 +1,5 @@
 -- An image without some of its objects keeps the rules.
-use Rattle.std.proofs.Common.{◌≡◌, ℕ, suc, ◌+◌, ◌<◌, ◌≤◌, Bool, true, false, List, [], ◌∷◌, length, filter, inl, inr, refl, sym, ap, subst, ◌∙◌, arith}
+use Rattle.std.proofs.Common.{◌≡◌, ℕ, ◌≤◌, Bool, List, [], ◌∷◌, length, filter, inl, inr, refl, sym, ap, subst, ◌∙◌, arith}
 use Rattle.std.specs.Prelude.{Option}
 use Rattle.std.specs.List.{AllByRecursion}
 use Rattle.std.proofs.lemmas.Bool.{cases_Bool, cond-true, cond-false}
@@ -71,15 +71,15 @@ follow_left h k object created test (part ∷ parts) next clock follow =
     let Follow : List RowPart → Type 0 = λ ps. RowsFollow k object created ps in
     elim (cases_Bool (test part)) [
       | inl is ↦ subst Follow (sym (cond-true (test part) (part ∷ filter test parts) (filter test parts) is)) (
-          record {
-            ascends = ascends;
-            later = later;
-            given = omega (arith, next, given);
-            made = omega (arith, clock, made);
-            hole = rules.hole;
-          },
-          rest,
-        )
+        record {
+          ascends = ascends;
+          later = later;
+          given = omega (arith, next, given);
+          made = omega (arith, clock, made);
+          hole = rules.hole;
+        },
+        rest,
+      )
       | inr not ↦ subst Follow (sym (cond-false (test part) (part ∷ filter test parts) (filter test parts) not))
           (follow_lower k part.object part.created object created (filter test parts) (omega (arith, ascends)) (omega (arith, later)) rest)
     ]

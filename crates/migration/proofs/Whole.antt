@@ -110,7 +110,7 @@ new_follow v used newer time h k object created o made (part ∷ parts) (n ∷ n
       new_follow v used newer time h k part.object part.created n.object n.created parts next rows laters same_next same_clock (sym is_object ∙ was_object) (sym is_created ∙ kept ∙ was_created) follow.1 was.1 is.1 are.1,
     )
 
-as_many_then : (parts : List RowPart) (rows : List ImageRow) (laters : List Row) → SpellRows parts (rows_then rows laters) → length parts ≤ length rows
+pub as_many_then : (parts : List RowPart) (rows : List ImageRow) (laters : List Row) → SpellRows parts (rows_then rows laters) → length parts ≤ length rows
 as_many_then [] rows laters spelled = omega arith
 as_many_then (part ∷ parts) [] laters spelled = absurd spelled
 as_many_then (part ∷ parts) (row ∷ rows) [] spelled = absurd spelled

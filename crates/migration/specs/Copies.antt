@@ -67,6 +67,7 @@ pub record Copies (asked : CopyAsked) (old new : List ℕ) : Type 0 where
   pub frames : IsTableOf is.frames table
   pub laters : List Row
   pub rows : SpellRows is.rows (rows_then (rows_left asked image.rows) laters)
+  pub fewer : length is.rows ≤ length was.rows
   pub versions : (o t : ℕ) → version_of_rows (used_at table) (rows_then (rows_left asked image.rows) laters) o t ≡ version_of_rows (used_in image.frames) (rows_left asked image.rows) o t
   pub copied : CopyRows image.version (used_in image.frames) (rows_left asked image.rows) laters (fresh_log (frames_copied asked image)) (log_of table)
   pub filled : FillsFrames (blocks_left asked image) (frames_copied asked image) table

@@ -146,5 +146,11 @@ pub fn copied<R: Threads>(
     let left = left_of(alloc, asked, image.rows())?;
     let audit = audit_of(alloc, &parts)?;
     let image = image.with_rows(left);
-    lay_out(alloc, &image, audit.as_slice(), frames, frames_allowed(asked))
+    lay_out(
+        alloc,
+        &image,
+        audit.as_slice(),
+        frames,
+        frames_allowed(asked),
+    )
 }

@@ -13,9 +13,7 @@ ghost use Rattle.migration.specs.private.Written.{ArePartsOf, AreBytesOf, IsLaid
 use crate::images::copy_image;
 use earlier_images::EarlierImage;
 use image_objects::ImageRow;
-use image_parts::{
-    AuditPart, Header, RowPart, image_length, push_audit, push_digest, push_header,
-};
+use image_parts::{AuditPart, Header, RowPart, image_length, push_audit, push_digest, push_header};
 use object_map::Row;
 use s4_types::Refusal;
 use segment_table::{OverFrames, SegmentTable};

@@ -144,11 +144,7 @@ fn perform_command<T: Threads, F: Files, D: Folders + Screens, W: ProgramOutput,
             compact.image,
             errors,
         ),
-        Command::Copy(copy) => copied(
-            copy_image(rt, alloc, files, copy, writer),
-            copy,
-            errors,
-        ),
+        Command::Copy(copy) => copied(copy_image(rt, alloc, files, copy, writer), copy, errors),
         Command::Salvage(salvage) => salvaged(
             salvage_image(rt, alloc, files, folders, salvage, writer),
             salvage,
@@ -324,11 +320,7 @@ fn has_no_reader<W: ProgramOutput>(failure: &Failure, writer: &W) -> bool
 }
 
 // The status of a copy, with why it failed where it did.
-fn copied<E: Write>(
-    placed: Result<Placed, CopyFailure>,
-    copy: &CopyAsked<'_>,
-    errors: &mut E,
-) -> u8
+fn copied<E: Write>(placed: Result<Placed, CopyFailure>, copy: &CopyAsked<'_>, errors: &mut E) -> u8
     ensures status { result ≤ 1 }
     ensures done { result ≡ 0 → IsOk placed }
 {

@@ -1,5 +1,5 @@
 -- What encodes no command under one name encodes none under the same.
-use Rattle.std.proofs.Common.{◌≡◌, ◌≢◌, ℕ, List, Result, OnErr, Some, codes, subst}
+use Rattle.std.proofs.Common.{◌≡◌, ◌≢◌, ℕ, List, Result, OnErr, Some, subst}
 use Rattle.std.proofs.lemmas.Result.{on_err_weaker}
 use Rattle.clap.specs.Walk.{Row, Text}
 use Rattle.s4_command.specs.CommandLine.{SpellsNone}

@@ -1,6 +1,5 @@
 -- What is asked of a copy, by the words of a line and the image.
-use Rattle.std.specs.Prelude.{◌≡◌, ℕ, ◌-◌, ◌^◌, min, List, Option, Some, None, option_map, map}
-use Rattle.std.specs.List.{All, Contains}
+use Rattle.std.specs.Prelude.{◌≡◌, ℕ, ◌-◌, ◌^◌, min, Option, Some, None, option_map}
 use Rattle.moment_words.specs.Words.{moment_of}
 use Rattle.moment_words.specs.declared.words.MomentWord.{MomentWord}
 use Rattle.image_parts.specs.Image.{Image}
@@ -21,14 +20,9 @@ abbrev pub HasNoMoment : Option MomentWord → ℕ → Type 0
 HasNoMoment None clock = ⊥
 HasNoMoment (Some word) clock = moment_of word clock ≡ None
 
--- an image has a row of an object
-abbrev pub HasRow : Image → ℕ → Type 0
-HasRow image o = Contains (map (λ row. row.object) image.rows) o
-
--- This is asked of the copy of an image: the frames, the objects and the moment of a line, which its image has.
+-- This is asked of the copy of an image: the frames, the objects and the moment of a line.
 pub record Wants (asked : CopyAsked) (image : Image) (wanted : Wanted) : Type 0 where
   pub frames : wanted.frames ≡ option_map clipped asked.frames
   pub objects : wanted.objects.now ≡ asked.without.items
   pub since : wanted.since ≡ moment_asked asked.created_since image.clock
   pub said : HasNoMoment asked.created_since image.clock → ⊥
-  pub named : All (HasRow image) asked.without.items

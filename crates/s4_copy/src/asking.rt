@@ -1,9 +1,9 @@
 //! What is asked of a copy, by the words of a line and the image.
-ghost use Rattle.std.specs.Prelude.{◌≡◌, IfOk, IfErr, option_map};
+ghost use Rattle.std.specs.Prelude.{◌≡◌, IfOk, OnErr, OnOk, option_map};
 ghost use Rattle.s4_copy.specs.Asking.{clipped, HasNoMoment, moment_asked};
 
-use moment_words::{MomentWord, moment_of};
 use image_parts::Header;
+use moment_words::{MomentWord, moment_of};
 use s4_images::{Failure, as_number};
 use s4_types::{Moment, ObjectId};
 use std::alloc::{AllocError, Global};
@@ -34,7 +34,8 @@ pub(crate) fn moment_asked(
     word: Option<MomentWord>,
 ) -> Result<Option<Moment>, Failure>
     ensures moment { IfOk result (λ found. found ≡ moment_asked word header.now.clock) }
-    ensures said { IfErr result (λ _. HasNoMoment word header.now.clock) }
+    ensures said { OnOk result (HasNoMoment word header.now.clock → ⊥) }
+    ensures refused { OnErr result (HasNoMoment word header.now.clock) }
 {
     let Some(word) = word else {
         return Ok(None);

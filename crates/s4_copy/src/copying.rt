@@ -1,12 +1,10 @@
 //! `copy`.
 ghost use Rattle.std.specs.Prelude.{◌≡◌, ◌+◌, ◌^◌, ◌<◌, ℕ, List, [], IfOk, OnErr, OnOk};
-ghost use Rattle.std.specs.Prelude.{◌≤◌, IsTrue, Some, length};
-ghost use Rattle.std.specs.List.{All};
+ghost use Rattle.std.specs.Prelude.{◌≤◌, Some, length};
 ghost use Rattle.std.specs.Io.KnownBytes.{Keeps};
 ghost use Rattle.image_parts.specs.Image.{image_in};
 ghost use Rattle.verifier.specs.Grammar.{SpellsDrive};
 ghost use Rattle.image_commands.specs.Files.{AreKnown, KeepsAll, KeepsOthers};
-ghost use Rattle.s4_copy.specs.Asking.{HasRow};
 ghost use Rattle.s4_copy.specs.Copying.{CopiesImage, IsMade, Tells};
 
 use crate::asking::{frames_asked, moment_asked, objects_of};
@@ -21,7 +19,7 @@ use s4_types::{Moment, ObjectId, Refusal};
 use serving::Sink;
 use std::alloc::Global;
 use std::thread::Threads;
-use verifier::laws::what_has_a_fault_spells_nothing;
+use verifier::laws::{what_has_a_fault_spells_nothing, what_has_no_fault_is_an_image};
 
 /// What can be done where the copy needs more frames than it may have.
 const MORE_FRAMES: &str =
@@ -132,6 +130,7 @@ fn copy_of<T: Threads>(
     ensures made { IfOk result
         (λ made. IsMade asked.now bytes.now made.bytes.items made.report) }
 {
+    what_has_no_fault_is_an_image();
     let parts = parts_of(bytes)?;
     check_named(&parts, asked)?;
     let since = moment_asked(&parts.header(), asked.created_since)?;
@@ -165,9 +164,7 @@ fn parts_of(bytes: &[u8]) -> Result<ImageParts<'_>, Failure>
 }
 
 // An error where an object that is to be left out isn't in the image.
-fn check_named(parts: &ImageParts<'_>, asked: &CopyAsked<'_>) -> Result<(), Failure>
-    ensures named { OnOk result (All (HasRow parts.now) asked.now.without.items) }
-{
+fn check_named(parts: &ImageParts<'_>, asked: &CopyAsked<'_>) -> Result<(), Failure> {
     for object in asked.without.as_slice() {
         if !has_row(parts, ObjectId::new(*object)) {
             return Err(Failure::NoObject { object: *object });
@@ -177,9 +174,7 @@ fn check_named(parts: &ImageParts<'_>, asked: &CopyAsked<'_>) -> Result<(), Fail
 }
 
 // Whether an image has a row of an object.
-fn has_row(parts: &ImageParts<'_>, object: ObjectId) -> bool
-    ensures { IsTrue result → HasRow parts.now object }
-{
+fn has_row(parts: &ImageParts<'_>, object: ObjectId) -> bool {
     for row in parts.rows() {
         if row.object == object {
             return true;

@@ -30,19 +30,9 @@ fn report_text(alloc: Global, report: &Report) -> Result<String, AllocError>
 fn report_value(alloc: Global, report: &Report) -> Result<Value, AllocError>
     ensures { IfOk result (λ value. view value ≡ report_data report.now) }
 {
-    let made = with_number(
-        alloc,
-        no_members(alloc),
-        "frames",
-        u64::from(report.frames),
-    );
+    let made = with_number(alloc, no_members(alloc), "frames", u64::from(report.frames));
     let made = with_number(alloc, made, "objects", u64::from(report.objects));
-    object_of(with_number(
-        alloc,
-        made,
-        "left_out",
-        u64::from(report.left_out),
-    ))
+    object_of(with_number(alloc, made, "left_out", u64::from(report.left_out)))
 }
 
 // The line that programs read.

@@ -1,4 +1,4 @@
-use Rattle.std.proofs.Common.{◌≡◌, ◌≤◌, ◌<◌, ℕ, List, length, sym, ap, subst, ◌∙◌, arith}
+use Rattle.std.proofs.Common.{◌≡◌, ◌≤◌, ℕ, List, length, sym, ap, subst, ◌∙◌, arith}
 use Rattle.std.specs.List.{AllByRecursion}
 use Rattle.s4_types.specs.declared.limits.TheConstants.{MOST_FRAMES}
 use Rattle.codec.specs.declared.versions.ImageVersion.TheVariants.{Second}
@@ -6,7 +6,6 @@ use Rattle.image_parts.specs.declared.marks.ImageMark.TheVariants.{Third}
 use Rattle.image_parts.specs.Image.{Image, image_in}
 use Rattle.image_objects.specs.declared.rows.ImageRow.{ImageRow}
 use Rattle.image_objects.specs.Versions.{ObjectStandsBy}
-use Rattle.verifier.specs.Grammar.{SpellsDrive}
 use Rattle.earlier_images.specs.declared.frames.EarlierFrame.{EarlierFrame}
 use Rattle.earlier_images.specs.Images.{EarlierFields, IsEarlierOf}
 use Rattle.earlier_images.specs.Used.{used_in}

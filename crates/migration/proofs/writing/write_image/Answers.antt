@@ -1,4 +1,4 @@
-use Rattle.std.proofs.Common.{◌≡◌, ℕ, List, [], ◌++◌, length, sym, ap, subst, ◌∙◌}
+use Rattle.std.proofs.Common.{◌≡◌, ℕ, List, [], ◌++◌, length, ap, subst, ◌∙◌}
 use Rattle.std.specs.List.{flat_map}
 use Rattle.s4_types.specs.declared.spans.Span.{Span}
 use Rattle.image_parts.specs.declared.headers.Header.{Header}
