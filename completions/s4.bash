@@ -16,7 +16,7 @@ _s4_read() {
             option=''
         elif [[ ! $is_ended && $part == -- ]]; then
             is_ended=1
-        elif [[ ! $is_ended && $part == --@(at|object|name|since|until|kind|limit|map|leap) ]]; then
+        elif [[ ! $is_ended && $part == --@(at|object|name|since|until|kind|limit|map|leap|frames|without|without-created-since) ]]; then
             option=$part
         elif [[ ! $is_ended && $part == -* ]]; then
             continue
@@ -27,7 +27,7 @@ _s4_read() {
         fi
     done
     is_past_options=$is_ended
-    if [[ ! $option && ! $is_ended && $whole == --@(at|object|name|since|until|kind|limit|map|leap)=* ]]; then
+    if [[ ! $option && ! $is_ended && $whole == --@(at|object|name|since|until|kind|limit|map|leap|frames|without|without-created-since)=* ]]; then
         option=${whole%%=*} whole=${whole#*=}
     fi
     word=${whole##*[=:]}
@@ -54,6 +54,7 @@ _s4_options() {
         export) echo --at --help --version ;;
         restore) echo --at --object --name --map --dry-run --flush --skip --keep-newer --to-nothing --leap --json --help --version ;;
         check | compact | salvage) echo --json --help --version ;;
+        copy) echo --frames --without --without-created-since --json --help --version ;;
         report) echo --since --help --version ;;
         '') echo --help --version ;;
     esac
@@ -69,8 +70,8 @@ _s4_value() {
 
 _s4_operand() {
     case "$command:$operands" in
-        :* | help:0) _s4_words 'list log audit cat info diff export restore check compact salvage report help' ;;
-        list:0 | log:0 | audit:0 | cat:0 | info:0 | diff:0 | export:0 | restore:0 | check:0 | compact:0 | salvage:0 | report:0) _s4_files -f ;;
+        :* | help:0) _s4_words 'list log audit cat info diff export restore check compact copy salvage report help' ;;
+        list:0 | log:0 | audit:0 | cat:0 | info:0 | diff:0 | export:0 | restore:0 | check:0 | compact:0 | copy:0 | copy:1 | salvage:0 | report:0) _s4_files -f ;;
         export:1 | salvage:1) _s4_files -d ;;
     esac
 }

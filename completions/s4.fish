@@ -13,7 +13,7 @@ function __s4_is
             set is_value ''
         else if test -z "$is_ended"; and test "$word" = --
             set is_ended 1
-        else if test -z "$is_ended"; and contains -- "$word" --at --object --name --since --until --kind --limit --map --leap
+        else if test -z "$is_ended"; and contains -- "$word" --at --object --name --since --until --kind --limit --map --leap --frames --without --without-created-since
             set is_value 1
         else if test -z "$is_ended"; and string match -q -- '-*' "$word"
             continue
@@ -43,6 +43,7 @@ complete -c s4 -n "__s4_is ''" -a export -d 'Writes the bytes of each object int
 complete -c s4 -n "__s4_is ''" -a restore -d 'Makes the present what it was at a moment'
 complete -c s4 -n "__s4_is ''" -a check -d 'Reads every version that can be read'
 complete -c s4 -n "__s4_is ''" -a compact -d 'Cleans a drive, and gathers what is scattered'
+complete -c s4 -n "__s4_is ''" -a copy -d 'Makes another image of the same versions, in other frames or without some objects'
 complete -c s4 -n "__s4_is ''" -a salvage -d 'Writes what a damaged image still has of each object into a folder'
 complete -c s4 -n "__s4_is ''" -a report -d 'Prints a page for browsers: the objects, what was changed, and what differs'
 complete -c s4 -n "__s4_is ''" -a help -d 'Prints what a command does'
@@ -58,6 +59,7 @@ complete -c s4 -n "__s4_is help 0" -a export -d 'Writes the bytes of each object
 complete -c s4 -n "__s4_is help 0" -a restore -d 'Makes the present what it was at a moment'
 complete -c s4 -n "__s4_is help 0" -a check -d 'Reads every version that can be read'
 complete -c s4 -n "__s4_is help 0" -a compact -d 'Cleans a drive, and gathers what is scattered'
+complete -c s4 -n "__s4_is help 0" -a copy -d 'Makes another image of the same versions, in other frames or without some objects'
 complete -c s4 -n "__s4_is help 0" -a salvage -d 'Writes what a damaged image still has of each object into a folder'
 complete -c s4 -n "__s4_is help 0" -a report -d 'Prints a page for browsers: the objects, what was changed, and what differs'
 complete -c s4 -n "__s4_is help 0" -a help -d 'Prints what a command does'
@@ -139,6 +141,14 @@ complete -c s4 -n "__s4_is 'compact'" -l json -d 'Prints one JSON object'
 complete -c s4 -n "__s4_is 'compact'" -l help -d 'Prints what the program does, or a command'
 complete -c s4 -n "__s4_is 'compact'" -l version -d 'Prints the version'
 complete -c s4 -n "__s4_is 'compact' 0" -F
+complete -c s4 -n "__s4_is 'copy'" -l frames -r -f -d 'In this many frames, 24 to 1024'
+complete -c s4 -n "__s4_is 'copy'" -l without -r -f -d 'Without this object and its past; may be given again'
+complete -c s4 -n "__s4_is 'copy'" -l without-created-since -r -f -d 'Without the objects that were made at this moment or later'
+complete -c s4 -n "__s4_is 'copy'" -l json -d 'Prints one JSON object'
+complete -c s4 -n "__s4_is 'copy'" -l help -d 'Prints what the program does, or a command'
+complete -c s4 -n "__s4_is 'copy'" -l version -d 'Prints the version'
+complete -c s4 -n "__s4_is 'copy' 0" -F
+complete -c s4 -n "__s4_is 'copy' 1" -F
 complete -c s4 -n "__s4_is 'salvage'" -l json -d 'Prints one JSON object'
 complete -c s4 -n "__s4_is 'salvage'" -l help -d 'Prints what the program does, or a command'
 complete -c s4 -n "__s4_is 'salvage'" -l version -d 'Prints the version'

@@ -10,13 +10,13 @@ from concurrent.futures import ThreadPoolExecutor
 
 TOP = pathlib.Path(__file__).resolve().parents[1]
 PROGRAMS = {name: os.environ.get(name.upper(), f"{TOP}/crates/{name}/out/{name}") for name in ("s4", "s4serve")}
-COMMANDS = "audit cat check compact diff export help info list log report restore salvage".split()
+COMMANDS = "audit cat check compact copy diff export help info list log report restore salvage".split()
 FILES = ["drive.image", "drives", "kept", "other drive"]
 
 # The words of a line, of which the last is being completed, and what it is completed to.
 CASES = [
     (["s4", ""], COMMANDS),
-    (["s4", "c"], ["cat", "check", "compact"]),
+    (["s4", "c"], ["cat", "check", "compact", "copy"]),
     (["s4", "reset"], []),
     (["s4", "-"], ["--help", "--version"]),
     (["s4", "restore", "--k"], ["--keep-newer"]),
@@ -147,7 +147,7 @@ class Installed(unittest.TestCase):
             env = {**os.environ, **dict.fromkeys(("S4D", "S4", "S4SERVE"), shutil.which("true")), "XDG_DATA_DIRS": f"{prefix}/share",
                    "HOME": prefix, "XDG_CONFIG_HOME": prefix, "TERM": "dumb", "PATH": f"{prefix}/bin:{os.environ['PATH']}"}
             subprocess.run([TOP / "install.sh", prefix], env=env, stdout=subprocess.DEVNULL, check=True)
-            for words, wanted in ((["fish", "-c", "complete -C 's4 c' | cut -f 1"], "cat\ncheck\ncompact\n"),
+            for words, wanted in ((["fish", "-c", "complete -C 's4 c' | cut -f 1"], "cat\ncheck\ncompact\ncopy\n"),
                                   (["zsh", "-fc", "fpath=($0 $fpath); autoload -Uz compinit; compinit -D -u; print $_comps[s4] $_comps[s4d]",
                                     f"{prefix}/share/zsh/site-functions"], "_s4 _s4d\n")):
                 ran = subprocess.run(words, env=env, stdin=subprocess.DEVNULL, capture_output=True, text=True, check=False)

@@ -4,3 +4,4 @@ mod TableNames
 mod AllRows
 mod Faults
 mod OneImage
+mod PresentRows

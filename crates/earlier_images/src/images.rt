@@ -1,5 +1,5 @@
 //! Images of earlier versions that were read.
-ghost use Rattle.std.specs.Prelude.{◌≡◌};
+ghost use Rattle.std.specs.Prelude.{◌≡◌, ◌<◌, ◌^◌, length};
 
 use crate::frames::EarlierFrames;
 use codec::ImageVersion;
@@ -70,6 +70,18 @@ impl<'a> EarlierImage<'a> {
         ensures { result.now ≡ self.now.rows }
     {
         self.rows.as_slice()
+    }
+
+    /// The same image with these rows in place of its own, which its header counts.
+    pub fn with_rows(self, rows: Vec<ImageRow>) -> Self
+        requires { length rows.items < 2 ^ 32 }
+        ensures { result
+            ≡ record self.entry { header = record self.entry.header { rows = length rows.items }; rows = rows.items } }
+    {
+        let mut image = self;
+        image.header.rows = rows.len() as u32;
+        image.rows = rows;
+        image
     }
 
     /// The spans, by object and first moment.

@@ -12,3 +12,5 @@ mod Parts
 mod Fronts
 mod Filled
 mod Done
+mod Left
+mod CopiedImages

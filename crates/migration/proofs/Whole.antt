@@ -9,14 +9,15 @@ use Rattle.s4_types.specs.declared.spans.Span.{Span}
 use Rattle.block_log.specs.Log.{Stored}
 use Rattle.codec.specs.Fields.{number, SpellsSlot}
 use Rattle.codec.specs.declared.versions.ImageVersion.{ImageVersion}
-use Rattle.image_parts.specs.declared.marks.ImageMark.TheVariants.{Earlier, Third}
-use Rattle.image_parts.specs.Marks.{earlier_in}
+use Rattle.image_parts.specs.declared.audit.AuditPart.{AuditPart}
+use Rattle.image_parts.specs.declared.marks.ImageMark.{ImageMark}
+use Rattle.image_parts.specs.declared.marks.ImageMark.TheVariants.{Third}
 use Rattle.object_map.specs.declared.map.Row.{Row}
 use Rattle.time_read.specs.Orderly.{IsFromTo}
 use Rattle.segment_table.specs.Table.{Table}
 use Rattle.segment_table.specs.Used.{used_at}
 use Rattle.image_parts.specs.Frames.{FrameFields}
-use Rattle.image_parts.specs.Image.{Image, SpellsImageBy, header_of, image_bytes, image_bytes_by}
+use Rattle.image_parts.specs.Image.{Image, header_of, image_bytes, image_bytes_by}
 use Rattle.image_parts.specs.Rows.{RowsFollow}
 use Rattle.image_parts.specs.Spans.{IsSpan, KeepsSpanRules, KeepSpanRules, SpansFollow, SpansKeep}
 use Rattle.image_parts.specs.declared.headers.Header.{Header}
@@ -26,11 +27,11 @@ use Rattle.image_objects.specs.Rows.{RowsStand}
 use Rattle.verifier.specs.Grammar.{SpellsDrive}
 use Rattle.verifier.specs.Rows.{SpellRows}
 use Rattle.verifier.proofs.SavedWhole.{no_pointer}
-use Rattle.earlier_images.specs.Images.{EarlierFields, IsEarlierOf}
+use Rattle.earlier_images.specs.Images.{EarlierFields}
 use Rattle.earlier_images.specs.Used.{used_in}
 use Rattle.migration.specs.Rows.{AscendAbove}
 use Rattle.migration.specs.Migrated.{rows_then}
-use Rattle.migration.specs.private.Written.{AreBytesOf}
+use Rattle.migration.specs.private.Written.{AreBytesOf, IsSource, MayHaveAudit}
 use Rattle.migration.proofs.Then.{AreThen}
 
 -- ---- what the old rows keep
@@ -70,7 +71,7 @@ spans_follow h k before nth [] next floor clock follow = tt
 spans_follow h k before nth (s ∷ spans) next floor clock (rules, inl begins) = (span_kept h k s next floor clock rules, inl (begins.0, spans_follow h k s 1 spans next floor clock begins.1))
 spans_follow h k before nth (s ∷ spans) next floor clock (rules, inr goes) = (span_kept h k s next floor clock rules, inr (goes.0, spans_follow h k s (nth + 1) spans next floor clock goes.1))
 
-spans_keep : (h k : Header) (spans : List Span) → h.next ≡ k.next → h.floor ≡ k.floor → h.clock ≡ k.clock → SpansKeep h spans → SpansKeep k spans
+pub spans_keep : (h k : Header) (spans : List Span) → h.next ≡ k.next → h.floor ≡ k.floor → h.clock ≡ k.clock → SpansKeep h spans → SpansKeep k spans
 spans_keep h k [] next floor clock keep = tt
 spans_keep h k (s ∷ spans) next floor clock (rules, follow) = (span_kept h k s next floor clock rules, spans_follow h k s 1 spans next floor clock follow)
 
@@ -109,7 +110,7 @@ new_follow v used newer time h k object created o made (part ∷ parts) (n ∷ n
       new_follow v used newer time h k part.object part.created n.object n.created parts next rows laters same_next same_clock (sym is_object ∙ was_object) (sym is_created ∙ kept ∙ was_created) follow.1 was.1 is.1 are.1,
     )
 
-as_many_then : (parts : List RowPart) (rows : List ImageRow) (laters : List Row) → SpellRows parts (rows_then rows laters) → length parts ≤ length rows
+pub as_many_then : (parts : List RowPart) (rows : List ImageRow) (laters : List Row) → SpellRows parts (rows_then rows laters) → length parts ≤ length rows
 as_many_then [] rows laters spelled = omega arith
 as_many_then (part ∷ parts) [] laters spelled = absurd spelled
 as_many_then (part ∷ parts) (row ∷ rows) [] spelled = absurd spelled
@@ -118,30 +119,31 @@ as_many_then (part ∷ parts) (row ∷ rows) (later ∷ laters) spelled = let re
 -- ---- the whole
 
 -- the image that the parts are
-abbrev pub image_written : EarlierFields → List FrameFields → List RowPart → Image
-image_written old frames parts = record { clock = old.clock; window = old.window; floor = old.floor; next = old.next; frames = frames; rows = parts; spans = old.spans; audit = [] }
+abbrev pub image_written : EarlierFields → List AuditPart → List FrameFields → List RowPart → Image
+image_written old audit frames parts = record { clock = old.clock; window = old.window; floor = old.floor; next = old.next; frames = frames; rows = parts; spans = old.spans; audit = audit }
 
 spelled_by : (image : Image) (bytes : List ℕ) → bytes ≡ image_bytes image → bytes ≡ image_bytes_by Third image
 unfolding image_bytes
 spelled_by image bytes is = is
 
-pub spells : (bytes new : List ℕ) (was : Image) (earlier : EarlierFields) (t : Table) (laters : List Row) → SpellsImageBy (Earlier (earlier_in bytes)) bytes was → IsEarlierOf (earlier_in bytes) was earlier → IsFrameCount (length t.seat.frames)
-    → AreThen earlier.version (used_in earlier.frames) (used_at t) earlier.rows laters earlier.clock → RowsStand (used_at t) (rows_then earlier.rows laters) earlier.clock → (parts : AreBytesOf earlier t laters new)
-    → SpellsDrive new (image_written earlier parts.frames parts.parts)
-spells bytes new was earlier t laters read of count are stand parts =
-    let image : Image = image_written earlier parts.frames parts.parts in
-    let numbers = read.is in
-    let old = read.rules.header in
+pub spells : (mark : ImageMark) (new : List ℕ) (was : Image) (old : EarlierFields) (audit : List AuditPart) (t : Table) (laters : List Row) → IsSource mark was old → MayHaveAudit old audit → IsFrameCount (length t.seat.frames)
+    → AreThen old.version (used_in old.frames) (used_at t) old.rows laters old.clock → RowsStand (used_at t) (rows_then old.rows laters) old.clock → (parts : AreBytesOf old audit t laters new)
+    → SpellsDrive new (image_written old audit parts.frames parts.parts)
+spells mark new was old audit t laters source may count are stand parts =
+    let image : Image = image_written old audit parts.frames parts.parts in
+    let of = source.of in
+    let numbers = source.is in
+    let before = source.rules.header in
     let clock_fits = numbers.clock in
     let window_fits = numbers.window in
     let next_fits = numbers.next in
     let few = numbers.row_count in
-    let window = old.window in
-    let floor = old.floor in
-    let next = old.next in
-    let given = old.given in
-    let as_many = as_many_rows was.rows earlier.rows of.spelled in
-    let most = as_many_then parts.parts earlier.rows laters parts.rows.spelled in
+    let window = before.window in
+    let floor = before.floor in
+    let next = before.next in
+    let given = before.given in
+    let as_many = as_many_rows was.rows old.rows of.spelled in
+    let most = as_many_then parts.parts old.rows laters parts.rows.spelled in
     let frames : length t.seat.frames ≡ length parts.frames = parts.table.frame_count in
     record {
       parts = record {
@@ -153,8 +155,8 @@ spells bytes new was earlier t laters read of count are stand parts =
           rows = parts.rows.are;
           spans = subst (λ (s : List Span). AllByRecursion IsSpan s) (sym of.spans) numbers.spans;
           row_count = omega (arith, few, as_many, most);
-          audit = tt;
-          audit_count = omega arith;
+          audit = may.are;
+          audit_count = may.count;
         };
         rules = record {
           header = record {
@@ -166,17 +168,17 @@ spells bytes new was earlier t laters read of count are stand parts =
             audit = tt;
           };
           frames = parts.rules;
-          spans = subst (λ (s : List Span). KeepSpanRules (header_of image) s) (sym of.spans) (record { each = spans_keep (header_of was) (header_of image) was.spans (sym of.next) (sym of.floor) (sym of.clock) read.rules.spans.each; few = read.rules.spans.few });
-          rows = new_follow earlier.version (used_in earlier.frames) (used_at t) earlier.clock (header_of was) (header_of image) 0 0 0 0 was.rows parts.parts earlier.rows laters (sym of.next) (sym of.clock) refl refl read.rules.rows of.spelled parts.rows.spelled are;
+          spans = subst (λ (s : List Span). KeepSpanRules (header_of image) s) (sym of.spans) (record { each = spans_keep (header_of was) (header_of image) was.spans (sym of.next) (sym of.floor) (sym of.clock) source.rules.spans.each; few = source.rules.spans.few });
+          rows = new_follow old.version (used_in old.frames) (used_at t) old.clock (header_of was) (header_of image) 0 0 0 0 was.rows parts.parts old.rows laters (sym of.next) (sym of.clock) refl refl source.rules.rows of.spelled parts.rows.spelled are;
         };
         spelled = spelled_by image new parts.bytes_are;
       };
       chains = record {
         table = t;
         frames = parts.table;
-        rows = rows_then earlier.rows laters;
+        rows = rows_then old.rows laters;
         spelled = parts.rows.spelled;
         stand = stand;
       };
-      audit = record { rows = []; spelled = refl; kept = record { each = tt; ascend = tt } };
+      audit = record { rows = may.rows; spelled = may.spelled; kept = may.kept };
     }

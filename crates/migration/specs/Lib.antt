@@ -4,4 +4,5 @@ pub mod Copied
 pub mod Rows
 pub mod Frames
 pub mod Migrated
+pub mod Copies
 pub mod private

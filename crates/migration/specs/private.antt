@@ -3,3 +3,4 @@ pub mod CopyLaws
 pub mod Ranks
 pub mod Copied
 pub mod Written
+pub mod Left

@@ -8,11 +8,10 @@ ghost use Rattle.earlier_images.specs.Grammar.{FirstEarlierFault};
 ghost use Rattle.migration.specs.Migrated.{IsTooMuch, LaysOut, Migrates};
 
 use crate::copy_laws::what_was_written_is_migrated;
-use crate::images::copy_image;
-use crate::writing::write_image;
+use crate::writing::lay_out;
 use earlier_images::read_earlier;
 use s4_types::Refusal;
-use segment_table::OverFrames;
+use s4_types::limits::MOST_FRAMES;
 use std::alloc::Global;
 use std::thread::Threads;
 use verifier::laws::what_has_a_fault_spells_nothing;
@@ -37,25 +36,9 @@ pub fn migrated(alloc: Global, bytes: &[u8]) -> Result<Vec<u8>, Refusal>
 {
     what_was_written_is_migrated();
     let old = read_earlier(alloc, bytes)?;
-    let used = old.frames();
-    let copied = copy_image(
-        alloc,
-        old.version(),
-        used,
-        old.rows(),
-        old.header().clock,
-        used.len(),
-    )?;
-    let mut table = copied.table;
-    table.frame_rules();
-    let new = write_image(
-        alloc,
-        &old,
-        &mut table,
-        copied.filled,
-        copied.rows.as_slice(),
-    )?;
-    Ok(new)
+    let audit = Vec::new(alloc);
+    let frames = old.frames().len();
+    lay_out(alloc, &old, audit.as_slice(), frames, MOST_FRAMES)
 }
 
 /// The image of the present version that an image of an earlier one becomes, read back from the

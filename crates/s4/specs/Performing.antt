@@ -26,6 +26,7 @@ use Rattle.s4_reading.specs.Telling.{Informs}
 use Rattle.s4_report.specs.Reporting.{ReportsDrive}
 use Rattle.s4_restore.specs.Images.{PerformsRestore}
 use Rattle.s4_compact.specs.Compacting.{Compacts}
+use Rattle.s4_copy.specs.Copying.{CopiesImage}
 
 -- A command is done, by what is known of the files before and after it, by what an export of a drive is and a salvage of a file's bytes, and by what
 -- the output has then. `diff` is where nothing that it compares differs (an object with a hidden moment is passed over), and `salvage` where nothing is lost.
@@ -41,6 +42,7 @@ IsDoneOver files files' Exported Salvaged output output' (command.Export export)
 IsDoneOver files files' Exported Salvaged output output' (command.Restore restore) = PerformsRestore files files' restore output output'
 IsDoneOver files files' Exported Salvaged output output' (command.Check check) = OverImage (files check.image.now) (λ d. Checks d check Fine output output')
 IsDoneOver files files' Exported Salvaged output output' (command.Compact compact) = ChangesImage (files compact.image.now) (files' compact.image.now) (λ d later. Compacts d later compact output output')
+IsDoneOver files files' Exported Salvaged output output' (command.Copy copy) = CopiesImage (files copy.image.now) (files' copy.copy.now) copy output output'
 IsDoneOver files files' Exported Salvaged output output' (command.Salvage salvage) = Salvaged (files salvage.image.now) salvage output output'
 
 -- The reader of the output has gone, and all files are as they were.
@@ -54,7 +56,9 @@ IsEndedOver gone files files' Exported Salvaged output output' (command.Export e
 IsEndedOver gone files files' Exported Salvaged output output' (command.Restore restore) = IsDoneOver files files' Exported Salvaged output output' (command.Restore restore)
 IsEndedOver gone files files' Exported Salvaged output output' (command.Check check) = IsDoneOver files files' Exported Salvaged output output' (command.Check check)
 IsEndedOver gone files files' Exported Salvaged output output' (command.Compact compact) = IsDoneOver files files' Exported Salvaged output output' (command.Compact compact)
-IsEndedOver gone files files' Exported Salvaged output output' (command.Salvage salvage) = IsDoneOver files files' Exported Salvaged output output' (command.Salvage salvage)
+IsEndedOver gone files files' Exported Salvaged output output' (command.Copy copy) = IsDoneOver files files' Exported Salvaged output output' (command.Copy copy)
+IsEndedOver gone files files' Exported Salvaged output output' (command.Salvage salvage) = IsDoneOver files files' Exported Salvaged output output' (command.Copy copy) = CopiesImage (files copy.image.now) (files' copy.copy.now) copy output output'
+IsDoneOver files files' Exported Salvaged output output' (command.Salvage salvage)
 IsEndedOver gone files files' Exported Salvaged output output' c = IsDoneOver files files' Exported Salvaged output output' c ⊎ IsUnread gone files files'
 
 -- A command isn't done: all files are as they were. Or it is done, but that this lasts wasn't seen.

@@ -11,9 +11,10 @@ use crate::terminal::ProgramOutput;
 use crate::times::times_of;
 use image_commands::{Files, Obstacle, Placed};
 use s4_command::{
-    Command, DiffAsked, ExportAsked, NoCommand, RestoreAsked, SalvageAsked, command_of,
+    Command, CopyAsked, DiffAsked, ExportAsked, NoCommand, RestoreAsked, SalvageAsked, command_of,
 };
 use s4_compact::compact_image;
+use s4_copy::{CopyFailure, copy_image};
 use s4_folders::{Folders, export_image, salvage_image};
 use s4_images::{DriveCommand, Failure, ImageCommand, Verdict, show_image};
 use s4_reading::{Checking, Screens, Showing};
@@ -143,6 +144,7 @@ fn perform_command<T: Threads, F: Files, D: Folders + Screens, W: ProgramOutput,
             compact.image,
             errors,
         ),
+        Command::Copy(copy) => copied(copy_image(rt, alloc, files, copy, writer), copy, errors),
         Command::Salvage(salvage) => salvaged(
             salvage_image(rt, alloc, files, folders, salvage, writer),
             salvage,
@@ -314,6 +316,19 @@ fn has_no_reader<W: ProgramOutput>(failure: &Failure, writer: &W) -> bool
     match failure {
         Failure::WriteFailed => writer.is_gone(),
         _ => false,
+    }
+}
+
+// The status of a copy, with why it failed where it did.
+fn copied<E: Write>(placed: Result<Placed, CopyFailure>, copy: &CopyAsked<'_>, errors: &mut E) -> u8
+    ensures status { result ≤ 1 }
+    ensures done { result ≡ 0 → IsOk placed }
+{
+    match placed {
+        Ok(Placed::Lasting) => DONE,
+        Ok(Placed::NotLasting) => fail_to_last(errors, copy.copy),
+        Err(CopyFailure::OfImage(failure)) => fail_over(errors, copy.image, failure),
+        Err(CopyFailure::OfCopy(failure)) => fail_over(errors, copy.copy, failure),
     }
 }
 

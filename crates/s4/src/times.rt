@@ -28,6 +28,7 @@ pub fn times_of(command: &Command<'_>) -> AskedTimes {
             time_in("--until", audit.until),
         ],
         Command::Diff(diff) => [time_in("FROM", Some(diff.from)), time_in("TO", diff.to)],
+        Command::Copy(copy) => [time_in("--without-created-since", copy.created_since), None],
         Command::Info(_) | Command::Check(_) | Command::Compact(_) | Command::Salvage(_) => {
             [None, None]
         }

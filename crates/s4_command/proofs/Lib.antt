@@ -1,3 +1,4 @@
 mod Numbers
 mod Absent
 mod Simple
+mod CopyNamed

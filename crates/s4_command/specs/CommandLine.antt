@@ -26,6 +26,7 @@ use Rattle.s4_command.specs.declared.whole.CheckAsked.{CheckAsked}
 use Rattle.s4_command.specs.declared.whole.CompactAsked.{CompactAsked}
 use Rattle.s4_command.specs.declared.whole.SalvageAsked.{SalvageAsked}
 use Rattle.s4_command.specs.declared.restoring.RestoreAsked.{RestoreAsked}
+use Rattle.s4_command.specs.declared.copying.CopyAsked.{CopyAsked}
 
 -- `--name VALUE`, which has to be given
 abbrev pub needed_value_rule : Text → Rule
@@ -145,6 +146,16 @@ compact_line = with_rule (with_rule (new_app (codes "compact"))
     (flag_rule (codes "json")))
     (needed_rule (codes "image"))
 
+-- `copy [--frames N] [--without OBJECT].. [--without-created-since M] [--json] IMAGE NEW`
+abbrev pub copy_line : App
+copy_line = with_rule (with_rule (with_rule (with_rule (with_rule (with_rule (new_app (codes "copy"))
+    (value_rule (codes "frames")))
+    (values_rule (codes "without")))
+    (value_rule (codes "without-created-since")))
+    (flag_rule (codes "json")))
+    (needed_rule (codes "image")))
+    (needed_rule (codes "copy"))
+
 -- `salvage [--json] IMAGE DIR`
 abbrev pub salvage_line : App
 salvage_line = with_rule (with_rule (with_rule (new_app (codes "salvage"))
@@ -165,10 +176,10 @@ program = on_top (λ s. record s { has_version = true; propagate_version = true;
 
 -- the program's whole command line
 abbrev pub line : App
-line = with_subcommand (with_subcommand (with_subcommand (with_subcommand (with_subcommand (with_subcommand (with_subcommand
+line = with_subcommand (with_subcommand (with_subcommand (with_subcommand (with_subcommand (with_subcommand (with_subcommand (with_subcommand
     (with_subcommand (with_subcommand (with_subcommand (with_subcommand (with_subcommand program
     list_line.top) log_line.top) audit_line.top) cat_line.top) info_line.top)
-    diff_line.top) export_line.top) restore_line.top) check_line.top) compact_line.top) salvage_line.top) report_line.top
+    diff_line.top) export_line.top) restore_line.top) check_line.top) compact_line.top) copy_line.top) salvage_line.top) report_line.top
 
 -- a number that is given is what the text reads as; none is where no text is there
 abbrev pub IsAsked : Text → List Row → Option ℕ → Type 0
@@ -349,6 +360,15 @@ pub record SpellsCompact (rows : List Row) (compact : CompactAsked) : Type 0 whe
   pub image : first_of (codes "image") rows ≡ Some compact.image.now
   pub json : (compact.json ≡ true) ↔ IsGiven (codes "json") rows
 
+-- The matches of `copy` have these texts, this number, exactly these objects, in the order of the words, this moment and this flag.
+pub record SpellsCopy (now : ℕ) (rows : List Row) (copy : CopyAsked) : Type 0 where
+  pub image : first_of (codes "image") rows ≡ Some copy.image.now
+  pub copy_is : first_of (codes "copy") rows ≡ Some copy.copy.now
+  pub frames : IsAsked (codes "frames") rows copy.frames
+  pub without : AreNumbers (texts_of (codes "without") rows) copy.without.items
+  pub created_since : IsMomentAsked now (codes "without-created-since") rows copy.created_since
+  pub json : (copy.json ≡ true) ↔ IsGiven (codes "json") rows
+
 -- The matches of `salvage` have these texts and this flag.
 pub record SpellsSalvage (rows : List Row) (salvage : SalvageAsked) : Type 0 where
   pub image : first_of (codes "image") rows ≡ Some salvage.image.now
@@ -373,6 +393,7 @@ Spells now (Some named) (command.Export export) = (named.0 ≡ codes "export") �
 Spells now (Some named) (command.Restore restore) = (named.0 ≡ codes "restore") × SpellsRestore now named.1 restore
 Spells now (Some named) (command.Check check) = (named.0 ≡ codes "check") × SpellsCheck named.1 check
 Spells now (Some named) (command.Compact compact) = (named.0 ≡ codes "compact") × SpellsCompact named.1 compact
+Spells now (Some named) (command.Copy copy) = (named.0 ≡ codes "copy") × SpellsCopy now named.1 copy
 Spells now (Some named) (command.Salvage salvage) = (named.0 ≡ codes "salvage") × SpellsSalvage named.1 salvage
 Spells now (Some named) (command.Report report) = (named.0 ≡ codes "report") × SpellsReport now named.1 report
 

@@ -20,6 +20,7 @@ mod auditing;
 mod changes;
 mod choosing;
 mod contents;
+mod copying;
 mod faults;
 mod line;
 mod reading;
@@ -34,6 +35,8 @@ use changes::{diff_asked, log_asked, report_asked};
 use clap::ArgMatches;
 pub use contents::{CatAsked, ExportAsked, ListAsked};
 use contents::{cat_asked, export_asked, list_asked};
+pub use copying::CopyAsked;
+use copying::copy_asked;
 pub use faults::WordFault;
 use line::command_line;
 pub use refused_lines::NoCommand;
@@ -68,6 +71,8 @@ pub enum Command<'a> {
     Check(CheckAsked<'a>),
     /// Cleans a drive, and gathers what is scattered.
     Compact(CompactAsked<'a>),
+    /// Makes another image of the same versions.
+    Copy(CopyAsked<'a>),
     /// Writes what a damaged image still has of each object into a folder.
     Salvage(SalvageAsked<'a>),
     /// Prints a page that shows a drive and what was changed.
@@ -127,20 +132,24 @@ fn named_command<'a>(
     if name == "restore" {
         return restore_asked(alloc, found, now);
     }
-    match unrestoring_command(name, found, now) {
+    if name == "copy" {
+        return copy_asked(alloc, found, now);
+    }
+    match shorter_command(name, found, now) {
         Ok(command) => Ok(command),
         Err(fault) => Err(NoCommand::Fault(fault)),
     }
 }
 
-// A command that is not `restore`.
-fn unrestoring_command<'a>(
+// A command that takes no memory: neither `restore` nor `copy`.
+fn shorter_command<'a>(
     name: &str,
     found: &ArgMatches<'a>,
     now: u64,
 ) -> Result<Command<'a>, WordFault<'a>>
     ensures spelled { IfOk result (Spells now (Some (name.now, rows_of (found_of found.now)))) }
     ensures usage { OnErr result (name.now ≢ codes "restore"
+        → name.now ≢ codes "copy"
         → SpellsNone now (Some (name.now, rows_of (found_of found.now)))) }
 {
     match name {

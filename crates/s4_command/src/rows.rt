@@ -188,6 +188,26 @@ pub(crate) const ROWS: &[CommandRow] = &[
         arguments: &[ONE_JSON, IMAGE],
     },
     CommandRow {
+        name: "copy",
+        about: "Makes another image of the same versions, in fewer or more frames or without some objects",
+        arguments: &[
+            Value("frames", "N", "In this many frames, 24 to 1024"),
+            Values(
+                "without",
+                "OBJECT",
+                "Without this object and its past; may be given again",
+            ),
+            Value(
+                "without-created-since",
+                "M",
+                "Without the objects that were made at this moment or later",
+            ),
+            ONE_JSON,
+            IMAGE,
+            Word("copy", "NEW", "The new image's file, which isn't there yet"),
+        ],
+    },
+    CommandRow {
         name: "salvage",
         about: "Writes what a damaged image still has of each object into a folder",
         arguments: &[ONE_JSON, IMAGE, FOLDER],

@@ -1,5 +1,5 @@
 use Rattle.migration.proofs.Then.{Laws}
-use Rattle.migration.proofs.Done.{migrates, lays_out, no_more}
+use Rattle.migration.proofs.Done.{migrates, lays_out, no_more, source_of}
 use Rattle.migration.proofs.copy_laws.what_was_written_is_migrated.Goals as goal
 
 pub returns : goal.returns
@@ -11,4 +11,4 @@ returns c =
       matter = c.only_its_blocks_matter.ensures;
       moments = c.mapped_entries_stay_in_order.ensures.old;
     } in
-    record { migrates = migrates laws; layout = lays_out laws; fits = no_more c.images_with_a_mark.ensures.read c.one_image_is_read.ensures }
+    record { migrates = migrates laws; layout = lays_out laws; fits = no_more c.images_with_a_mark.ensures.read c.one_image_is_read.ensures; source = source_of }

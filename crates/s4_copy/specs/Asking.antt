@@ -1,0 +1,28 @@
+-- What is asked of a copy, by the words of a line and the image.
+use Rattle.std.specs.Prelude.{◌≡◌, ℕ, ◌-◌, ◌^◌, min, Option, Some, None, option_map}
+use Rattle.moment_words.specs.Words.{moment_of}
+use Rattle.moment_words.specs.declared.words.MomentWord.{MomentWord}
+use Rattle.image_parts.specs.Image.{Image}
+use Rattle.migration.specs.declared.copying.CopyAsked.{CopyAsked as Wanted}
+use Rattle.s4_command.specs.declared.copying.CopyAsked.{CopyAsked}
+
+-- a number of frames; no drive has as many as the most
+abbrev pub clipped : ℕ → ℕ
+clipped frames = min frames (2 ^ 16 - 1)
+
+-- the moment that is asked for, where the clock is there; none where none is asked for
+abbrev pub moment_asked : Option MomentWord → ℕ → Option ℕ
+moment_asked None clock = None
+moment_asked (Some word) clock = moment_of word clock
+
+-- a time is asked for, and moments are numbers
+abbrev pub HasNoMoment : Option MomentWord → ℕ → Type 0
+HasNoMoment None clock = ⊥
+HasNoMoment (Some word) clock = moment_of word clock ≡ None
+
+-- This is asked of the copy of an image: the frames, the objects and the moment of a line.
+pub record Wants (asked : CopyAsked) (image : Image) (wanted : Wanted) : Type 0 where
+  pub frames : wanted.frames ≡ option_map clipped asked.frames
+  pub objects : wanted.objects.now ≡ asked.without.items
+  pub since : wanted.since ≡ moment_asked asked.created_since image.clock
+  pub said : HasNoMoment asked.created_since image.clock → ⊥
