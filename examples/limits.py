@@ -223,13 +223,15 @@ class Images:
         return ["run", *options, self.path("image"), *[f"client:{self.path(name + '.requests')}:/dev/null" for name in sessions]]
 
     def renew(self, name):
-        """Puts the image there anew, or takes it away where none is named, and the folder that a command makes."""
+        """Puts the image there anew, or takes it away where none is named, and what a command makes."""
         if name is None:
             with contextlib.suppress(FileNotFoundError):
                 os.remove(self.path("image"))
         else:
             shutil.copy(self.path(name), self.path("image"))
         shutil.rmtree(self.path("folder"), ignore_errors=True)
+        with contextlib.suppress(FileNotFoundError):
+            os.remove(self.path("copy"))
 
 
 def commands_of_s4d(images):
@@ -267,6 +269,7 @@ def commands_of_s4(images):
     yield "long", ["restore", "--at", "5", "--flush", image]
     yield "past", ["check", image]
     yield "scattered", ["compact", image]
+    yield "past", ["copy", "--without", "1", image, images.path("copy")]
     yield "damaged", ["salvage", image, folder]
 
 
