@@ -27,7 +27,7 @@ limits() {
     fi
 }
 
-if (tests "$top/python" 1800 && tests "$here" 900 test_examples test_documents test_install test_completions test_report && timeout 300 ./story.sh 2>&1 | diff story.txt - &&
+if (tests "$top/python" 1800 && tests "$here" 1800 test_examples test_documents test_install test_completions test_report && timeout 300 ./story.sh 2>&1 | diff story.txt - &&
     timeout 300 ./serve.sh 2>&1 | diff serve.txt - &&
     timeout 300 ./twice.sh && limits "$@") > "$log" 2>&1; then
     echo "examples: $(awk '/^Ran / { ran += $2 } END { print ran }' "$log") tests, $(tail -n 1 "$log"), ok"
