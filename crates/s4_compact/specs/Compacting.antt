@@ -114,7 +114,7 @@ pub record CompactsBy (way : Way) (pass : FullPass) (d later : DriveFields) (com
   pub since : DriveFields
   pub finishes : Finishes pass between since
   pub left : report.compaction ≡ as_left compaction since
-  pub data : report.data_blocks ≡ data_blocks since.store.table
+  pub held : report.data_blocks ≡ data_blocks since.store.table
   pub past : IsPast since report.past
   pub same : store_of later ≡ store_of since
   pub ledger : later.ledger ≡ d.ledger
