@@ -1,6 +1,6 @@
 -- Data blocks that are counted.
-use Rattle.std.proofs.Common.{◌≡◌, ℕ, ◌+◌, ◌^◌, ◌<◌, ◌≤◌, Bool, true, false, if◌then◌else◌, length, sym, ap, ◌∙◌, arith}
-use Rattle.std.specs.Prelude.{nat_lt, ◌&&◌}
+use Rattle.std.proofs.Common.{◌≡◌, ℕ, ◌+◌, ◌^◌, ◌<◌, ◌≤◌, Bool, true, false, if◌then◌else◌, sym, ap, ◌∙◌, arith}
+use Rattle.std.specs.Prelude.{nat_lt}
 use Rattle.std.proofs.lemmas.Bool.{and_parts, ltb-true}
 use Rattle.s4_types.specs.Pointer.{Place, IsPlace}
 use Rattle.segment_word.specs.Layout.{frame_at}
@@ -9,6 +9,7 @@ use Rattle.segment_table.specs.Room.{sum_over}
 use Rattle.segment_table.specs.Counts.{place_at}
 use Rattle.segment_copier.specs.Moves.{is_data}
 use Rattle.drive_compaction.specs.Choosing.{is_life}
+use Rattle.drive_compaction.specs.Emptying.{block_of}
 use Rattle.drive_compaction.specs.Holding.{data_at, data_in}
 use Rattle.drive_compaction.proofs.Summing.{sum_more}
 use Rattle.drive_compaction.proofs.Taken.{one_if}
@@ -19,7 +20,7 @@ use Rattle.drive_compaction.proofs.Taken.{one_if}
 place_here : (t : Table) (f n m generation : ℕ) (p : Place) → p ≡ record { frame = f; block = m; generation = generation } → m ≡ n + 1 → generation ≡ (frame_at t.seat.frames f).generation → p ≡ place_at t f (1 + n)
 place_here t f n m generation p place block its =
     let second : m ≡ 1 + n = omega (arith, block) in
-    place ∙ ap (λ (b : ℕ). record { frame = f; block = b; generation = generation }) second ∙ ap (λ (g : ℕ). record { frame = f; block = 1 + n; generation = g }) its
+    place ∙ ap (block_of f generation) second ∙ ap (λ (g : ℕ). block_of f g (1 + n)) its
 
 -- one block more was looked at
 pub block_more : (t : Table) (f n m generation count : ℕ) (p : Place) (b : Bool) → p ≡ record { frame = f; block = m; generation = generation } → m ≡ n + 1 → generation ≡ (frame_at t.seat.frames f).generation

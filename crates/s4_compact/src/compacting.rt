@@ -100,7 +100,7 @@ impl DriveChange for Compacting<'_> {
         drive: &mut Drive<J>,
         writer: &mut W,
     ) -> Result<(), Failure> {
-        let Some(trial) = self.found.of(self.way) else {
+        let Some(trial) = self.found.trial_of(self.way) else {
             return Err(Failure::from(Refusal::NoRoom));
         };
         let compaction = compact_drive(alloc, drive, self.way)?;

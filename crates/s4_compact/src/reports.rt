@@ -107,8 +107,8 @@ fn end_text(alloc: Global, report: &Report) -> Result<String, AllocError>
 fn held_text(alloc: Global, report: &Report) -> Result<String, AllocError>
     ensures { IfOk result (λ text. string_bytes text ≡ held_text report.now) }
 {
-    let (pass, data, past) = (pass_word(report.pass), report.data_blocks, report.past);
-    format!(in alloc; "full_pass {pass}\ndata {data}\npast {past}\n")
+    let (pass, held, past) = (pass_word(report.pass), report.data_blocks, report.past);
+    format!(in alloc; "full_pass {pass}\ndata {held}\npast {past}\n")
 }
 
 // The lines that people read.

@@ -43,7 +43,7 @@ pub struct Found {
 
 impl Found {
     /// What the trial of this way found.
-    pub(crate) fn of(&self, way: Way) -> Option<Trial>
+    pub(crate) fn trial_of(&self, way: Way) -> Option<Trial>
         ensures { result ≡ found_of self.now way }
     {
         match way {
@@ -169,7 +169,7 @@ fn try_drive<J: Naming>(
     ensures leaves { IfOk result (Leaves way drive.old) }
 {
     match compact_drive(alloc, drive, way) {
-        Ok(_) => {
+        Ok(_compaction) => {
             let trial = try_pass(alloc, drive)?;
             Ok(Some(trial))
         }

@@ -18,5 +18,5 @@ returns c =
     let cleaning = c.with_text-made.ensures _ _ moves c.cleaning_word.ensures in
     let ending = c.with_text-made-2.ensures _ _ cleaning c.ending_word.ensures in
     let full_pass = c.with_text-made-3.ensures _ _ ending c.pass_word.ensures in
-    let data = c.with_number-made-10.ensures _ _ full_pass refl in
-    c.object_of.ensures _ (c.with_number.ensures _ _ data refl)
+    let held = c.with_number-made-10.ensures _ _ full_pass refl in
+    c.object_of.ensures _ (c.with_number.ensures _ _ held refl)

@@ -25,7 +25,7 @@ returns g c =
       changes = on_ok_weaker c.write_report.result
           (λ wrote. record {
             trial = trial;
-            tried = sym c.of.ensures ∙ c.in-Some.is;
+            tried = sym c.trial_of.ensures ∙ c.in-Some.is;
             by = record {
               report = record { cleans = c.cleans.result; compaction = c.as_left-compaction.result; pass = trial.pass; data_blocks = c.data_blocks.result; past = c.past_blocks.result };
               cleans = c.cleans.ensures;
