@@ -1,5 +1,5 @@
 -- What a full pass over a drive comes to.
-use Rattle.std.specs.Prelude.{◌≡◌, ℕ, ◌≤◌, ◌<◌, IsSome}
+use Rattle.std.specs.Prelude.{ℕ, ◌≤◌, ◌<◌, IsSome}
 use Rattle.s4_types.specs.declared.refusals.Refusal.TheVariants.{NoRoom}
 use Rattle.s4_model.specs.Promise.{IsCleanedUp}
 use Rattle.block_log.specs.declared.kinds.BlockKind.TheVariants.{Data}

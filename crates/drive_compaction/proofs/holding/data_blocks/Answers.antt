@@ -1,4 +1,4 @@
-use Rattle.std.proofs.Common.{◌≡◌, ◌∙◌, ◌+◌, length, ap, arith}
+use Rattle.std.proofs.Common.{◌≡◌, ◌∙◌, length, ap, arith}
 use Rattle.segment_table.specs.Table.{Table}
 use Rattle.segment_table.specs.Room.{sum_over}
 use Rattle.drive.specs.Fields.{DriveFields}

@@ -4,7 +4,6 @@ use Rattle.segment_table.specs.Table.{Table, held_at}
 use Rattle.segment_table.specs.Room.{sum_over}
 use Rattle.drive.specs.Fields.{DriveFields}
 use Rattle.segment_copier.specs.Moves.{is_data}
-use Rattle.drive_compaction.specs.Choosing.{is_life}
 use Rattle.drive_compaction.specs.Holding.{data_at, data_in}
 use Rattle.drive_compaction.proofs.Taken.{lives}
 use Rattle.drive_compaction.proofs.Held.{all_blocks, block_more}
