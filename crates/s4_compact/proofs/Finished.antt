@@ -1,5 +1,5 @@
 -- What holds once a full pass followed a compaction, or none did.
-use Rattle.std.proofs.Common.{◌≡◌, ◌∙◌, ℕ, ◌≤◌, ap, sym, subst, arith}
+use Rattle.std.proofs.Common.{◌≡◌, ◌∙◌, ◌≤◌, ap, sym, subst, arith}
 use Rattle.std.specs.Prelude.{IsSome}
 use Rattle.s4_types.specs.History.{History}
 use Rattle.segment_word.specs.AcceptViews.{Ledger}
