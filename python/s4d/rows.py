@@ -223,7 +223,7 @@ class Checked:
 
 @dataclass(frozen=True)
 class Compacted:
-    """What `compact` did, as its manual page says: room in blocks of 512 bytes, free frames, and how it ended."""
+    """What `compact` did, as its manual page says: room in blocks of 512 bytes, free frames, how it ended, and what is held."""
 
     room_before: int
     room_after: int
@@ -236,6 +236,8 @@ class Compacted:
     moves: int
     cleaning: str
     ending: str
+    full_pass: str
+    data: int
     past: int
 
 

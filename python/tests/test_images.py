@@ -126,6 +126,8 @@ class Images(unittest.TestCase):
         compacted = self.image.compact()
         self.assertGreaterEqual(compacted.room_after, compacted.room_before)
         self.assertEqual(self.image.info().room, compacted.room_after)
+        self.assertIn(compacted.full_pass, ("made", "costs room"))
+        self.assertGreater(compacted.data, 0)
         self.assertEqual(self.image.check(), checked)
 
     def test_restore(self):

@@ -8,3 +8,4 @@ pub mod Summing
 pub mod Taken
 pub mod Gained
 pub mod LeftAhead
+pub mod Held

@@ -3,5 +3,7 @@ pub mod Emptying
 pub mod Cleaning
 pub mod Turns
 pub mod Past
+pub mod Holding
 pub mod Compacting
+pub mod Passing
 pub mod private

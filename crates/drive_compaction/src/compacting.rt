@@ -5,6 +5,7 @@ ghost use Rattle.drive.specs.Fields.{state_in, store_of};
 ghost use Rattle.drive.specs.Keeping.{KeepsVersions};
 ghost use Rattle.drive_compaction.specs.Emptying.{FindsReader};
 ghost use Rattle.drive_compaction.specs.Compacting.{IsCompacted, LosesRoom};
+ghost use Rattle.drive_compaction.specs.Passing.{as_left};
 
 use crate::left::blocks_left;
 use crate::turns::{Ending, Work, take_turns};
@@ -35,6 +36,21 @@ pub struct Compaction {
     pub work: Work,
     /// How they ended.
     pub ending: Ending,
+}
+
+impl Compaction {
+    /// With what is left in a drive as it is now, in place of what the turns left.
+    pub fn as_left<J: Naming>(self, drive: &mut Drive<J>) -> Self
+        ensures left { result ≡ as_left self drive.old }
+        ensures same { drive.new ≡ drive.old }
+    {
+        Compaction {
+            free_after: free_frames(drive),
+            room_after: drive.room(),
+            left_after: blocks_left(drive),
+            ..self
+        }
+    }
 }
 
 /// Compacts a drive, with or without the cleaner.

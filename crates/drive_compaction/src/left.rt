@@ -92,8 +92,9 @@ fn left_in<J: Naming>(drive: &mut Drive<J>, frame: u16) -> usize
     0
 }
 
-/// How many blocks are left in all frames.
-pub(crate) fn blocks_left<J: Naming>(drive: &mut Drive<J>) -> usize
+/// How many blocks are left to be appended in all frames, those of the reserve among them. The drive
+/// is as before.
+pub fn blocks_left<J: Naming>(drive: &mut Drive<J>) -> usize
     ensures left { result ≡ blocks_left (store_of drive.old) }
     ensures same { drive.new ≡ drive.old }
 {

@@ -1,11 +1,8 @@
 -- What a trial found holds of what is made then.
-use Rattle.std.proofs.Common.{◌≡◌, ◌∙◌, ℕ, true, ap, sym, subst}
+use Rattle.std.proofs.Common.{◌≡◌, ℕ, true, sym, subst}
 use Rattle.version_store.specs.Store.{StoreFields}
-use Rattle.drive.specs.Fields.{DriveFields, store_of}
 use Rattle.drive_compaction.specs.Compacting.{blocks_left}
-use Rattle.drive_compaction.specs.declared.compacting.Compaction.{Compaction}
 use Rattle.s4_compact.specs.Trying.{is_enough}
-use Rattle.s4_compact.specs.Ways.{IsCompactedBy}
 use Rattle.s4_compact.specs.declared.trying.Found.{Found}
 use Rattle.s4_compact.specs.declared.ways.Way.{Way}
 use Rattle.s4_compact.specs.declared.ways.Way.TheVariants.{Cleaning, Moves, MovesFirst}
@@ -14,12 +11,6 @@ use Rattle.s4_compact.specs.declared.ways.Way.TheVariants.{Cleaning, Moves, Move
 pub enough : (way : Way) (found : Found) (n : ℕ) (between later : StoreFields) → is_enough way found n ≡ true → n ≡ blocks_left between → later ≡ between → is_enough way found (blocks_left later) ≡ true
 enough way found n between later is counted same =
     subst (λ (s : StoreFields). is_enough way found (blocks_left s) ≡ true) (sym same) (subst (λ (m : ℕ). is_enough way found m ≡ true) counted is)
-
--- the blocks of a report are those that the drive has left
-pub reported : (way : Way) (d later : DriveFields) (report : Compaction) → IsCompactedBy way d later report → report.left_after ≡ blocks_left (store_of later)
-reported Cleaning d later report is = is.left_after
-reported Moves d later report is = is.left_after
-reported MovesFirst d later report is = ap (λ (c : Compaction). c.left_after) is.report_is ∙ is.cleaned.left_after
 
 -- what holds of each way holds of all
 pub by_ways : (P : Way → Type 0) → P Cleaning → P Moves → P MovesFirst → (way : Way) → P way

@@ -2,11 +2,11 @@
 ghost use Rattle.std.specs.Prelude.{◌≡◌, false, IfOk, string_bytes};
 ghost use Rattle.serde_json.specs.View.{view};
 ghost use Rattle.serde_json.specs.Written.{has_float};
-ghost use Rattle.s4_compact.specs.Compacting.{cleaning_word, ending_word, advice, room_text};
-ghost use Rattle.s4_compact.specs.Compacting.{work_text, end_text, report_text, report_data};
-ghost use Rattle.s4_compact.specs.Compacting.{report_line, printed};
+ghost use Rattle.s4_compact.specs.Compacting.{cleaning_word, ending_word, pass_word, advice};
+ghost use Rattle.s4_compact.specs.Compacting.{room_text, work_text, end_text, held_text};
+ghost use Rattle.s4_compact.specs.Compacting.{report_text, report_data, report_line, printed};
 
-use drive_compaction::{Compaction, Ending};
+use drive_compaction::{Compaction, Ending, FullPass};
 use history_text::{json_line, no_members, object_of, with_number, with_text};
 use serde_json::Value;
 use std::alloc::{AllocError, Global};
@@ -16,8 +16,12 @@ use std::alloc::{AllocError, Global};
 pub struct Report {
     /// Whether objects were cleaned.
     pub cleans: bool,
-    /// What was done.
+    /// What was done, and what is left in the end.
     pub compaction: Compaction,
+    /// How the full pass ended that follows it.
+    pub pass: FullPass,
+    /// How many data blocks are held, then.
+    pub data_blocks: usize,
     /// How many blocks are held for the past alone, then.
     pub past: usize,
 }
@@ -44,6 +48,17 @@ fn ending_word(ending: Ending) -> &'static str
         Ending::Done => "done",
         Ending::OutOfRoom => "no room",
         Ending::Limit => "limit",
+    }
+}
+
+// How the full pass ended.
+fn pass_word(pass: FullPass) -> &'static str
+    ensures { result.now ≡ pass_word pass }
+{
+    match pass {
+        FullPass::Made => "made",
+        FullPass::CostsRoom => "costs room",
+        FullPass::Refused => "refused",
     }
 }
 
@@ -85,8 +100,15 @@ fn end_text(alloc: Global, report: &Report) -> Result<String, AllocError>
     ensures { IfOk result (λ text. string_bytes text ≡ end_text report.now) }
 {
     let (cleaning, ending) = (cleaning_word(report), ending_word(report.compaction.ending));
-    let past = report.past;
-    format!(in alloc; "cleaning {cleaning}\nending {ending}\npast {past}\n")
+    format!(in alloc; "cleaning {cleaning}\nending {ending}\n")
+}
+
+// How the full pass ended, and what is held then.
+fn held_text(alloc: Global, report: &Report) -> Result<String, AllocError>
+    ensures { IfOk result (λ text. string_bytes text ≡ held_text report.now) }
+{
+    let (pass, held, past) = (pass_word(report.pass), report.data_blocks, report.past);
+    format!(in alloc; "full_pass {pass}\ndata {held}\npast {past}\n")
 }
 
 // The lines that people read.
@@ -96,8 +118,9 @@ fn report_text(alloc: Global, report: &Report) -> Result<String, AllocError>
     let room = room_text(alloc, report)?;
     let work = work_text(alloc, report)?;
     let end = end_text(alloc, report)?;
+    let held = held_text(alloc, report)?;
     let advice = advice(alloc, report.past)?;
-    format!(in alloc; "{room}{work}{end}{advice}")
+    format!(in alloc; "{room}{work}{end}{held}{advice}")
 }
 
 fn report_value(alloc: Global, report: &Report) -> Result<Value, AllocError>
@@ -121,6 +144,8 @@ fn report_value(alloc: Global, report: &Report) -> Result<Value, AllocError>
     let made = with_number(alloc, made, "moves", work.moves);
     let made = with_text(alloc, made, "cleaning", cleaning_word(report));
     let made = with_text(alloc, made, "ending", ending_word(compaction.ending));
+    let made = with_text(alloc, made, "full_pass", pass_word(report.pass));
+    let made = with_number(alloc, made, "data", report.data_blocks as u64);
     object_of(with_number(alloc, made, "past", report.past as u64))
 }
 

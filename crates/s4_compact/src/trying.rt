@@ -1,14 +1,17 @@
-//! How many blocks each way of compacting leaves, found by trials of which nothing is kept.
+//! What each way of compacting leaves, found by trials of which nothing is kept.
 ghost use Rattle.std.specs.Prelude.{◌≡◌, IfOk};
 ghost use Rattle.segment_table.specs.Room.{log_of};
 ghost use Rattle.version_store.specs.Store.{fields_of};
 ghost use Rattle.drive.specs.Opened.{base_of};
 ghost use Rattle.s4_images.specs.Commands.{OverImage, OverOpened};
-ghost use Rattle.s4_compact.specs.Trying.{AreTried, Leaves, best_way, is_enough};
-ghost use Rattle.s4_compact.specs.Trying.{is_less, is_no_more, serves_by};
+ghost use Rattle.drive.specs.Fields.{DriveFields, store_of};
+ghost use Rattle.drive_compaction.specs.Compacting.{blocks_left};
+ghost use Rattle.s4_compact.specs.Trying.{AreTried, Leaves, TriesPass, best_way, found_of};
+ghost use Rattle.s4_compact.specs.Trying.{is_enough, is_less, is_no_more, left_with, serves_by};
 
 use crate::ways::{Way, compact_drive};
 use drive::{Drive, OpenedDrive};
+use drive_compaction::{FullPass, blocks_left, pass_over};
 use image_commands::{Files, read_image};
 use s4_images::Failure;
 use s4_types::Refusal;
@@ -18,14 +21,37 @@ use std::marker::Brand;
 use std::thread::Threads;
 use verifier::open;
 
-/// How many blocks each way leaves to be appended, those of the reserve among them, as its trial
-/// found; none where a step of it leaves fewer than there were before. So of two drives without
-/// room the one with less of its reserve is the worse.
+/// What the trial of a way found.
+#[derive(Clone, Copy)]
+pub struct Trial {
+    /// How many blocks are left to be appended, those of the reserve among them: after the full pass
+    /// where that is made. So of two drives without room the one with less of its reserve is the
+    /// worse.
+    pub left: usize,
+    /// How a full pass ends that follows it.
+    pub pass: FullPass,
+}
+
+/// What the trial of each way found; none where a step of it leaves fewer blocks than there were
+/// before.
 #[derive(Clone, Copy)]
 pub struct Found {
-    pub cleaned: Option<usize>,
-    pub moved: Option<usize>,
-    pub moved_first: Option<usize>,
+    pub cleaned: Option<Trial>,
+    pub moved: Option<Trial>,
+    pub moved_first: Option<Trial>,
+}
+
+impl Found {
+    /// What the trial of this way found.
+    pub(crate) fn trial_of(&self, way: Way) -> Option<Trial>
+        ensures { result ≡ found_of self.now way }
+    {
+        match way {
+            Way::Cleaning => self.cleaned,
+            Way::Moves => self.moved,
+            Way::MovesFirst => self.moved_first,
+        }
+    }
 }
 
 /// Whether no other way is better, by what was found, than this one that leaves this many blocks.
@@ -40,31 +66,31 @@ pub(crate) fn is_enough(way: Way, found: &Found, left: usize) -> bool
     }
 }
 
-fn is_no_more(other: Option<usize>, left: usize) -> bool
+fn is_no_more(other: Option<Trial>, left: usize) -> bool
     ensures { result ≡ is_no_more other left }
 {
     match other {
         None => true,
-        Some(other) => other <= left,
+        Some(other) => other.left <= left,
     }
 }
 
-fn is_less(other: Option<usize>, left: usize) -> bool
+fn is_less(other: Option<Trial>, left: usize) -> bool
     ensures { result ≡ is_less other left }
 {
     match other {
         None => true,
-        Some(other) => other < left,
+        Some(other) => other.left < left,
     }
 }
 
 // Whether this way, whose trial found this, serves best.
-fn serves(way: Way, found: &Found, left: Option<usize>) -> bool
-    ensures { result ≡ serves_by way found.now left }
+fn serves(way: Way, found: &Found, trial: Option<Trial>) -> bool
+    ensures { result ≡ serves_by way found.now trial }
 {
-    match left {
+    match trial {
         None => false,
-        Some(left) => is_enough(way, found, left),
+        Some(trial) => is_enough(way, found, trial.left),
     }
 }
 
@@ -82,7 +108,7 @@ pub(crate) fn best_way(found: &Found) -> Way
     Way::Cleaning
 }
 
-/// How many blocks each way leaves of the drive of an image.
+/// Tries each way over the drive of an image.
 pub(crate) fn try_ways<T: Threads, F: Files>(
     rt: &T,
     alloc: Global,
@@ -101,17 +127,17 @@ pub(crate) fn try_ways<T: Threads, F: Files>(
     })
 }
 
-// How many blocks the drive of an image has left once it is compacted this way; none where a step of
-// that leaves fewer than there were before.
+// Tries this way over the drive of an image; none where a step of it leaves fewer blocks than there
+// were before.
 fn try_image<T: Threads, F: Files>(
     rt: &T,
     alloc: Global,
     files: &F,
     image: &str,
     way: Way,
-) -> Result<Option<usize>, Failure>
-    ensures leaves { IfOk result (λ left. OverImage (F.contents files.now image.now)
-        (λ drive. Leaves way drive left)) }
+) -> Result<Option<Trial>, Failure>
+    ensures leaves { IfOk result (λ trial. OverImage (F.contents files.now image.now)
+        (λ drive. Leaves way drive trial)) }
 {
     let image = read_image(rt, alloc, files, image)?;
     let opened = open(alloc, image)?;
@@ -123,12 +149,12 @@ fn try_opened<J: Naming>(
     alloc: Global,
     opened: OpenedDrive,
     way: Way,
-) -> Result<Option<usize>, Failure>
+) -> Result<Option<Trial>, Failure>
     requires accepts { opened.accepts ≡ J.accepts }
     requires frames { opened.store.table.seat.table ≡ J.frames }
     requires base { base_of (fields_of log_of opened.store) opened.timeline opened.next
         opened.audit ≡ J.base }
-    ensures leaves { IfOk result (λ left. OverOpened opened (λ drive. Leaves way drive left)) }
+    ensures leaves { IfOk result (λ trial. OverOpened opened (λ drive. Leaves way drive trial)) }
 {
     let mut drive = opened.named::<J>();
     try_drive(alloc, &mut drive, way)
@@ -139,12 +165,37 @@ fn try_drive<J: Naming>(
     alloc: Global,
     drive: &mut Drive<J>,
     way: Way,
-) -> Result<Option<usize>, Failure>
+) -> Result<Option<Trial>, Failure>
     ensures leaves { IfOk result (Leaves way drive.old) }
 {
     match compact_drive(alloc, drive, way) {
-        Ok(compaction) => Ok(Some(compaction.left_after)),
+        Ok(_compaction) => {
+            let trial = try_pass(alloc, drive)?;
+            Ok(Some(trial))
+        }
         Err(Refusal::NoRoom) => Ok(None),
         Err(refusal) => Err(Failure::from(refusal)),
+    }
+}
+
+// How a full pass over a drive ends, and how many blocks are left: before it, unless it is made.
+fn try_pass<J: Naming>(alloc: Global, drive: &mut Drive<J>) -> Result<Trial, Refusal>
+    ensures tries { IfOk result (TriesPass drive.old) }
+{
+    let before = blocks_left(drive);
+    let pass = pass_over(alloc, drive)?;
+    let left = left_with(drive, pass, before);
+    Ok(Trial { left, pass })
+}
+
+// How many blocks are left where a full pass ended so: in this drive where it is made, else as many
+// as before it.
+fn left_with<J: Naming>(drive: &mut Drive<J>, pass: FullPass, before: usize) -> usize
+    ensures left { (d : DriveFields) → before ≡ blocks_left (store_of d)
+        → result ≡ left_with pass d drive.old }
+{
+    match pass {
+        FullPass::Made => blocks_left(drive),
+        FullPass::CostsRoom | FullPass::Refused => before,
     }
 }

@@ -1,5 +1,5 @@
 -- What was counted of a frame. No public clause cites this file.
-use Rattle.std.specs.Prelude.{ℕ, ◌*◌, ◌≤◌, length}
+use Rattle.std.specs.Prelude.{◌*◌, ◌≤◌, length}
 use Rattle.s4_types.specs.declared.limits.TheConstants.{PAYLOAD_BLOCKS}
 use Rattle.drive.specs.Fields.{DriveFields}
 use Rattle.segment_copier.specs.declared.counting.Counted.{Counted}

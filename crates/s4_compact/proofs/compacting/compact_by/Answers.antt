@@ -7,7 +7,7 @@ returns-clause-compacts g c = on_ok_weaker c.change_image.result
       drive = done.drive;
       told = done.told;
       later = done.later;
-      changes = record { way = c.args.way; compacts = done.changes.by };
+      changes = record { way = c.args.way; pass = done.changes.trial.pass; compacts = done.changes.by };
       bytes = done.bytes;
       saved = done.saved;
       kept = done.kept;

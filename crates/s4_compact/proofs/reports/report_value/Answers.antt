@@ -17,4 +17,6 @@ returns c =
     let moves = c.with_number-made-9.ensures _ _ emptied refl in
     let cleaning = c.with_text-made.ensures _ _ moves c.cleaning_word.ensures in
     let ending = c.with_text-made-2.ensures _ _ cleaning c.ending_word.ensures in
-    c.object_of.ensures _ (c.with_number.ensures _ _ ending refl)
+    let full_pass = c.with_text-made-3.ensures _ _ ending c.pass_word.ensures in
+    let held = c.with_number-made-10.ensures _ _ full_pass refl in
+    c.object_of.ensures _ (c.with_number.ensures _ _ held refl)
