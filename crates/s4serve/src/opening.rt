@@ -12,6 +12,7 @@ ghost use Rattle.s4serve.specs.Starts.{IsStart};
 
 use crate::faults::ServeFault;
 use crate::leaving::{claim_left, refuse_making, unread_beside};
+use crate::machine::Machine;
 use crate::reserves::reserve_over;
 use crate::telling::{News, Telling};
 use drive::OpenedDrive;
@@ -20,7 +21,7 @@ use kept_drive::MOST_AHEAD;
 use s4_types::{Cause, Moment, Refusal};
 use s4d_command::New;
 use s4serve_command::{Creation, ServiceAsked};
-use service_time::{Monotonic, ServiceClock, start_of, system_time, wait_before};
+use service_time::{Monotonic, ServiceClock, start_of, wait_before};
 use std::alloc::Global;
 use std::sync::Wait;
 use std::thread::{Threads, sleep};
@@ -59,7 +60,7 @@ pub struct Opened<T: Clock, F: Files> {
 ///
 /// Where the image's clock is above the machine's time, that is waited for first, but no longer
 /// than a crash may have left it ahead.
-pub fn open_image<'a, T: Threads + Wait + Clock + Copy + Drop, F: Files, D: Telling>(
+pub fn open_image<'a, T: Threads + Wait + Machine + Copy + Drop, F: Files, D: Telling>(
     rt: &T,
     alloc: Global,
     files: &mut F,
@@ -81,6 +82,7 @@ pub fn open_image<'a, T: Threads + Wait + Clock + Copy + Drop, F: Files, D: Tell
         (IfSome asked.now.create (λ creation. AreNoImages MOST_LEFT
         (F.lies files.old asked.now.image.now) (F.contents files.old))) }
     // By the machine's time that was read, over the drive that was opened.
+    ensures read { IfOk result (λ opened. T.has_read rt.now opened.begun.system) }
     ensures start { IfOk result
         (λ opened. IsStart opened.drive.timeline.clock opened.drive.timeline.window
         asked.now.leap opened.begun.system opened.begun.start) }
@@ -142,9 +144,9 @@ fn make_asked<'a, T: Threads, F: Files>(
 
 /// Waits until the machine's time isn't below the clock of an image any more, at most as long as a
 /// crash may have left that ahead. Says so, and how far ahead it still is.
-fn await_time<T: Wait + Clock, D: Telling>(rt: &T, outside: &D, image: &str, clock: Moment) {
+fn await_time<T: Wait + Machine, D: Telling>(rt: &T, outside: &D, image: &str, clock: Moment) {
     // Where the time can't be read no service begins.
-    let system = system_time(rt).unwrap_or(u64::MAX);
+    let system = rt.read_time().unwrap_or(u64::MAX);
     let wait = wait_before(clock.number(), system, MOST_AHEAD);
     if wait == 0 {
         return;
@@ -229,18 +231,19 @@ fn unread<'a, T: Threads, F: Files>(
 /// Begins the clock of a service over a drive with this clock and this window. The machine's time
 /// and its monotonic clock are read one right after the other, so that the moments of the service
 /// are the machine's time.
-fn begin_over<'a, T: Clock + Copy + Drop>(
+fn begin_over<'a, T: Machine + Copy + Drop>(
     rt: &T,
     asked: &ServiceAsked<'a>,
     clock: Moment,
     window: u64,
 ) -> Result<Begun<T>, ServeFault<'a>>
+    ensures read { IfOk result (λ begun. T.has_read rt.now begun.system) }
     ensures start { IfOk result
         (λ begun. IsStart clock window asked.now.leap begun.system begun.start) }
     ensures began { IfOk result (λ begun. begun.clock.began ≡ begun.start) }
     ensures last { IfOk result (λ begun. begun.clock.last ≡ begun.start) }
 {
-    let Some(system) = system_time(rt) else {
+    let Some(system) = rt.read_time() else {
         return Err(ServeFault::NoTime);
     };
     let leap = asked.leap.unwrap_or(0);

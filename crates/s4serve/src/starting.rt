@@ -21,6 +21,7 @@ use crate::collecting::{Closing, UnderLock, flusher};
 use crate::ended::EndReceipt;
 use crate::faults::{DoorObstacle, ServeFault};
 use crate::keeping::{Explaining, KeptFiles};
+use crate::machine::Machine;
 use crate::opening::{Begun, Opened, open_image};
 use crate::parts::ALL_PARTS;
 use crate::service::{Door, Service};
@@ -80,7 +81,7 @@ struct FirstKept<J: Running, K: Keeper> {
 /// Serves the drive in an image until the service is stopped.
 pub fn serve_image<
     'a,
-    H: Threads + Wait + Clock + Copy + Send + Sync + Drop + 'static,
+    H: Threads + Wait + Machine + Copy + Send + Sync + Drop + 'static,
     F: KeptFiles + Copy,
     D: Fifos + Telling + Copy + Send + Sync + Drop + 'static,
 >(
@@ -126,7 +127,7 @@ pub fn serve_image<
 fn serve_ready<
     'a,
     J: Running + Send + Sync + 'static,
-    H: Threads + Wait + Clock + Copy + Send + Sync + Drop + 'static,
+    H: Threads + Wait + Machine + Copy + Send + Sync + Drop + 'static,
     K: Keeper + Explaining + Send + Drop + 'static,
     C: serving::Clock + Send + Drop + 'static,
     D: Fifos + Telling + Copy + Send + Sync + Drop + 'static,
@@ -149,7 +150,9 @@ fn serve_ready<
     requires ledgers { (ready.blanks.requests ≡ J.asked) × (ready.blanks.changes ≡ J.name) }
     requires parts { (ready.blanks.parts ≡ J.parts) × (J.parts ≡ ALL_PARTS) }
     requires usable { IsTrue (K.is_usable ready.keeper) }
-    // It begins where a service may begin over this drive, and has the doors that were asked for.
+    // It begins where a service may begin over this drive, by the machine's time that was read, and
+    // has the doors that were asked for.
+    requires read { H.has_read rt.now ready.system }
     requires start { IsStart ready.drive.timeline.clock ready.drive.timeline.window asked.now.leap
         ready.system ready.start }
     requires doors { map opened_door ready.doors.items ≡ map asked_door asked.now.doors.items }
@@ -182,7 +185,7 @@ fn serve_ready<
 fn serve_kept<
     'a,
     J: Running + Send + Sync + 'static,
-    H: Threads + Wait + Clock + Copy + Send + Sync + Drop + 'static,
+    H: Threads + Wait + Machine + Copy + Send + Sync + Drop + 'static,
     K: Keeper + Explaining + Send + Drop + 'static,
     C: serving::Clock + Send + Drop + 'static,
     D: Fifos + Telling + Copy + Send + Sync + Drop + 'static,
@@ -199,8 +202,10 @@ fn serve_kept<
 ) -> Result<(), ServeFault<'a>>
     requires upkeep { J.has_upkeep ≡ true }
     requires parts { rest.parts ≡ ALL_PARTS }
-    // It begins where a service may begin over this drive, and has the doors that were asked for.
-    requires start { MayStart J.base.clock J.base.window asked.now.leap first.kept.start }
+    // It begins where a service may begin over this drive, by a machine's time that was read, and
+    // has the doors that were asked for.
+    requires start { MayStart (H.has_read rt.now) J.base.clock J.base.window asked.now.leap
+        first.kept.start }
     requires doors { map opened_door doors.items ≡ map asked_door asked.now.doors.items }
     // Whatever a crash leaves from now on is the drive, once it has seen what comes after that.
     requires kept { IsKept (K.may_leave first.kept.keeper)
