@@ -1,5 +1,5 @@
 //! The drive that a service serves: the one in its image, which is made before where that is asked.
-ghost use Rattle.std.specs.Prelude.{◌≡◌, ◌≤◌, ◌<◌, [], IfOk, IfSome, OnOk, length};
+ghost use Rattle.std.specs.Prelude.{◌≡◌, ◌≤◌, ◌<◌, [], IfNone, IfOk, IfSome, OnOk, length};
 ghost use Rattle.std.specs.List.{All};
 ghost use Rattle.s4_types.specs.Sizes.{IsFrameCount};
 ghost use Rattle.image_commands.specs.Files.{AreKnown};
@@ -7,6 +7,7 @@ ghost use Rattle.image_commands.specs.Leaving.{AreAllSpent, AreNoImages, IsLeftF
 ghost use Rattle.image_commands.specs.Making.{HasNew};
 ghost use Rattle.image_commands.specs.Verifying.{IsVerified};
 ghost use Rattle.image_commands.specs.declared.beside.TheConstants.{MOST_LEFT};
+ghost use Rattle.s4serve.specs.Opening.{IsDriveIn};
 ghost use Rattle.s4serve.specs.Reserves.{most_reserve, reserve_of};
 ghost use Rattle.s4serve.specs.Starts.{IsStart};
 
@@ -54,12 +55,11 @@ pub struct Opened<T: Clock, F: Files> {
 }
 
 /// Claims the image that is asked for, opens its drive, and begins the clock of its service. Where
-/// one is asked to be made, that is done before; what has bytes is refused then, and a path beside
-/// which a service left a whole image. Where a service left a later one beside the image, nothing
-/// is opened.
+/// a service left a later one beside the image, nothing is opened.
 ///
 /// Where the image's clock is above the machine's time, that is waited for first, but no longer
 /// than a crash may have left it ahead.
+#[tactic(auto, using(crate::proofs::Served::drive_in))]
 pub fn open_image<'a, T: Threads + Wait + Machine + Copy + Drop, F: Files, D: Telling>(
     rt: &T,
     alloc: Global,
@@ -67,8 +67,10 @@ pub fn open_image<'a, T: Threads + Wait + Machine + Copy + Drop, F: Files, D: Te
     outside: &D,
     asked: &ServiceAsked<'a>,
 ) -> Result<Opened<T, F>, ServeFault<'a>>
-    requires { IfSome asked.now.create (λ creation. IsFrameCount creation.frames) }
     ensures claimed { IfOk result (λ opened. F.leads opened.claim asked.now.image.now) }
+    // It is the drive in the file at the image's path, as that was read.
+    ensures image { IfOk result
+        (λ opened. IsDriveIn (F.contents files.old asked.now.image.now) opened.drive) }
     // Nothing is lost with what may be removed.
     ensures left { IfOk result
         (λ opened. All (IsLeftFor F.is_left F.is_part (F.contents files.new) opened.claim
@@ -77,10 +79,6 @@ pub fn open_image<'a, T: Threads + Wait + Machine + Copy + Drop, F: Files, D: Te
     ensures all { IfOk result
         (λ opened. AreAllSpent MOST_LEFT (F.lies files.new asked.now.image.now) F.is_left
         (F.contents files.new) opened.drive.timeline.clock opened.left.items) }
-    // Before one was made, no whole one lay there.
-    ensures made { OnOk result
-        (IfSome asked.now.create (λ creation. AreNoImages MOST_LEFT
-        (F.lies files.old asked.now.image.now) (F.contents files.old))) }
     // By the machine's time that was read, over the drive that was opened.
     ensures read { IfOk result (λ opened. T.has_read rt.now opened.begun.system) }
     ensures start { IfOk result
@@ -94,7 +92,6 @@ pub fn open_image<'a, T: Threads + Wait + Machine + Copy + Drop, F: Files, D: Te
     ensures half { IfOk result (λ opened. opened.reserve
         ≤ most_reserve (length opened.drive.store.table.seat.frames)) }
 {
-    make_asked(rt, alloc, files, asked)?;
     let (claim, image) = claim_image(rt, alloc, files, asked.image)?;
     let reserve = reserve_over(asked.reserve, image.frames())?;
     let (clock, window) = (image.clock(), image.window());
@@ -114,15 +111,19 @@ pub fn open_image<'a, T: Threads + Wait + Machine + Copy + Drop, F: Files, D: Te
     })
 }
 
-/// Makes an image where that is asked. Where clients are to leave more of its room than may be,
-/// nothing is made.
-fn make_asked<'a, T: Threads, F: Files>(
+/// Makes an image where that is asked. What has bytes is refused, and a path beside which a service
+/// left a whole image. Where clients are to leave more of its room than may be, nothing is made.
+pub fn make_asked<'a, T: Threads, F: Files>(
     rt: &T,
     alloc: Global,
     files: &mut F,
     asked: &ServiceAsked<'a>,
 ) -> Result<(), ServeFault<'a>>
     requires { IfSome asked.now.create (λ creation. IsFrameCount creation.frames) }
+    ensures image { OnOk result (IfSome asked.now.create (λ creation.
+        HasNew creation.frames creation.keep (F.contents files.new asked.now.image.now))) }
+    ensures same { IfNone asked.now.create (files.new ≡ files.old) }
+    // Before one was made, no whole one lay there.
     ensures made { OnOk result
         (IfSome asked.now.create (λ creation. AreNoImages MOST_LEFT
         (F.lies files.old asked.now.image.now) (F.contents files.old))) }

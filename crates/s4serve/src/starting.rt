@@ -22,7 +22,7 @@ use crate::ended::EndReceipt;
 use crate::faults::{DoorObstacle, ServeFault};
 use crate::keeping::{Explaining, KeptFiles};
 use crate::machine::Machine;
-use crate::opening::{Begun, Opened, open_image};
+use crate::opening::{Begun, Opened, make_asked, open_image};
 use crate::parts::ALL_PARTS;
 use crate::service::{Door, Service};
 use crate::spawning::Starting;
@@ -94,6 +94,7 @@ pub fn serve_image<
     requires frames { IfSome asked.now.create (λ creation. IsFrameCount creation.frames) }
 {
     let mut own = files;
+    make_asked(rt, alloc, &mut own, asked)?;
     let opened = open_image(rt, alloc, &mut own, &outside, asked)?;
     let (doors, inputs) = open_doors(alloc, &outside, asked.doors.as_slice())?;
     let Opened {
