@@ -17,10 +17,9 @@ asked_door door = (door.role, door.folder.now)
 abbrev pub ReadsDoor : {Input : Type 0} → (Input → List ℕ → Type 0) → AskedDoor → Input → Type 0
 ReadsDoor reads door input = reads input (door_path door.folder.now)
 
--- the door of this number, from 0 on
-abbrev pub IsDoorAt : List Door → ℕ → Door → Type 0
-IsDoorAt doors number door = (number < length doors) × HoldsAt (λ at. door ≡ at) doors number
-
--- the paths of a session's streams in the door's folder name what is read and what is written
-abbrev pub AreStreamsOf : {Input Output : Type 0} → (Input → List ℕ → Type 0) → (Output → List ℕ → Type 0) → Door → (name : List ℕ) → Input → Output → Type 0
-AreStreamsOf reads writes door name input output = reads input (input_path (string_bytes door.folder) name) × writes output (output_path (string_bytes door.folder) name)
+-- The streams of a session that was asked for by this name at the door of this number, from 0 on, and the role that they have: that door's.
+pub record AreAtDoor {I O : Type 0} (reads : I → List ℕ → Type 0) (writes : O → List ℕ → Type 0) (doors : List Door) (number : ℕ) (name : List ℕ) (from : I) (to : O) (role : Role) : Type 0 where
+  pub door : Door
+  pub there : (number < length doors) × HoldsAt (λ at. door ≡ at) doors number
+  pub serves : role ≡ door.role
+  pub streams : reads from (input_path (string_bytes door.folder) name) × writes to (output_path (string_bytes door.folder) name)

@@ -2,8 +2,7 @@
 ghost use Rattle.std.specs.Prelude.{◌≡◌, ◌+◌, ◌^◌, ◌<◌, None, IfOk, OnOk};
 ghost use Rattle.std.specs.Io.KnownBytes.{Appends};
 ghost use Rattle.serving.specs.Streams.{failures_after};
-ghost use Rattle.s4serve.specs.Doors.{AreStreamsOf, IsDoorAt};
-ghost use Rattle.s4serve.specs.declared.service.Door.{Door as DoorValue};
+ghost use Rattle.s4serve.specs.Doors.{AreAtDoor};
 
 use crate::reaching::SessionOutput;
 use crate::service::Door;
@@ -21,7 +20,16 @@ use std::io::{self, ErrorKind, Write};
 #[derive(Drop)]
 pub struct ToFifo<W> {
     writer: WriteSink<W>,
-    pub role: Role,
+    role: Role,
+}
+
+impl<W> ToFifo<W> {
+    /// The role of its door, which only an opening gives it.
+    pub(crate) fn role(&self) -> Role
+        ensures { result ≡ self.now.role }
+    {
+        self.role
+    }
 }
 
 /// Opens the two streams of a session that was asked for at the door of this number.
@@ -33,9 +41,8 @@ pub fn open_at<D: Fifos>(
     name: &SessionName,
 ) -> io::Result<(D::Input, ToFifo<D::Output>)>
     // They are those of that door, and so is the role.
-    ensures streams { IfOk result (λ streams. (door : DoorValue)
-        × IsDoorAt doors.now number door × (streams.1.role ≡ door.role)
-        × AreStreamsOf D.reads D.writes door name.now streams.0 streams.1.writer.writer) }
+    ensures streams { IfOk result (λ streams. AreAtDoor D.reads D.writes doors.now number name.now
+        streams.0 streams.1.writer.writer streams.1.role) }
     ensures failures { IfOk result
         (λ streams. ⟦<WriteSink<D::Output> as Sink>⟧.failures streams.1.writer ≡ 0) }
 {

@@ -5,10 +5,11 @@ ghost use Rattle.server.specs.Accounts.{one_part};
 ghost use Rattle.server.specs.Attending.{IsSeated};
 ghost use Rattle.server.specs.Drawing.{DrawsNothing};
 ghost use Rattle.server.specs.declared.clocks.Undrawn.{Undrawn as Nothing};
+ghost use Rattle.s4serve.specs.Doors.{AreAtDoor};
 ghost use Rattle.s4serve.specs.Seats.{ServedFields};
 ghost use Rattle.s4serve.specs.Traces.{HasWaitedForAll, TracedSteps, untraced};
 
-use crate::at_doors::open_at;
+use crate::at_doors::{ToFifo, open_at};
 use crate::collecting::{ServiceFlush, flusher};
 use crate::reaching::SessionOutput;
 use crate::replying::Replying;
@@ -23,7 +24,7 @@ use image_keeping::Keeper;
 use kept_drive::KeptReceipt;
 use s4_types::Role;
 use server::{Locked, Open, Part, Running};
-use serving::{Clock, ReadSource, Source};
+use serving::{Clock, ReadSource, Sink, Source, WriteSink};
 use std::alloc::Global;
 use std::sync::Wait;
 use std::time;
@@ -57,7 +58,28 @@ fn attend<J: Running, C: Clock, K: Keeper + Drop, R: Wait + time::Clock, D: Fifo
     let Ok((input, output)) = open_at(outside, alloc, doors, line.door, &line.name) else {
         return;
     };
-    let role = output.role;
+    serve_at(rt, alloc, service, outside, line, part, input, output);
+}
+
+/// Serves the session that a line asks for, over the streams that it names at its own door, and in
+/// that door's role.
+fn serve_at<J: Running, C: Clock, K: Keeper + Drop, R: Wait + time::Clock, D: Fifos + Telling>(
+    rt: &R,
+    alloc: Global,
+    service: &Service<J, C, K>,
+    outside: &D,
+    line: &Line,
+    part: Option<Part<J>>,
+    input: D::Input,
+    output: ToFifo<D::Output>,
+)
+    requires part { IfSome part (λ part. part ≡ one_part) }
+    requires streams { AreAtDoor D.reads D.writes service.now.doors.items line.now.door line.now.name
+        input output.writer.writer output.role }
+    requires failures { ⟦<WriteSink<D::Output> as Sink>⟧.failures output.writer ≡ 0 }
+{
+    let _ = line;
+    let role = output.role();
     let reader = ReadSource::new(input);
     let mut writer = Replying::new(output);
     serve_one(rt, alloc, service, outside, role, part, reader, &mut writer);
