@@ -5,7 +5,7 @@ ghost use Rattle.serving.specs.Streams.{failures_after};
 ghost use Rattle.s4serve.specs.Doors.{AreAtDoor};
 
 use crate::reaching::SessionOutput;
-use crate::service::Door;
+use crate::service::{Door, Serving};
 use door_files::{Fifos, open_session};
 use door_lines::SessionName;
 use image_keeping::Keeper;
@@ -33,10 +33,10 @@ impl<W> ToFifo<W> {
 }
 
 /// Opens the two streams of a session that was asked for at the door of this number.
-pub fn open_at<D: Fifos>(
+pub fn open_at<J: Serving, D: Fifos>(
     fifos: &D,
     alloc: Global,
-    doors: &[Door],
+    doors: &[Door<J>],
     number: usize,
     name: &SessionName,
 ) -> io::Result<(D::Input, ToFifo<D::Output>)>
@@ -49,8 +49,8 @@ pub fn open_at<D: Fifos>(
     let Some(door) = doors.get(number) else {
         return Err(io::Error::from(ErrorKind::NotFound));
     };
-    let (input, output) = open_session(fifos, alloc, door.folder.as_str(), name)?;
-    let role = door.role;
+    let (input, output) = open_session(fifos, alloc, door.folder(), name)?;
+    let role = door.role();
     let writer = WriteSink::new(output);
     Ok((input, ToFifo { writer, role }))
 }

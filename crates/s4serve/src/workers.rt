@@ -13,7 +13,7 @@ use crate::at_doors::{ToFifo, open_at};
 use crate::collecting::{ServiceFlush, flusher};
 use crate::reaching::SessionOutput;
 use crate::replying::Replying;
-use crate::service::Service;
+use crate::service::{Service, Serving};
 use crate::sessions::{Seat, serve_seat};
 use crate::telling::Telling;
 use crate::waiting::Line;
@@ -23,14 +23,14 @@ use group_commit::{Flush, Open as AnyStep, Receipt, Steps};
 use image_keeping::Keeper;
 use kept_drive::KeptReceipt;
 use s4_types::Role;
-use server::{Locked, Open, Part, Running};
+use server::{Locked, Open, Part};
 use serving::{Clock, ReadSource, Sink, Source, WriteSink};
 use std::alloc::Global;
 use std::sync::Wait;
 use std::time;
 
 /// Serves sessions of a role, one after another, whatever becomes of each.
-pub fn work<J: Running, C: Clock, K: Keeper + Drop, R: Wait + time::Clock, D: Fifos + Telling>(
+pub fn work<J: Serving, C: Clock, K: Keeper + Drop, R: Wait + time::Clock, D: Fifos + Telling>(
     rt: &R,
     alloc: Global,
     service: &Service<J, C, K>,
@@ -44,7 +44,7 @@ pub fn work<J: Running, C: Clock, K: Keeper + Drop, R: Wait + time::Clock, D: Fi
 }
 
 /// Serves the session that a line asks for, where its streams are there.
-fn attend<J: Running, C: Clock, K: Keeper + Drop, R: Wait + time::Clock, D: Fifos + Telling>(
+fn attend<J: Serving, C: Clock, K: Keeper + Drop, R: Wait + time::Clock, D: Fifos + Telling>(
     rt: &R,
     alloc: Global,
     service: &Service<J, C, K>,
@@ -63,7 +63,7 @@ fn attend<J: Running, C: Clock, K: Keeper + Drop, R: Wait + time::Clock, D: Fifo
 
 /// Serves the session that a line asks for, over the streams that it names at its own door, and in
 /// that door's role.
-fn serve_at<J: Running, C: Clock, K: Keeper + Drop, R: Wait + time::Clock, D: Fifos + Telling>(
+fn serve_at<J: Serving, C: Clock, K: Keeper + Drop, R: Wait + time::Clock, D: Fifos + Telling>(
     rt: &R,
     alloc: Global,
     service: &Service<J, C, K>,
@@ -87,7 +87,7 @@ fn serve_at<J: Running, C: Clock, K: Keeper + Drop, R: Wait + time::Clock, D: Fi
 
 /// Serves one session that was asked for at a door. Its replies are due until it has ended.
 fn serve_one<
-    J: Running,
+    J: Serving,
     C: Clock,
     K: Keeper + Drop,
     R: Wait + time::Clock,
@@ -130,7 +130,7 @@ fn serve_one<
 ///
 /// What it writes are the replies of that session's steps, each of which a receipt covers first.
 fn serve_line<
-    J: Running,
+    J: Serving,
     C: Clock,
     K: Keeper + Drop,
     R: Wait + time::Clock,
@@ -171,7 +171,7 @@ fn serve_line<
 }
 
 /// A seat of this role, with this part of the books. None where the drive has no more seats.
-fn seat_for<'a, J: Running, C: Clock, K: Keeper, R: Wait>(
+fn seat_for<'a, J: Serving, C: Clock, K: Keeper, R: Wait>(
     rt: &'a R,
     alloc: Global,
     service: &'a Service<J, C, K>,
@@ -199,7 +199,7 @@ fn seat_for<'a, J: Running, C: Clock, K: Keeper, R: Wait>(
 }
 
 /// What a session waits with until what it did is kept.
-fn keeping<'a, J: Running, C: Clock, K: Keeper, R: Wait, D: Telling>(
+fn keeping<'a, J: Serving, C: Clock, K: Keeper, R: Wait, D: Telling>(
     rt: &'a R,
     alloc: Global,
     service: &'a Service<J, C, K>,
