@@ -23,8 +23,8 @@ in `crates/CRATE/src`, in terms of [DEFINITIONS](DEFINITIONS.md).
 (`serve_line`), and a receipt shows that a crash left an image of the drive with as many changes, at its reach
 (`what_is_covered_is_kept`). That a crash falls between two calls of the folder, one inside a call being read as a folder whose later calls all fail; that the lock of the
 monitor orders what the receipts of several sessions say; that a real folder is as `Folder` says; that a thread which waits goes on;
-that workers reach clients by `open_at` and `serve_line` alone, and which thread reads which door; that the drive is the image's; that
-the end closes it; that the time was read: these no clause says.
+that workers reach clients by `open_at` and `serve_line` alone, and which thread reads which door; that
+the end closes the drive: these no clause says.
 """
 WIDTH = 130
 USUAL = {"same", "unchanged", "others", "refusal", "memory", "none", "failures", "empty", "ledger", "least", "most", "few"}

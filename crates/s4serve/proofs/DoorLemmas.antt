@@ -1,25 +1,27 @@
 -- One door more.
 use Rattle.std.proofs.Common.{◌≡◌, ◌+◌, ◌<◌, ◌∙◌, ℕ, List, [], ◌∷◌, ◌++◌, length, take, get_or, map, ap, subst, sym}
 use Rattle.std.specs.List.{AllZip}
-use Rattle.std.proofs.lemmas.List.{map-append, take_more}
-use Rattle.s4_types.specs.declared.requests.Role.{Role}
+use Rattle.std.specs.Prelude.{Contains}
+use Rattle.std.proofs.lemmas.List.{get_or-map, length-map, map-append, take_more}
+use Rattle.std.proofs.lemmas.List.Elements.{Contains-get_or}
 use Rattle.s4serve_command.specs.declared.doors.Door.{Door as AskedDoor}
-use Rattle.s4serve.specs.declared.service.Door.{Door}
-use Rattle.s4serve.specs.Doors.{asked_door, opened_door}
-
--- comes last
-pub door_last : (old new : List Door) (door : Door) (asked : AskedDoor) → new ≡ old ++ door ∷ [] → opened_door door ≡ asked_door asked
-    → map opened_door new ≡ map opened_door old ++ asked_door asked ∷ []
-door_last old new door asked is same =
-    ap (map opened_door) is ∙ map-append opened_door old (door ∷ []) ∙ ap (λ (d : Role × List ℕ). map opened_door old ++ d ∷ []) same
+use Rattle.s4serve.specs.Doors.{DoorFields, asked_door}
 
 -- so the doors are those that were asked for until then
-pub doors_more : (asked : List AskedDoor) (i : ℕ) (d : AskedDoor) (old new : List Door) → i < length asked → map opened_door old ≡ map asked_door (take i asked)
-    → map opened_door new ≡ map opened_door old ++ asked_door (get_or asked i d) ∷ [] → map opened_door new ≡ map asked_door (take (i + 1) asked)
+pub doors_more : (asked : List AskedDoor) (i : ℕ) (d : AskedDoor) (old new : List DoorFields) → i < length asked → old ≡ map asked_door (take i asked)
+    → new ≡ old ++ asked_door (get_or asked i d) ∷ [] → new ≡ map asked_door (take (i + 1) asked)
 doors_more asked i d old new lt are last =
     let more : map asked_door (take (i + 1) asked) ≡ map asked_door (take i asked) ++ asked_door (get_or asked i d) ∷ [] =
     ap (map asked_door) (take_more asked i d lt) ∙ map-append asked_door (take i asked) (get_or asked i d ∷ []) in
-    last ∙ ap (λ (l : List (Role × List ℕ)). l ++ asked_door (get_or asked i d) ∷ []) are ∙ sym more
+    last ∙ ap (λ (l : List DoorFields). l ++ asked_door (get_or asked i d) ∷ []) are ∙ sym more
+
+-- and each of them is one that was asked for
+pub is_asked : (doors : List DoorFields) (asked : List AskedDoor) (i : ℕ) (d : AskedDoor) → doors ≡ map asked_door asked → i < length asked → Contains doors (asked_door (get_or asked i d))
+is_asked doors asked i d are lt =
+    let there : i < length (map asked_door asked) = subst (λ (n : ℕ). i < n) (sym (length-map asked asked_door)) lt in
+    let found : Contains (map asked_door asked) (get_or (map asked_door asked) i (asked_door d)) = Contains-get_or (map asked_door asked) i (asked_door d) there in
+    subst (λ (l : List DoorFields). Contains l (asked_door (get_or asked i d))) (sym are)
+    (subst (λ (door : DoorFields). Contains (map asked_door asked) door) (get_or-map asked_door asked i d (asked_door d) lt) found)
 
 zip_last : {A B : Type 0} (R : A → B → Type 0) (xs : List A) (ys : List B) (x : A) (y : B) → AllZip R xs ys → R x y → AllZip R (xs ++ x ∷ []) (ys ++ y ∷ [])
 zip_last R [] [] x y are is = (is, tt)

@@ -2,4 +2,5 @@ pub mod Collected
 pub mod Created
 pub mod DoorLemmas
 pub mod Growing
+pub mod Served
 pub mod Tracing

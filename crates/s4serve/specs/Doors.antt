@@ -1,26 +1,25 @@
 -- The doors of a service, and those that were asked for.
-use Rattle.std.specs.Prelude.{◌≡◌, ◌<◌, ℕ, HoldsAt, List, length, string_bytes}
+use Rattle.std.specs.Prelude.{◌≡◌, ◌<◌, ℕ, HoldsAt, List, length}
 use Rattle.s4_types.specs.declared.requests.Role.{Role}
 use Rattle.door_files.specs.Paths.{door_path, input_path, output_path}
 use Rattle.s4serve_command.specs.declared.doors.Door.{Door as AskedDoor}
-use Rattle.s4serve.specs.declared.service.Door.{Door}
 
--- the role of a door, and its folder
-abbrev pub opened_door : Door → Role × List ℕ
-opened_door door = (door.role, string_bytes door.folder)
+-- what contracts see of a door: its role, and its folder
+pub record DoorFields : Type 0 where
+  pub role : Role
+  pub folder : List ℕ
 
 -- those of a door that was asked for
-abbrev pub asked_door : AskedDoor → Role × List ℕ
-asked_door door = (door.role, door.folder.now)
+abbrev pub asked_door : AskedDoor → DoorFields
+asked_door door = record { role = door.role; folder = door.folder.now }
 
 -- the path of the door that was asked for names what is read
 abbrev pub ReadsDoor : {Input : Type 0} → (Input → List ℕ → Type 0) → AskedDoor → Input → Type 0
 ReadsDoor reads door input = reads input (door_path door.folder.now)
 
--- the door of this number, from 0 on
-abbrev pub IsDoorAt : List Door → ℕ → Door → Type 0
-IsDoorAt doors number door = (number < length doors) × HoldsAt (λ at. door ≡ at) doors number
-
--- the paths of a session's streams in the door's folder name what is read and what is written
-abbrev pub AreStreamsOf : {Input Output : Type 0} → (Input → List ℕ → Type 0) → (Output → List ℕ → Type 0) → Door → (name : List ℕ) → Input → Output → Type 0
-AreStreamsOf reads writes door name input output = reads input (input_path (string_bytes door.folder) name) × writes output (output_path (string_bytes door.folder) name)
+-- The streams of a session that was asked for by this name at the door of this number, from 0 on, and the role that they have: that door's.
+pub record AreAtDoor {I O : Type 0} (reads : I → List ℕ → Type 0) (writes : O → List ℕ → Type 0) (doors : List DoorFields) (number : ℕ) (name : List ℕ) (from : I) (to : O) (role : Role) : Type 0 where
+  pub door : DoorFields
+  pub there : (number < length doors) × HoldsAt (λ at. door ≡ at) doors number
+  pub serves : role ≡ door.role
+  pub streams : reads from (input_path door.folder name) × writes to (output_path door.folder name)

@@ -6,5 +6,6 @@ pub mod Traces
 pub mod Owing
 pub mod Ended
 pub mod Collecting
+pub mod Opening
 pub mod Starts
 pub mod Reserves

@@ -2,11 +2,10 @@
 ghost use Rattle.std.specs.Prelude.{◌≡◌, ◌+◌, ◌^◌, ◌<◌, None, IfOk, OnOk};
 ghost use Rattle.std.specs.Io.KnownBytes.{Appends};
 ghost use Rattle.serving.specs.Streams.{failures_after};
-ghost use Rattle.s4serve.specs.Doors.{AreStreamsOf, IsDoorAt};
-ghost use Rattle.s4serve.specs.declared.service.Door.{Door as DoorValue};
+ghost use Rattle.s4serve.specs.Doors.{AreAtDoor};
 
 use crate::reaching::SessionOutput;
-use crate::service::Door;
+use crate::service::{Door, Serving};
 use door_files::{Fifos, open_session};
 use door_lines::SessionName;
 use image_keeping::Keeper;
@@ -21,29 +20,37 @@ use std::io::{self, ErrorKind, Write};
 #[derive(Drop)]
 pub struct ToFifo<W> {
     writer: WriteSink<W>,
-    pub role: Role,
+    role: Role,
+}
+
+impl<W> ToFifo<W> {
+    /// The role of its door, which only an opening gives it.
+    pub(crate) fn role(&self) -> Role
+        ensures { result ≡ self.now.role }
+    {
+        self.role
+    }
 }
 
 /// Opens the two streams of a session that was asked for at the door of this number.
-pub fn open_at<D: Fifos>(
+pub fn open_at<J: Serving, D: Fifos>(
     fifos: &D,
     alloc: Global,
-    doors: &[Door],
+    doors: &[Door<J>],
     number: usize,
     name: &SessionName,
 ) -> io::Result<(D::Input, ToFifo<D::Output>)>
     // They are those of that door, and so is the role.
-    ensures streams { IfOk result (λ streams. (door : DoorValue)
-        × IsDoorAt doors.now number door × (streams.1.role ≡ door.role)
-        × AreStreamsOf D.reads D.writes door name.now streams.0 streams.1.writer.writer) }
+    ensures streams { IfOk result (λ streams. AreAtDoor D.reads D.writes doors.now number name.now
+        streams.0 streams.1.writer.writer streams.1.role) }
     ensures failures { IfOk result
         (λ streams. ⟦<WriteSink<D::Output> as Sink>⟧.failures streams.1.writer ≡ 0) }
 {
     let Some(door) = doors.get(number) else {
         return Err(io::Error::from(ErrorKind::NotFound));
     };
-    let (input, output) = open_session(fifos, alloc, door.folder.as_str(), name)?;
-    let role = door.role;
+    let (input, output) = open_session(fifos, alloc, door.folder(), name)?;
+    let role = door.role();
     let writer = WriteSink::new(output);
     Ok((input, ToFifo { writer, role }))
 }

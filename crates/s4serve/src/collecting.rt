@@ -4,7 +4,7 @@ ghost use Rattle.s4serve.specs.Collecting.{Collects, CollectsLast};
 
 use crate::ended::EndReceipt;
 use crate::keeping::Explaining;
-use crate::service::Service;
+use crate::service::{Service, Serving};
 use crate::telling::{News, Telling};
 use drive::{Drive, Session};
 use group_commit::{Flush, FlushError};
@@ -136,7 +136,7 @@ pub type ServiceFlush<'a, J, C, K, R, D> = Flushing<
 >;
 
 /// The same, for one who waits.
-pub fn flusher<'a, J: Running, C: Clock, K: Keeper, R: Wait, D: Telling>(
+pub fn flusher<'a, J: Serving, C: Clock, K: Keeper, R: Wait, D: Telling>(
     rt: &'a R,
     alloc: Global,
     service: &'a Service<J, C, K>,

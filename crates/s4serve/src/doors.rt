@@ -2,20 +2,19 @@
 ghost use Rattle.std.specs.Prelude.{◌≡◌, ◌+◌, ◌^◌, ◌<◌};
 ghost use Rattle.s4serve.specs.Lines.{is_administrator};
 
-use crate::service::{Door, Service};
+use crate::service::{Door, Service, Serving};
 use crate::telling::{News, Telling};
 use crate::waiting::Line;
 use door_files::{Fifos, open_session};
 use door_lines::{DoorLine, DoorReader, PieceSource, SessionName};
 use image_keeping::Keeper;
 use s4_types::Role;
-use server::Running;
 use serving::{Clock, ReadSource};
 use std::alloc::Global;
 use std::sync::Wait;
 
 /// Reads the lines at the door of this number from its file.
-pub fn watch_input<J: Running, C: Clock, K: Keeper, R: Wait, D: Fifos + Telling>(
+pub fn watch_input<J: Serving, C: Clock, K: Keeper, R: Wait, D: Fifos + Telling>(
     rt: &R,
     alloc: Global,
     service: &Service<J, C, K>,
@@ -34,7 +33,7 @@ pub fn watch_input<J: Running, C: Clock, K: Keeper, R: Wait, D: Fifos + Telling>
 }
 
 /// Reads the lines at the door of this number, as long as that can be read.
-fn watch<J: Running, C: Clock, K: Keeper, R: Wait, D: Fifos + Telling, S: PieceSource>(
+fn watch<J: Serving, C: Clock, K: Keeper, R: Wait, D: Fifos + Telling, S: PieceSource>(
     rt: &R,
     alloc: Global,
     service: &Service<J, C, K>,
@@ -54,28 +53,28 @@ fn watch<J: Running, C: Clock, K: Keeper, R: Wait, D: Fifos + Telling, S: PieceS
             Err(_) => break,
         }
     }
-    outside.tell(News::DoorFailed(door.folder.as_str()));
+    outside.tell(News::DoorFailed(door.folder()));
 }
 
 /// Does what a line at a door asks for. `stop` ends the service where administrators come.
-fn heed<J: Running, C: Clock, K: Keeper, R: Wait, D: Fifos>(
+fn heed<J: Serving, C: Clock, K: Keeper, R: Wait, D: Fifos>(
     rt: &R,
     alloc: Global,
     service: &Service<J, C, K>,
     outside: &D,
-    door: &Door,
+    door: &Door<J>,
     number: usize,
     line: DoorLine,
 ) {
     match line {
         DoorLine::Session(name) => {
             let line = Line { door: number, name };
-            if let Err(line) = service.lines.put(rt, door.role, line) {
+            if let Err(line) = service.lines.put(rt, door.role(), line) {
                 turn_away(outside, alloc, door, &line.name);
             }
         }
         DoorLine::Stop => {
-            if may_stop(door.role) {
+            if may_stop(door.role()) {
                 service.monitor.stop(rt, door);
             }
         }
@@ -92,6 +91,6 @@ fn may_stop(role: Role) -> bool
 
 /// The streams of a session that too many others are ahead of are opened and closed, so that its
 /// client sees their end.
-fn turn_away<D: Fifos>(outside: &D, alloc: Global, door: &Door, name: &SessionName) {
-    let _ = open_session(outside, alloc, door.folder.as_str(), name);
+fn turn_away<J: Serving, D: Fifos>(outside: &D, alloc: Global, door: &Door<J>, name: &SessionName) {
+    let _ = open_session(outside, alloc, door.folder(), name);
 }

@@ -26,6 +26,7 @@ mod ended;
 mod faults;
 mod keeping;
 mod leaving;
+mod machine;
 mod opening;
 mod own_thread;
 mod parts;
@@ -43,6 +44,7 @@ mod workers;
 
 use faults::ServeFault;
 use image_commands::hold_standard_streams;
+use machine::Machine;
 use own_thread::perform_apart;
 use performing::{fail, refuse};
 use serving::{Sink, WriteSink};
@@ -51,7 +53,6 @@ use std::io;
 use std::process::ExitCode;
 use std::sync::Wait;
 use std::thread::Threads;
-use std::time::Clock;
 
 fn main(rt: HostRuntime) -> ExitCode {
     // Where the system has nothing to open, the streams stay as they are.
@@ -64,7 +65,7 @@ fn main(rt: HostRuntime) -> ExitCode {
 
 // What the line came to.
 fn exit_of<
-    H: Threads + Wait + Clock + Copy + Send + Sync + Drop + 'static,
+    H: Threads + Wait + Machine + Copy + Send + Sync + Drop + 'static,
     S: AsStr + Send + Drop + 'static,
     W: Sink + Send + Drop + 'static,
 >(threads: &H, rt: &HostRuntime, words: Vec<S>, writer: W) -> ExitCode

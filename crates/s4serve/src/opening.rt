@@ -1,5 +1,5 @@
 //! The drive that a service serves: the one in its image, which is made before where that is asked.
-ghost use Rattle.std.specs.Prelude.{◌≡◌, ◌≤◌, ◌<◌, [], IfOk, IfSome, OnOk, length};
+ghost use Rattle.std.specs.Prelude.{◌≡◌, ◌≤◌, ◌<◌, [], IfNone, IfOk, IfSome, OnOk, length};
 ghost use Rattle.std.specs.List.{All};
 ghost use Rattle.s4_types.specs.Sizes.{IsFrameCount};
 ghost use Rattle.image_commands.specs.Files.{AreKnown};
@@ -7,11 +7,13 @@ ghost use Rattle.image_commands.specs.Leaving.{AreAllSpent, AreNoImages, IsLeftF
 ghost use Rattle.image_commands.specs.Making.{HasNew};
 ghost use Rattle.image_commands.specs.Verifying.{IsVerified};
 ghost use Rattle.image_commands.specs.declared.beside.TheConstants.{MOST_LEFT};
+ghost use Rattle.s4serve.specs.Opening.{IsDriveIn};
 ghost use Rattle.s4serve.specs.Reserves.{most_reserve, reserve_of};
 ghost use Rattle.s4serve.specs.Starts.{IsStart};
 
 use crate::faults::ServeFault;
 use crate::leaving::{claim_left, refuse_making, unread_beside};
+use crate::machine::Machine;
 use crate::reserves::reserve_over;
 use crate::telling::{News, Telling};
 use drive::OpenedDrive;
@@ -20,7 +22,7 @@ use kept_drive::MOST_AHEAD;
 use s4_types::{Cause, Moment, Refusal};
 use s4d_command::New;
 use s4serve_command::{Creation, ServiceAsked};
-use service_time::{Monotonic, ServiceClock, start_of, system_time, wait_before};
+use service_time::{Monotonic, ServiceClock, start_of, wait_before};
 use std::alloc::Global;
 use std::sync::Wait;
 use std::thread::{Threads, sleep};
@@ -53,21 +55,22 @@ pub struct Opened<T: Clock, F: Files> {
 }
 
 /// Claims the image that is asked for, opens its drive, and begins the clock of its service. Where
-/// one is asked to be made, that is done before; what has bytes is refused then, and a path beside
-/// which a service left a whole image. Where a service left a later one beside the image, nothing
-/// is opened.
+/// a service left a later one beside the image, nothing is opened.
 ///
 /// Where the image's clock is above the machine's time, that is waited for first, but no longer
 /// than a crash may have left it ahead.
-pub fn open_image<'a, T: Threads + Wait + Clock + Copy + Drop, F: Files, D: Telling>(
+#[tactic(auto, using(crate::proofs::Served::drive_in))]
+pub fn open_image<'a, T: Threads + Wait + Machine + Copy + Drop, F: Files, D: Telling>(
     rt: &T,
     alloc: Global,
     files: &mut F,
     outside: &D,
     asked: &ServiceAsked<'a>,
 ) -> Result<Opened<T, F>, ServeFault<'a>>
-    requires { IfSome asked.now.create (λ creation. IsFrameCount creation.frames) }
     ensures claimed { IfOk result (λ opened. F.leads opened.claim asked.now.image.now) }
+    // It is the drive in the file at the image's path, as that was read.
+    ensures image { IfOk result
+        (λ opened. IsDriveIn (F.contents files.old asked.now.image.now) opened.drive) }
     // Nothing is lost with what may be removed.
     ensures left { IfOk result
         (λ opened. All (IsLeftFor F.is_left F.is_part (F.contents files.new) opened.claim
@@ -76,11 +79,8 @@ pub fn open_image<'a, T: Threads + Wait + Clock + Copy + Drop, F: Files, D: Tell
     ensures all { IfOk result
         (λ opened. AreAllSpent MOST_LEFT (F.lies files.new asked.now.image.now) F.is_left
         (F.contents files.new) opened.drive.timeline.clock opened.left.items) }
-    // Before one was made, no whole one lay there.
-    ensures made { OnOk result
-        (IfSome asked.now.create (λ creation. AreNoImages MOST_LEFT
-        (F.lies files.old asked.now.image.now) (F.contents files.old))) }
     // By the machine's time that was read, over the drive that was opened.
+    ensures read { IfOk result (λ opened. T.has_read rt.now opened.begun.system) }
     ensures start { IfOk result
         (λ opened. IsStart opened.drive.timeline.clock opened.drive.timeline.window
         asked.now.leap opened.begun.system opened.begun.start) }
@@ -92,7 +92,6 @@ pub fn open_image<'a, T: Threads + Wait + Clock + Copy + Drop, F: Files, D: Tell
     ensures half { IfOk result (λ opened. opened.reserve
         ≤ most_reserve (length opened.drive.store.table.seat.frames)) }
 {
-    make_asked(rt, alloc, files, asked)?;
     let (claim, image) = claim_image(rt, alloc, files, asked.image)?;
     let reserve = reserve_over(asked.reserve, image.frames())?;
     let (clock, window) = (image.clock(), image.window());
@@ -112,15 +111,19 @@ pub fn open_image<'a, T: Threads + Wait + Clock + Copy + Drop, F: Files, D: Tell
     })
 }
 
-/// Makes an image where that is asked. Where clients are to leave more of its room than may be,
-/// nothing is made.
-fn make_asked<'a, T: Threads, F: Files>(
+/// Makes an image where that is asked. What has bytes is refused, and a path beside which a service
+/// left a whole image. Where clients are to leave more of its room than may be, nothing is made.
+pub fn make_asked<'a, T: Threads, F: Files>(
     rt: &T,
     alloc: Global,
     files: &mut F,
     asked: &ServiceAsked<'a>,
 ) -> Result<(), ServeFault<'a>>
     requires { IfSome asked.now.create (λ creation. IsFrameCount creation.frames) }
+    ensures image { OnOk result (IfSome asked.now.create (λ creation.
+        HasNew creation.frames creation.keep (F.contents files.new asked.now.image.now))) }
+    ensures same { IfNone asked.now.create (files.new ≡ files.old) }
+    // Before one was made, no whole one lay there.
     ensures made { OnOk result
         (IfSome asked.now.create (λ creation. AreNoImages MOST_LEFT
         (F.lies files.old asked.now.image.now) (F.contents files.old))) }
@@ -142,9 +145,9 @@ fn make_asked<'a, T: Threads, F: Files>(
 
 /// Waits until the machine's time isn't below the clock of an image any more, at most as long as a
 /// crash may have left that ahead. Says so, and how far ahead it still is.
-fn await_time<T: Wait + Clock, D: Telling>(rt: &T, outside: &D, image: &str, clock: Moment) {
+fn await_time<T: Wait + Machine, D: Telling>(rt: &T, outside: &D, image: &str, clock: Moment) {
     // Where the time can't be read no service begins.
-    let system = system_time(rt).unwrap_or(u64::MAX);
+    let system = rt.read_time().unwrap_or(u64::MAX);
     let wait = wait_before(clock.number(), system, MOST_AHEAD);
     if wait == 0 {
         return;
@@ -229,18 +232,19 @@ fn unread<'a, T: Threads, F: Files>(
 /// Begins the clock of a service over a drive with this clock and this window. The machine's time
 /// and its monotonic clock are read one right after the other, so that the moments of the service
 /// are the machine's time.
-fn begin_over<'a, T: Clock + Copy + Drop>(
+fn begin_over<'a, T: Machine + Copy + Drop>(
     rt: &T,
     asked: &ServiceAsked<'a>,
     clock: Moment,
     window: u64,
 ) -> Result<Begun<T>, ServeFault<'a>>
+    ensures read { IfOk result (λ begun. T.has_read rt.now begun.system) }
     ensures start { IfOk result
         (λ begun. IsStart clock window asked.now.leap begun.system begun.start) }
     ensures began { IfOk result (λ begun. begun.clock.began ≡ begun.start) }
     ensures last { IfOk result (λ begun. begun.clock.last ≡ begun.start) }
 {
-    let Some(system) = system_time(rt) else {
+    let Some(system) = rt.read_time() else {
         return Err(ServeFault::NoTime);
     };
     let leap = asked.leap.unwrap_or(0);

@@ -2,6 +2,7 @@
 //! anything is read.
 ghost use Rattle.std.specs.Prelude.{◌+◌, ◌^◌, ◌<◌, ◌≤◌, IfOk};
 
+use crate::machine::Machine;
 use crate::performing::perform;
 use own_stacks::call_with_stack;
 use serving::Sink;
@@ -11,7 +12,6 @@ use std::io::Write;
 use std::marker::Send;
 use std::sync::Wait;
 use std::thread::Threads;
-use std::time::Clock;
 
 /// How many bytes of stack the thread has that opens the image.
 const STACK_BYTES: usize = 1 << 20;
@@ -21,7 +21,7 @@ const STACK_BYTES: usize = 1 << 20;
 ///
 /// AllocError where the system has no such thread or stack: nothing was read or written then.
 pub fn perform_apart<
-    H: Threads + Wait + Clock + Copy + Send + Sync + Drop + 'static,
+    H: Threads + Wait + Machine + Copy + Send + Sync + Drop + 'static,
     S: AsStr + Send + Drop + 'static,
     W: Sink + Send + Drop + 'static,
     E: Write + Send + Drop + 'static,
@@ -42,7 +42,7 @@ pub fn perform_apart<
 
 /// Does what the words ask for, over a copy of the system's handle and streams of its own.
 fn run<
-    H: Threads + Wait + Clock + Copy + Send + Sync + Drop + 'static,
+    H: Threads + Wait + Machine + Copy + Send + Sync + Drop + 'static,
     S: AsStr + Drop,
     W: Sink + Drop,
     E: Write + Drop,

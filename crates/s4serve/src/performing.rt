@@ -3,6 +3,7 @@ ghost use Rattle.std.specs.Prelude.{◌≡◌, ◌+◌, ◌^◌, ◌<◌, ◌≤
 
 use crate::faults::ServeFault;
 use crate::keeping::KeptFiles;
+use crate::machine::Machine;
 use crate::starting::serve_image;
 use crate::telling::Telling;
 use door_files::Fifos;
@@ -16,7 +17,6 @@ use std::io::Write;
 use std::marker::{Send, Sync};
 use std::sync::Wait;
 use std::thread::Threads;
-use std::time::Clock;
 
 /// The status of a service that was stopped, and of what was asked for and printed.
 const DONE: u8 = 0;
@@ -32,7 +32,7 @@ const USAGE: u8 = 2;
 /// with a line on `errors` where it failed; 2 with lines there where the words give no service.
 #[tactic(auto, using(crate::proofs::Created::asked_fits))]
 pub fn perform<
-    H: Threads + Wait + Clock + Copy + Send + Sync + Drop + 'static,
+    H: Threads + Wait + Machine + Copy + Send + Sync + Drop + 'static,
     F: KeptFiles + Copy,
     D: Fifos + Telling + Copy + Send + Sync + Drop + 'static,
     S: AsStr,

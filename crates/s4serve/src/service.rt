@@ -1,5 +1,5 @@
 //! What all threads of a service share.
-ghost use Rattle.std.specs.Prelude.{◌≡◌};
+ghost use Rattle.std.specs.Prelude.{◌≡◌, Contains, string_bytes};
 ghost use Rattle.s4_types.specs.declared.requests.Role.TheVariants.{Admin};
 
 use crate::waiting::Lines;
@@ -9,18 +9,74 @@ use kept_drive::{KeptImage, KeptReceipt};
 use s4_types::Role;
 use server::{Pace, Running, SharedDrive};
 use serving::Clock;
+use std::marker::{Brand, Model, PhantomData};
 use std::sync::Mutex;
 
-/// A door of a service.
+/// Which service it is: its run, and the doors that it was asked to have. Each call that begins a
+/// service picks it, with `Brand`.
+pub trait Serving: Running {
+    ghost use Rattle.std.specs.Prelude.{List};
+    ghost use Rattle.s4serve.specs.Doors.{DoorFields};
+
+    /// The doors that it was asked to have.
+    ghost doors: { List DoorFields };
+}
+
+impl Serving for Brand {
+    ghost use Rattle.std.specs.Prelude.{[]};
+
+    ghost doors = { [] };
+}
+
+/// A door of the service that `J` names. None can be made but one that it was asked to have.
 #[derive(Drop)]
-pub struct Door {
+pub struct Door<J: Serving> {
+    role: Role,
+    folder: String,
+    of: PhantomData<J>,
+}
+
+impl<J: Serving> Model for Door<J> {
+    ghost use Rattle.std.specs.Prelude.{Contains, string_bytes};
+    ghost use Rattle.s4serve.specs.Doors.{DoorFields};
+
+    ghost Value = { DoorFields };
+
+    ghost view = { λ d. record { role = d.role; folder = string_bytes d.folder } };
+
+    ghost invariant = { λ d. Contains J.doors
+        (record { role = d.role; folder = string_bytes d.folder }) };
+}
+
+impl<J: Serving> Door<J> {
+    /// The door of this role with this folder, which the service was asked to have.
+    pub(crate) fn new(role: Role, folder: String) -> Self
+        requires { Contains J.doors (record { role = role; folder = string_bytes folder }) }
+        ensures { result ≡ record { role = role; folder = string_bytes folder } }
+    {
+        Door {
+            role,
+            folder,
+            of: PhantomData,
+        }
+    }
+
     /// What whoever comes by it may do.
-    pub role: Role,
-    pub folder: String,
+    pub(crate) fn role(&self) -> Role
+        ensures { result ≡ self.now.role }
+    {
+        self.role
+    }
+
+    pub(crate) fn folder(&self) -> &str
+        ensures { result.now ≡ self.now.folder }
+    {
+        self.folder.as_str()
+    }
 }
 
 // Administrators may stop the service.
-impl Stopping for Door {
+impl<J: Serving> Stopping for Door<J> {
     ghost may_stop = { λ door. door.role ≡ Admin };
 }
 
@@ -29,7 +85,7 @@ impl Stopping for Door {
 /// No thread takes one of these locks while it holds another one, but for two: whoever flushes has
 /// the kept image's, and takes the drive's under it; and that of the pace may be taken under the
 /// drive's.
-pub struct Service<J: Running, C: Clock, K: Keeper> {
+pub struct Service<J: Serving, C: Clock, K: Keeper> {
     pub drive: Mutex<SharedDrive<J, C>>,
     /// How the cleaner and the copier get on.
     pub pace: Pace,
@@ -38,13 +94,13 @@ pub struct Service<J: Running, C: Clock, K: Keeper> {
     pub kept: Mutex<KeptImage<J, K>>,
     /// The lines that no worker has taken, and the parts of the books that no session has had.
     pub lines: Lines<J>,
-    pub doors: Vec<Door>,
+    pub doors: Vec<Door<J>>,
     /// The image's path.
     pub image: String,
 }
 
 // Written by hand, so that an owner lets it go by one call.
-impl<J: Running, C: Clock + Drop, K: Keeper + Drop> Drop for Service<J, C, K> {
+impl<J: Serving, C: Clock + Drop, K: Keeper + Drop> Drop for Service<J, C, K> {
     fn drop(self) {
         let Service {
             drive: _,

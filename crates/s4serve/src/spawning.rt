@@ -3,14 +3,14 @@ ghost use denote.Param.Send.{IsSend};
 ghost use Rattle.std.specs.Prelude.{◌≡◌, true};
 
 use crate::doors::watch_input;
-use crate::service::Service;
+use crate::service::{Service, Serving};
 use crate::telling::Telling;
 use crate::workers::work;
 use door_files::Fifos;
 use image_keeping::Keeper;
 use own_stacks::spawn_with_stack;
 use s4_types::Role;
-use server::{Open, Running, keep_moving, keep_up};
+use server::{Open, keep_moving, keep_up};
 use serving::Clock;
 use std::alloc::{AllocError, Global};
 use std::marker::{Send, Sync};
@@ -41,7 +41,7 @@ enum Duty<I> {
 
 /// What the threads of a service are started with.
 #[derive(Drop)]
-pub struct Starting<'a, J: Running, C: Clock, K: Keeper, R, D> {
+pub struct Starting<'a, J: Serving, C: Clock, K: Keeper, R, D> {
     pub rt: &'a R,
     pub alloc: Global,
     pub service: &'a Arc<Service<J, C, K>, Global>,
@@ -49,7 +49,7 @@ pub struct Starting<'a, J: Running, C: Clock, K: Keeper, R, D> {
 }
 
 impl<
-    J: Running + Send + Sync + 'static,
+    J: Serving + Send + Sync + 'static,
     C: Clock + Send + Drop + 'static,
     K: Keeper + Send + Drop + 'static,
     R: Threads + Wait + time::Clock + Copy + Send + Sync + Drop + 'static,
@@ -102,7 +102,7 @@ impl<
 }
 
 /// Does what a duty says, for as long as that goes on.
-fn perform<J: Running, C: Clock, K: Keeper + Drop, R: Wait + time::Clock, D: Fifos + Telling>(
+fn perform<J: Serving, C: Clock, K: Keeper + Drop, R: Wait + time::Clock, D: Fifos + Telling>(
     rt: &R,
     alloc: Global,
     service: &Service<J, C, K>,

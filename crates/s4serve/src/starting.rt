@@ -1,6 +1,6 @@
 //! How a service begins, and how it ends.
 ghost use Rattle.std.specs.Prelude.{◌≡◌, ◌≤◌, ◌++◌, ℕ, List, [], ◌∷◌, false, length, map, true};
-ghost use Rattle.std.specs.Prelude.{IfOk, IfSome, IsTrue, OnErr, OnOk, string_bytes};
+ghost use Rattle.std.specs.Prelude.{Contains, IfOk, IfSome, IsTrue, OnErr, OnOk, string_bytes};
 ghost use Rattle.std.specs.List.{AllZip};
 ghost use Rattle.image_keeping.specs.Leaving.{IsKept};
 ghost use Rattle.s4_types.specs.Sizes.{IsFrameCount};
@@ -13,7 +13,7 @@ ghost use Rattle.door_files.specs.Paths.{door_path};
 ghost use Rattle.kept_drive.specs.Collecting.{WasHad};
 ghost use Rattle.kept_drive.specs.Images.{IsFlushed};
 ghost use Rattle.s4serve.specs.Ended.{HasBeenEnded};
-ghost use Rattle.s4serve.specs.Doors.{ReadsDoor, asked_door, opened_door};
+ghost use Rattle.s4serve.specs.Doors.{ReadsDoor, asked_door};
 ghost use Rattle.s4serve.specs.Reserves.{most_reserve, reserve_of};
 ghost use Rattle.s4serve.specs.Starts.{IsStart, MayStart};
 
@@ -21,9 +21,10 @@ use crate::collecting::{Closing, UnderLock, flusher};
 use crate::ended::EndReceipt;
 use crate::faults::{DoorObstacle, ServeFault};
 use crate::keeping::{Explaining, KeptFiles};
-use crate::opening::{Begun, Opened, open_image};
+use crate::machine::Machine;
+use crate::opening::{Begun, Opened, make_asked, open_image};
 use crate::parts::ALL_PARTS;
-use crate::service::{Door, Service};
+use crate::service::{Door, Service, Serving};
 use crate::spawning::Starting;
 use crate::telling::{News, Telling};
 use crate::waiting::Lines;
@@ -65,7 +66,6 @@ struct Ready<K, C> {
     start: Moment,
     clock: C,
     blanks: Blanks,
-    doors: Vec<Door>,
 }
 
 /// What a service has besides once its drive was kept a first time.
@@ -80,7 +80,7 @@ struct FirstKept<J: Running, K: Keeper> {
 /// Serves the drive in an image until the service is stopped.
 pub fn serve_image<
     'a,
-    H: Threads + Wait + Clock + Copy + Send + Sync + Drop + 'static,
+    H: Threads + Wait + Machine + Copy + Send + Sync + Drop + 'static,
     F: KeptFiles + Copy,
     D: Fifos + Telling + Copy + Send + Sync + Drop + 'static,
 >(
@@ -93,8 +93,9 @@ pub fn serve_image<
     requires frames { IfSome asked.now.create (λ creation. IsFrameCount creation.frames) }
 {
     let mut own = files;
+    make_asked(rt, alloc, &mut own, asked)?;
     let opened = open_image(rt, alloc, &mut own, &outside, asked)?;
-    let (doors, inputs) = open_doors(alloc, &outside, asked.doors.as_slice())?;
+    let inputs = open_inputs(alloc, &outside, asked.doors.as_slice())?;
     let Opened {
         claim,
         left,
@@ -115,7 +116,6 @@ pub fn serve_image<
         start,
         clock,
         blanks: Blanks::new(ALL_PARTS),
-        doors,
     };
     serve_ready::<Brand, H, F::Kept, ServiceClock<Monotonic<H>>, D>(
         rt, alloc, outside, asked, ready, inputs,
@@ -125,8 +125,8 @@ pub fn serve_image<
 /// Names the drive of a service, keeps it a first time before any session, and serves it.
 fn serve_ready<
     'a,
-    J: Running + Send + Sync + 'static,
-    H: Threads + Wait + Clock + Copy + Send + Sync + Drop + 'static,
+    J: Serving + Send + Sync + 'static,
+    H: Threads + Wait + Machine + Copy + Send + Sync + Drop + 'static,
     K: Keeper + Explaining + Send + Drop + 'static,
     C: serving::Clock + Send + Drop + 'static,
     D: Fifos + Telling + Copy + Send + Sync + Drop + 'static,
@@ -149,10 +149,12 @@ fn serve_ready<
     requires ledgers { (ready.blanks.requests ≡ J.asked) × (ready.blanks.changes ≡ J.name) }
     requires parts { (ready.blanks.parts ≡ J.parts) × (J.parts ≡ ALL_PARTS) }
     requires usable { IsTrue (K.is_usable ready.keeper) }
-    // It begins where a service may begin over this drive, and has the doors that were asked for.
+    // It begins where a service may begin over this drive, by the machine's time that was read, and
+    // has the doors that were asked for.
+    requires read { H.has_read rt.now ready.system }
     requires start { IsStart ready.drive.timeline.clock ready.drive.timeline.window asked.now.leap
         ready.system ready.start }
-    requires doors { map opened_door ready.doors.items ≡ map asked_door asked.now.doors.items }
+    requires doors { J.doors ≡ map asked_door asked.now.doors.items }
     // Clients leave as many blocks of this drive's room as were asked for, or as a drive of so many
     // frames has where that isn't said: no more than half of it where nothing is held.
     requires reserve { J.reserve
@@ -170,19 +172,18 @@ fn serve_ready<
         start,
         clock,
         blanks,
-        doors,
     } = ready;
     let (shared, rest) = SharedDrive::new(drive.named::<J>(), clock, blanks, reserve);
     let drive = Mutex::new(shared);
     let first = keep_first(rt, alloc, &drive, keeper, start, asked.image)?;
-    serve_kept(rt, alloc, outside, asked, drive, first, rest, doors, inputs)
+    serve_kept(rt, alloc, outside, asked, drive, first, rest, inputs)
 }
 
 /// Serves a drive that was kept a first time, as it is once it has seen where the service begins.
 fn serve_kept<
     'a,
-    J: Running + Send + Sync + 'static,
-    H: Threads + Wait + Clock + Copy + Send + Sync + Drop + 'static,
+    J: Serving + Send + Sync + 'static,
+    H: Threads + Wait + Machine + Copy + Send + Sync + Drop + 'static,
     K: Keeper + Explaining + Send + Drop + 'static,
     C: serving::Clock + Send + Drop + 'static,
     D: Fifos + Telling + Copy + Send + Sync + Drop + 'static,
@@ -194,14 +195,15 @@ fn serve_kept<
     drive: Mutex<SharedDrive<J, C>>,
     first: FirstKept<J, K>,
     rest: Part<J>,
-    doors: Vec<Door>,
     inputs: Vec<D::Input>,
 ) -> Result<(), ServeFault<'a>>
     requires upkeep { J.has_upkeep ≡ true }
     requires parts { rest.parts ≡ ALL_PARTS }
-    // It begins where a service may begin over this drive, and has the doors that were asked for.
-    requires start { MayStart J.base.clock J.base.window asked.now.leap first.kept.start }
-    requires doors { map opened_door doors.items ≡ map asked_door asked.now.doors.items }
+    // It begins where a service may begin over this drive, by a machine's time that was read, and
+    // has the doors that were asked for.
+    requires start { MayStart (H.has_read rt.now) J.base.clock J.base.window asked.now.leap
+        first.kept.start }
+    requires doors { J.doors ≡ map asked_door asked.now.doors.items }
     // Whatever a crash leaves from now on is the drive, once it has seen what comes after that.
     requires kept { IsKept (K.may_leave first.kept.keeper)
         (IsFlushed (WasHad J.frames J.base) J.base first.kept.session.told.seen
@@ -210,6 +212,7 @@ fn serve_kept<
 {
     let image = asked.image;
     let patience = asked.patience.unwrap_or(PATIENCE) / SECOND;
+    let doors = doors_of::<J>(alloc, asked.doors.as_slice())?;
     let lines = Lines::new(alloc, rest)?;
     let service = Service {
         pace: Pace::new(rt, alloc, &drive),
@@ -306,7 +309,7 @@ fn flush_first<'a, 'b, J: Running, C: serving::Clock, K: Keeper + Explaining, R:
 /// Waits until the service is to end, and keeps what was accepted, at the drive's own clock.
 fn await_end<
     'a,
-    J: Running,
+    J: Serving,
     C: serving::Clock,
     K: Keeper + Explaining + Drop,
     R: Wait + Clock,
@@ -328,50 +331,62 @@ fn await_end<
 }
 
 /// What was in the way of the flush that failed. Nobody flushes any more.
-fn obstacle_of<J: Running, C: serving::Clock, K: Keeper + Explaining>(
+fn obstacle_of<J: Serving, C: serving::Clock, K: Keeper + Explaining>(
     rt: &impl Wait,
     service: &Service<J, C, K>,
 ) -> KeepObstacle {
     service.kept.lock(rt).keeper().obstacle()
 }
 
-/// Opens the doors that are asked for. Gives their inputs apart.
-fn open_doors<'a, D: Fifos>(
+/// Opens the inputs of the doors that are asked for.
+fn open_inputs<'a, D: Fifos>(
     alloc: Global,
     outside: &D,
     asked: &[s4serve_command::Door<'a>],
-) -> Result<(Vec<Door>, Vec<D::Input>), ServeFault<'a>>
-    // As many as were asked for, each with its role and its folder, in their order.
-    ensures doors { IfOk result
-        (λ opened. map opened_door opened.0.items ≡ map asked_door asked.now) }
+) -> Result<Vec<D::Input>, ServeFault<'a>>
+    // As many as doors were asked for, each by its folder, in their order.
     ensures inputs { IfOk result
-        (λ opened. AllZip (ReadsDoor D.reads) asked.now opened.1.items) }
+        (λ inputs. AllZip (ReadsDoor D.reads) asked.now inputs.items) }
 {
-    let mut doors = Vec::new(alloc);
     let mut inputs = Vec::new(alloc);
     for door in asked {
         let input = input_of(alloc, outside, door.folder)?;
         if inputs.push(input).is_err() {
             return Err(ServeFault::NoMemory);
         }
-        add_door(alloc, &mut doors, *door)?;
     }
-    Ok((doors, inputs))
+    Ok(inputs)
 }
 
-/// Adds a door to those of a service.
-fn add_door(
+/// The doors that a service was asked to have, each with its role and its folder, in their order.
+fn doors_of<J: Serving>(
     alloc: Global,
-    doors: &mut Vec<Door>,
+    asked: &[s4serve_command::Door<'_>],
+) -> Result<Vec<Door<J>>, AllocError>
+    requires are { J.doors ≡ map asked_door asked.now }
+    ensures doors { IfOk result (λ doors. doors.items ≡ J.doors) }
+{
+    let mut doors = Vec::new(alloc);
+    for door in asked {
+        add_door::<J>(alloc, &mut doors, *door)?;
+    }
+    Ok(doors)
+}
+
+/// Adds a door to those of a service, which was asked to have it.
+fn add_door<J: Serving>(
+    alloc: Global,
+    doors: &mut Vec<Door<J>>,
     asked: s4serve_command::Door<'_>,
 ) -> Result<(), AllocError>
-    ensures added { OnOk result (map opened_door doors.new.items
-        ≡ map opened_door doors.old.items ++ asked_door asked.entry ∷ []) }
+    requires { Contains J.doors (asked_door asked) }
+    ensures added { OnOk result (doors.new.items ≡ doors.old.items ++ asked_door asked.entry ∷ []) }
     ensures same { OnErr result (doors.new.items ≡ doors.old.items) }
 {
     let folder = String::from_str(alloc, asked.folder)?;
     let role = asked.role;
-    doors.push(Door { role, folder })?;
+    let door = Door::<J>::new(role, folder);
+    doors.push(door)?;
     Ok(())
 }
 

@@ -1,11 +1,10 @@
 //! Lines of doors that wait until a worker takes them.
 ghost use Rattle.std.specs.Prelude.{◌≡◌, ◌++◌, ◌<◌, [], ◌∷◌, IfErr, IfNone, IfOk};
 ghost use Rattle.std.specs.Prelude.{IfSome, OnErr, OnOk, length};
-ghost use Rattle.server.specs.Accounts.{one_part};
 ghost use Rattle.s4serve.specs.Lines.{lines_for, other_role};
 ghost use Rattle.s4serve.specs.declared.parts.TheConstants.{ALL_PARTS};
 
-use crate::parts::Parts;
+use crate::parts::{OwnPart, Parts};
 use door_lines::SessionName;
 use s4_types::Role;
 use server::{Part, Running};
@@ -23,6 +22,13 @@ pub struct Line {
     pub door: usize,
     /// The name of its streams.
     pub name: SessionName,
+}
+
+/// A line that a worker has taken, and the number of the part of the books that came with it.
+#[derive(Drop)]
+pub struct Taken {
+    pub line: Line,
+    pub number: u64,
 }
 
 /// The lines that no worker has taken yet, in the order in which they came.
@@ -122,14 +128,15 @@ impl<J: Running> Lines<J> {
         put
     }
 
-    /// The next line of those for who serves this role, once there is one, and its part of the
-    /// books. None of these once all are given, which no service lives to see.
-    pub fn take(&self, rt: &impl Wait, role: Role) -> (Line, Option<Part<J>>)
-        ensures { IfSome result.1 (λ part. part ≡ one_part) }
+    /// The next line of those for who serves this role, once there is one, and its own part of the
+    /// books. None once all parts are given, which no service lives to see.
+    pub fn take(&self, rt: &impl Wait, role: Role) -> Option<(Taken, OwnPart<J>)>
+        ensures { IfSome result (λ had. had.1.number ≡ had.0.number) }
     {
         let line = self.next(rt, role);
-        let part = self.parts.lock(rt).one();
-        (line, part)
+        let own = self.parts.lock(rt).one()?;
+        let number = own.number();
+        Some((Taken { line, number }, own))
     }
 
     /// Waits for the next line of those for who serves this role.

@@ -1,35 +1,36 @@
 //! Who serves sessions.
 ghost use Rattle.std.specs.Prelude.{◌≡◌, ◌+◌, ◌^◌, ◌<◌, [], IfNone, IfSome, List};
 ghost use Rattle.batch_serving.specs.Batches.{Serves};
-ghost use Rattle.server.specs.Accounts.{one_part};
 ghost use Rattle.server.specs.Attending.{IsSeated};
 ghost use Rattle.server.specs.Drawing.{DrawsNothing};
 ghost use Rattle.server.specs.declared.clocks.Undrawn.{Undrawn as Nothing};
+ghost use Rattle.s4serve.specs.Doors.{AreAtDoor};
 ghost use Rattle.s4serve.specs.Seats.{ServedFields};
 ghost use Rattle.s4serve.specs.Traces.{HasWaitedForAll, TracedSteps, untraced};
 
-use crate::at_doors::open_at;
+use crate::at_doors::{ToFifo, open_at};
 use crate::collecting::{ServiceFlush, flusher};
+use crate::parts::OwnPart;
 use crate::reaching::SessionOutput;
 use crate::replying::Replying;
-use crate::service::Service;
+use crate::service::{Service, Serving};
 use crate::sessions::{Seat, serve_seat};
 use crate::telling::Telling;
-use crate::waiting::Line;
+use crate::waiting::Taken;
 use batch_serving::{AtMonitor, BatchEnd, DueSource};
 use door_files::Fifos;
 use group_commit::{Flush, Open as AnyStep, Receipt, Steps};
 use image_keeping::Keeper;
 use kept_drive::KeptReceipt;
 use s4_types::Role;
-use server::{Locked, Open, Part, Running};
-use serving::{Clock, ReadSource, Source};
+use server::{Locked, Open};
+use serving::{Clock, ReadSource, Sink, Source, WriteSink};
 use std::alloc::Global;
 use std::sync::Wait;
 use std::time;
 
 /// Serves sessions of a role, one after another, whatever becomes of each.
-pub fn work<J: Running, C: Clock, K: Keeper + Drop, R: Wait + time::Clock, D: Fifos + Telling>(
+pub fn work<J: Serving, C: Clock, K: Keeper + Drop, R: Wait + time::Clock, D: Fifos + Telling>(
     rt: &R,
     alloc: Global,
     service: &Service<J, C, K>,
@@ -37,35 +38,66 @@ pub fn work<J: Running, C: Clock, K: Keeper + Drop, R: Wait + time::Clock, D: Fi
     role: Role,
 ) {
     for _ in rt.forever() {
-        let (line, part) = service.lines.take(rt, role);
-        attend(rt, alloc, service, outside, &line, part);
+        if let Some((taken, own)) = service.lines.take(rt, role) {
+            attend(rt, alloc, service, outside, &taken, own);
+        }
     }
 }
 
 /// Serves the session that a line asks for, where its streams are there.
-fn attend<J: Running, C: Clock, K: Keeper + Drop, R: Wait + time::Clock, D: Fifos + Telling>(
+fn attend<J: Serving, C: Clock, K: Keeper + Drop, R: Wait + time::Clock, D: Fifos + Telling>(
     rt: &R,
     alloc: Global,
     service: &Service<J, C, K>,
     outside: &D,
-    line: &Line,
-    part: Option<Part<J>>,
+    taken: &Taken,
+    own: OwnPart<J>,
 )
-    requires { IfSome part (λ part. part ≡ one_part) }
+    requires { own.number ≡ taken.now.number }
 {
-    let doors = service.doors.as_slice();
+    let (doors, line) = (service.doors.as_slice(), &taken.line);
     let Ok((input, output)) = open_at(outside, alloc, doors, line.door, &line.name) else {
         return;
     };
-    let role = output.role;
+    serve_at(rt, alloc, service, outside, taken, own, input, output);
+}
+
+/// Serves the session that a line asks for, over the streams that it names at its own door, and in
+/// that door's role.
+fn serve_at<J: Serving, C: Clock, K: Keeper + Drop, R: Wait + time::Clock, D: Fifos + Telling>(
+    rt: &R,
+    alloc: Global,
+    service: &Service<J, C, K>,
+    outside: &D,
+    taken: &Taken,
+    own: OwnPart<J>,
+    input: D::Input,
+    output: ToFifo<D::Output>,
+)
+    requires own { own.number ≡ taken.now.number }
+    requires streams { AreAtDoor D.reads D.writes service.now.doors.items taken.now.line.door
+        taken.now.line.name input output.writer.writer output.role }
+    requires failures { ⟦<WriteSink<D::Output> as Sink>⟧.failures output.writer ≡ 0 }
+{
+    let (number, role) = (taken.number, output.role());
     let reader = ReadSource::new(input);
     let mut writer = Replying::new(output);
-    serve_one(rt, alloc, service, outside, role, part, reader, &mut writer);
+    serve_one(
+        rt,
+        alloc,
+        service,
+        outside,
+        role,
+        number,
+        own,
+        reader,
+        &mut writer,
+    );
 }
 
 /// Serves one session that was asked for at a door. Its replies are due until it has ended.
 fn serve_one<
-    J: Running,
+    J: Serving,
     C: Clock,
     K: Keeper + Drop,
     R: Wait + time::Clock,
@@ -78,11 +110,12 @@ fn serve_one<
     service: &Service<J, C, K>,
     outside: &D,
     role: Role,
-    part: Option<Part<J>>,
+    number: u64,
+    own: OwnPart<J>,
     source: S,
     writer: &mut Replying<O>,
 )
-    requires part { IfSome part (λ part. part ≡ one_part) }
+    requires own { own.number ≡ number }
     requires reader { S.failures source + 1 < 2 ^ 64 }
     requires writer { O.failures writer.old.output + 1 < 2 ^ 64 }
     requires role { role ≡ O.role writer.old.output }
@@ -95,7 +128,8 @@ fn serve_one<
         alloc,
         service,
         role,
-        part,
+        number,
+        own,
         &mut reader,
         writer,
         &mut at_monitor,
@@ -103,12 +137,13 @@ fn serve_one<
     reader.end_replies();
 }
 
-/// Serves a session of this role, its door's, that was just had, with its part of the books, and
-/// says how it ended. None where the drive has no seat for it: nothing is read or written then.
+/// Serves a session of this role, its door's, that was just had, by the number of its own part of
+/// the books, and says how it ended. None where the drive has no seat for it: nothing is read or
+/// written then.
 ///
 /// What it writes are the replies of that session's steps, each of which a receipt covers first.
 fn serve_line<
-    J: Running,
+    J: Serving,
     C: Clock,
     K: Keeper + Drop,
     R: Wait + time::Clock,
@@ -121,12 +156,13 @@ fn serve_line<
     alloc: Global,
     service: &Service<J, C, K>,
     role: Role,
-    part: Option<Part<J>>,
+    number: u64,
+    own: OwnPart<J>,
     reader: &mut S,
     writer: &mut Replying<O>,
     keeping: &mut AtMonitor<'_, KeptReceipt<J, K>, R, F, P>,
 ) -> Option<BatchEnd>
-    requires part { IfSome part (λ part. part ≡ one_part) }
+    requires own { own.number ≡ number }
     requires reader { S.failures reader.old + 1 < 2 ^ 64 }
     requires writer { O.failures writer.old.output + 1 < 2 ^ 64 }
     requires role { role ≡ O.role writer.old.output }
@@ -144,20 +180,22 @@ fn serve_line<
         (S.remaining reader.new) (O.sent writer.new.output)) }
 {
     let gate = Open;
-    let mut seat = seat_for(rt, alloc, service, &gate, role, part?)?;
+    let mut seat = seat_for(rt, alloc, service, &gate, role, number, own)?;
     Some(serve_seat(alloc, reader, writer, &mut seat, keeping))
 }
 
-/// A seat of this role, with this part of the books. None where the drive has no more seats.
-fn seat_for<'a, J: Running, C: Clock, K: Keeper, R: Wait>(
+/// A seat of this role, by the number of its own part of the books. None where the drive has no
+/// more seats.
+fn seat_for<'a, J: Serving, C: Clock, K: Keeper, R: Wait>(
     rt: &'a R,
     alloc: Global,
     service: &'a Service<J, C, K>,
     gate: &'a Open,
     role: Role,
-    part: Part<J>,
+    number: u64,
+    own: OwnPart<J>,
 ) -> Option<Seat<'a, J, C, R, Open>>
-    requires { part ≡ one_part }
+    requires { own.number ≡ number }
     ensures { IfSome result (λ s. IsSeated J.base role s.seat) }
 {
     let had = Locked::beside(
@@ -166,9 +204,9 @@ fn seat_for<'a, J: Running, C: Clock, K: Keeper, R: Wait>(
         &service.drive,
         &service.pace,
         role,
-        part,
+        own.into_part(),
         gate,
-        1,
+        number as usize,
     );
     match had {
         Ok(locked) => Some(Seat::new(locked)),
@@ -177,7 +215,7 @@ fn seat_for<'a, J: Running, C: Clock, K: Keeper, R: Wait>(
 }
 
 /// What a session waits with until what it did is kept.
-fn keeping<'a, J: Running, C: Clock, K: Keeper, R: Wait, D: Telling>(
+fn keeping<'a, J: Serving, C: Clock, K: Keeper, R: Wait, D: Telling>(
     rt: &'a R,
     alloc: Global,
     service: &'a Service<J, C, K>,

@@ -1,8 +1,9 @@
-use Rattle.std.specs.Prelude.{⊤, true}
+use Rattle.std.specs.Prelude.{⊤, map, true}
 use Rattle.segment_table.specs.Room.{log_of}
 use Rattle.version_store.specs.Store.{fields_of}
 use Rattle.drive.specs.Opened.{base_of}
 use Rattle.service_time.specs.Drawing.{Ascends}
+use Rattle.s4serve.specs.Doors.{asked_door}
 use Rattle.s4serve.proofs.starting.serve_image.Given as goal
 
 -- the drive that was opened
@@ -22,3 +23,7 @@ ghosts-serve_ready-J-Running g a = record {
   asked = a.ready.blanks.requests;
   reserve = a.ready.reserve;
 }
+
+-- a service with the doors that were asked for
+abbrev pub ghosts-serve_ready-J-Serving : goal.ghosts-serve_ready-J-Serving
+ghosts-serve_ready-J-Serving g a = record { doors = map asked_door a.asked.now.doors.items }

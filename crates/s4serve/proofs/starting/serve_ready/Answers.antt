@@ -10,7 +10,7 @@ use Rattle.s4serve.proofs.starting.serve_ready.Goals as goal
 pub serve_kept-requires-clause-start : goal.serve_kept-requires-clause-start
 serve_kept-requires-clause-start g c =
     let at = subst (λ (b : Base). IsStart b.clock b.window c.args.asked.now.leap c.args.ready.system c.args.ready.start) c.requires.base c.requires.start in
-    λ lifetimes outlives. (c.args.ready.system, subst (λ (start : ℕ). IsStart g.J.Naming.base.clock g.J.Naming.base.window c.args.asked.now.leap c.args.ready.system start) (sym c.in_ok-first.ensures.start) at)
+    λ lifetimes outlives. (c.args.ready.system, c.requires.read, subst (λ (start : ℕ). IsStart g.J.Naming.base.clock g.J.Naming.base.window c.args.asked.now.leap c.args.ready.system start) (sym c.in_ok-first.ensures.start) at)
 
 -- and there it was kept first
 pub serve_kept-requires-clause-kept : goal.serve_kept-requires-clause-kept
