@@ -57,8 +57,7 @@ IsEndedOver gone files files' Exported Salvaged output output' (command.Restore 
 IsEndedOver gone files files' Exported Salvaged output output' (command.Check check) = IsDoneOver files files' Exported Salvaged output output' (command.Check check)
 IsEndedOver gone files files' Exported Salvaged output output' (command.Compact compact) = IsDoneOver files files' Exported Salvaged output output' (command.Compact compact)
 IsEndedOver gone files files' Exported Salvaged output output' (command.Copy copy) = IsDoneOver files files' Exported Salvaged output output' (command.Copy copy)
-IsEndedOver gone files files' Exported Salvaged output output' (command.Salvage salvage) = IsDoneOver files files' Exported Salvaged output output' (command.Copy copy) = CopiesImage (files copy.image.now) (files' copy.copy.now) copy output output'
-IsDoneOver files files' Exported Salvaged output output' (command.Salvage salvage)
+IsEndedOver gone files files' Exported Salvaged output output' (command.Salvage salvage) = IsDoneOver files files' Exported Salvaged output output' (command.Salvage salvage)
 IsEndedOver gone files files' Exported Salvaged output output' c = IsDoneOver files files' Exported Salvaged output output' c ⊎ IsUnread gone files files'
 
 -- A command isn't done: all files are as they were. Or it is done, but that this lasts wasn't seen.
