@@ -16,8 +16,8 @@ for a lock, isn't shown.
 
 Each crate's public calls that have a contract, with the names of its clauses in brackets. Left out after a first one are `same`,
 `unchanged` and `others` (what stays), `ledger`, `state` and `store` where history and objects stay, `refusal`, `memory`, `none`,
-`failures` and `empty` (what a refusal leaves, or nothing), and `least`, `most` and `few` (bounds). A **law** is a theorem: a function without arguments. The contracts are
-in `crates/CRATE/src`, in terms of [DEFINITIONS](DEFINITIONS.md).
+`failures` and `empty` (what a refusal leaves, or nothing), `exact`, `found` and `only` (the result, and no other), and `least`, `most` and
+`few` (bounds). A **law** is a theorem: a function without arguments. The contracts are in `crates/CRATE/src`, in terms of [DEFINITIONS](DEFINITIONS.md).
 
 **An argument in writing**, of `s4serve`, joins its clauses. A reply goes out where a receipt covers its step
 (`serve_line`), and a receipt shows that a crash left an image of the drive with as many changes, at its reach
@@ -27,7 +27,8 @@ that workers reach clients by `open_at` and `serve_line` alone, and which thread
 the end closes the drive: these no clause says.
 """
 WIDTH = 130
-USUAL = {"same", "unchanged", "others", "refusal", "memory", "none", "failures", "empty", "ledger", "least", "most", "few"}
+USUAL = {"same", "unchanged", "others", "refusal", "memory", "none", "failures", "empty", "ledger", "least", "most", "few", "exact",
+         "found", "only"}
 HISTORY = {"ledger", "state"}
 FUNCTION = re.compile(r"\s*(?:(pub) |pub\([^)]*\) )?(?:const |unsafe |final )*fn (\w+)(.*)")
 OWNER = re.compile(r"(?:pub )?(?:unsafe )?(impl|trait)\b(.*)")
