@@ -4,7 +4,7 @@
     store.py [--seconds N] [--drives N,..] [--clients N,..] [--sizes N,..] [--frames N]    puts and gets a second
     store.py --beside NAME,.. [..]          the same of other programs over files: rclone (serve webdav), nginx (its dav module)
     store.py --pages [KEYS ..]              a page of 1,000 keys among so many
-    store.py --full [DRIVES [FRAMES]]       a start over drives without room
+    store.py --full [DRIVES [FRAMES [STARTS]]]       starts (3) over drives without room
 
 S4D, S4 and S4SERVE name the programs. Puts and gets: each client is a process with one connection, which signs each request; the store keeps a
 second of its past, so that room comes back. A store is made for each number of drives (1 and 4), of so many frames (1,024); each line is N seconds
@@ -13,9 +13,11 @@ at once, beside what they replace. A request that was begun counts with the time
 the processor that it takes in all processes of the server, which say more on a busy machine. Refused is what was answered by an error. Memory
 is the most that the gateway took, and the most that one service took. The others have their files in a folder of the same disk, and sign nothing; nginx doesn't
 wait for the disk, nor does rclone. Pages: the seconds of the processor that a list takes in the gateway, the least of several,
-at the start and in the midst of the bucket, without connections and signatures; among 8,000 and 80,000 keys. A start: small objects are put
-until no drive has room, then the program is ended and begun, in order and after a kill."""
+at the start and in the midst of the bucket, without connections and signatures; among 8,000 and 80,000 keys. A start: each drive is given heads
+of objects of 100 bytes until it has no room, before it is served; then the store is started, and again after an end in order and after a kill,
+and the seconds until it answers are printed, with those of the processor that all its processes take, and the most memory of the gateway."""
 import argparse
+import hashlib
 import http.client
 import multiprocessing
 import os
@@ -29,12 +31,15 @@ import time
 
 sys.dont_write_bytecode = True
 import service  # noqa: E402
+from s4d.image import Image  # noqa: E402
+from s4d.moments import machine_time  # noqa: E402
 from s4d.s3.http import Request  # noqa: E402
 from s4d.s3.lists import list_keys_2, list_versions, token_of  # noqa: E402
 from s4d.store import Programs, Settings, make_store  # noqa: E402
 from s4d.store.found import lists_versions  # noqa: E402
 from s4d.store.index import Bucket, Entry, Index, Place  # noqa: E402
-from s4d.store.layout import Version  # noqa: E402
+from s4d.store.layout import Version, bucket_attribute, head_attribute, head_of, mark_attribute  # noqa: E402
+from s4d.store.settings import image_path, settings_in  # noqa: E402
 from tests.bridged import free_port  # noqa: E402
 from tests.s3_blocking import SECONDS, BlockingClient  # noqa: E402
 from tests.store_kills import Serving  # noqa: E402
@@ -45,6 +50,10 @@ TRIES = 7  # of a page
 FRAME_BYTES = 15 * 512  # that a frame has for what is put
 SMALL = 100  # bytes of the objects that fill drives
 MICROSECOND = 1_000_000
+MINUTE = 60 * MICROSECOND
+TOGETHER = 40  # heads that a drive is given at once
+FIRST = 1_000_000  # the number of the next drive's first key
+KEYS_METRIC = "s4_store_keys "
 DONE = (200, 201, 204)
 NGINX = """daemon off; user root; pid {folder}/pid; error_log {folder}/errors; events {{}}
 http {{ access_log off; client_max_body_size 0; client_body_temp_path {folder}/temp; keepalive_requests 1000000;
@@ -254,49 +263,79 @@ def pages(counts):
         print(f"{keys:,} keys, a page of versions: {1e3 * seconds_of(list_versions, bucket, request, None):.1f} ms", flush=True)
 
 
-def fill(serving, clients=16):
-    """Puts small objects by several clients until no drive has room: how many."""
-    counts = multiprocessing.Queue()
-    children = [multiprocessing.Process(target=put_until_full, args=(serving.port, serving.key, number, counts))
-                for number in range(clients)]
-    for it in children:
-        it.start()
-    found = sum(counts.get() for _ in children)
-    for it in children:
-        it.join()
-    return found
+def fill_drive(folder, number, first):
+    """Fills a drive, which nobody serves, with heads of small objects until one has no room, and drive 0 with the bucket: how many."""
+    settings, named = settings_in(folder), programs()
+    image = Image(image_path(folder, number), named.s4d, named.s4)
+    with image.session(tick=machine_time() - MINUTE) as drive:  # its moments are times from then on
+        last = drive.create(mark_attribute(settings.id, number)).object
+    with image.session(tick=1, upkeep=False) as drive:
+        if not number:
+            last = drive.create(bucket_attribute("one")).object
+        return fill_session(drive, first, last)
 
 
-def put_until_full(port, key, name, counts):
-    client, done = BlockingClient(port, key), 0
-    while client.ask("PUT", f"/one/{name}/{done}", bytes(SMALL)).status == 200:
-        done += 1
-    counts.put(done)
+def fill_session(drive, first, last):
+    """Puts heads of keys, counted from a number on, into new objects after the last one, until one has no room: how many."""
+    count = 0
+    while True:
+        with drive.pipeline() as batch:
+            written = [put_head(batch, small_version(first + count + it), last + count + it + 1) for it in range(TOGETHER)]
+        done = sum(it.refusal() is None for it in written)
+        count += done
+        if done < TOGETHER:
+            return count
 
 
-def full(drives, frames):
+def put_head(batch, version, number):
+    """Makes the object that has the next number, and writes a head to it."""
+    batch.create(head_attribute(version.bucket, version.key))
+    return batch.write(number, 0, head_of(version))
+
+
+def small_version(number):
+    """The first version of a key with few bytes."""
+    data = number.to_bytes(SMALL, "big")
+    return Version("one", f"folder-{number % 97}/file-{number}", 1, f"{number:032x}", machine_time() - MINUTE, SMALL,
+                   hashlib.md5(data).hexdigest(), contents=data)
+
+
+def full(drives, frames, starts):
     with tempfile.TemporaryDirectory() as folder:
         make_store(f"{folder}/store", Settings(drives, frames, "30d"), programs())
-        serving = Serving(f"{folder}/store", programs())
-        serving.start()
-        try:
-            fill_and_start(serving, f"{drives} drives of {frames} frames")
-        finally:
+        began = time.monotonic()
+        with multiprocessing.Pool() as pool:
+            counts = pool.starmap(fill_drive, [(f"{folder}/store", number, number * FIRST) for number in range(drives)])
+        said = f"{drives} drives of {frames} frames, full of {sum(counts):,} objects"
+        print(f"{said} after {time.monotonic() - began:.1f} s", flush=True)
+        start_full(Serving(f"{folder}/store", programs()), sum(counts), starts)
+
+
+def start_full(serving, count, starts):
+    """Starts a store so often, again after an end in order and after a kill, and looks that it has so many objects."""
+    way = "a list of versions" if lists_versions(programs().s4) else "asking for versions"
+    ways = [("first start", None), ("start after an end in order", serving.stop), ("start after a kill", serving.kill)]
+    try:
+        for how, end in ways[:starts]:
+            if end is not None:
+                end()
+            began = time.monotonic()
+            serving.start()
+            seconds = time.monotonic() - began
+            print(f"a {how}, by {way}: {seconds:.1f} s, and {processor_of(serving):.1f} s of the processor; {most_memory(serving.process.pid):,} KiB",
+                  flush=True)
+            found = keys_found(serving)
+            if found != count:
+                sys.exit(f"store.py: {found:,} objects are found, not {count:,}")
+    finally:
+        if serving.process is not None and serving.process.poll() is None:
             serving.stop()
 
 
-def fill_and_start(serving, said):
-    way = "a list of versions" if lists_versions(programs().s4) else "asking for versions"
-    serving.client().ask("PUT", "/one")
-    began = time.monotonic()
-    count = fill(serving)
-    print(f"{said} are full of {count:,} objects after {time.monotonic() - began:.1f} s", flush=True)
-    for how, end in (("in order", serving.stop), ("by a kill", serving.kill)):
-        end()
-        began = time.monotonic()
-        serving.start()
-        print(f"a start after an end {how}, by {way}: {time.monotonic() - began:.1f} s; {most_memory(serving.process.pid):,} KiB",
-              flush=True)
+def keys_found(serving):
+    """How many keys the bucket has, by its status page."""
+    text = serving.status("/metrics")[1]
+    return int(next(line.rpartition(" ")[2] for line in text.splitlines() if line.startswith(KEYS_METRIC)))
 
 
 def numbers(text):
@@ -317,7 +356,7 @@ def main(words):
     if found.pages is not None:
         pages(found.pages or [8_000, 80_000])
     elif found.full is not None:
-        full(*(found.full + [16, 1_024][len(found.full):]))
+        full(*(found.full + [16, 1_024, 3][len(found.full):]))
     elif found.beside:
         for name in found.beside:
             beside(name, found)

@@ -1,5 +1,5 @@
-"""Kills a store's gateway, or the service of one of its drives, amid puts, copies, deletions and uploads of several threads, and while
-what it has is moved to a drive that was added.
+"""Kills a store's gateway, the service of one of its drives, or the bridge before one, amid puts, copies, deletions and uploads of several
+threads, and while what it has is moved to a drive that was added.
 
 After each kill, and the next start, each version that was acknowledged is there to the byte, none is there in part, what was there at
 earlier moments is found so, and the drives have the objects that versions need, and no more.
@@ -21,17 +21,19 @@ from s4d.image import Image
 from s4d.moments import machine_time
 from s4d.s3.keys import keys_in
 from s4d.store import Settings, make_store
-from s4d.store.adding import add_drives
+from s4d.store.adding import add_drives, add_remote
 from s4d.store.layout import INLINE_BYTES, LISTED_PIECES, NAMED_PIECES, PIECE_BYTES
-from s4d.store.settings import image_path, keys_path
+from s4d.store.settings import ROLES, image_path, keys_path
 
-from .bridged import PACKAGE, PATIENCE, free_port
+from .bridged import PACKAGE, PATIENCE, Certificates, free_port, wait_until, words_of
 from .s3_blocking import BlockingClient
 
 THREADS = 4
 KEYS = [f"deep/{number}" for number in range(6)]
 LOST = (OSError, http.client.HTTPException)  # what a client meets where the gateway is killed
 KINDS = ("gateway", "service", "both", "moves")
+BRIDGE = "bridge"  # a kind of kill for which a store has a drive elsewhere
+STARTS = 5  # of a store, where a drive elsewhere doesn't answer in its time
 MOST_DRIVES = 5
 MOVES = 0.5  # seconds at most from a start with a new drive to the kill
 CHANGES = 24  # at most that are acknowledged before a kill
@@ -109,6 +111,52 @@ class Serving:
         except OSError:
             return False
         return words[-1] == image_path(self.folder, number).encode() and any(it.startswith(b"--door") for it in words)
+
+
+class Elsewhere:
+    """A drive as of another machine: its service, and before that a bridge for TLS."""
+
+    def __init__(self, folder, programs, settings):
+        self.folder, self.image, self.bridge, self.port = pathlib.Path(folder), f"{folder}/image", None, free_port()
+        doors = [self.folder / "doors" / role for role in ROLES]
+        for door in doors:
+            door.mkdir(parents=True)
+            os.mkfifo(door / "door")
+        certificates = Certificates(self.folder)
+        for name in ("bridge", "store"):
+            certificates.make(name)
+        self.files = [f"{folder}/{name}" for name in ("ca.pem", "store.pem", "store.key")]
+        (self.folder / "roles").write_text("client store\n", encoding="utf-8")
+        subprocess.run([programs.s4d, "new", "--window", str(settings.window), self.image, str(settings.frames)], check=True,
+                       stdout=subprocess.DEVNULL)
+        with open(self.folder / "said", "wb") as said:
+            words = [programs.s4serve, *(f"--door={it.name}={it}" for it in doors), self.image]
+            self.service = subprocess.Popen(words, stdin=subprocess.DEVNULL, stdout=subprocess.DEVNULL, stderr=said)
+        wait_until(lambda: "serves" in (self.folder / "said").read_text(encoding="utf-8"), "the drive elsewhere is served")
+        self.start()
+
+    def start(self):
+        """Starts the bridge, and returns once it listens."""
+        files = [word for name, file in (("--cert", "bridge.pem"), ("--key", "bridge.key"), ("--client-ca", "ca.pem"), ("--roles", "roles"))
+                 for word in (name, self.folder / file)]
+        words = words_of(self.folder, "--log", self.folder / "log", "--tls", f"127.0.0.1:{self.port}", *files, "--handshake", PATIENCE,
+                         "--wait", PATIENCE)
+        self.bridge = subprocess.Popen(words, cwd=PACKAGE, stdout=subprocess.PIPE, stderr=subprocess.DEVNULL, text=True)
+        if self.bridge.stdout.readline() != "ready\n":
+            self.close()
+            raise AssertionError("the bridge doesn't listen")
+
+    def kill(self):
+        """Kills the bridge."""
+        self.bridge.kill()
+        self.bridge.wait()
+        self.bridge.stdout.close()
+
+    def close(self):
+        if self.bridge is not None and self.bridge.poll() is None:
+            self.kill()
+        self.service.kill()
+        self.service.wait()
 
 
 class Known:
@@ -243,18 +291,36 @@ def listed(client):
 class Trial:
     """A store, what it acknowledged, and its faults."""
 
-    def __init__(self, folder, programs, draw, drives=2, frames=1_024):
+    def __init__(self, folder, programs, draw, has_elsewhere=False, drives=2, frames=1_024):
         self.folder, self.programs, self.draw, self.drives = folder, programs, draw, drives
         self.known, self.read = Known(), set()  # ids of versions whose bytes were looked at
         self.moments = []  # after kills, and the keys with their digests that were there at each
-        make_store(folder, Settings(drives, frames, "30d"), programs)
+        settings = Settings(drives, frames, "30d")
+        make_store(folder, settings, programs)
+        self.elsewhere, self.elsewhere_number = None, None
+        if has_elsewhere:
+            self.elsewhere, self.elsewhere_number = Elsewhere(f"{folder}.elsewhere", programs, settings), drives
+            self.drives = add_remote(folder, f"tls:127.0.0.1:{self.elsewhere.port}", self.elsewhere.files, programs)
         self.serving = Serving(folder, programs, "--rebalance")
-        self.serving.start()
+        self.start()
         assert self.serving.client().ask("PUT", "/one").status == 200
 
     @property
     def faults(self):
         return self.known.faults
+
+    def start(self):
+        """Starts the store. A drive elsewhere has its time to answer: where this machine doesn't give it that, it is started again."""
+        for left in reversed(range(1 if self.elsewhere is None else STARTS)):
+            try:
+                return self.serving.start()
+            except AssertionError:
+                if not left:
+                    raise
+
+    def image(self, number):
+        """The path of a drive's image."""
+        return self.elsewhere.image if number == self.elsewhere_number else image_path(self.folder, number)
 
     def kill(self, kind):
         """A kill while the threads work, and the next start: what is wrong after it is in `faults`."""
@@ -267,14 +333,18 @@ class Trial:
         while kind != "moves" and len(self.known.versions) < wanted and any(it.is_alive() for it in workers):
             time.sleep(0.002)
         time.sleep(self.draw.random() * (LINGER if kind != "moves" else MOVES))
-        number = self.draw.randrange(self.drives)
+        number = self.draw.choice([it for it in range(self.drives) if it != self.elsewhere_number])
         killed = self.serving.kill_service(number) if kind in ("service", "both") else set()
-        if kind == "service":
+        if kind == BRIDGE:
+            self.elsewhere.kill()
+        if kind in ("service", BRIDGE):
             time.sleep(self.draw.random())  # they go on with the other drives meanwhile
         else:
             self.serving.kill()
+        if kind == BRIDGE:
+            self.elsewhere.start()
         self.end_all(workers)
-        if kind == "service":
+        if kind in ("service", BRIDGE):
             self.wait_for_drives(number, killed)
         else:
             self.start_again()
@@ -285,7 +355,7 @@ class Trial:
         self.serving.stop()
         if self.drives < MOST_DRIVES:
             self.drives = add_drives(self.folder, 1, self.programs)
-        self.serving.start()
+        self.start()
 
     def end_all(self, workers):
         self.known.is_stopping = True
@@ -298,7 +368,7 @@ class Trial:
             self.serving.process = subprocess.Popen(self.serving.words, cwd=PACKAGE, stdout=subprocess.PIPE, stderr=subprocess.DEVNULL)
             time.sleep(self.draw.random())
             self.serving.kill()
-        self.serving.start()
+        self.start()
 
     def wait_for_drives(self, number, killed):
         """Returns once all drives are served again, and what was in doubt is settled: a list has it then."""
@@ -325,7 +395,7 @@ class Trial:
             self.look_at(client, row)
         self.look_back(client, {key: etag for key, _, etag, _, is_latest in rows if is_latest and etag is not None})
         client.close()
-        if kind != "service":
+        if kind not in ("service", BRIDGE):
             self.wait_for_moves()
             self.look_for_leftovers(rows, *self.look_at_uploads())
             self.complete_uploads()
@@ -387,7 +457,7 @@ class Trial:
         right = {"B": 1, "P": pieces + parts, "U": records, "S": self.drives}
         found = dict.fromkeys([*right, "H"], 0)
         for number in range(self.drives):
-            for row in Image(image_path(self.folder, number), s4=self.programs.s4).list():
+            for row in Image(self.image(number), s4=self.programs.s4).list():
                 found[chr(row.attribute[0])] += 1
         heads = found.pop("H")
         if found != right or not len({key for key, *_ in rows}) <= heads <= len(rows):
@@ -406,6 +476,8 @@ class Trial:
             self.serving.kill()
         for number in range(self.drives):
             self.serving.kill_service(number)
+        if self.elsewhere is not None:
+            self.elsewhere.close()
 
 
 class Killing(unittest.TestCase):
@@ -420,7 +492,7 @@ class Killing(unittest.TestCase):
 
 def run_kills(folder, programs, draw, count, kinds=KINDS):
     """So many kills of a new store in a folder, fewer where it is full: the faults, how many kills, and how many versions."""
-    trial, kills = Trial(folder, programs, draw), 0
+    trial, kills = Trial(folder, programs, draw, BRIDGE in kinds), 0
     try:
         while kills < count and not trial.known.is_full and not trial.faults:
             trial.kill(kinds[kills % len(kinds)])

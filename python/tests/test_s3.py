@@ -476,11 +476,8 @@ class Held(unittest.TestCase):
 
     def test_times(self):
         async def work(gateway, it):
-            for name, sent in (("IDLE_SECONDS", b""), ("HEAD_SECONDS", b"GET / HTTP/1.1\r\n")):
-                with mock.patch.object(http, name, 0.1):
-                    slow = await gateway.connect()
-                    slow.writer.write(sent)
-                    self.assertTrue(await slow.is_ended())
+            with mock.patch.object(http, "IDLE_SECONDS", 0.1):
+                self.assertTrue(await (await gateway.connect()).is_ended())
             headers = Signer().headers("PUT", "/one/k", [], b"", {}, "UNSIGNED-PAYLOAD")
             slow = await gateway.connect()
             with mock.patch.object(http, "BODY_SECONDS", 0.1):
@@ -493,7 +490,7 @@ class Held(unittest.TestCase):
     def test_a_body_that_nobody_wants(self):
         """Who hasn't signed holds no place by a body that doesn't come."""
         async def work(gateway, it):
-            it.writer.write(b"PUT /one/k HTTP/1.1\r\ncontent-length: 1000\r\n\r\n")
+            it.writer.write(b"PUT /one/k HTTP/1.1\r\nhost: test\r\ncontent-length: 1000\r\n\r\n")
             self.assertEqual((await asyncio.wait_for(it.reply(), 20)).code, "AccessDenied")
             self.assertTrue(await it.is_ended())
 
@@ -600,7 +597,7 @@ class Held(unittest.TestCase):
     def test_who_has_not_signed_goes_first(self):
         """Where another connection comes, that of a request that was refused goes, whatever its answer waits for."""
         async def work(gateway, it):
-            it.writer.write(b"PUT /one/k HTTP/1.1\r\ncontent-length: 1000\r\n\r\n")
+            it.writer.write(b"PUT /one/k HTTP/1.1\r\nhost: test\r\ncontent-length: 1000\r\n\r\n")
             while not gateway.server._idle:
                 await asyncio.sleep(0.01)
             self.assertEqual((await (await gateway.connect()).ask("HEAD", "/one")).status, 200)
@@ -621,13 +618,12 @@ class Held(unittest.TestCase):
 
     def test_what_is_no_request(self):
         async def work(gateway, it):
-            for sent in (b"hello\r\n\r\n", b"GET / HTTP/2\r\n\r\n", b"GET http://x/ HTTP/1.1\r\n\r\n", b"GET / HTTP/1.1\r\nno colon\r\n\r\n",
-                         b"PUT /one/k HTTP/1.1\r\nx-amz-meta-a\nset-cookie: b\r\n\r\n", b"GET / HTTP/1.1\r\na b: c\r\n\r\n",
-                         b"GET / HTTP/1.1\r\na: b\ncontent-length: 5\r\n\r\n", b"GET / HTTP/1.1\r\na: b\rhost: c\r\n\r\n",
-                         b"GET / HTTP/1.1\r\nhost: a\r\nhost: b\r\n\r\n", b"GET / HTTP/1.1\r\ncontent-length: -1\r\n\r\n",
-                         b"GET /%ff HTTP/1.1\r\n\r\n", b"GET / HTTP/1.1\r\ntransfer-encoding: gzip\r\n\r\n"):
+            for sent in (b"hello", b"GET / HTTP/2", b"GET http://x/ HTTP/1.1", b"GET / HTTP/1.1\r\nno colon", b"GET / HTTP/1.1\r\na b: c",
+                         b"PUT /one/k HTTP/1.1\r\nx-amz-meta-a\nset-cookie: b", b"GET / HTTP/1.1\r\na: b\ncontent-length: 5",
+                         b"GET / HTTP/1.1\r\na: b\rx: c", b"GET / HTTP/1.1\r\nhost: b", b"GET / HTTP/1.1\r\ncontent-length: -1",
+                         b"GET /%ff HTTP/1.1", b"GET / HTTP/1.1\r\ntransfer-encoding: gzip"):
                 client = await gateway.connect()
-                client.writer.write(sent)
+                client.writer.write(sent + b"\r\nhost: test\r\n\r\n")
                 reply = await client.reply()
                 self.assertIn(reply.code, ("InvalidRequest", "InvalidURI", "NotImplemented"))
                 self.assertTrue(await client.is_ended())

@@ -15,6 +15,7 @@ import unittest
 from unittest import mock
 
 from s4d.image import Image
+from s4d.s3 import command as s3
 from s4d.s3.keys import keys_in
 from s4d.open_files import OPEN_FILES, allow_open_files
 from s4d.store.command import main
@@ -32,7 +33,7 @@ class Commands(unittest.TestCase):
         self.addCleanup(folder.cleanup)
         self.store, self.programs = f"{folder.name}/store", programs(folder.name)
 
-    def run_command(self, *words):
+    def run_command(self, *words, main=main):
         """The status, what is printed, and what is said on standard error."""
         printed, said = io.StringIO(), io.StringIO()
         with contextlib.redirect_stdout(printed), contextlib.redirect_stderr(said):
@@ -175,8 +176,30 @@ class Commands(unittest.TestCase):
         self.assertIn("s4store: /nowhere/cert and /nowhere/key are no certificate with its key: ", said)
 
     def test_serve(self):
+        self.serve("s4d.store", "serve", self.store)
+
+    def test_the_gateway_by_its_own_name(self):
+        """The same program, by the folder or by the file in it."""
+        self.serve("s4d.s3", "--store", f"{self.store}/store.json")
+        with mock.patch("s4d.store.command.serve", mock.AsyncMock(return_value=3)) as serve:
+            self.assertEqual(self.run_command(self.store, "--listen", "[::1]:80", "--at", "2h", "127.0.0.1:0", main=s3.main), (3, "", ""))
+            self.run_command("serve", self.store, "--listen", "[::1]:80", "--at", "2h", "127.0.0.1:0")
+        (ours,), (theirs,) = [call[0] for call in serve.call_args_list]
+        self.assertEqual({**vars(ours), "store": None}, {**vars(theirs), "store": None})
+        for words, line in (([], "DIR --store is required"), ([self.store, "--store", "store.json"], "not allowed with argument DIR"),
+                            (["--store", self.store], "'.*/store' is no store.json"),
+                            ([self.store, "--cert", "x"], "--cert and --key need each other"),
+                            ([self.store, "--at", "soon", "127.0.0.1:0"], "--at: "), ([self.store, "--frames", "24"], "--frames")):
+            status, printed, said = self.run_command(*words, main=s3.main)
+            self.assertEqual((status, printed, said.count("\n")), (2, "", 1), words)
+            self.assertRegex(said, f"^s4store: .*{line}")
+        self.assertEqual(self.run_command("--store", "store.json", main=s3.main)[::2],
+                         (1, "s4store: . is no store: make one by `python3 -m s4d.store init .`\n"))
+
+    def serve(self, program, *named):
+        """Serves a new store by a program, and ends it in order."""
         self.init()
-        words = [sys.executable, "-B", "-m", "s4d.store", "serve", self.store, "--listen", "127.0.0.1:0", "--log", f"{self.store}/log",
+        words = [sys.executable, "-B", "-m", program, *named, "--listen", "127.0.0.1:0", "--log", f"{self.store}/log",
                  "--s4", self.programs["s4"], "--s4serve", self.programs["s4serve"]]
         key, = keys_in(f"{self.store}/keys").values()
 

@@ -6,13 +6,19 @@ import unittest
 
 from s4d.store import Programs
 
-from .store_kills import KINDS, Killing
+from .bridged import needs_openssl
+from .store_kills import BRIDGE, KINDS, Killing
 from .store_standin import programs
 
 
 class Kills(Killing):
     def test_stand_ins(self):
         self.kill(16, KINDS, lambda folder: Programs(**programs(folder)))
+
+    @needs_openssl
+    def test_a_drive_elsewhere(self):
+        """After each kill of the gateway the next start waits ten seconds."""
+        self.kill(3, (BRIDGE, BRIDGE, "gateway"), lambda folder: Programs(**programs(folder)))
 
 
 if __name__ == "__main__":

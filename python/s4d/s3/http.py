@@ -2,19 +2,22 @@
 from __future__ import annotations
 
 import asyncio
+import contextlib
 import re
 from dataclasses import dataclass, field
 from http import HTTPStatus
-from typing import Any, AsyncIterator, Callable, Coroutine, Dict, List, Optional, Tuple, Union
+from typing import AsyncIterator, Awaitable, Callable, Dict, Iterator, List, Optional, Tuple, Union
 from urllib.parse import unquote_to_bytes
 
 from .errors import S3Error
-from .limits import BODY_SECONDS, CHUNK_LINE_BYTES, HEAD_SECONDS, IDLE_SECONDS, LEAST_RATE, PIECE_BYTES
+from .limits import (BODY_SECONDS, CHUNK_LINE_BYTES, EMPTY_BYTES, HEAD_BYTES, HEAD_SECONDS, IDLE_SECONDS, LEAST_RATE,
+                     PIECE_BYTES)
 
 METHODS = ("GET", "HEAD", "PUT", "POST", "DELETE")
 CONTROL = re.compile("[\x00-\x1f\x7f]")
 FORBIDDEN = re.compile("[\x00-\x08\x0a-\x1f\x7f]")  # in a head: who takes one of them for an end of a line reads another request
 NAME = re.compile(r"[!#$%&'*+.^_`|~0-9A-Za-z-]+")  # of a header: it is given back with a version, so it has no end of a line
+CHUNK = re.compile(rb"([0-9A-Fa-f]{1,12})[ \t]*(?:;[^\x00-\x08\x0a-\x1f\x7f]*)?\r\n")  # the line before a chunk
 
 
 class Ended(Exception):
@@ -31,6 +34,7 @@ class Request:
     query: List[Tuple[str, str]]
     headers: Dict[str, str]
     keeps: bool  # whether the connection goes on
+    expects: bool = False  # whether the body comes only once it is asked for
 
     def parameter(self, name: str) -> Optional[str]:
         """The value of a parameter of the query, empty where it has none; None where it isn't there."""
@@ -56,16 +60,42 @@ class Answer:
 
 
 async def read_head(reader: asyncio.StreamReader) -> bytes:
-    """The bytes of the next request's head. Ended where none comes; S3Error where it is too long or too slow."""
+    """The bytes of the next request's head. Ended where none comes, or half of one; S3Error where it is too long or too slow."""
     try:
-        first = b"\r\n"
-        while first in (b"\r\n", b"\r", b"\n"):  # an empty line before it says nothing
-            first = await asyncio.wait_for(reader.readexactly(1), IDLE_SECONDS)
-        return first + await asyncio.wait_for(reader.readuntil(b"\r\n\r\n"), HEAD_SECONDS)
-    except asyncio.LimitOverrunError:
-        raise S3Error("RequestHeaderSectionTooLarge") from None
+        with time_limit(reader, IDLE_SECONDS):
+            first = await first_byte(reader)
     except (EOFError, OSError, asyncio.TimeoutError):
         raise Ended() from None
+    try:
+        with time_limit(reader, HEAD_SECONDS):
+            return first + await reader.readuntil(b"\r\n\r\n")
+    except asyncio.LimitOverrunError:
+        raise S3Error("RequestHeaderSectionTooLarge") from None
+    except asyncio.TimeoutError:
+        raise S3Error("RequestTimeout") from None
+    except (EOFError, OSError):
+        raise Ended() from None
+
+
+@contextlib.contextmanager
+def time_limit(reader: asyncio.StreamReader, seconds: float) -> Iterator[None]:
+    """What is read in the block raises TimeoutError where it takes longer; nothing more can be read then. It takes no task of its own,
+    as `wait_for` does, which costs more than reading a small request.
+    """
+    timer = asyncio.get_running_loop().call_later(seconds, reader.set_exception, asyncio.TimeoutError())
+    try:
+        yield
+    finally:
+        timer.cancel()
+
+
+async def first_byte(reader: asyncio.StreamReader) -> bytes:
+    """That of a request's head. Empty lines before it say nothing, if they are few."""
+    for _ in range(EMPTY_BYTES):
+        first = await reader.readexactly(1)
+        if first not in (b"\r", b"\n"):
+            return first
+    raise S3Error("InvalidRequest", "Too many empty lines are before the first line.")
 
 
 def request_of(head: bytes) -> Request:
@@ -85,9 +115,26 @@ def request_of(head: bytes) -> Request:
         if name in headers and name in ("host", "content-length", "transfer-encoding", "authorization"):
             raise S3Error("InvalidRequest", f"The header {name} is there twice.")
         headers[name] = f"{headers[name]},{value}" if name in headers else value
+    is_now = words[2] == "HTTP/1.1"
+    check_framing(headers, is_now)
     raw_path, _, raw_query = words[1].partition("?")
-    keeps = words[2] == "HTTP/1.1" and headers.get("connection", "").lower() != "close"
-    return Request(words[0], raw_path, decoded(raw_path), query_of(raw_query), headers, keeps)
+    keeps = is_now and "close" not in [it.strip().lower() for it in headers.get("connection", "").split(",")]
+    expects = is_now and headers.get("expect", "").lower() == "100-continue"
+    return Request(words[0], raw_path, decoded(raw_path), query_of(raw_query), headers, keeps, expects)
+
+
+def check_framing(headers: Dict[str, str], is_now: bool) -> None:
+    """S3Error where another program may see another end of the body than this one does, or takes another host for the one meant."""
+    if is_now and "host" not in headers:
+        raise S3Error("InvalidRequest", "The header host is missing.")
+    if "transfer-encoding" not in headers:
+        return
+    if "content-length" in headers:
+        raise S3Error("InvalidRequest", "A body has a content-length or a transfer-encoding, and not both.")
+    if not is_now:
+        raise S3Error("InvalidRequest", "HTTP/1.0 has no transfer-encoding.")
+    if headers["transfer-encoding"].lower() != "chunked":
+        raise S3Error("NotImplemented", "Of transfer encodings only chunked is implemented.")
 
 
 def decoded(text: str) -> str:
@@ -108,9 +155,7 @@ class Body:
 
     def __init__(self, reader: asyncio.StreamReader, headers: Dict[str, str], begin: Callable[[], None]) -> None:
         self._reader, self._begin = reader, begin
-        self.is_chunked = headers.get("transfer-encoding", "").lower() == "chunked"
-        if "transfer-encoding" in headers and (not self.is_chunked or "content-length" in headers):
-            raise S3Error("NotImplemented", "Of transfer encodings only chunked is implemented.")
+        self.is_chunked = "transfer-encoding" in headers
         self.length = None if self.is_chunked else number_of(headers.get("content-length", "0"))
         self._left, self._is_over = self.length or 0, self.length == 0
         self._held, self.taken, self._is_broken = b"", 0, False
@@ -177,16 +222,21 @@ class Body:
 
     async def _next_chunk(self) -> int:
         """The length of the next chunk; after the last the lines that follow are passed over."""
-        line = await self._timed(self._reader.readuntil(b"\r\n"))
-        length = hexadecimal(line.strip().partition(b";")[0])
-        while not length and await self._timed(self._reader.readuntil(b"\r\n")) != b"\r\n":
-            pass
+        found = CHUNK.fullmatch(await self._timed(self._reader.readuntil(b"\r\n")))
+        if found is None:
+            raise S3Error("InvalidRequest", "A chunk has no length.")
+        length, passed = int(found[1], 16), 0
+        while not length and (line := await self._timed(self._reader.readuntil(b"\r\n"))) != b"\r\n":
+            passed += len(line)
+            if passed > HEAD_BYTES:
+                raise S3Error("InvalidRequest", "Too much follows the last chunk.")
         return length
 
-    async def _timed(self, reading: Coroutine[Any, Any, bytes]) -> bytes:
+    async def _timed(self, reading: Awaitable[bytes]) -> bytes:
         allowed = self._since + BODY_SECONDS + self.taken / LEAST_RATE - asyncio.get_running_loop().time()
         try:
-            return await asyncio.wait_for(reading, max(allowed, 0.01))
+            with time_limit(self._reader, max(allowed, 0.01)):
+                return await reading
         except asyncio.TimeoutError:
             raise S3Error("RequestTimeout") from None
         except asyncio.LimitOverrunError:
@@ -227,14 +277,19 @@ async def write_answer(writer: asyncio.StreamWriter, answer: Answer, without_bod
         async for data in pieces_of(answer.body if not without_body else b""):
             writer.write(data)
             sent += len(data)
-            allowed = since + BODY_SECONDS + sent / LEAST_RATE - loop.time()
-            await asyncio.wait_for(writer.drain(), max(allowed, 0.01))
-        await asyncio.wait_for(writer.drain(), BODY_SECONDS)
+            await drained(writer, since + BODY_SECONDS + sent / LEAST_RATE - loop.time())
+        await drained(writer, BODY_SECONDS)
         if not without_body and sent != answer.content_length():
             raise EOFError  # else the next answer would be taken for the rest of this one
     except (OSError, EOFError, asyncio.TimeoutError):
         writer.transport.abort()  # what it didn't take is let go
         raise Ended() from None
+
+
+async def drained(writer: asyncio.StreamWriter, seconds: float) -> None:
+    """Returns once more may be written. TimeoutError where the other side takes it too slowly."""
+    if writer.transport.is_closing() or writer.transport.get_write_buffer_size():
+        await asyncio.wait_for(writer.drain(), max(seconds, 0.01))
 
 
 async def pieces_of(body: Union[bytes, AsyncIterator[bytes]]) -> AsyncIterator[bytes]:

@@ -1,6 +1,7 @@
 """What a client may send and take, each by name. Times are in seconds."""
 
 HEAD_BYTES = 16_384  # of a request's first line and headers
+EMPTY_BYTES = 64  # of empty lines before it, or after the last chunk of a body
 HEAD_SECONDS = 20.0  # that a head may take once its first byte has come
 IDLE_SECONDS = 60.0  # that a connection may be without a request
 BODY_SECONDS = 60.0  # that a body, or an answer's, may take, and a second more for each LEAST_RATE bytes of it

@@ -13,6 +13,7 @@ from typing import AsyncIterator, Dict, List, Optional, Protocol, Tuple
 
 from .errors import S3Error
 from .http import Body, Request, hexadecimal, number_of
+from .limits import EMPTY_BYTES
 from .signature import UNSIGNED, Signed, digest_of
 
 STREAMING = "STREAMING-"
@@ -134,6 +135,8 @@ class Payload:
             if length and await self._body.line():
                 raise S3Error("InvalidRequest", "A chunk is longer than its length.")
         await self._trailers(before)
+        if (await self._body.whole(EMPTY_BYTES)).strip(b"\r\n"):  # and the body has come to its own end
+            raise S3Error("InvalidRequest", "Something follows the last chunk.")
 
     def _checked(self, before: str, extension: bytes, digest: str) -> str:
         """The signature of a chunk; SignatureDoesNotMatch where another is there."""

@@ -161,7 +161,8 @@ class Server:
 
 def begin(request: Request, writer: asyncio.StreamWriter) -> None:
     """Says that the body may come, to who waits for that, once."""
-    if request.headers.pop("expect", "").lower() == "100-continue":
+    if request.expects:
+        request.expects = False
         writer.write(CONTINUE)
 
 
@@ -171,7 +172,7 @@ async def drained(body: Body, request: Request) -> bool:
     """
     if body.is_over:
         return True
-    if "expect" in request.headers or (body.length or 0) > DRAINED_BYTES:
+    if request.expects or (body.length or 0) > DRAINED_BYTES:
         return False
     with contextlib.suppress(S3Error, OSError, asyncio.TimeoutError):
         await asyncio.wait_for(body.whole(DRAINED_BYTES), LINGER_SECONDS)

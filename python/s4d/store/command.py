@@ -68,8 +68,30 @@ def port(text: str) -> int:
     return number_in(range(65_536), text)
 
 
+def add_serving(made: argparse.ArgumentParser) -> None:
+    """Gives a parser the options of what serves a store."""
+    made.add_argument("--listen", metavar="HOST:PORT", type=host_and_port, default=("127.0.0.1", 9000),
+                      help="where clients come (127.0.0.1:9000)")
+    made.add_argument("--at", nargs=2, metavar=("MOMENT", "HOST:PORT"), action="append", default=[],
+                      help="where clients come that read all as it was at a moment; more than one may be given")
+    made.add_argument("--local", metavar="PORT", type=port, help="a port of 127.0.0.1 for /health and /metrics")
+    made.add_argument("--cert", metavar="FILE", help="a certificate, for TLS")
+    made.add_argument("--key", metavar="FILE", help="its key")
+    made.add_argument("--keys", metavar="FILE", help="the file of access keys (DIR/keys)")
+    made.add_argument("--log", metavar="FILE", help="the access log; none is written where none is given")
+    made.add_argument("--rebalance", action="store_true", help="does meanwhile what the command rebalance does")
+    add_programs(made)
+
+
+def add_programs(made: argparse.ArgumentParser) -> None:
+    """Gives a parser the options of what starts drives."""
+    made.add_argument("--leap", metavar="DURATION", type=duration, help="as s4serve takes it")
+    made.add_argument("--s4", metavar="PROGRAM", default="s4", help="the program that reads images (s4)")
+    made.add_argument("--s4serve", metavar="PROGRAM", default="s4serve", help="the program that serves a drive (s4serve)")
+
+
 def parser() -> Parser:
-    """The options of both commands."""
+    """The options of all commands."""
     made = Parser(prog="python3 -m s4d.store", allow_abbrev=False, description="A store over many drives.")
     commands = made.add_subparsers(dest="command", required=True, parser_class=Parser)
     init = commands.add_parser("init", help="makes a store in a folder", allow_abbrev=False)
@@ -81,16 +103,7 @@ def parser() -> Parser:
     init.add_argument("--s4d", metavar="PROGRAM", default="s4d", help="the program that makes a drive (s4d)")
     serve = commands.add_parser("serve", help="starts its drives, and a gateway before them", allow_abbrev=False)
     serve.add_argument("folder", metavar="DIR")
-    serve.add_argument("--listen", metavar="HOST:PORT", type=host_and_port, default=("127.0.0.1", 9000),
-                       help="where clients come (127.0.0.1:9000)")
-    serve.add_argument("--at", nargs=2, metavar=("MOMENT", "HOST:PORT"), action="append", default=[],
-                       help="where clients come that read all as it was at a moment; more than one may be given")
-    serve.add_argument("--local", metavar="PORT", type=port, help="a port of 127.0.0.1 for /health and /metrics")
-    serve.add_argument("--cert", metavar="FILE", help="a certificate, for TLS")
-    serve.add_argument("--key", metavar="FILE", help="its key")
-    serve.add_argument("--keys", metavar="FILE", help="the file of access keys (DIR/keys)")
-    serve.add_argument("--log", metavar="FILE", help="the access log; none is written where none is given")
-    serve.add_argument("--rebalance", action="store_true", help="does meanwhile what the command rebalance does")
+    add_serving(serve)
     add = commands.add_parser("add", help="gives a store more drives, while it isn't served", allow_abbrev=False)
     add.add_argument("folder", metavar="DIR")
     which = add.add_mutually_exclusive_group(required=True)
@@ -103,10 +116,7 @@ def parser() -> Parser:
     add.add_argument("--s4", metavar="PROGRAM", default="s4", help="the program that reads images (s4)")
     moving = commands.add_parser("rebalance", help="moves what a store has to the drives that have less", allow_abbrev=False)
     moving.add_argument("folder", metavar="DIR")
-    for it in (serve, moving):
-        it.add_argument("--leap", metavar="DURATION", type=duration, help="as s4serve takes it")
-        it.add_argument("--s4", metavar="PROGRAM", default="s4", help="the program that reads images (s4)")
-        it.add_argument("--s4serve", metavar="PROGRAM", default="s4serve", help="the program that serves a drive (s4serve)")
+    add_programs(moving)
     return made
 
 
@@ -198,7 +208,11 @@ def init(found: argparse.Namespace) -> int:
 def main(words: Optional[Sequence[str]] = None) -> int:
     """The program: its status."""
     options = parser()
-    found = options.parse_args(words)
+    return run(options, options.parse_args(words))
+
+
+def run(options: Parser, found: argparse.Namespace) -> int:
+    """Does what was asked, if the words go together: the status."""
     if found.command == "serve" and (found.cert is None) != (found.key is None):
         options.error("--cert and --key need each other")
     if found.command == "add":
