@@ -1,15 +1,27 @@
 #!/usr/bin/env python3
-"""Ways in which a client can flood a service with a bridge before it: what that takes, and what others can do meanwhile and afterwards.
+"""Ways in which a client can flood a service with a bridge before it: what that takes, what others can do meanwhile and afterwards, and the
+way back.
 
-    floods.py [--frames N] [--seconds N] [--share SHARE] [--part full|beside] [WAY..]      without a WAY all of them
+    floods.py [--frames N] [--seconds N] [--share SHARE] [--minutes N] [--part full|beside] [WAY..]      without a WAY all of them
 
-S4SERVE names the program, and openssl has to be there: who floods comes over a Unix socket, with 16 connections, and another client by TLS.
-Each way is tried twice, over a new drive of 1,024 frames or N. First without a share of changes: the seconds, requests and bytes until a change
-is refused for want of room, what the other and an administrator can do then, and how long the same takes a peer with the share, by
-reckoning. Then with the share (sessions=12,changes=50/s,bytes=1MiB/min): the other's requests a second, of N seconds (5), beside what it has
-alone: while the flood has tokens left, and then. Prints a line for each way as soon as it is tried. Status 0: an administrator could hide and
-delete after each; 1: not after one."""
+S4SERVE names the program, and openssl has to be there: who floods comes over a Unix socket, with 16 connections, and another client by TLS,
+which owns as many objects of 2,000 bytes as a tenth of the frames. Two tables are printed, a row as soon as its way is tried, each over a new
+drive of 1,024 frames or N. The first is without a share of changes:
+
+- what was accepted until a change was refused for want of room, or since a journal was full: requests, bytes and seconds; and how long the same
+  takes a peer with the share, by reckoning;
+- what the other and an administrator can do then: their requests that are accepted;
+- the way back: the seconds of a restore with --flush, the spans of moments that it hid, the objects that it didn't restore, and those of the
+  owner that aren't what they were.
+
+The second is with the share (sessions=12,changes=50/s,bytes=1MiB/min): the other's requests a second, of N seconds (3), alone and beside the
+flood, while that has tokens left and once they are used up; how long it waited for one at most; and the parts of what it had alone. With
+--minutes no way is begun for which there may be no time: two thirds of it are for the first table.
+
+The last lines say what was not tried, and the worst of both tables. Status 0: an administrator could hide and delete after each; 1: not after
+one. The figures depend on what else the machine does, requests and bytes hardly."""
 import contextlib
+import io
 import json
 import os
 import random
@@ -26,22 +38,28 @@ import bridges  # noqa: E402
 import service  # noqa: E402
 import s4d  # noqa: E402
 from s4d import wire  # noqa: E402
+from s4d.moments import machine_time  # noqa: E402
 from s4d.pace import BURST_SECONDS, share_of  # noqa: E402
+from s4d.restore import Asker, Restore, Sayer, Wanted  # noqa: E402
 
 CONNECTIONS = 16
 LONGEST = 600.0  # seconds of a flood that doesn't fill the drive
 EMPTY_SECONDS = 60.0  # after which a flood's tokens aren't waited for
+FILLING_SECONDS, BESIDE_SECONDS = 60.0, 20.0  # that a way may take, by which none is begun too late
+FULL_PART = 2 / 3  # of all time that the first table may take
+OWNED, SIZE = 10, 2_000  # frames for each of the owner's objects, and bytes of one
 SHARE = "sessions=12,changes=50/s,bytes=1MiB/min"
 NO_SPACE, CHAIN_FULL, TOO_LARGE = 9, 12, 6
 LOST = OSError, EOFError
 ONE, THE_ONE = threading.Lock(), []  # the object that all connections overwrite
+MINE, FIRST_OWNED = 1, 2  # objects of the other, the one that its requests are for and those that it owns beside it
 
 
 class Link:
-    """A connection of who floods. What is asked to prepare it is counted by `take`."""
+    """A connection of who floods, beside so many objects of another. What is asked to prepare it is counted by `take`."""
 
-    def __init__(self, path, take):
-        self.take = take
+    def __init__(self, path, take, owned):
+        self.take, self.owned = take, range(FIRST_OWNED, FIRST_OWNED + owned)
         self.socket = socket.socket(socket.AF_UNIX)
         self.socket.settimeout(service.PATIENCE)
         self.socket.connect(path)
@@ -88,6 +106,13 @@ def small_writes(link):
         yield [wire.write(number, 0, b"x").frame() for number in made]
 
 
+def across_blocks(link):
+    """What takes most room for a request without many bytes: two blocks of data, and one of a journal."""
+    made = [link.create() for _ in range(16)]
+    while True:
+        yield [wire.write(number, 511, b"xx").frame() for number in made]
+
+
 def overwrites(link):
     """All of them of one object."""
     with ONE:
@@ -95,6 +120,23 @@ def overwrites(link):
             THE_ONE.append(link.create())
     while True:
         yield [wire.write(THE_ONE[0], 0, b"x" * 24_576).frame()]
+
+
+def small_of_others(link):
+    """Small Writes to the owner's objects."""
+    yield from of_others(link, 20, 16)
+
+
+def large_of_others(link):
+    yield from of_others(link, 30_000, 1)
+
+
+def of_others(link, size, count):
+    draw, number = random.Random(link.create()), 0
+    while True:
+        numbers = [link.owned[(number + place) % len(link.owned)] for place in range(count)]
+        number += count
+        yield [wire.write(it, draw.randrange(SIZE), b"x" * size).frame() for it in numbers]
 
 
 def set_attributes(link):
@@ -159,17 +201,20 @@ def half_frames(link):
     yield from ()
 
 
-FILLING = {"empty Creates": creates, "large Writes": large_writes, "small Writes": small_writes, "overwrites of one object": overwrites,
-           "SetAttrs": set_attributes, "Appends": appends, "journals of many objects": journals, "changes at random": at_random}
+FILLING = {"empty Creates": creates, "large Writes": large_writes, "small Writes": small_writes, "Writes across blocks": across_blocks,
+           "overwrites of one object": overwrites, "small Writes to others' objects": small_of_others, "SetAttrs": set_attributes, "Appends": appends,
+           "journals of many objects": journals, "large Writes to others' objects": large_of_others, "changes at random": at_random}
 OTHERS = {"Reads": reads, "frames that are no request": bad_frames, "sessions that come and go": come_and_go,
           "sessions that hold seats": seats, "half frames": half_frames, "silent connections": None}
+ALIKE = tuple(FILLING)[5:]  # what they take of a share is what earlier ones take: they come last where time is short
 
 
 class Flood:
     """What a program of its own does: it prints what it came to once there is no room, or time is over."""
 
-    def __init__(self, path, way, seconds):
+    def __init__(self, path, way, seconds, owned):
         self.path, self.way, self.lock, self.began = path, {**FILLING, **OTHERS}[way], threading.Lock(), time.monotonic()
+        self.owned = owned
         self.end, self.requests, self.bytes, self.refusals, self.full = self.began + seconds, 0, 0, {}, None
 
     def run(self):
@@ -189,7 +234,7 @@ class Flood:
     def come_and_go(self):
         while self.full is None and time.monotonic() < self.end:
             try:
-                link = Link(self.path, self.take)
+                link = Link(self.path, self.take, self.owned)
             except OSError:
                 time.sleep(0.05)
                 continue
@@ -206,7 +251,7 @@ class Flood:
             self.bytes += sum(len(frame) for frame, reply in zip(frames, replies) if reply[0])
             for number in refused:
                 self.refusals[number] = self.refusals.get(number, 0) + 1
-            only_one = self.way is overwrites and CHAIN_FULL in refused
+            only_one = self.way in (overwrites, small_of_others, large_of_others) and len(refused) == len(replies) and set(refused) == {CHAIN_FULL}
             if NO_SPACE in refused or only_one:
                 self.full = self.full or time.monotonic()
         return bool({CHAIN_FULL, TOO_LARGE} & set(refused))
@@ -238,8 +283,14 @@ class Trial:
         self.service.begin()
         self.bridge.begin()
         with self.other() as it:
-            self.mine = it.create(b"mine").object
+            numbers = [it.create(b"owned").object for _ in range(1 + frames // OWNED)]
+            self.mine, self.owned = numbers[0], numbers[1:]
             it.write(self.mine, 0, b"x" * 100)
+            for number in self.owned:
+                it.write(number, 0, bytes([number % 251]) * SIZE)
+            self.before = Asker(it).versions([(number, None) for number in self.owned])
+        assert (self.mine, self.owned[:1]) == (MINE, [FIRST_OWNED])
+        self.at = machine_time()
 
     def __enter__(self):
         return self
@@ -254,16 +305,18 @@ class Trial:
         """The program that floods."""
         if way == "silent connections":
             return Silent(self.port)
-        words = [sys.executable, "-B", os.path.abspath(__file__), "--flood", f"{self.service.folder}/client.sock", way, str(seconds)]
+        words = ["--flood", f"{self.service.folder}/client.sock", way, str(seconds), str(len(self.owned))]
+        words = [sys.executable, "-B", os.path.abspath(__file__), *words]
         return subprocess.Popen(words, stdout=subprocess.PIPE, text=True)
 
     def rate(self, seconds):
-        """The other's requests a second, a Write of 100 bytes and a Read in turn, and how long it waited at most for one."""
+        """The other's requests a second, a Write of 100 bytes and three Reads in turn, so that they need less than its own share, and how long
+        it waited at most for one."""
         with self.other() as it:
             it.read(self.mine)  # so that the time for a seat isn't in it
             count, longest, began = 0, 0.0, time.monotonic()
             while (now := time.monotonic()) < began + seconds:
-                if count % 2:
+                if count % 4:
                     it.read(self.mine)
                 else:
                     with contextlib.suppress(s4d.NoSpace):
@@ -280,19 +333,27 @@ class Trial:
         return sum(float(line[len(wanted):]) for line in lines if line.startswith(wanted))
 
     def left(self):
-        """What the other can do, and whether an administrator can hide and delete."""
+        """What the other can do, and whether an administrator can hide and delete: what each of their requests came to."""
         with self.other() as it:
-            reads = it.read(self.mine)[:1] == b"x"
-            changes = outcome(lambda: it.write(self.mine, 0, b"y"))
-            deletes = outcome(lambda: it.delete(self.mine))
+            others = {"Read": outcome(lambda: it.read(self.mine)), "Write": outcome(lambda: it.write(self.mine, 0, b"y")),
+                      "Delete": outcome(lambda: it.delete(self.mine))}
         with self.bridge.session("admin") as it:
             hides = outcome(lambda: it.flush(0, 1))
             rows = list(it.audit())
             gone = {row.object for row in rows if row.kind is s4d.AuditKind.DELETE}
-            made = next(row.object for row in rows if row.kind is s4d.AuditKind.CREATE and row.object not in gone | {self.mine})
-            removes = outcome(lambda: remove(it, made))
-        said = f"the other: Read {'yes' if reads else 'no'}, Write {changes}, Delete {deletes}; an administrator: Flush {hides}, Delete {removes}"
-        return said, (hides, removes) == ("yes", "yes")
+            made = [row.object for row in rows if row.kind is s4d.AuditKind.CREATE and row.object not in gone | {self.mine}]
+            flooded = next((number for number in made if number > FIRST_OWNED + len(self.owned)), made[0])
+            admins = {"Flush": hides, "Delete": outcome(lambda: remove(it, flooded))}
+        return others, admins
+
+    def way_back(self):
+        """A restore of what was there before: its seconds, what it did, and how many of the owner's objects aren't what they were."""
+        with self.bridge.session("admin") as it:
+            began = time.monotonic()
+            done = Restore(Asker(it), Wanted(self.at, flush=True), Sayer(io.StringIO(), io.StringIO())).run()
+            seconds = time.monotonic() - began
+            now = Asker(it).versions([(number, None) for number in self.owned])
+        return seconds, done, sum(one != other for one, other in zip(self.before, now))
 
 
 def remove(admin, number):
@@ -324,18 +385,34 @@ def reckoned(found, share):
     return max([found["seconds"], *each])
 
 
-def filled(way, frames, share):
+FULL_HEAD = ("| Way | Until refused | Accepted | Bytes | Seconds, with a share | Another client can | An administrator can | Way back, seconds "
+             "| Hidden | Not restored, others |\n|---|---|---|---|---|---|---|---|---|---|")
+BESIDE_HEAD = ("| Way | Alone | Beside it, at most ms | Once its share is used up, at most ms | Parts of what it has alone |\n|---|---|---|---|---|")
+
+
+def accepted_of(outcomes):
+    return ", ".join(name for name, what in outcomes.items() if what == "yes") or "nothing"
+
+
+def filled(way, frames, share, seconds):
+    """A row of the first table, of a flood that has so long: whether an administrator could hide and delete, and how long the way back took."""
     with Trial(frames, "sessions=12") as it:
-        with it.flood(way, LONGEST) as flood:
+        flood = it.flood(way, seconds)
+        try:
             found = json.loads(flood.communicate()[0])
-        said, is_good = it.left()
+        finally:
+            flood.kill()
+            flood.wait()
+        others, admins = it.left()
+        seconds, done, unlike = it.way_back()
     refused = sorted(s4d.errors.REFUSALS[int(number)].__name__ for number in found["refusals"])
-    print(f"{way}: {', '.join(refused) or 'not full'} after {found['seconds']:.1f} s, {found['requests']:,} requests, {found['bytes']:,} bytes; "
-          f"with a share after {reckoned(found, share):,.0f} s; {said}", flush=True)
-    return is_good
+    print(f"| {way} | {', '.join(refused) or 'not full'} | {found['requests']:,} | {found['bytes']:,} "
+          f"| {found['seconds']:.1f}, {reckoned(found, share):,.0f} | {accepted_of(others)} | {accepted_of(admins)} | {seconds:.1f} | {done.hidden:,} | {done.failed}, {unlike} |", flush=True)
+    return set(admins.values()) == {"yes"}, seconds
 
 
 def beside(way, frames, seconds, share):
+    """A row of the second table: the least part of what the other has alone that it had beside the flood."""
     with Trial(frames, share) as it:
         before, _ = it.rate(seconds)
         flood = it.flood(way, LONGEST)
@@ -351,8 +428,48 @@ def beside(way, frames, seconds, share):
             flood.wait()
         time.sleep(1)
         alone = (before + it.rate(seconds)[0]) / 2  # so that a machine that becomes slower meanwhile doesn't count as much
-    print(f"{way}: the other's requests a second: {alone:.0f} alone, {first:.0f} beside it ({first / alone:.2f}, at most {longest * 1000:.0f} ms), "
-          f"{then:.0f} once its share is used up ({then / alone:.2f}, {longest_then * 1000:.0f} ms)", flush=True)
+    print(f"| {way} | {alone:.0f} | {first:.0f}, {longest * 1000:.0f} | {then:.0f}, {longest_then * 1000:.0f} "
+          f"| {first / alone:.2f}, {then / alone:.2f} |", flush=True)
+    return min(first, then) / alone
+
+
+class Clock:
+    """When the parts of all that is tried have to have ended, and what wasn't tried for want of time."""
+
+    def __init__(self, minutes):
+        self.began, self.seconds, self.left_out = time.monotonic(), None if minutes is None else 60 * minutes, []
+
+    def has(self, way, part, seconds):
+        """Whether there is time for a way, of this part of all time from the beginning on."""
+        is_in_time = seconds < self.left(part)
+        self.left_out += [] if is_in_time else [way]
+        return is_in_time
+
+    def left(self, part):
+        """The seconds that are left of this part."""
+        return float("inf") if self.seconds is None else self.began + part * self.seconds - time.monotonic()
+
+
+def full_table(ways, frames, share, clock):
+    """Whether an administrator could hide and delete after each."""
+    ways, found = [way for way in ways if way in FILLING], []
+    print(FULL_HEAD, flush=True)
+    for way in ways:
+        if clock.has(f"{way}, full", FULL_PART, FILLING_SECONDS):
+            found.append(filled(way, frames, share, min(LONGEST, clock.left(FULL_PART))))
+    is_good = all(is_good for is_good, _ in found)
+    print(f"\nof {len(found)} floods an administrator could hide and delete after {'each' if is_good else 'some'}; the longest way back took "
+          f"{max((seconds for _, seconds in found), default=0):.1f} s\n", flush=True)
+    return is_good
+
+
+def beside_table(ways, frames, seconds, share, clock):
+    print(BESIDE_HEAD, flush=True)
+    ways = sorted(ways, key=lambda way: way in ALIKE)
+    found = {way: beside(way, frames, seconds, share) for way in ways if clock.has(f"{way}, beside", 1, BESIDE_SECONDS)}
+    if found:
+        worst = min(found, key=found.__getitem__)
+        print(f"\nbeside {len(found)} floods another client had {found[worst]:.2f} of its requests at least, beside {worst}", flush=True)
 
 
 def end(*_):
@@ -375,17 +492,18 @@ def main(words):
         print(__doc__)
         return 0
     if words[:1] == ["--flood"]:
-        Flood(words[1], words[2], float(words[3])).run()
+        Flood(words[1], words[2], float(words[3]), int(words[4])).run()
     signal.signal(signal.SIGTERM, end)
     words = list(words)
-    frames, seconds = int(option(words, "--frames", "1024")), float(option(words, "--seconds", "5"))
+    frames, seconds, minutes = int(option(words, "--frames", "1024")), float(option(words, "--seconds", "3")), option(words, "--minutes", None)
     share, part, is_good = option(words, "--share", SHARE), option(words, "--part", None), True
-    ways = words or [*FILLING, *OTHERS]
-    for way in ways:
-        if way in FILLING and part != "beside":
-            is_good &= filled(way, frames, share)
-        if part != "full":
-            beside(way, frames, seconds, share)
+    ways, clock = words or [*FILLING, *OTHERS], Clock(None if minutes is None else float(minutes))
+    if part != "beside":
+        is_good = full_table(ways, frames, share, clock)
+    if part != "full":
+        beside_table(ways, frames, seconds, share, clock)
+    if clock.left_out:
+        print(f"not tried for want of time: {'; '.join(clock.left_out)}", flush=True)
     return 0 if is_good else 1
 
 
