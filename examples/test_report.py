@@ -200,7 +200,7 @@ def make_hidden(image):
     image.make(24)
     with image.session() as drive:
         for number in (1, 2, 3):
-            drive.create(b"")
+            drive.create(b"srv/%d" % number)
         for _ in range(3):
             drive.append(1, b"more")
     with image.session("admin") as drive:
@@ -345,6 +345,9 @@ class Shown(unittest.TestCase):
         self.open(write_report(image, "hidden", "--since", "4"))
         self.assertEqual(self.open_objects(), ["1", "2"])
         self.assertEqual(self.shown("h3"), ["1"])
+        self.assertEqual(self.browser.run(texts_of("p:has(.name)")), ["8: moments 5 to 6 of object 2 srv/2 hidden"])
+        self.click("p:has(.name) a")
+        self.check_shown("strip-2")
 
     def check_shown(self, part):
         """The page has gone to a part of an object, which is seen."""

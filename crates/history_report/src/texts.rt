@@ -10,7 +10,7 @@ pub(crate) const PAGE_HEAD: &str = "\
 <meta charset=\"utf-8\">\n\
 <meta http-equiv=\"Content-Security-Policy\" content=\"default-src 'none'; \
 style-src 'unsafe-inline'; \
-script-src 'sha256-9XWQAvdQWiz8lSde/QmaEmERGJ8qVlD4IBQ09DDNVl4='\">\n\
+script-src 'sha256-+esxUy+9KQ1MIzYQwGY3q8Z42TAV2SeaM55k1SsU7TQ='\">\n\
 <title>Report of a drive</title>\n\
 <style>\n\
 :root { color-scheme: light dark; --text: #1f2933; --soft: #52606d; --back: #ffffff;\n  \
@@ -374,6 +374,17 @@ heading.id = \"difference-\" + object.number;\n    \
 heading.append(\" \", nameOf(object), ...linksOf(object, [\"strip\", \"row\"]));\n  \
 }\n\
 };\n\
+\n\
+// A flush of one object has a link to its strip, and its name.\n\
+for (const flush of document.querySelectorAll(\"h2 ~ p\")) {\n  \
+const [, before, number] = /^(.+ of )object (\\d+) hidden$/.exec(flush.textContent) ?? [];\n  \
+const object = objects.get(number);\n  \
+if (object !== undefined) {\n    \
+const text = \"object \" + number;\n    \
+const first = has(object, \"strip\") ? linkTo(\"strip\", object, text) : text;\n    \
+flush.replaceChildren(before, first, \" \", nameOf(object), \" hidden\");\n  \
+}\n\
+}\n\
 \n\
 // A click on a mark shows what its title says, with links.\n\
 const said = document.createElement(\"p\");\n\
