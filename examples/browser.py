@@ -1,7 +1,9 @@
 """Chromium without a window, driven over its debugging pipe: opens a page, evaluates scripts in it and takes pictures."""
 import base64
+import http.server
 import json
 import os
+import pathlib
 import shutil
 import signal
 import subprocess
@@ -85,7 +87,11 @@ class Browser:
         """Opens a page, and waits until all of it is read, and its script has run."""
         self.ask("Page.navigate", url="about:blank")
         self.ask("Page.navigate", url=address)
-        while self.run("document.URL + ' ' + document.readyState") != address + " complete":
+        self.wait("document.URL + ' ' + document.readyState", address + " complete")
+
+    def wait(self, script, value):
+        """Waits until a script has this value."""
+        while self.run(script) != value:
             time.sleep(0.02)
 
     def run(self, script):
@@ -96,6 +102,18 @@ class Browser:
             raise Failed(details.get("exception", {}).get("description", details["text"]))
         return answer["result"].get("value")
 
+    def processor_time(self):
+        """What all processes of the browser have used so far, in seconds."""
+        ticks = 0
+        for path in pathlib.Path("/proc").glob("[0-9]*/stat"):
+            try:
+                numbers = path.read_text(errors="replace").rpartition(")")[2].split()
+            except OSError:
+                continue  # it has ended
+            if int(numbers[2]) == self.process.pid:  # its group
+                ticks += sum(map(int, numbers[11:15]))
+        return ticks / os.sysconf("SC_CLK_TCK")
+
     def look(self, width, height, scheme="light", media="screen"):
         """From now on the page is so wide and high, and is shown light or dark, on a screen or in print."""
         self.ask("Emulation.setDeviceMetricsOverride", width=width, height=height, deviceScaleFactor=1, mobile=False)
@@ -105,6 +123,32 @@ class Browser:
         """A picture of the page as it is shown, as a PNG."""
         self.run(TWO_FRAMES)
         return base64.b64decode(self.ask("Page.captureScreenshot", format="png")["data"])
+
+
+class Slow(http.server.ThreadingHTTPServer):
+    """Serves a page on a port of this machine: a part of its bytes at once, and the others once `rest` is set."""
+
+    daemon_threads = True
+
+    def __init__(self, page, part):
+        super().__init__(("127.0.0.1", 0), Answer)
+        text = page.read_bytes()
+        self.beginning, self.others = text[:int(len(text) * part)], text[int(len(text) * part):]
+        self.rest, self.address = threading.Event(), f"http://127.0.0.1:{self.server_port}/"
+        threading.Thread(target=self.serve_forever, daemon=True).start()
+
+
+class Answer(http.server.BaseHTTPRequestHandler):
+    def do_GET(self):
+        self.send_response(200)
+        self.send_header("Content-Type", "text/html")
+        self.end_headers()
+        self.wfile.write(self.server.beginning)
+        self.server.rest.wait()
+        self.wfile.write(self.server.others)
+
+    def log_message(self, *_):
+        pass
 
 
 def rows_of(png):
