@@ -17,7 +17,7 @@ use Rattle.history_restore.specs.declared.restoring.Restored.{Restored}
 use Rattle.history_restore.specs.Asking.{IsMovedBy, clock_by}
 use Rattle.history_restore.proofs.Moving.{clock_by_more}
 use Rattle.history_restore.specs.Keeping.{IsDatedFrom}
-use Rattle.history_restore.specs.Plans.{IsPlan, attribute_changes, change_count, changes_by, changes_of, count_of, count_of_changes, cut_changes, next_by_plan, runs_between, runs_changes}
+use Rattle.history_restore.specs.Plans.{IsPlan, attribute_changes, change_count, changes_by, changes_of, count_of, count_of_changes, cut_changes, gap_of, next_by_plan, runs_changes, runs_planned}
 use Rattle.history_restore.specs.Restoring.{IsUnread}
 use Rattle.history_restore.specs.Whole.{IsCounted, changes_of_all, made_anew}
 
@@ -43,19 +43,19 @@ count_changed o bytes attribute cut rs writes wanted is =
     let named = attribute_changes o attribute wanted in
     omega (arith, length-append cuts (written ++ named), length-append written named, count_cut o cut, count_runs o bytes rs, count_attribute o attribute wanted)
 
-pub counts_changes : (before now : Version) (plan : Plan) (next o : ℕ) → IsPlan before now plan → length (changes_by before (runs_between before now) plan next o) ≡ change_count plan
+pub counts_changes : (before now : Version) (plan : Plan) (next o : ℕ) → IsPlan before now plan → length (changes_by before (runs_planned plan before now) plan next o) ≡ change_count plan
 counts_changes Absent Absent plan next o is = subst (λ (p : Plan). length (changes_by Absent [] p next o) ≡ change_count p) (sym is) refl
 counts_changes Absent (Live now attribute_now created changed) plan next o is = subst (λ (p : Plan). length (changes_by Absent [] p next o) ≡ change_count p) (sym is) refl
 counts_changes (Live bytes attribute created changed) Absent Keep next o is = absurd is
 counts_changes (Live bytes attribute created changed) Absent Delete next o is = absurd is
 counts_changes (Live bytes attribute created changed) Absent (Remake changes) next o is =
-    let own : length (changes_of (Live bytes attribute created changed) (runs_to bytes []) changes next) ≡ count_of_changes changes = count_changed next bytes attribute changes.cut (runs_to bytes []) changes.writes changes.attribute is.rewritten in
+    let own : length (changes_of (Live bytes attribute created changed) (runs_to (gap_of changes.joined) bytes []) changes next) ≡ count_of_changes changes = count_changed next bytes attribute changes.cut (runs_to (gap_of changes.joined) bytes []) changes.writes changes.attribute is.rewritten in
     omega (arith, own)
 counts_changes (Live bytes attribute created changed) Absent (Change changes) next o is = absurd is
 counts_changes (Live bytes attribute created changed) (Live now attribute_now created_now changed_now) Keep next o is = refl
 counts_changes (Live bytes attribute created changed) (Live now attribute_now created_now changed_now) Delete next o is = absurd is
 counts_changes (Live bytes attribute created changed) (Live now attribute_now created_now changed_now) (Remake changes) next o is = absurd is
-counts_changes (Live bytes attribute created changed) (Live now attribute_now created_now changed_now) (Change changes) next o is = count_changed o bytes attribute changes.cut (runs_to bytes now) changes.writes changes.attribute is.0.rewritten
+counts_changes (Live bytes attribute created changed) (Live now attribute_now created_now changed_now) (Change changes) next o is = count_changed o bytes attribute changes.cut (runs_to (gap_of changes.joined) bytes now) changes.writes changes.attribute is.0.rewritten
 
 -- ---- what isn't read isn't for a full journal
 
