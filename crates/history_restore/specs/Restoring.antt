@@ -16,7 +16,7 @@ use Rattle.history_restore.specs.declared.aims.Aim.{Aim}
 use Rattle.history_restore.specs.declared.plans.Plan.{Plan}
 use Rattle.history_restore.specs.declared.restoring.Restored.{Restored}
 use Rattle.history_restore.specs.declared.failures.Failure.{Failure}
-use Rattle.history_restore.specs.Asking.{AreStored, FindsFull, is_left}
+use Rattle.history_restore.specs.Asking.{AreStored, OneTakesTooMuch, is_left}
 use Rattle.history_restore.specs.Content.{content_of, changed_in}
 use Rattle.history_restore.specs.Joining.{IsTaken}
 use Rattle.history_restore.specs.Plans.{IsPlan, changes_by, next_by_plan, runs_planned}
@@ -70,10 +70,9 @@ changes_for s aim at plan = changes_by (version_of s aim.object at) (runs_planne
 abbrev pub StoresPlan : State → Aim → ℕ → StoreFields → StoreFields → Restored → Type 0
 StoresPlan s aim at store after restored = AreStored store (changes_for s aim at restored.plan) after
 
--- What restoring an object asks for finds its journal too full: one of the changes of the plan that is taken would make the journal too long,
--- once those in front of it are stored.
-pub record IsTooFull (s : State) (store : StoreFields) (aim : Aim) (at : ℕ) : Type 0 where
+-- Restoring an object takes too much for this reason: one of the changes of the plan that is taken does, once those in front of it are stored.
+pub record LacksRoom (s : State) (store : StoreFields) (aim : Aim) (at : ℕ) (refusal : Refusal) : Type 0 where
   pub plan : Plan
   pub planned : IsPlan (version_of s aim.object at) (present s aim.target) plan
   pub taken : IsTaken s store aim at plan
-  pub full : FindsFull store (changes_for s aim at plan)
+  pub lacks : OneTakesTooMuch refusal store (changes_for s aim at plan)

@@ -1,15 +1,14 @@
 //! An object is made what it was at a moment.
-ghost use Rattle.std.specs.Prelude.{◌≡◌, false, IfOk, IfErr, OnOk};
-ghost use Rattle.s4_types.specs.declared.refusals.Refusal.TheVariants.{ChainFull};
+ghost use Rattle.std.specs.Prelude.{◌≡◌, true, false, IfOk, IfErr, OnOk};
 ghost use Rattle.s4_model.specs.Refusals.{present};
 ghost use Rattle.s4_model.specs.VersionAt.{version_of};
 ghost use Rattle.s4_model.specs.Visible.{IsVisible};
 ghost use Rattle.drive.specs.Fields.{state_in, store_of};
-ghost use Rattle.history_restore.specs.Asking.{IsMovedBy};
+ghost use Rattle.history_restore.specs.Asking.{IsMovedBy, is_of_room};
 ghost use Rattle.history_restore.specs.Joining.{IsTaken};
 ghost use Rattle.history_restore.specs.Plans.{IsPlan, change_count, is_joined};
 ghost use Rattle.history_restore.specs.Keeping.{IsDatedFrom, LeavesPast, LeavesOthers};
-ghost use Rattle.history_restore.specs.Restoring.{IsUnread, Restores, IsStopped, IsTooFull};
+ghost use Rattle.history_restore.specs.Restoring.{IsUnread, LacksRoom, Restores, IsStopped};
 ghost use Rattle.history_restore.specs.Restoring.{StoresPlan, number_after};
 
 use crate::aims::Aim;
@@ -84,9 +83,9 @@ pub fn restore_object<J: Naming>(
         (IsStopped (state_in drive.old) (state_in drive.new) aim.now at) }
     ensures stored { IfOk result
         (StoresPlan (state_in drive.old) aim.now at (store_of drive.old) (store_of drive.new)) }
-    ensures full { IfErr result
-        (λ failure. failure.refusal ≡ ChainFull
-        → IsTooFull (state_in drive.old) (store_of drive.old) aim.now at) }
+    ensures lacks { IfErr result
+        (λ failure. is_of_room failure.refusal ≡ true
+        → LacksRoom (state_in drive.old) (store_of drive.old) aim.now at failure.refusal) }
     ensures moved { IfOk result
         (λ restored. IsMovedBy (state_in drive.old) now (change_count restored.plan)
         (state_in drive.new)) }

@@ -1,5 +1,6 @@
 use Rattle.std.proofs.Common.{◌≡◌, ◌∙◌, ℕ, List, length, refl, sym, ap, subst}
 use Rattle.s4_types.specs.declared.changes.Change.{Change}
+use Rattle.s4_types.specs.declared.refusals.Refusal.{Refusal}
 use Rattle.s4_types.specs.declared.versions.Version.{Version}
 use Rattle.s4_model.specs.State.{State}
 use Rattle.s4_model.specs.VersionAt.{version_of}
@@ -12,7 +13,7 @@ use Rattle.history_restore.specs.declared.failures.Failure.{Failure}
 use Rattle.history_restore.specs.declared.plans.Plan.{Plan}
 use Rattle.s4_model.specs.Refusals.{present}
 use Rattle.history_restore.specs.Content.{content_of}
-use Rattle.history_restore.specs.Asking.{AreStored, FindsFull, clock_by}
+use Rattle.history_restore.specs.Asking.{AreStored, OneTakesTooMuch, clock_by, is_of_room}
 use Rattle.history_restore.specs.Plans.{IsPlan, IsWithinPlan, changes_by, next_by_plan, number_by, runs_planned, turned}
 use Rattle.history_restore.specs.Restoring.{changes_for}
 use Rattle.history_restore.proofs.Counted.{counts_changes}
@@ -92,8 +93,8 @@ returns-in-Ok-perform-clause-restored g c =
           ∙ ap content_of c.in-Ok.ensures.earlier;
     }
 
-pub returns-clause-full : goal.returns-clause-full
-returns-clause-full g c =
+pub returns-clause-lacks : goal.returns-clause-lacks
+returns-clause-lacks g c =
     let s = state_in c.args.drive.now in
     let store = store_of c.args.drive.now in
     let aim = c.args.aim.now in
@@ -109,10 +110,12 @@ returns-clause-full g c =
     ∙ ap (λ (k : State). changes_by before (runs_planned plan before latest) plan k.next aim.target) c.choose.ensures.state
     ∙ ap (λ (v : Version). changes_by v (runs_planned plan v latest) plan s.next aim.target) c.in-Ok.ensures.earlier
     ∙ ap (λ (v : Version). changes_by was (runs_planned plan was v) plan s.next aim.target) c.in-Ok.ensures.latest in
-    λ full. record {
+    let same : c.stopped.result.refusal ≡ c.in-Err-perform.refusal = ap (λ (f : Failure). f.refusal) c.stopped.ensures in
+    λ of. record {
       plan = plan;
       planned = planned_by s aim c.args.at before latest plan c.in-Ok.ensures.earlier c.in-Ok.ensures.latest c.in-Ok.ensures.plan;
       taken = c.in-Ok.ensures.taken;
-      full = subst (FindsFull store) is
-          (subst (λ (k : StoreFields). FindsFull k asked) c.choose.ensures.store (c.in-Err-perform.ensures.asked.full (sym (ap (λ (f : Failure). f.refusal) c.stopped.ensures) ∙ full)));
+      lacks = subst (λ (e : Refusal). OneTakesTooMuch e store (changes_for s aim c.args.at plan)) (sym same)
+          (subst (OneTakesTooMuch c.in-Err-perform.refusal store) is
+          (subst (λ (k : StoreFields). OneTakesTooMuch c.in-Err-perform.refusal k asked) c.choose.ensures.store (c.in-Err-perform.ensures.asked.lacks (sym (ap is_of_room same) ∙ of))));
     }
