@@ -50,7 +50,7 @@ PASSED_ON = {
     "verifier.begins_with": "open answers what begins so, and is named so",
 }
 # How many lines each may rest on.
-CEILINGS = {"whole": 3_087, "promises": 1_028, "commands": 5_828}
+CEILINGS = {"whole": 3_087, "promises": 1_028, "commands": 5_889}
 WIDTH = 100
 TOKEN = re.compile(r"[^\s(){}\[\],;:→λ×⊎≡&<>|]+")
 ANTT_ITEM = re.compile(r"(  )?(?:abbrev pub|unfoldable pub|pub record|pub data|abbrev|unfoldable|record|data|pub) ([^\s(){}:]+)")

@@ -1,7 +1,7 @@
 -- What stays of bytes that are cut.
-use Rattle.std.proofs.Common.{◌≡◌, ◌≢◌, ◌∙◌, inl, inr, ◌+◌, ◌-◌, ◌<◌, ◌≤◌, ◌==◌, nat_lt, ◌&&◌, ◌||◌, not, ℕ, zero, suc, Bool, true, false, cond, List, length, take, slice_index, ap, arith}
-use Rattle.std.proofs.lemmas.Bool.{and_left, and_parts, cases_Bool, cases_eq, eqb-false, false≢true, le-ltb, ltb-true, lt-ltb, ne_eqb, not-true, or_cases, or_parts, true≢false}
-use Rattle.block_runs.specs.Runs.{any_between, cut_size, differs, end_block, is_cut_whole, kept}
+use Rattle.std.proofs.Common.{◌≡◌, ◌∙◌, refl, inl, inr, ◌+◌, ◌-◌, ◌<◌, ◌≤◌, ◌==◌, nat_lt, ◌&&◌, ◌||◌, ℕ, zero, suc, Bool, true, false, cond, List, length, take, ap, arith}
+use Rattle.std.proofs.lemmas.Bool.{and_left, and_parts, cases_Bool, cases_eq, false≢true, le-ltb, ltb-true, lt-ltb, or_cases, or_parts}
+use Rattle.block_runs.specs.Runs.{any_between, cut_size, differs, end_block, is_cut_whole, is_put, kept}
 
 -- ---- one of some indexes
 
@@ -33,21 +33,18 @@ any_more d first i le =
 abbrev some_differs : List ℕ → List ℕ → Bool
 some_differs bytes now = any_between (differs bytes now) (end_block (length bytes)) (length bytes - end_block (length bytes))
 
-pub when_whole : (bytes now : List ℕ) → is_cut_whole bytes now ≡ true → (length bytes < length now) × (slice_index bytes (length bytes - 1) ≢ 0) × (some_differs bytes now ≡ true)
+pub when_whole : (bytes now : List ℕ) → is_cut_whole bytes now ≡ true → (length bytes < length now) × (some_differs bytes now ≡ true)
 when_whole bytes now is =
-    let last : Bool = slice_index bytes (length bytes - 1) == 0 in
-    let outer = and_parts (nat_lt (length bytes) (length now)) (not last && some_differs bytes now) is in
-    let inner = and_parts (not last) (some_differs bytes now) outer.1 in
-    (ltb-true (length bytes) (length now) outer.0, eqb-false (slice_index bytes (length bytes - 1)) 0 (not-true last inner.0), inner.1)
+    let parts = and_parts (nat_lt (length bytes) (length now)) (some_differs bytes now) is in
+    (ltb-true (length bytes) (length now) parts.0, parts.1)
 
 -- of longer bytes whose block isn't cut off none of it differs
-pub when_within : (bytes now : List ℕ) → is_cut_whole bytes now ≡ false → length bytes < length now → slice_index bytes (length bytes - 1) ≢ 0 → some_differs bytes now ≡ false
-when_within bytes now is less some = all_but (nat_lt (length bytes) (length now)) (slice_index bytes (length bytes - 1) == 0) (some_differs bytes now) is (lt-ltb (length bytes) (length now) less) (ne_eqb (slice_index bytes (length bytes - 1)) 0 some)
+pub when_within : (bytes now : List ℕ) → is_cut_whole bytes now ≡ false → length bytes < length now → some_differs bytes now ≡ false
+when_within bytes now is less = second (nat_lt (length bytes) (length now)) (some_differs bytes now) is (lt-ltb (length bytes) (length now) less)
   where
-    all_but : (a b c : Bool) → (a && (not b && c)) ≡ false → a ≡ true → b ≡ false → c ≡ false
-    all_but true false c is first second = is
-    all_but false b c is first second = absurd (false≢true first)
-    all_but true true c is first second = absurd (true≢false second)
+    second : (a b : Bool) → (a && b) ≡ false → a ≡ true → b ≡ false
+    second true b is first = is
+    second false b is first = absurd (false≢true first)
 
 pub kept_by : (bytes now : List ℕ) (b : Bool) → is_cut_whole bytes now ≡ b → kept bytes now ≡ cond b (take (end_block (length bytes)) now) now
 kept_by bytes now b is = ap (λ (whole : Bool). cond whole (take (end_block (length bytes)) now) now) is
@@ -62,8 +59,31 @@ few_cut bytes now = elim (cases_Bool (is_cut_whole bytes now)) [
   | inr wrong ↦ omega (arith, cut_by bytes now false wrong)
 ]
 
--- of no more bytes than these all are kept
+-- of no more bytes than these no block is cut off, and all are kept
+pub never_whole : (bytes now : List ℕ) → length now ≤ length bytes → is_cut_whole bytes now ≡ false
+never_whole bytes now few = and_left (nat_lt (length bytes) (length now)) (some_differs bytes now) (le-ltb (length bytes) (length now) few)
+
 pub kept_all : (bytes now : List ℕ) → length now ≤ length bytes → kept bytes now ≡ now
-kept_all bytes now few =
-    let last : Bool = slice_index bytes (length bytes - 1) == 0 in
-    kept_by bytes now false (and_left (nat_lt (length bytes) (length now)) (not last && some_differs bytes now) (le-ltb (length bytes) (length now) few))
+kept_all bytes now few = kept_by bytes now false (never_whole bytes now few)
+
+-- ---- what is written
+
+-- where no block is cut off, what differs
+pub put_within : (bytes now : List ℕ) (i : ℕ) → is_cut_whole bytes now ≡ false → is_put bytes now i ≡ differs bytes now i
+put_within bytes now i wrong =
+    ap (λ there. differs bytes there i || (is_cut_whole bytes now && i + 1 == length bytes)) (kept_by bytes now false wrong)
+    ∙ ap (λ (whole : Bool). differs bytes now i || (whole && i + 1 == length bytes)) wrong
+    ∙ or_none (differs bytes now i)
+  where
+    or_none : (b : Bool) → (b || false) ≡ b
+    or_none true = refl
+    or_none false = refl
+
+-- where one is, what differs from what is left, and the last
+pub put_whole : (bytes now : List ℕ) (i : ℕ) → is_cut_whole bytes now ≡ true → is_put bytes now i ≡ (differs bytes (take (end_block (length bytes)) now) i || i + 1 == length bytes)
+put_whole bytes now i right =
+    ap (λ there. differs bytes there i || (is_cut_whole bytes now && i + 1 == length bytes)) (kept_by bytes now true right)
+    ∙ ap (λ (whole : Bool). differs bytes (take (end_block (length bytes)) now) i || (whole && i + 1 == length bytes)) right
+
+pub same_unput : (bytes now : List ℕ) (i : ℕ) → is_put bytes now i ≡ false → differs bytes (kept bytes now) i ≡ false
+same_unput bytes now i is = (or_parts (differs bytes (kept bytes now) i) (is_cut_whole bytes now && i + 1 == length bytes) is).0

@@ -1,4 +1,5 @@
 pub mod Cutting
 pub mod Exact
+pub mod Fewer
 pub mod Whole
 pub mod Blocks

@@ -1,14 +1,14 @@
 -- Runs that are written one after the other give the bytes.
-use Rattle.std.proofs.Common.{◌≡◌, ◌≢◌, ◌∙◌, ◌⊎◌, inl, inr, ◌+◌, ◌-◌, ◌<◌, ◌≤◌, max, ℕ, Bool, true, false, List, [], ◌∷◌, ◌++◌, length, take, drop, get_or, slice_index, replicate, Option, None, Some, refl, sym, ap, subst, arith}
-use Rattle.std.proofs.lemmas.Bool.{cases_Bool, cases_lt}
+use Rattle.std.proofs.Common.{◌≡◌, ◌≢◌, ◌∙◌, ◌⊎◌, inl, inr, eq-eqb, ◌+◌, ◌-◌, ◌<◌, ◌≤◌, ◌==◌, max, ℕ, Bool, true, false, List, [], ◌∷◌, ◌++◌, length, take, drop, get_or, slice_index, replicate, Option, None, Some, refl, sym, ap, subst, arith}
+use Rattle.std.proofs.lemmas.Bool.{cases_Bool, cases_lt, or_parts, or_right}
 use Rattle.std.proofs.lemmas.Bool.Decides.{nat_tests}
 use Rattle.std.proofs.lemmas.List.{append-nil, get_or-take, get_or-drop, get_or-append_right, get_or_append_left, get_or_past, get_or-replicate, ext_get_or, length-append, length-take, length-drop, length-replicate, length-take-le}
 use Rattle.s4_model.specs.Effect.{resized, written}
 use Rattle.s4_model.specs.Step.{part}
 use Rattle.block_runs.specs.declared.running.Run.{Run}
-use Rattle.block_runs.specs.Runs.{AreRuns, IsRun, IsSized, RunsAreWhole, differs, end_block, is_cut_whole, runs_of, runs_to, sized, written_over}
-use Rattle.block_runs.proofs.Exact.{runs_are_exact}
-use Rattle.block_runs.proofs.Cutting.{cut_by, kept_by, when_whole}
+use Rattle.block_runs.specs.Runs.{AreRuns, IsRun, IsSized, RunsAreWhole, differs, end_block, is_cut_whole, is_put, runs_below, runs_to, sized, written_over}
+use Rattle.block_runs.proofs.Exact.{exact_by}
+use Rattle.block_runs.proofs.Cutting.{cut_by, put_whole, put_within, when_whole}
 
 -- ---- one place of a list that was cut or written over
 
@@ -96,8 +96,8 @@ behind_of bytes now r i some within past =
 abbrev pub AreSame : (ℕ → Bool) → List ℕ → ℕ → List ℕ → Type 0
 AreSame d bytes i now = (j : ℕ) → j < length bytes → (j < i) ⊎ (d j ≡ false) → get_or now j 0 ≡ get_or bytes j 0
 
-after_run : (d : ℕ → Bool) (bytes now : List ℕ) (i block : ℕ) (r : Run) → IsRun d (length bytes) i block r → AreSame d bytes i now → AreSame d bytes r.end (over bytes r now)
-after_run d bytes now i block r run same j below which =
+after_run : (d : ℕ → Bool) (gap : ℕ) (bytes now : List ℕ) (i block : ℕ) (r : Run) → IsRun d gap (length bytes) i block r → AreSame d bytes i now → AreSame d bytes r.end (over bytes r now)
+after_run d gap bytes now i block r run same j below which =
     elim (cases_lt j r.offset) [
       | inl front ↦ in_front_of bytes now r j run.some run.within front ∙ elim (cases_lt j i) [ inl less ↦ same j below (inl less) | inr from ↦ same j below (inr (run.before j from front)) ]
       | inr low ↦ elim (cases_lt j r.end) [
@@ -106,35 +106,47 @@ after_run d bytes now i block r run same j below which =
       ]
     ]
 
-all_same : (d : ℕ → Bool) (bytes now : List ℕ) (i block : ℕ) (rs : List Run) → AreRuns d (length bytes) i block rs → AreSame d bytes i now → (j : ℕ) → j < length bytes → get_or (written_over bytes rs now) j 0 ≡ get_or bytes j 0
-all_same d bytes now i block [] are same j below = elim (cases_lt j i) [ inl less ↦ same j below (inl less) | inr from ↦ same j below (inr (are j from below)) ]
-all_same d bytes now i block (r ∷ rs) are same j below = all_same d bytes (over bytes r now) r.end _ rs are.1 (after_run d bytes now i block r are.0 same) j below
+all_same : (d : ℕ → Bool) (gap : ℕ) (bytes now : List ℕ) (i block : ℕ) (rs : List Run) → AreRuns d gap (length bytes) i block rs → AreSame d bytes i now → (j : ℕ) → j < length bytes → get_or (written_over bytes rs now) j 0 ≡ get_or bytes j 0
+all_same d gap bytes now i block [] are same j below = elim (cases_lt j i) [ inl less ↦ same j below (inl less) | inr from ↦ same j below (inr (are j from below)) ]
+all_same d gap bytes now i block (r ∷ rs) are same j below = all_same d gap bytes (over bytes r now) r.end _ rs are.1 (after_run d gap bytes now i block r are.0 same) j below
 
 -- there are as many, or the last one differs and isn't written yet
 abbrev pub Reaches : (ℕ → Bool) → ℕ → ℕ → List ℕ → Type 0
 Reaches d count i now = (length now ≤ count) × ((length now ≡ count) ⊎ ((i < count) × (d (count - 1) ≡ true)))
 
-reaches_on : (d : ℕ → Bool) (bytes now : List ℕ) (i block : ℕ) (r : Run) → IsRun d (length bytes) i block r → Reaches d (length bytes) i now → Reaches d (length bytes) r.end (over bytes r now)
-reaches_on d bytes now i block r run reaches =
+reaches_on : (d : ℕ → Bool) (gap : ℕ) (bytes now : List ℕ) (i block : ℕ) (r : Run) → IsRun d gap (length bytes) i block r → Reaches d (length bytes) i now → Reaches d (length bytes) r.end (over bytes r now)
+reaches_on d gap bytes now i block r run reaches =
     let some : r.offset < r.end = run.some in
     let within : r.end ≤ length bytes = run.within in
     let size : length (over bytes r now) ≡ max (length now) r.end = length_over bytes now r some within in
     let most : length now ≤ length bytes = reaches.0 in
     (omega arith, elim reaches.1 [ inl all ↦ inl (omega arith) | inr left ↦ elim (cases_lt r.end (length bytes)) [ inl less ↦ inr (less, left.1) | inr past ↦ inl (omega arith) ] ])
 
-length_written : (d : ℕ → Bool) (bytes now : List ℕ) (i block : ℕ) (rs : List Run) → AreRuns d (length bytes) i block rs → Reaches d (length bytes) i now → length (written_over bytes rs now) ≡ length bytes
-length_written d bytes now i block [] are reaches = elim reaches.1 [
+length_written : (d : ℕ → Bool) (gap : ℕ) (bytes now : List ℕ) (i block : ℕ) (rs : List Run) → AreRuns d gap (length bytes) i block rs → Reaches d (length bytes) i now → length (written_over bytes rs now) ≡ length bytes
+length_written d gap bytes now i block [] are reaches = elim reaches.1 [
   | inl all ↦ all
   | inr left ↦ let less : i < length bytes = left.0 in let same : d (length bytes - 1) ≡ false = are (length bytes - 1) (omega arith) (omega arith) in let other : d (length bytes - 1) ≡ true = left.1 in cc
 ]
-length_written d bytes now i block (r ∷ rs) are reaches = length_written d bytes (over bytes r now) r.end _ rs are.1 (reaches_on d bytes now i block r are.0 reaches)
+length_written d gap bytes now i block (r ∷ rs) are reaches = length_written d gap bytes (over bytes r now) r.end _ rs are.1 (reaches_on d gap bytes now i block r are.0 reaches)
+
+-- So they give the bytes, where what isn't written is what it was, and there are as many or the last is written.
+written_whole : (d : ℕ → Bool) (gap : ℕ) (bytes now : List ℕ) → ((j : ℕ) → j < length bytes → d j ≡ false → get_or now j 0 ≡ get_or bytes j 0) → length now ≤ length bytes → (length now ≡ length bytes) ⊎ (d (length bytes - 1) ≡ true)
+    → written_over bytes (runs_below d gap (length bytes) []) now ≡ bytes
+written_whole d gap bytes now same most reaches =
+    let rs = runs_below d gap (length bytes) [] in
+    let begun : AreSame d bytes 0 now = λ j below which. elim which [ inl less ↦ absurd (omega arith) | inr is ↦ same j below is ] in
+    let ends : Reaches d (length bytes) 0 now = (
+      most,
+      elim reaches [
+        | inl all ↦ inl all
+        | inr last ↦ elim (cases_lt 0 (length bytes)) [ inl some ↦ inr (some, last) | inr none ↦ inl (omega arith) ]
+      ],
+    ) in
+    let count = length_written d gap bytes now 0 0 rs (exact_by d gap (length bytes)) ends in
+    ext_get_or 0 (written_over bytes rs now) bytes count
+    (λ i less. all_same d gap bytes now 0 0 rs (exact_by d gap (length bytes)) begun i (subst (λ n. i < n) count less))
 
 -- ---- bytes that were sized first
-
--- All bytes are there after the cut that were, or fewer where a byte is written at their end.
-abbrev Fits : List ℕ → List ℕ → Option ℕ → Type 0
-Fits bytes now None = (length now ≤ length bytes) × ((length now ≡ length bytes) ⊎ (slice_index bytes (length bytes - 1) ≢ 0))
-Fits bytes now (Some size) = size ≡ length bytes
 
 same_at : (bytes now : List ℕ) (i : ℕ) → differs bytes now i ≡ false → get_or now i 0 ≡ get_or bytes i 0
 same_at bytes now i is = grind (arith, nat_tests)
@@ -142,37 +154,34 @@ same_at bytes now i is = grind (arith, nat_tests)
 other_at : (bytes now : List ℕ) (i : ℕ) → (get_or bytes i 0 ≡ get_or now i 0 → ⊥) → differs bytes now i ≡ true
 other_at bytes now i apart = grind (arith, nat_tests)
 
-begun : (bytes now : List ℕ) (size : Option ℕ) → Fits bytes now size → AreSame (differs bytes now) bytes 0 (sized size now)
-begun bytes now None is j below which = elim which [ inl less ↦ absurd (omega arith) | inr same ↦ same_at bytes now j same ]
-begun bytes now (Some size) is j below which = elim which [
-  | inl less ↦ absurd (omega arith)
-  | inr same ↦ at_resized size now j (omega (arith, is)) ∙ same_at bytes now j same
-]
-
 last_differs : (bytes now : List ℕ) → length now < length bytes → slice_index bytes (length bytes - 1) ≢ 0 → differs bytes now (length bytes - 1) ≡ true
 last_differs bytes now less some =
     let none : get_or now (length bytes - 1) 0 ≡ 0 = get_or_past now (length bytes - 1) 0 (omega arith) in
     other_at bytes now (length bytes - 1) (λ (e : get_or bytes (length bytes - 1) 0 ≡ get_or now (length bytes - 1) 0). some (e ∙ none))
 
-sized_reaches : (bytes now : List ℕ) (size : Option ℕ) → Fits bytes now size → Reaches (differs bytes now) (length bytes) 0 (sized size now)
-sized_reaches bytes now None is = (
-  is.0,
-  elim is.1 [
-    | inl all ↦ inl all
-    | inr some ↦ elim (cases_lt (length now) (length bytes)) [ inl less ↦ inr (omega arith, last_differs bytes now less some) | inr past ↦ inl (omega (arith, is.0)) ]
-  ],
-)
-sized_reaches bytes now (Some size) is = let e : length (resized size now) ≡ length bytes = length_resized size now ∙ is in (omega arith, inl e)
+-- where no block is cut off
+same_within : (bytes now : List ℕ) → is_cut_whole bytes now ≡ false → (j : ℕ) → is_put bytes now j ≡ false → get_or now j 0 ≡ get_or bytes j 0
+same_within bytes now wrong j is = same_at bytes now j (sym (put_within bytes now j wrong) ∙ is)
 
-whole : (bytes now : List ℕ) (size : Option ℕ) → Fits bytes now size → written_over bytes (runs_of bytes now) (sized size now) ≡ bytes
-whole bytes now size is =
-    let d = differs bytes now in
-    let rs = runs_of bytes now in
-    let count = length_written d bytes (sized size now) 0 0 rs (runs_are_exact bytes now) (sized_reaches bytes now size is) in
-    ext_get_or 0 (written_over bytes rs (sized size now)) bytes count
-    (λ i less. all_same d bytes (sized size now) 0 0 rs (runs_are_exact bytes now) (begun bytes now size is) i (subst (λ n. i < n) count less))
+same_resized : (bytes now : List ℕ) (size : ℕ) → is_cut_whole bytes now ≡ false → size ≡ length bytes → (j : ℕ) → j < length bytes → is_put bytes now j ≡ false → get_or (resized size now) j 0 ≡ get_or bytes j 0
+same_resized bytes now size wrong all j below is = at_resized size now j (omega arith) ∙ same_within bytes now wrong j is
 
--- ---- what is cut
+cut_within : (bytes now : List ℕ) (size : Option ℕ) (gap : ℕ) → is_cut_whole bytes now ≡ false → IsSized bytes now size → written_over bytes (runs_to gap bytes now) (sized size now) ≡ bytes
+cut_within bytes now None gap wrong is =
+    written_whole (is_put bytes now) gap bytes now (λ j below same. same_within bytes now wrong j same) is.0
+    (elim is.1 [
+      | inl all ↦ inl all
+      | inr some ↦ elim (cases_lt (length now) (length bytes)) [
+        | inl less ↦ inr (put_within bytes now (length bytes - 1) wrong ∙ last_differs bytes now less some)
+        | inr past ↦ inl (omega (arith, is.0))
+      ]
+    ])
+cut_within bytes now (Some size) gap wrong is =
+    let all : size ≡ length bytes = elim is [ inl shorter ↦ shorter.1 ∙ cut_by bytes now false wrong | inr longer ↦ longer.2 ] in
+    let count : length (resized size now) ≡ length bytes = length_resized size now ∙ all in
+    written_whole (is_put bytes now) gap bytes (resized size now) (same_resized bytes now size wrong all) (omega arith) (inl count)
+
+-- ---- where one is
 
 -- what is cut in front of the last block
 cut_off : (bytes now : List ℕ) → length bytes < length now → resized (end_block (length bytes)) now ≡ take (end_block (length bytes)) now
@@ -180,25 +189,28 @@ cut_off bytes now less =
     let none : end_block (length bytes) - length now ≡ 0 = omega arith in
     ap (λ n. take (end_block (length bytes)) now ++ replicate n 0) none ∙ append-nil (take (end_block (length bytes)) now)
 
-cut_whole : (bytes now : List ℕ) (size : Option ℕ) → is_cut_whole bytes now ≡ true → IsSized bytes now size → written_over bytes (runs_to bytes now) (sized size now) ≡ bytes
-cut_whole bytes now None right is = let less : length bytes < length now = (when_whole bytes now right).0 in absurd (omega (arith, is.0))
-cut_whole bytes now (Some size) right (inr is) = let less : length bytes < length now = (when_whole bytes now right).0 in absurd (omega (arith, is.0))
-cut_whole bytes now (Some size) right (inl is) =
-    let front : List ℕ = take (end_block (length bytes)) now in
-    let few : length (take (end_block (length bytes)) now) ≤ length bytes = omega (arith, length-take (end_block (length bytes)) now) in
-    ap (λ there. written_over bytes (runs_of bytes there) (resized size now)) (kept_by bytes now true right)
-    ∙ ap (λ there. written_over bytes (runs_of bytes front) there) (ap (λ n. resized n now) (is.1 ∙ cut_by bytes now true right) ∙ cut_off bytes now is.0)
-    ∙ whole bytes front None (few, inr (when_whole bytes now right).1)
+same_whole : (bytes now : List ℕ) → is_cut_whole bytes now ≡ true → (j : ℕ) → is_put bytes now j ≡ false → get_or (take (end_block (length bytes)) now) j 0 ≡ get_or bytes j 0
+same_whole bytes now right j is =
+    same_at bytes (take (end_block (length bytes)) now) j (or_parts (differs bytes (take (end_block (length bytes)) now) j) (j + 1 == length bytes) (sym (put_whole bytes now j right) ∙ is)).0
 
-cut_within : (bytes now : List ℕ) (size : Option ℕ) → is_cut_whole bytes now ≡ false → IsSized bytes now size → Fits bytes now size
-cut_within bytes now None wrong is = is
-cut_within bytes now (Some size) wrong (inl is) = is.1 ∙ cut_by bytes now false wrong
-cut_within bytes now (Some size) wrong (inr is) = is.2
+-- the last byte is written then
+pub last_put : (bytes now : List ℕ) → is_cut_whole bytes now ≡ true → 0 < length bytes → is_put bytes now (length bytes - 1) ≡ true
+last_put bytes now right some =
+    let last : length bytes - 1 + 1 ≡ length bytes = omega arith in
+    put_whole bytes now (length bytes - 1) right
+    ∙ or_right (differs bytes (take (end_block (length bytes)) now) (length bytes - 1)) (length bytes - 1 + 1 == length bytes) (eq-eqb (length bytes - 1 + 1) (length bytes) last)
+
+cut_whole : (bytes now : List ℕ) (size : Option ℕ) (gap : ℕ) → is_cut_whole bytes now ≡ true → IsSized bytes now size → written_over bytes (runs_to gap bytes now) (sized size now) ≡ bytes
+cut_whole bytes now None gap right is = let less : length bytes < length now = (when_whole bytes now right).0 in absurd (omega (arith, is.0))
+cut_whole bytes now (Some size) gap right (inr is) = let less : length bytes < length now = (when_whole bytes now right).0 in absurd (omega (arith, is.0))
+cut_whole bytes now (Some size) gap right (inl is) =
+    let few : length (take (end_block (length bytes)) now) ≤ length bytes = omega (arith, length-take (end_block (length bytes)) now) in
+    ap (λ there. written_over bytes (runs_to gap bytes now) there) (ap (λ n. resized n now) (is.1 ∙ cut_by bytes now true right) ∙ cut_off bytes now is.0)
+    ∙ written_whole (is_put bytes now) gap bytes (take (end_block (length bytes)) now) (λ j below same. same_whole bytes now right j same) few
+    (elim (cases_lt 0 (length bytes)) [ inl some ↦ inr (last_put bytes now right some) | inr none ↦ inl (omega arith) ])
 
 pub runs_are_whole : RunsAreWhole
-runs_are_whole bytes now size is = elim (cases_Bool (is_cut_whole bytes now)) [
-  | inl right ↦ cut_whole bytes now size right is
-  | inr wrong ↦
-      ap (λ there. written_over bytes (runs_of bytes there) (sized size now)) (kept_by bytes now false wrong)
-      ∙ whole bytes now size (cut_within bytes now size wrong is)
+runs_are_whole gap bytes now size is = elim (cases_Bool (is_cut_whole bytes now)) [
+  | inl right ↦ cut_whole bytes now size gap right is
+  | inr wrong ↦ cut_within bytes now size gap wrong is
 ]

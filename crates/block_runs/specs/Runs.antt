@@ -9,25 +9,40 @@ use Rattle.block_runs.specs.declared.running.Run.{Run}
 abbrev pub differs : List ℕ → List ℕ → ℕ → Bool
 differs bytes now i = not (slice_index bytes i == slice_index now i)
 
--- runs with one more byte in front: it is of the first of them, where that begins in its block or in the next
-abbrev pub with_byte : ℕ → List Run → List Run
-with_byte i [] = record { offset = i; end = i + 1 } ∷ []
-with_byte i (r ∷ rs) = if nat_le (r.offset / BLOCK_BYTES) (i / BLOCK_BYTES + 1) then record { offset = i; end = r.end } ∷ rs else record { offset = i; end = i + 1 } ∷ (r ∷ rs)
+-- how many blocks lie between that of a byte and that of a later one
+abbrev pub blocks_between : ℕ → ℕ → ℕ
+blocks_between i j = j / BLOCK_BYTES - (i / BLOCK_BYTES + 1)
 
--- these, and those of the bytes below an index that differ
-abbrev pub runs_below : (ℕ → Bool) → ℕ → List Run → List Run
-runs_below d zero rs = rs
-runs_below d (suc n) rs = runs_below d n (if d n then with_byte n rs else rs)
+-- runs with one more byte in front: it is of the first of them, where no more than this many blocks lie between
+abbrev pub with_byte : ℕ → ℕ → List Run → List Run
+with_byte gap i [] = record { offset = i; end = i + 1 } ∷ []
+with_byte gap i (r ∷ rs) = if nat_le (blocks_between i r.offset) gap then record { offset = i; end = r.end } ∷ rs else record { offset = i; end = i + 1 } ∷ (r ∷ rs)
 
--- the runs of the bytes that differ
-abbrev pub runs_of : List ℕ → List ℕ → List Run
-runs_of bytes now = runs_below (differs bytes now) (length bytes) []
+-- these, and those of the bytes below an index that are of a kind
+abbrev pub runs_below : (ℕ → Bool) → ℕ → ℕ → List Run → List Run
+runs_below d gap zero rs = rs
+runs_below d gap (suc n) rs = runs_below d gap n (if d n then with_byte gap n rs else rs)
 
 -- ---- what they are
 
--- A run from an index and a block on, of bytes of which there are this many: from the first that differs to one that does, such that each of
--- its blocks has one.
-pub record IsRun (d : ℕ → Bool) (count i block : ℕ) (r : Run) : Type 0 where
+-- A block has a byte of this kind.
+abbrev pub HasByte : (ℕ → Bool) → ℕ → ℕ → Type 0
+HasByte d count k = (j : ℕ) × (j / BLOCK_BYTES ≡ k) × (j < count) × (d j ≡ true)
+
+-- A block lies between two that have one, which no more than this many lie between.
+pub record LiesBetween (d : ℕ → Bool) (gap count k : ℕ) : Type 0 where
+  pub low : ℕ
+  pub high : ℕ
+  pub low_is : d low ≡ true
+  pub high_is : d high ≡ true
+  pub above : low / BLOCK_BYTES < k
+  pub below : k < high / BLOCK_BYTES
+  pub near : blocks_between low high ≤ gap
+  pub within : high < count
+
+-- A run from an index and a block on, of bytes of which there are this many: from the first of a kind to one that is, such that each of its
+-- blocks has one, or lies between two that do, near each other.
+pub record IsRun (d : ℕ → Bool) (gap count i block : ℕ) (r : Run) : Type 0 where
   pub from : i ≤ r.offset
   pub block_from : block ≤ r.offset / BLOCK_BYTES
   pub some : r.offset < r.end
@@ -35,22 +50,15 @@ pub record IsRun (d : ℕ → Bool) (count i block : ℕ) (r : Run) : Type 0 whe
   pub before : (j : ℕ) → i ≤ j → j < r.offset → d j ≡ false
   pub first : d r.offset ≡ true
   pub last : d (r.end - 1) ≡ true
-  pub filled : (k : ℕ) → r.offset / BLOCK_BYTES ≤ k → k ≤ (r.end - 1) / BLOCK_BYTES → (j : ℕ) × (j / BLOCK_BYTES ≡ k) × (d j ≡ true)
+  pub filled : (k : ℕ) → r.offset / BLOCK_BYTES ≤ k → k ≤ (r.end - 1) / BLOCK_BYTES → HasByte d count k ⊎ LiesBetween d gap count k
 
--- Runs from an index and a block on, with all bytes that differ from there: the next begins past the block after the last one's.
-abbrev pub AreRuns : (ℕ → Bool) → ℕ → ℕ → ℕ → List Run → Type 0
-AreRuns d count i block [] = (j : ℕ) → i ≤ j → j < count → d j ≡ false
-AreRuns d count i block (r ∷ rs) = IsRun d count i block r × AreRuns d count (r.end) ((r.end - 1) / BLOCK_BYTES + 2) rs
+-- Runs from an index and a block on, with all bytes of a kind from there: more blocks than these lie between the last of one and the first of
+-- the next.
+abbrev pub AreRuns : (ℕ → Bool) → ℕ → ℕ → ℕ → ℕ → List Run → Type 0
+AreRuns d gap count i block [] = (j : ℕ) → i ≤ j → j < count → d j ≡ false
+AreRuns d gap count i block (r ∷ rs) = IsRun d gap count i block r × AreRuns d gap count (r.end) ((r.end - 1) / BLOCK_BYTES + (gap + 2)) rs
 
-abbrev pub RunsAreExact : Type 0
-RunsAreExact = (bytes now : List ℕ) → AreRuns (differs bytes now) (length bytes) 0 0 (runs_of bytes now)
-
--- ---- what writing them comes to
-
--- bytes of a list written over what is there, one run after the other
-abbrev pub written_over : List ℕ → List Run → List ℕ → List ℕ
-written_over bytes [] now = now
-written_over bytes (r ∷ rs) now = written_over bytes rs (written r.offset (part bytes r.offset (r.end - r.offset)) now)
+-- ---- what is cut first
 
 -- whether one of this many indexes from the first on is of a kind
 abbrev pub any_between : (ℕ → Bool) → (first count : ℕ) → Bool
@@ -61,10 +69,9 @@ any_between d first (suc n) = d (first + n) || any_between d first n
 abbrev pub end_block : ℕ → ℕ
 end_block size = size / BLOCK_BYTES * BLOCK_BYTES
 
--- Whether longer bytes are cut in front of the block in which these end: one of those that would stay of it differs, so that it is written anyway,
--- and the last isn't a zero, so that with what is written there are all bytes.
+-- Whether longer bytes are cut in front of the block in which these end: one of those that would stay of it differs, so that it is written anyway.
 abbrev pub is_cut_whole : List ℕ → List ℕ → Bool
-is_cut_whole bytes now = nat_lt (length bytes) (length now) && (not (slice_index bytes (length bytes - 1) == 0) && any_between (differs bytes now) (end_block (length bytes)) (length bytes - end_block (length bytes)))
+is_cut_whole bytes now = nat_lt (length bytes) (length now) && any_between (differs bytes now) (end_block (length bytes)) (length bytes - end_block (length bytes))
 
 -- to how many bytes longer ones are cut
 abbrev pub cut_size : List ℕ → List ℕ → ℕ
@@ -74,9 +81,27 @@ cut_size bytes now = if is_cut_whole bytes now then end_block (length bytes) els
 abbrev pub kept : List ℕ → List ℕ → List ℕ
 kept bytes now = if is_cut_whole bytes now then take (end_block (length bytes)) now else now
 
--- the runs that are written over it
-abbrev pub runs_to : List ℕ → List ℕ → List Run
-runs_to bytes now = runs_of bytes (kept bytes now)
+-- Whether a byte has to be written over it: it differs; or it is the last, and the block is cut off in which it is, so that there are all bytes.
+abbrev pub is_put : List ℕ → List ℕ → ℕ → Bool
+is_put bytes now i = differs bytes (kept bytes now) i || (is_cut_whole bytes now && i + 1 == length bytes)
+
+-- the runs that are written over it, of which those are one that no more than this many blocks lie between
+abbrev pub runs_to : ℕ → List ℕ → List ℕ → List Run
+runs_to gap bytes now = runs_below (is_put bytes now) gap (length bytes) []
+
+abbrev pub RunsAreExact : Type 0
+RunsAreExact = (gap : ℕ) (bytes now : List ℕ) → AreRuns (is_put bytes now) gap (length bytes) 0 0 (runs_to gap bytes now)
+
+-- Those that are joined are no more.
+abbrev pub JoinedRunsAreFewer : Type 0
+JoinedRunsAreFewer = (gap : ℕ) (bytes now : List ℕ) → length (runs_to gap bytes now) ≤ length (runs_to 0 bytes now)
+
+-- ---- what writing them comes to
+
+-- bytes of a list written over what is there, one run after the other
+abbrev pub written_over : List ℕ → List Run → List ℕ → List ℕ
+written_over bytes [] now = now
+written_over bytes (r ∷ rs) now = written_over bytes rs (written r.offset (part bytes r.offset (r.end - r.offset)) now)
 
 -- Bytes are cut where there are more than there were, and lengthened where there are fewer and the last that was is a zero.
 abbrev pub IsSized : List ℕ → List ℕ → Option ℕ → Type 0
@@ -88,4 +113,4 @@ sized None now = now
 sized (Some size) now = resized size now
 
 abbrev pub RunsAreWhole : Type 0
-RunsAreWhole = (bytes now : List ℕ) (size : Option ℕ) → IsSized bytes now size → written_over bytes (runs_to bytes now) (sized size now) ≡ bytes
+RunsAreWhole = (gap : ℕ) (bytes now : List ℕ) (size : Option ℕ) → IsSized bytes now size → written_over bytes (runs_to gap bytes now) (sized size now) ≡ bytes

@@ -1,14 +1,15 @@
 //! How many blocks runs have.
-ghost use Rattle.std.specs.Prelude.{◌≡◌, min};
+ghost use Rattle.std.specs.Prelude.{◌≡◌, ◌≤◌, ◌^◌, min};
 ghost use Rattle.s4_model.specs.Refusals.{last_number};
 ghost use Rattle.block_runs.specs.Blocks.{blocks_in, blocks_in_all};
 
 use crate::running::Run;
 use s4_types::limits::BLOCK_BYTES;
 
-// How many blocks a run has bytes of.
-fn blocks_in(run: &Run) -> u64
-    ensures { result ≡ blocks_in run.now }
+/// How many blocks a run has bytes of.
+pub fn blocks_in(run: &Run) -> u64
+    ensures blocks { result ≡ blocks_in run.now }
+    ensures most { result ≤ 2 ^ 56 }
 {
     let block = BLOCK_BYTES as u64;
     let last = run.end.saturating_sub(1) / block;

@@ -31,14 +31,11 @@ fn end_block(size: usize) -> usize
 
 // Whether longer bytes are cut in front of the block in which these end. It is written anyway where
 // a byte that would stay differs, and need not be written twice.
-fn is_cut_whole(bytes: &[u8], now: &[u8]) -> bool
+pub(crate) fn is_cut_whole(bytes: &[u8], now: &[u8]) -> bool
     ensures { result ≡ is_cut_whole bytes.now now.now }
 {
     let size = bytes.len();
-    if size >= now.len() || size == 0 || bytes[size - 1] == 0 {
-        return false;
-    }
-    differs_from(bytes, now, end_block(size))
+    size < now.len() && differs_from(bytes, now, end_block(size))
 }
 
 // To how many bytes longer ones are cut.
@@ -67,9 +64,9 @@ pub fn cut_between(bytes: &[u8], now: &[u8]) -> Option<u64>
     None
 }
 
-/// What is there to be compared with these bytes: all, or what is in front of the block in which
-/// they end, where that is cut off.
-pub fn kept<'a>(bytes: &[u8], now: &'a [u8]) -> &'a [u8]
+// What is there to be compared with these bytes: all, or what is in front of the block in which
+// they end, where that is cut off.
+pub(crate) fn kept<'a>(bytes: &[u8], now: &'a [u8]) -> &'a [u8]
     ensures { result.now ≡ kept bytes.now now.now }
 {
     if is_cut_whole(bytes, now) {

@@ -13,16 +13,16 @@ use Rattle.s4_model.specs.VersionAt.{version_of}
 use Rattle.s4_model.specs.Refusals.{present}
 use Rattle.history_restore.specs.declared.plans.Changes.{Changes}
 use Rattle.block_runs.specs.declared.running.Run.{Run}
-use Rattle.block_runs.specs.Runs.{AreRuns, IsSized, differs, runs_of, runs_to, written_over}
+use Rattle.block_runs.specs.Runs.{AreRuns, IsSized, differs, is_put, runs_to, written_over}
 use Rattle.block_runs.proofs.Whole.{runs_are_whole}
 use Rattle.block_runs.proofs.Exact.{runs_are_exact}
-use Rattle.block_runs.proofs.Cutting.{kept_all}
+use Rattle.block_runs.proofs.Cutting.{never_whole, put_within}
 use Rattle.history_restore.specs.declared.plans.Plan.{Plan}
 use Rattle.history_restore.specs.declared.plans.Plan.TheVariants.{Keep, Delete, Remake, Change}
 use Rattle.history_restore.specs.declared.restoring.Restored.{Restored}
 use Rattle.history_restore.specs.Content.{Content, content_of, holding}
 use Rattle.history_restore.specs.Keeping.{LeavesPast}
-use Rattle.history_restore.specs.Plans.{IsChangesOf, IsPlan, IsPlanBetween, is_idle}
+use Rattle.history_restore.specs.Plans.{IsChangesOf, IsPlan, IsPlanBetween, gap_of, is_idle}
 use Rattle.history_restore.specs.Whole.{IsRestored}
 
 -- nothing is cut of bytes that are the same
@@ -35,14 +35,15 @@ no_cut bytes (Some size) (inr is) = absurd (omega (arith, is.0))
 same_there : (bytes : List ℕ) (i : ℕ) → differs bytes bytes i ≡ false
 same_there bytes i = grind (arith, nat_tests)
 
-no_runs : (bytes : List ℕ) (rs : List Run) → AreRuns (differs bytes bytes) (length bytes) 0 0 rs → length rs ≡ 0
-no_runs bytes [] are = refl
-no_runs bytes (r ∷ rs) are = absurd (true≢false (sym are.0.first ∙ same_there bytes r.offset))
+same_unput : (bytes : List ℕ) (i : ℕ) → is_put bytes bytes i ≡ false
+same_unput bytes i = put_within bytes bytes i (never_whole bytes bytes (omega arith)) ∙ same_there bytes i
 
-no_write : (bytes : List ℕ) (writes : ℕ) → writes ≡ length (runs_to bytes bytes) → (writes == 0) ≡ true
-no_write bytes writes is =
-    let all : length (runs_to bytes bytes) ≡ length (runs_of bytes bytes) = ap (λ there. length (runs_of bytes there)) (kept_all bytes bytes (omega arith)) in
-    let none : writes ≡ 0 = is ∙ all ∙ no_runs bytes (runs_of bytes bytes) (runs_are_exact bytes bytes) in eq-eqb writes 0 none
+no_runs : (gap : ℕ) (bytes : List ℕ) (rs : List Run) → AreRuns (is_put bytes bytes) gap (length bytes) 0 0 rs → length rs ≡ 0
+no_runs gap bytes [] are = refl
+no_runs gap bytes (r ∷ rs) are = absurd (true≢false (sym are.0.first ∙ same_unput bytes r.offset))
+
+no_write : (gap : ℕ) (bytes : List ℕ) (writes : ℕ) → writes ≡ length (runs_to gap bytes bytes) → (writes == 0) ≡ true
+no_write gap bytes writes is = eq-eqb writes 0 (is ∙ no_runs gap bytes (runs_to gap bytes bytes) (runs_are_exact gap bytes bytes))
 
 -- nor the attribute replaced
 no_attribute : (attribute : List ℕ) (wanted : Bool) → MatchBool wanted (attribute ≢ attribute) (attribute ≡ attribute) → not wanted ≡ true
@@ -58,19 +59,19 @@ all_three true true false x y z = absurd (true≢false (sym z))
 -- so changes of what is the same are none
 idle_same : (bytes attribute : List ℕ) (changes : Changes) → IsChangesOf bytes attribute bytes attribute changes → is_idle changes ≡ true
 idle_same bytes attribute changes is =
-    all_three (is_none changes.cut) (changes.writes == 0) (not changes.attribute) (no_cut bytes changes.cut is.shorter) (no_write bytes changes.writes is.rewritten) (no_attribute attribute changes.attribute is.replaced)
+    all_three (is_none changes.cut) (changes.writes == 0) (not changes.attribute) (no_cut bytes changes.cut is.shorter) (no_write (gap_of changes.joined) bytes changes.writes is.rewritten) (no_attribute attribute changes.attribute is.replaced)
 
 -- and where there are none, all is what it was
 both : (a b : Bool) → (a && b) ≡ true → (a ≡ true) × (b ≡ true)
 both true b is = (refl, is)
 both false b is = absurd (true≢false (sym is))
 
-idle_bytes : (bytes now : List ℕ) (cut : Option ℕ) (writes : ℕ) → IsSized bytes now cut → writes ≡ length (runs_to bytes now) → is_none cut ≡ true → (writes == 0) ≡ true → bytes ≡ now
-idle_bytes bytes now (Some size) writes is written uncut idle = absurd (true≢false (sym uncut))
-idle_bytes bytes now None writes is written uncut idle =
+idle_bytes : (gap : ℕ) (bytes now : List ℕ) (cut : Option ℕ) (writes : ℕ) → IsSized bytes now cut → writes ≡ length (runs_to gap bytes now) → is_none cut ≡ true → (writes == 0) ≡ true → bytes ≡ now
+idle_bytes gap bytes now (Some size) writes is written uncut idle = absurd (true≢false (sym uncut))
+idle_bytes gap bytes now None writes is written uncut idle =
     let zeros : writes ≡ 0 = eqb-true writes 0 idle in
-    let none : runs_to bytes now ≡ [] = nil_from_length (runs_to bytes now) (sym written ∙ zeros) in
-    sym (runs_are_whole bytes now None is) ∙ ap (λ (rs : List Run). written_over bytes rs now) none
+    let none : runs_to gap bytes now ≡ [] = nil_from_length (runs_to gap bytes now) (sym written ∙ zeros) in
+    sym (runs_are_whole gap bytes now None is) ∙ ap (λ (rs : List Run). written_over bytes rs now) none
 
 idle_attribute : (attribute now : List ℕ) (wanted : Bool) → MatchBool wanted (attribute ≢ now) (attribute ≡ now) → not wanted ≡ true → attribute ≡ now
 idle_attribute attribute now true is idle = absurd (true≢false (sym idle))
@@ -80,9 +81,9 @@ pub idle_is_same : (bytes attribute now attribute_now : List ℕ) (changes : Cha
 idle_is_same bytes attribute now attribute_now changes is idle =
     let one = both (is_none changes.cut) ((changes.writes == 0) && not changes.attribute) idle in
     let two = both (changes.writes == 0) (not changes.attribute) one.1 in
-    (idle_bytes bytes now changes.cut changes.writes is.shorter is.rewritten one.0 two.0, idle_attribute attribute attribute_now changes.attribute is.replaced two.1)
+    (idle_bytes (gap_of changes.joined) bytes now changes.cut changes.writes is.shorter is.rewritten one.0 two.0, idle_attribute attribute attribute_now changes.attribute is.replaced two.1)
 
-keeps_between : (bytes attribute : List ℕ) (plan : Plan) → IsPlanBetween bytes attribute bytes attribute plan → plan ≡ Keep
+pub keeps_between : (bytes attribute : List ℕ) (plan : Plan) → IsPlanBetween bytes attribute bytes attribute plan → plan ≡ Keep
 keeps_between bytes attribute Keep is = refl
 keeps_between bytes attribute Delete is = absurd is
 keeps_between bytes attribute (Remake changes) is = absurd is

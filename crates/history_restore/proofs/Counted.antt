@@ -1,10 +1,11 @@
 -- How many changes a plan has, and plans one after the other.
 use Rattle.std.proofs.Common.{◌≡◌, ◌∙◌, ◌+◌, ℕ, suc, Bool, true, false, List, [], ◌∷◌, ◌++◌, length, Option, None, Some, cond, inl, inr, refl, sym, ap, subst, arith}
 use Rattle.std.specs.Prelude.{if◌then◌else◌, nat_lt}
-use Rattle.std.proofs.lemmas.Option.{none-some}
+use Rattle.std.proofs.lemmas.Bool.{true≢false}
+use Rattle.std.proofs.lemmas.Option.{none-some, same_Some}
 use Rattle.std.proofs.lemmas.List.{length-append}
 use Rattle.s4_types.specs.declared.refusals.Refusal.{Refusal}
-use Rattle.s4_types.specs.declared.refusals.Refusal.TheVariants.{ChainFull, Future, Expired, Flushed}
+use Rattle.s4_types.specs.declared.refusals.Refusal.TheVariants.{Future, Expired, Flushed}
 use Rattle.s4_types.specs.declared.versions.Version.{Version}
 use Rattle.s4_types.specs.declared.versions.Version.TheVariants.{Absent, Live}
 use Rattle.s4_model.specs.State.{State}
@@ -14,10 +15,10 @@ use Rattle.block_runs.specs.Runs.{runs_to}
 use Rattle.history_restore.specs.declared.plans.Plan.{Plan}
 use Rattle.history_restore.specs.declared.plans.Plan.TheVariants.{Keep, Delete, Remake, Change}
 use Rattle.history_restore.specs.declared.restoring.Restored.{Restored}
-use Rattle.history_restore.specs.Asking.{IsMovedBy, clock_by}
+use Rattle.history_restore.specs.Asking.{IsMovedBy, clock_by, is_of_room}
 use Rattle.history_restore.proofs.Moving.{clock_by_more}
 use Rattle.history_restore.specs.Keeping.{IsDatedFrom}
-use Rattle.history_restore.specs.Plans.{IsPlan, attribute_changes, change_count, changes_by, changes_of, count_of, count_of_changes, cut_changes, next_by_plan, runs_between, runs_changes}
+use Rattle.history_restore.specs.Plans.{IsPlan, attribute_changes, change_count, changes_by, changes_of, count_of, count_of_changes, cut_changes, gap_of, next_by_plan, runs_changes, runs_planned}
 use Rattle.history_restore.specs.Restoring.{IsUnread}
 use Rattle.history_restore.specs.Whole.{IsCounted, changes_of_all, made_anew}
 
@@ -43,32 +44,32 @@ count_changed o bytes attribute cut rs writes wanted is =
     let named = attribute_changes o attribute wanted in
     omega (arith, length-append cuts (written ++ named), length-append written named, count_cut o cut, count_runs o bytes rs, count_attribute o attribute wanted)
 
-pub counts_changes : (before now : Version) (plan : Plan) (next o : ℕ) → IsPlan before now plan → length (changes_by before (runs_between before now) plan next o) ≡ change_count plan
+pub counts_changes : (before now : Version) (plan : Plan) (next o : ℕ) → IsPlan before now plan → length (changes_by before (runs_planned plan before now) plan next o) ≡ change_count plan
 counts_changes Absent Absent plan next o is = subst (λ (p : Plan). length (changes_by Absent [] p next o) ≡ change_count p) (sym is) refl
 counts_changes Absent (Live now attribute_now created changed) plan next o is = subst (λ (p : Plan). length (changes_by Absent [] p next o) ≡ change_count p) (sym is) refl
 counts_changes (Live bytes attribute created changed) Absent Keep next o is = absurd is
 counts_changes (Live bytes attribute created changed) Absent Delete next o is = absurd is
 counts_changes (Live bytes attribute created changed) Absent (Remake changes) next o is =
-    let own : length (changes_of (Live bytes attribute created changed) (runs_to bytes []) changes next) ≡ count_of_changes changes = count_changed next bytes attribute changes.cut (runs_to bytes []) changes.writes changes.attribute is.rewritten in
+    let own : length (changes_of (Live bytes attribute created changed) (runs_to (gap_of changes.joined) bytes []) changes next) ≡ count_of_changes changes = count_changed next bytes attribute changes.cut (runs_to (gap_of changes.joined) bytes []) changes.writes changes.attribute is.rewritten in
     omega (arith, own)
 counts_changes (Live bytes attribute created changed) Absent (Change changes) next o is = absurd is
 counts_changes (Live bytes attribute created changed) (Live now attribute_now created_now changed_now) Keep next o is = refl
 counts_changes (Live bytes attribute created changed) (Live now attribute_now created_now changed_now) Delete next o is = absurd is
 counts_changes (Live bytes attribute created changed) (Live now attribute_now created_now changed_now) (Remake changes) next o is = absurd is
-counts_changes (Live bytes attribute created changed) (Live now attribute_now created_now changed_now) (Change changes) next o is = count_changed o bytes attribute changes.cut (runs_to bytes now) changes.writes changes.attribute is.0.rewritten
+counts_changes (Live bytes attribute created changed) (Live now attribute_now created_now changed_now) (Change changes) next o is = count_changed o bytes attribute changes.cut (runs_to (gap_of changes.joined) bytes now) changes.writes changes.attribute is.0.rewritten
 
--- ---- what isn't read isn't for a full journal
+-- ---- what isn't read isn't for a full journal or a lack of blocks
 
-tests_are_others : (a b c : Bool) → cond a (Some Future) (cond b (Some Expired) (cond c (Some Flushed) None)) ≡ Some ChainFull → ⊥
-tests_are_others true b c is = cc
-tests_are_others false true c is = cc
-tests_are_others false false true is = cc
-tests_are_others false false false is = none-some ChainFull is
+tests_are_others : (a b c : Bool) (e : Refusal) → cond a (Some Future) (cond b (Some Expired) (cond c (Some Flushed) None)) ≡ Some e → is_of_room e ≡ true → ⊥
+tests_are_others true b c e is of = true≢false (sym of ∙ ap is_of_room (sym (same_Some Future e is)))
+tests_are_others false true c e is of = true≢false (sym of ∙ ap is_of_room (sym (same_Some Expired e is)))
+tests_are_others false false true e is of = true≢false (sym of ∙ ap is_of_room (sym (same_Some Flushed e is)))
+tests_are_others false false false e is of = none-some e is
 
-pub unread_is_other : (s : State) (o at : ℕ) (e : Refusal) → IsUnread s o at e → e ≡ ChainFull → ⊥
-unread_is_other s o at e (inl is) full = tests_are_others (nat_lt s.clock at) (nat_lt at s.floor) (is_hidden s o at) (is ∙ ap Some full)
-unread_is_other s o at e (inr (inl is)) full = cc
-unread_is_other s o at e (inr (inr is)) full = cc
+pub unread_is_other : (s : State) (o at : ℕ) (e : Refusal) → IsUnread s o at e → is_of_room e ≡ true → ⊥
+unread_is_other s o at e (inl is) of = tests_are_others (nat_lt s.clock at) (nat_lt at s.floor) (is_hidden s o at) e is of
+unread_is_other s o at e (inr (inl is)) of = true≢false (sym of ∙ ap is_of_room is)
+unread_is_other s o at e (inr (inr is)) of = true≢false (sym of ∙ ap is_of_room is)
 
 -- ---- plans
 

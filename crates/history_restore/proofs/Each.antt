@@ -10,6 +10,7 @@ use Rattle.s4_model.specs.State.{State}
 use Rattle.s4_model.specs.VersionAt.{version_of}
 use Rattle.s4_model.specs.Visible.{IsVisible}
 use Rattle.s4_model.specs.Refusals.{present}
+use Rattle.version_store.specs.Store.{StoreFields}
 use Rattle.history_restore.specs.declared.aims.Aim.{Aim}
 use Rattle.history_restore.specs.declared.plans.Plan.{Plan}
 use Rattle.history_restore.specs.declared.plans.Plan.TheVariants.{Keep, Delete, Remake, Change}
@@ -21,7 +22,7 @@ use Rattle.history_restore.specs.Keeping.{LeavesPast, LeavesOthers}
 use Rattle.history_restore.specs.Restoring.{Restores, IsStopped, number_after, number_from}
 use Rattle.history_restore.specs.Aims.{targets_of}
 use Rattle.history_restore.specs.Rows.{AscendBelow}
-use Rattle.history_restore.specs.Whole.{IsRestored, AreNumbered, LeavesRest, RestoresEach, StopsAll, AtObject}
+use Rattle.history_restore.specs.Whole.{IsRestored, AreNumbered, LeavesRest, RestoresEach, RestoresInTurn, RestoresOver, StopsAll, AtObject}
 use Rattle.history_restore.proofs.Chained.{past_same, past_on}
 use Rattle.history_restore.proofs.Back.{number_planned}
 
@@ -222,6 +223,22 @@ goes_on s middle later at aims a all r before goes lt apart restores others past
       next = restores.next ∙ ap (next_by_plan r.plan) goes.next ∙ sym (next_push s.next all r);
       begun = inr le;
     }
+
+-- ---- and how
+
+pub turn_none : (s : State) (store : StoreFields) (now at : ℕ) → RestoresInTurn s store now at [] s store
+turn_none s store now at = (refl, refl)
+
+pub turn_more : (s : State) (store : StoreFields) (middle : State) (between : StoreFields) (later : State) (after : StoreFields) (now at : ℕ) (all : List Restored) (a : Aim) (r : Restored) → RestoresInTurn s store now at all middle between
+    → RestoresOver middle between now at a r later after → RestoresInTurn s store now at (all ++ r ∷ []) later after
+turn_more s store middle between later after now at [] a r before here = (
+  later,
+  after,
+  subst (λ (x : Aim). RestoresOver s store now at x r later after) (sym here.restores.aim_is)
+      (subst (λ (k : StoreFields). RestoresOver s k now at a r later after) before.1 (subst (λ (t : State). RestoresOver t between now at a r later after) before.0 here)),
+  (refl, refl),
+)
+turn_more s store middle between later after now at (q ∷ all) a r before here = (before.0, before.1, before.2, turn_more before.0 before.1 middle between later after now at all a r before.3 here)
 
 -- ---- the beginning and the end
 

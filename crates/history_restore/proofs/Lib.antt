@@ -19,3 +19,5 @@ pub mod Windows
 pub mod AllPlanned
 pub mod Aimed
 pub mod Again
+pub mod Joined
+pub mod Costing

@@ -1,7 +1,8 @@
--- What a request for a change of an object stores, when it is refused for a full journal, and how far it moves the clock.
+-- What a request for a change of an object stores, when it is refused for what its change takes, and how far it moves the clock.
 use Rattle.std.proofs.Common.{◌≡◌, ◌∙◌, ◌≤◌, ℕ, Bool, true, false, cond, Option, None, Some, inl, inr, refl, sym, ap, subst, arith}
 use Rattle.std.specs.Prelude.{option_and_then, MatchBool}
 use Rattle.std.specs.List.{AllByRecursion}
+use Rattle.std.proofs.lemmas.Bool.{true≢false}
 use Rattle.std.proofs.lemmas.Option.{none-some, same_Some}
 use Rattle.s4_types.specs.History.{History, Record}
 use Rattle.s4_types.specs.declared.changes.Accepted.{Accepted}
@@ -12,7 +13,7 @@ use Rattle.s4_types.specs.declared.requests.Request.{Request}
 use Rattle.s4_types.specs.declared.requests.Request.TheVariants.{Update, Query, Control}
 use Rattle.s4_types.specs.declared.requests.ObjectRequest.TheVariants.{Create, Delete, Write, Append, Truncate, SetAttr}
 use Rattle.s4_types.specs.declared.refusals.Refusal.{Refusal}
-use Rattle.s4_types.specs.declared.refusals.Refusal.TheVariants.{ChainFull, NoMemory, Busy}
+use Rattle.s4_types.specs.declared.refusals.Refusal.TheVariants.{NoMemory, Busy}
 use Rattle.s4_types.specs.declared.replies.Reply.{Reply}
 use Rattle.s4_types.specs.declared.replies.Reply.TheVariants.{Refused}
 use Rattle.s4_model.specs.State.{State, state_of, seen, took}
@@ -26,47 +27,49 @@ use Rattle.drive.specs.Answering.{Leaves, StoresChange, StoresVersion, is_accept
 use Rattle.drive.specs.Fields.{DriveFields, history_of, state_in, store_of}
 use Rattle.drive.specs.Refusing.{RefusesBy, RefusesExactly, or_then, refusal_of, storing_refusal, want_of}
 use Rattle.drive.proofs.Served.{accepts_change}
-use Rattle.history_restore.specs.Asking.{IsFullFor, IsMovedBy, IsWithinChanges, StoresAsked, clock_by}
+use Rattle.history_restore.specs.Asking.{IsForAsked, IsMovedBy, IsWithinChanges, StoresAsked, clock_by, is_of_room}
 use Rattle.history_restore.proofs.Denying.{judged_as_was}
 use Rattle.history_restore.proofs.Stepping.{IsOfVersions, BySeen, ByTook, IsNoRead, IsTaken, granted_took, no_read, refused_saw}
 
 -- ---- refused
 
--- no check is for a full journal
+-- no check is for a full journal or a lack of blocks
 abbrev IsOther : Refusal → Type 0
-IsOther r = r ≡ ChainFull → ⊥
+IsOther r = is_of_room r ≡ true → ⊥
 
 checks_are_others : AllByRecursion IsOther checks
 checks_are_others = (λ e. cc, (λ e. cc, (λ e. cc, (λ e. cc, (λ e. cc, (λ e. cc, (λ e. cc, (λ e. cc, (λ e. cc, (λ e. cc, tt))))))))))
 
-no_check_is_full : (s : State) (role : Role) (request : Request) → first_refusal s role request ≡ Some ChainFull → ⊥
-no_check_is_full s role request is = found_passes (applies s role request) IsOther checks ChainFull checks_are_others is refl
+no_check_is_so : (s : State) (role : Role) (request : Request) (e : Refusal) → is_of_room e ≡ true → first_refusal s role request ≡ Some e → ⊥
+no_check_is_so s role request e of is = found_passes (applies s role request) IsOther checks e checks_are_others is of
 
-want_by : (first want : Option Refusal) → (first ≡ Some ChainFull → ⊥) → or_then first want ≡ Some ChainFull → want ≡ Some ChainFull
-want_by None want never is = is
-want_by (Some f) want never is = absurd (never is)
+want_by : (first want : Option Refusal) (e : Refusal) → (first ≡ Some e → ⊥) → or_then first want ≡ Some e → want ≡ Some e
+want_by None want e never is = is
+want_by (Some f) want e never is = absurd (never is)
 
--- what is refused for a full journal is so by the drive
-why_full : (why : Option Refusal) (d : DriveFields) (request : Request) → RefusesBy why d request (Refused ChainFull) → why ≡ Some ChainFull
-why_full why d request (inl h) = let e : ChainFull ≡ NoMemory = h.0 in absurd (cc)
-why_full why d request (inr (inl is)) = is
-why_full why d request (inr (inr h)) = let e : ChainFull ≡ Busy = h.0 in absurd (cc)
+-- what is refused so is by the drive
+other_than : (e other : Refusal) → is_of_room e ≡ true → is_of_room other ≡ false → e ≡ other → ⊥
+other_than e other of not_of same = true≢false (sym of ∙ ap is_of_room same ∙ not_of)
 
-stored_full : (b : Bool) (x : Option Refusal) → cond b x None ≡ Some ChainFull → x ≡ Some ChainFull
-stored_full true x is = is
-stored_full false x is = absurd (none-some ChainFull is)
+why_so : (why : Option Refusal) (d : DriveFields) (request : Request) (e : Refusal) → is_of_room e ≡ true → RefusesBy why d request (Refused e) → why ≡ Some e
+why_so why d request e of (inl h) = absurd (other_than e NoMemory of refl h.0)
+why_so why d request e of (inr (inl is)) = is
+why_so why d request e of (inr (inr h)) = absurd (other_than e Busy of refl h.0)
 
-pub full_refused : (d later : DriveFields) (role : Role) (request : Request) (now : ℕ) (reply : Reply) (e : Refusal) → IsOfVersions request → reply ≡ Refused e → RefusesExactly d role request now reply later → IsFullFor (store_of d) (state_in d) request e
-full_refused d later role request now reply e of refused exactly full c asked =
+stored_so : (b : Bool) (x : Option Refusal) (e : Refusal) → cond b x None ≡ Some e → x ≡ Some e
+stored_so true x e is = is
+stored_so false x e is = absurd (none-some e is)
+
+pub lacks_refused : (d later : DriveFields) (role : Role) (request : Request) (now : ℕ) (reply : Reply) (e : Refusal) → IsOfVersions request → reply ≡ Refused e → RefusesExactly d role request now reply later → IsForAsked (store_of d) (state_in d) request e
+lacks_refused d later role request now reply e of refused exactly lacks c asked =
     let s : State = state_in d in
     let store : StoreFields = store_of d in
-    let given : reply ≡ Refused ChainFull = refused ∙ ap Refused full in
-    let by : RefusesBy (refusal_of store s role request now) later request (Refused ChainFull) =
-    subst (λ (k : State). RefusesBy (refusal_of store k role request now) later request (Refused ChainFull)) (judged_as_was (history_of d) request now of)
-    (subst (RefusesBy (refusal_of store (judged (history_of d) request now) role request now) later request) given exactly) in
-    let want : want_of store s request now ≡ Some ChainFull = want_by (first_refusal s role request) (want_of store s request now) (no_check_is_full s role request) (why_full (refusal_of store s role request now) later request by) in
+    let by : RefusesBy (refusal_of store s role request now) later request (Refused e) =
+    subst (λ (k : State). RefusesBy (refusal_of store k role request now) later request (Refused e)) (judged_as_was (history_of d) request now of)
+    (subst (RefusesBy (refusal_of store (judged (history_of d) request now) role request now) later request) refused exactly) in
+    let want : want_of store s request now ≡ Some e = want_by (first_refusal s role request) (want_of store s request now) e (no_check_is_so s role request e lacks) (why_so (refusal_of store s role request now) later request e lacks by) in
     let m : ℕ = stamp s now in
-    (m, stored_full (is_of_versions c) (change_refusal store c m) (sym (ap (option_and_then (storing_refusal store m)) asked) ∙ want))
+    (m, stored_so (is_of_versions c) (change_refusal store c m) e (sym (ap (option_and_then (storing_refusal store m)) asked) ∙ want))
 
 -- ---- granted
 

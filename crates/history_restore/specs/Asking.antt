@@ -1,8 +1,8 @@
 -- What a request for a change of an object leaves.
-use Rattle.std.specs.Prelude.{◌≡◌, ◌⊎◌, ℕ, suc, zero, ◌≤◌, ◌+◌, max, Bool, true, List, [], ◌∷◌, length, Option, Some, Result, OnOk, IfErr}
+use Rattle.std.specs.Prelude.{◌≡◌, ◌⊎◌, ℕ, suc, zero, ◌≤◌, ◌+◌, max, Bool, true, false, List, [], ◌∷◌, length, Option, Some, Result, OnOk, IfErr}
 use Rattle.s4_types.specs.declared.changes.Change.{Change}
 use Rattle.s4_types.specs.declared.refusals.Refusal.{Refusal}
-use Rattle.s4_types.specs.declared.refusals.Refusal.TheVariants.{ChainFull, ClockEnd}
+use Rattle.s4_types.specs.declared.refusals.Refusal.TheVariants.{ChainFull, ClockEnd, NoSpace}
 use Rattle.s4_types.specs.declared.requests.Request.{Request}
 use Rattle.s4_model.specs.State.{State}
 use Rattle.s4_model.specs.Effect.{effect, object_of}
@@ -40,31 +40,37 @@ IsGiven first refusal = (is_of_want refusal ≡ true) ⊎ (first ≡ Some refusa
 abbrev pub IsStoredBy : Change → StoreFields → StoreFields → Type 0
 IsStoredBy change store after = (m : ℕ) × StoresVersion store change m after
 
--- The journal of its object would be too long with the entries of a change. The moment makes no difference.
-abbrev pub IsTooLongBy : Change → StoreFields → Type 0
-IsTooLongBy change store = (m : ℕ) × (change_refusal store change m ≡ Some ChainFull)
+-- whether a refusal is for what a change of an object takes: its journal would be too long, or there are too few blocks
+abbrev pub is_of_room : Refusal → Bool
+is_of_room ChainFull = true
+is_of_room NoSpace = true
+is_of_room _ = false
+
+-- A change takes too much for this reason. The moment makes no difference.
+abbrev pub TakesTooMuch : Refusal → Change → StoreFields → Type 0
+TakesTooMuch refusal change store = (m : ℕ) × (change_refusal store change m ≡ Some refusal)
 
 -- these changes were stored, one after the other
 abbrev pub AreStored : StoreFields → List Change → StoreFields → Type 0
 AreStored store [] after = after ≡ store
 AreStored store (change ∷ changes) after = (middle : StoreFields) × IsStoredBy change store middle × AreStored middle changes after
 
--- Of these changes one finds its object's journal too full, once those in front of it are stored, one after the other.
-abbrev pub FindsFull : StoreFields → List Change → Type 0
-FindsFull store [] = ⊥
-FindsFull store (change ∷ changes) = IsTooLongBy change store ⊎ ((middle : StoreFields) × IsStoredBy change store middle × FindsFull middle changes)
+-- Of these changes one does, once those in front of it are stored, one after the other.
+abbrev pub OneTakesTooMuch : Refusal → StoreFields → List Change → Type 0
+OneTakesTooMuch refusal store [] = ⊥
+OneTakesTooMuch refusal store (change ∷ changes) = TakesTooMuch refusal change store ⊎ ((middle : StoreFields) × IsStoredBy change store middle × OneTakesTooMuch refusal middle changes)
 
 -- the change that a request asks for was stored
 abbrev pub StoresAsked : StoreFields → State → Request → StoreFields → Type 0
 StoresAsked store s request after = (change : Change) → change_of s request ≡ Some change → IsStoredBy change store after
 
--- a refusal that is for a full journal is so of the change that a request asks for
-abbrev pub IsFullFor : StoreFields → State → Request → Refusal → Type 0
-IsFullFor store s request refusal = refusal ≡ ChainFull → (change : Change) → change_of s request ≡ Some change → IsTooLongBy change store
+-- a refusal for a full journal or a lack of blocks is so of the change that a request asks for
+abbrev pub IsForAsked : StoreFields → State → Request → Refusal → Type 0
+IsForAsked store s request refusal = is_of_room refusal ≡ true → (change : Change) → change_of s request ≡ Some change → TakesTooMuch refusal change store
 
 -- so it is of one of these changes
-abbrev pub IsFullForOne : StoreFields → List Change → Refusal → Type 0
-IsFullForOne store changes refusal = refusal ≡ ChainFull → FindsFull store changes
+abbrev pub IsForOne : StoreFields → List Change → Refusal → Type 0
+IsForOne store changes refusal = is_of_room refusal ≡ true → OneTakesTooMuch refusal store changes
 
 -- where a clock is after this many changes that are asked for at one moment: the first has the greater of that moment and the one after the
 -- clock, and each further one the next
@@ -81,9 +87,9 @@ abbrev pub IsMovedBy : State → ℕ → ℕ → State → Type 0
 IsMovedBy s now count later = later.clock ≡ clock_by s.clock now count
 
 -- What asking for changes came to, one after the other, at a moment of a clock: where all were granted they were stored, and the clock is where
--- they bring it; a refusal for a full journal is so of one of them. No change has a moment before that one.
+-- they bring it; a refusal for a full journal or a lack of blocks is so of one of them. No change has a moment before that one.
 pub record AsksFor {T : Type 0} (d : DriveFields) (now : ℕ) (changes : List Change) (answer : Result T Refusal) (d' : DriveFields) : Type 0 where
   pub stored : OnOk answer (AreStored (store_of d) changes (store_of d'))
-  pub full : IfErr answer (IsFullForOne (store_of d) changes)
+  pub lacks : IfErr answer (IsForOne (store_of d) changes)
   pub moved : OnOk answer (IsMovedBy (state_in d) now (length changes) (state_in d'))
   pub dated : IsDatedFrom now (state_in d) (state_in d')

@@ -4,6 +4,7 @@ pub mod Keeping
 pub mod Asking
 pub mod Rows
 pub mod Aims
+pub mod Joining
 pub mod Restoring
 pub mod Planning
 pub mod Presence

@@ -10,13 +10,14 @@ use Rattle.history_restore.specs.declared.failures.Failure.{Failure}
 use Rattle.history_restore.specs.declared.planning.ObjectPlan.{ObjectPlan}
 use Rattle.history_restore.specs.declared.plans.Plan.{Plan}
 use Rattle.history_restore.specs.declared.plans.Plan.TheVariants.{Keep, Delete, Remake, Change}
-use Rattle.history_restore.specs.Plans.{IsPlan, change_count}
+use Rattle.history_restore.specs.Plans.{IsPlan, change_count, is_joined}
 use Rattle.history_restore.specs.Restoring.{IsUnread}
 
--- An object has this plan, by what it was at a moment that can be read and what it is.
+-- An object has this plan, by what it was at a moment that can be read and what it is; its runs are single.
 pub record IsPlanned (s : State) (at : ℕ) (p : ObjectPlan) : Type 0 where
   pub visible : IsVisible s p.aim.object at
   pub planned : IsPlan (version_of s p.aim.object at) (present s p.aim.target) p.plan
+  pub apart : is_joined p.plan ≡ false
 
 -- what plans are of
 abbrev pub aims_planned : List ObjectPlan → List Aim

@@ -17,16 +17,33 @@ use Rattle.block_runs.specs.declared.running.Run.{Run}
 use Rattle.block_runs.specs.Blocks.{blocks_in_all}
 use Rattle.block_runs.specs.Runs.{IsSized, runs_to}
 
--- where the bytes of what an object was differ from those that it has, once these are cut
-abbrev pub runs_between : Version → Version → List Run
-runs_between before now = runs_to (bytes_of before) (bytes_of now)
+-- How many blocks that are the same may lie between two of one run.
+abbrev pub gap_of : Bool → ℕ
+gap_of joined = if joined then 1 else 0
+
+-- whether the runs of a plan are joined
+abbrev pub is_joined : Plan → Bool
+is_joined Keep = false
+is_joined Delete = false
+is_joined (Remake changes) = changes.joined
+is_joined (Change changes) = changes.joined
+
+-- where the bytes of what an object was differ from those that it has, once these are cut, as runs of which those are one that no more than this
+-- many blocks lie between
+abbrev pub runs_between : ℕ → Version → Version → List Run
+runs_between gap before now = runs_to gap (bytes_of before) (bytes_of now)
+
+-- those of a plan
+abbrev pub runs_planned : Plan → Version → Version → List Run
+runs_planned plan before now = runs_between (gap_of (is_joined plan)) before now
 
 -- The changes of an object that had bytes and an attribute and has others now: it is cut where it is longer, and gets zeros where
--- it is shorter and ended by one; bytes are written for each run of neighbouring blocks that differ then; the attribute is replaced where it differs.
+-- it is shorter and ended by one; bytes are written for each run of blocks that differ then, which are neighbours or, where runs are joined, have one
+-- between them; the attribute is replaced where it differs.
 pub record IsChangesOf (bytes attribute now attribute_now : List ℕ) (changes : Changes) : Type 0 where
   pub shorter : IsSized bytes now changes.cut
-  pub rewritten : changes.writes ≡ length (runs_to bytes now)
-  pub blocks : changes.blocks ≡ min last_number (blocks_in_all (runs_to bytes now))
+  pub rewritten : changes.writes ≡ length (runs_to (gap_of changes.joined) bytes now)
+  pub blocks : changes.blocks ≡ min last_number (blocks_in_all (runs_to (gap_of changes.joined) bytes now))
   pub replaced : MatchBool changes.attribute (attribute ≢ attribute_now) (attribute ≡ attribute_now)
 
 -- whether no change is among them
@@ -83,7 +100,7 @@ turned before runs (Change changes) o moment now = changed_by before runs change
 
 -- A plan turns an object back: after its changes it has the bytes and the attribute that it had, or isn't there where it wasn't.
 abbrev pub APlanTurnsBack : Type 0
-APlanTurnsBack = (before now : Version) (plan : Plan) (o moment : ℕ) → IsPlan before now plan → content_of (turned before (runs_between before now) plan o moment now) ≡ content_of before
+APlanTurnsBack = (before now : Version) (plan : Plan) (o moment : ℕ) → IsPlan before now plan → content_of (turned before (runs_planned plan before now) plan o moment now) ≡ content_of before
 
 -- the bytes of runs are among these
 abbrev pub AreWithin : List ℕ → List Run → Type 0

@@ -16,9 +16,10 @@ use Rattle.history_restore.specs.declared.aims.Aim.{Aim}
 use Rattle.history_restore.specs.declared.plans.Plan.{Plan}
 use Rattle.history_restore.specs.declared.restoring.Restored.{Restored}
 use Rattle.history_restore.specs.declared.failures.Failure.{Failure}
-use Rattle.history_restore.specs.Asking.{AreStored, FindsFull, is_left}
+use Rattle.history_restore.specs.Asking.{AreStored, OneTakesTooMuch, is_left}
 use Rattle.history_restore.specs.Content.{content_of, changed_in}
-use Rattle.history_restore.specs.Plans.{IsPlan, changes_by, next_by_plan, runs_between}
+use Rattle.history_restore.specs.Joining.{IsTaken}
+use Rattle.history_restore.specs.Plans.{IsPlan, changes_by, next_by_plan, runs_planned}
 
 -- the number that an object has after it was restored under one, by what it was and what is there: the next one where nothing is
 abbrev pub number_from : Version → Version → ℕ → ℕ → ℕ
@@ -63,15 +64,15 @@ pub record IsStopped (s later : State) (aim : Aim) (at : ℕ) (failure : Failure
 
 -- The changes that make an object what it was at a moment, by a plan: its writes are those of the runs of blocks that differ.
 abbrev pub changes_for : State → Aim → ℕ → Plan → List Change
-changes_for s aim at plan = changes_by (version_of s aim.object at) (runs_between (version_of s aim.object at) (present s aim.target)) plan s.next aim.target
+changes_for s aim at plan = changes_by (version_of s aim.object at) (runs_planned plan (version_of s aim.object at) (present s aim.target)) plan s.next aim.target
 
 -- An object was restored by these changes, one after the other, and nothing else was stored.
 abbrev pub StoresPlan : State → Aim → ℕ → StoreFields → StoreFields → Restored → Type 0
 StoresPlan s aim at store after restored = AreStored store (changes_for s aim at restored.plan) after
 
--- What restoring an object asks for finds its journal too full: one of the changes of its plan would make the journal too long, once those
--- in front of it are stored.
-pub record IsTooFull (s : State) (store : StoreFields) (aim : Aim) (at : ℕ) : Type 0 where
+-- Restoring an object takes too much for this reason: one of the changes of the plan that is taken does, once those in front of it are stored.
+pub record LacksRoom (s : State) (store : StoreFields) (aim : Aim) (at : ℕ) (refusal : Refusal) : Type 0 where
   pub plan : Plan
   pub planned : IsPlan (version_of s aim.object at) (present s aim.target) plan
-  pub full : FindsFull store (changes_for s aim at plan)
+  pub taken : IsTaken s store aim at plan
+  pub lacks : OneTakesTooMuch refusal store (changes_for s aim at plan)

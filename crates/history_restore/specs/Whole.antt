@@ -6,6 +6,7 @@ use Rattle.s4_model.specs.State.{State}
 use Rattle.s4_model.specs.VersionAt.{version_of}
 use Rattle.s4_model.specs.Visible.{IsVisible}
 use Rattle.s4_model.specs.Refusals.{present}
+use Rattle.version_store.specs.Store.{StoreFields}
 use Rattle.history_restore.specs.declared.aims.Aim.{Aim}
 use Rattle.history_restore.specs.declared.failures.Failure.{Failure}
 use Rattle.history_restore.specs.declared.restoring.Restored.{Restored}
@@ -14,10 +15,11 @@ use Rattle.history_restore.specs.Asking.{IsMovedBy}
 use Rattle.history_restore.specs.declared.planning.ObjectPlan.{ObjectPlan}
 use Rattle.history_restore.specs.declared.plans.Plan.{Plan}
 use Rattle.history_restore.specs.declared.plans.Plan.TheVariants.{Keep}
-use Rattle.history_restore.specs.Plans.{IsPlan, number_by, next_by_plan}
+use Rattle.history_restore.specs.Plans.{IsPlan, change_count, number_by, next_by_plan}
 use Rattle.history_restore.specs.Planning.{changes_planned, is_older}
-use Rattle.history_restore.specs.Keeping.{IsDatedFrom, LeavesPast}
-use Rattle.history_restore.specs.Restoring.{IsStopped}
+use Rattle.history_restore.specs.Joining.{IsTaken}
+use Rattle.history_restore.specs.Keeping.{IsDatedFrom, LeavesOthers, LeavesPast}
+use Rattle.history_restore.specs.Restoring.{IsStopped, Restores, StoresPlan, number_after}
 
 -- An object is now what it was at a moment, under its number; the plan was made of what it was then and when restoring began.
 pub record IsRestored (s later : State) (at : ℕ) (restored : Restored) : Type 0 where
@@ -71,6 +73,22 @@ LeavesRest s later aims = (q : ℕ) → q < s.next → AllByRecursion (λ (a : A
 -- whether a plan is carried out: where newer objects are kept, of one that wasn't made since
 abbrev pub is_chosen : Bool → ObjectPlan → Bool
 is_chosen keep_newer p = not keep_newer || is_older p.plan
+
+-- An object was restored over a state and its store: by the changes of the plan that is taken of it, one after the other, and nothing else was
+-- done.
+pub record RestoresOver (s : State) (store : StoreFields) (now at : ℕ) (aim : Aim) (restored : Restored) (later : State) (after : StoreFields) : Type 0 where
+  pub restores : Restores s later aim at restored
+  pub taken : IsTaken s store aim at restored.plan
+  pub stored : StoresPlan s aim at store after restored
+  pub moved : IsMovedBy s now (change_count restored.plan) later
+  pub dated : IsDatedFrom now s later
+  pub others : LeavesOthers (number_after s aim at) s later
+  pub past : LeavesPast s later
+
+-- These were, one after the other, each over what those in front of it left.
+abbrev pub RestoresInTurn : State → StoreFields → ℕ → ℕ → List Restored → State → StoreFields → Type 0
+RestoresInTurn s store now at [] later after = (later ≡ s) × (after ≡ store)
+RestoresInTurn s store now at (r ∷ all) later after = (middle : State) × (between : StoreFields) × RestoresOver s store now at r.aim r middle between × RestoresInTurn middle between now at all later after
 
 -- Why not all objects were restored: one of them wasn't, over the drive as it was then, to which the objects before it had led; or there was no
 -- memory for a list.

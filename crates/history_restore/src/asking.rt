@@ -4,7 +4,7 @@ ghost use Rattle.s4_types.specs.declared.requests.Request.TheVariants.{Update};
 ghost use Rattle.s4_model.specs.Refusals.{first_refusal};
 ghost use Rattle.drive.specs.Fields.{state_in, store_of};
 ghost use Rattle.drive.specs.Later.{object_asked};
-ghost use Rattle.history_restore.specs.Asking.{Grants, IsGiven, IsFullFor};
+ghost use Rattle.history_restore.specs.Asking.{Grants, IsForAsked, IsGiven};
 ghost use Rattle.history_restore.specs.Asking.{IsMovedBy, StoresAsked};
 ghost use Rattle.history_restore.specs.Keeping.{IsDatedFrom, LeavesPast, LeavesOthers};
 
@@ -29,8 +29,8 @@ pub(crate) fn ask<J: Naming>(
     ensures stored { OnOk result
         (StoresAsked (store_of drive.old) (state_in drive.old) (Update update)
         (store_of drive.new)) }
-    ensures full { IfErr result
-        (IsFullFor (store_of drive.old) (state_in drive.old) (Update update)) }
+    ensures lacks { IfErr result
+        (IsForAsked (store_of drive.old) (state_in drive.old) (Update update)) }
     ensures moved { OnOk result (IsMovedBy (state_in drive.old) now 1 (state_in drive.new)) }
     ensures dated { IsDatedFrom now (state_in drive.old) (state_in drive.new) }
     ensures others { LeavesOthers (object_asked (state_in drive.old).next (Update update))

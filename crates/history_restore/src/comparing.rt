@@ -9,12 +9,12 @@ ghost use Rattle.history_restore.specs.Plans.{runs_between};
 ghost use Rattle.history_restore.specs.Restoring.{IsUnread};
 
 use crate::aims::Aim;
-use block_runs::{Run, kept, runs_between};
+use block_runs::{Run, runs_to};
 use drive::{Drive, Session};
 use history_view::{content_of, version_at};
 use s4_types::{Moment, Refusal, Version};
 use segment_word::Naming;
-use std::alloc::Global;
+use std::alloc::{AllocError, Global};
 
 /// What an object was, and what it is compared with.
 #[derive(Drop)]
@@ -23,7 +23,7 @@ pub(crate) struct Compared {
     pub(crate) earlier: Version,
     /// What is there now.
     pub(crate) latest: Version,
-    /// Where their bytes differ, once the latest are cut.
+    /// Where their bytes differ, once the latest are cut: single runs.
     pub(crate) runs: Vec<Run>,
 }
 
@@ -39,7 +39,7 @@ pub(crate) fn compare<J: Naming>(
     ensures earlier { IfOk result
         (λ c. c.earlier ≡ version_of (state_in drive.old) aim.now.object at) }
     ensures latest { IfOk result (λ c. c.latest ≡ present (state_in drive.old) aim.now.target) }
-    ensures runs { IfOk result (λ c. c.runs.items ≡ runs_between c.earlier c.latest) }
+    ensures runs { IfOk result (λ c. c.runs.items ≡ runs_between 0 c.earlier c.latest) }
     ensures visible { OnOk result (IsVisible (state_in drive.old) aim.now.object at) }
     ensures refused { IfErr result (IsUnread (state_in drive.old) aim.now.object at) }
     ensures state { state_in drive.new ≡ state_in drive.old }
@@ -49,8 +49,7 @@ pub(crate) fn compare<J: Naming>(
     let clock = drive.clock();
     let earlier = version_at(alloc, drive, session, aim.object, at)?;
     let latest = version_at(alloc, drive, session, aim.target, clock)?;
-    let bytes = content_of(&earlier);
-    let Ok(runs) = runs_between(alloc, bytes, kept(bytes, content_of(&latest))) else {
+    let Ok(runs) = runs_of(alloc, &earlier, &latest, 0) else {
         return Err(Refusal::NoMemory);
     };
     Ok(Compared {
@@ -58,4 +57,17 @@ pub(crate) fn compare<J: Naming>(
         latest,
         runs,
     })
+}
+
+/// Where the bytes of what an object was differ from those that it has, once these are cut, as runs
+/// of which those are one that no more than this many blocks lie between.
+pub(crate) fn runs_of(
+    alloc: Global,
+    before: &Version,
+    now: &Version,
+    gap: u64,
+) -> Result<Vec<Run>, AllocError>
+    ensures { IfOk result (λ runs. runs.items ≡ runs_between gap before.now now.now) }
+{
+    runs_to(alloc, content_of(before), content_of(now), gap)
 }

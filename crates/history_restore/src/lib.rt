@@ -3,10 +3,11 @@
 //! The layers above may rely on this: a plan says what has to be done to an object, by what it was
 //! and what it is. It writes each run of neighbouring blocks that differ, and no other block, of an
 //! object that is made anew each that isn't all zeros, and `laws` says that it turns the object
-//! back. `restore_object` does what `plan_object` plans:
-//! afterwards the object has exactly the bytes and the attribute that it had, under its own number,
-//! or under the next one where it was deleted since. `restore_these` does so with objects, one
-//! after the other. Whatever these answer, every other object is what it was, every version up to
+//! back. `restore_object` does what `plan_object` plans; where the object's journal is too full for
+//! a write of each run, it joins those that one block lies between, before it finds the journal
+//! full. Afterwards the object has exactly the bytes and the attribute that it had, under its own
+//! number, or under the next one where it was deleted since. `restore_these` does so with objects,
+//! one after the other. Whatever these answer, every other object is what it was, every version up to
 //! the clock stays, and no moment is hidden.
 //! `make_room` alone hides moments, of the one object that it is asked for, and then cleans that
 //! object's chain; `newest_versions` says which moments are those of its newest versions. A refusal
@@ -30,7 +31,9 @@
 mod aims;
 mod asking;
 mod changing;
+mod choosing;
 mod comparing;
+mod costs;
 mod failures;
 pub mod laws;
 mod planning;

@@ -1,7 +1,9 @@
 //! What has to be done to an object, so that it is what it was.
-ghost use Rattle.std.specs.Prelude.{◌≡◌, ◌≢◌, [], MatchBool};
+ghost use Rattle.std.specs.Prelude.{◌≡◌, ◌≢◌, [], true, false, length, min, MatchBool};
+ghost use Rattle.s4_model.specs.Refusals.{last_number};
 ghost use Rattle.history_restore.specs.Plans.{IsChangesOf, IsPlanBetween, IsPlan, IsRemade};
-ghost use Rattle.history_restore.specs.Plans.{is_idle, runs_between};
+ghost use Rattle.history_restore.specs.Plans.{is_idle, is_joined, runs_between};
+ghost use Rattle.block_runs.specs.Blocks.{blocks_in_all};
 ghost use Rattle.block_runs.specs.Runs.{runs_to};
 
 use block_runs::{Run, count_blocks, cut_between};
@@ -12,9 +14,11 @@ use s4_types::Version;
 pub struct Changes {
     /// It is cut to this size, in bytes, or gets zeros up to it.
     pub cut: Option<u64>,
-    /// Bytes are written by this many requests: one for each run of neighbouring blocks that
-    /// differ, ascending.
+    /// Bytes are written by this many requests: one for each run of blocks that differ, ascending.
     pub writes: u64,
+    /// Whether runs are joined that one block lies between which is the same, and is written again.
+    /// Those of neighbouring blocks are single else.
+    pub joined: bool,
     /// They write this many blocks together.
     pub blocks: u64,
     /// Its attribute is replaced.
@@ -49,12 +53,14 @@ fn changes_between(
     attribute_now: &[u8],
     runs: &[Run],
 ) -> Changes
-    requires { runs.now ≡ runs_to bytes.now now.now }
-    ensures { IsChangesOf bytes.now attribute.now now.now attribute_now.now result }
+    requires { runs.now ≡ runs_to 0 bytes.now now.now }
+    ensures changes { IsChangesOf bytes.now attribute.now now.now attribute_now.now result }
+    ensures apart { result.joined ≡ false }
 {
     Changes {
         cut: cut_between(bytes, now),
         writes: runs.len() as u64,
+        joined: false,
         blocks: count_blocks(runs),
         attribute: is_other(attribute, attribute_now),
     }
@@ -74,8 +80,9 @@ fn plan_between(
     attribute_now: &[u8],
     runs: &[Run],
 ) -> Plan
-    requires { runs.now ≡ runs_to bytes.now now.now }
-    ensures { IsPlanBetween bytes.now attribute.now now.now attribute_now.now result }
+    requires { runs.now ≡ runs_to 0 bytes.now now.now }
+    ensures plan { IsPlanBetween bytes.now attribute.now now.now attribute_now.now result }
+    ensures apart { is_joined result ≡ false }
 {
     let changes = changes_between(bytes, attribute, now, attribute_now, runs);
     if is_idle(&changes) {
@@ -86,18 +93,20 @@ fn plan_between(
 }
 
 fn plan_anew(bytes: &[u8], attribute: &[u8], runs: &[Run]) -> Plan
-    requires { runs.now ≡ runs_to bytes.now [] }
-    ensures { IsRemade bytes.now attribute.now result }
+    requires { runs.now ≡ runs_to 0 bytes.now [] }
+    ensures plan { IsRemade bytes.now attribute.now result }
+    ensures apart { is_joined result ≡ false }
 {
     Plan::Remake(changes_between(bytes, attribute, &[], attribute, runs))
 }
 
-/// What has to be done to an object, by what it was and what it is now, and by the runs of blocks
-/// in which these differ. The plan is the only one: each request is there exactly where it is
-/// needed, and a write has no byte at either end, nor a block, that is what it was.
+/// What has to be done to an object, by what it was and what it is now, and by the single runs of
+/// blocks in which these differ. The plan is the only one by them: each request is there exactly
+/// where it is needed, and a write has no byte at either end, nor a block, that is what it was.
 pub(crate) fn plan_of(before: &Version, now: &Version, runs: &[Run]) -> Plan
-    requires { runs.now ≡ runs_between before.now now.now }
-    ensures { IsPlan before.now now.now result }
+    requires { runs.now ≡ runs_between 0 before.now now.now }
+    ensures plan { IsPlan before.now now.now result }
+    ensures apart { is_joined result ≡ false }
 {
     match before {
         Version::Absent => match now {
@@ -123,4 +132,20 @@ pub(crate) fn plan_of(before: &Version, now: &Version, runs: &[Run]) -> Plan
             ),
         },
     }
+}
+
+/// Changes with these runs in place of single ones: those of them are joined that one block lies
+/// between.
+pub(crate) fn joined_plan(changes: Changes, runs: &[Run]) -> Plan
+    ensures { result
+        ≡ Plan.Change (record changes { writes = length runs.now; joined = true; blocks = min last_number (blocks_in_all runs.now) }) }
+{
+    let (writes, blocks) = (runs.len() as u64, count_blocks(runs));
+    Plan::Change(Changes {
+        cut: changes.cut,
+        writes,
+        joined: true,
+        blocks,
+        attribute: changes.attribute,
+    })
 }

@@ -1,10 +1,11 @@
 //! All objects of a drive are made what they were at a moment.
 ghost use Rattle.std.specs.Prelude.{◌≡◌, ◌<◌, IfOk, IfErr, MatchBool};
-ghost use Rattle.drive.specs.Fields.{state_in};
+ghost use Rattle.drive.specs.Fields.{state_in, store_of};
 ghost use Rattle.history_restore.specs.Keeping.{LeavesPast};
 ghost use Rattle.history_restore.specs.Aims.{targets_of};
 ghost use Rattle.history_restore.specs.Rows.{AscendBelow, is_among};
-ghost use Rattle.history_restore.specs.Whole.{IsCounted, LeavesRest, RestoresEach, StopsAll};
+ghost use Rattle.history_restore.specs.Whole.{IsCounted, LeavesRest, RestoresEach};
+ghost use Rattle.history_restore.specs.Whole.{RestoresInTurn, StopsAll};
 
 use crate::aims::{Aim, own_aim};
 use crate::failures::{Failure, unread};
@@ -33,6 +34,9 @@ fn restore_each<J: Naming>(
     requires { AscendBelow 0 (state_in drive.old).next (targets_of aims.now) }
     ensures each { IfOk result
         (λ all. RestoresEach (state_in drive.old) (state_in drive.new) at aims.now all.items) }
+    ensures turn { IfOk result
+        (λ all. RestoresInTurn (state_in drive.old) (store_of drive.old) now at all.items
+        (state_in drive.new) (store_of drive.new)) }
     ensures counted { IfOk result
         (λ all. IsCounted (state_in drive.old) (state_in drive.new) now all.items) }
     ensures stopped { IfErr result (StopsAll (state_in drive.old) (state_in drive.new) at) }
@@ -76,8 +80,8 @@ fn ascends_below(aims: &[Aim], next: ObjectId) -> bool
 }
 
 /// Makes these objects what they were at a moment, by requests at the moment `now` of the server's
-/// clock, and says of each what was done, in their order. The numbers under which they are restored
-/// ascend, and were given.
+/// clock, and says of each what was done, in their order: each by [`restore_object`]. The numbers
+/// under which they are restored ascend, and were given.
 ///
 /// A refusal says of which object and why, as [`Failure`] tells. What was done before it stays;
 /// Expired comes where the floor has passed the moment by the changes that were made. NoObject of
@@ -93,6 +97,9 @@ pub fn restore_these<J: Naming>(
 ) -> Result<Vec<Restored>, Failure>
     ensures each { IfOk result
         (λ all. RestoresEach (state_in drive.old) (state_in drive.new) at aims.now all.items) }
+    ensures turn { IfOk result
+        (λ all. RestoresInTurn (state_in drive.old) (store_of drive.old) now at all.items
+        (state_in drive.new) (store_of drive.new)) }
     ensures counted { IfOk result
         (λ all. IsCounted (state_in drive.old) (state_in drive.new) now all.items) }
     ensures stopped { AscendBelow 0 (state_in drive.old).next (targets_of aims.now)

@@ -39,10 +39,10 @@ restores_at d seen cleared later order now at chosen passed output between outpu
   skips = skips;
 }
 
--- what is restored is so over a drive of the same state, and leaves one of the same state
-reached_on : (cleared middle later : DriveFields) (order : Order) (now at : ℕ) (chosen : List ObjectPlan) (output output' : Option (List ℕ)) → state_in later ≡ state_in middle
+-- what is restored is so over a drive of the same state and store, and leaves one of the same state and store
+reached_on : (cleared middle later : DriveFields) (order : Order) (now at : ℕ) (chosen : List ObjectPlan) (output output' : Option (List ℕ)) → state_in later ≡ state_in middle → store_of later ≡ store_of middle
     → RestoresInReach cleared middle order now at chosen output output' → RestoresInReach cleared later order now at chosen output output'
-reached_on cleared middle later order now at chosen output output' same r = record {
+reached_on cleared middle later order now at chosen output output' same kept r = record {
   wide = r.wide;
   between = r.between;
   reaches = r.reaches;
@@ -50,13 +50,14 @@ reached_on cleared middle later order now at chosen output output' same r = reco
     middle = r.restores.middle;
     between = r.restores.between;
     hides = r.restores.hides;
-    restores = subst (λ (s : State). RestoresDrive (state_in r.restores.middle) s now at order.json (aims_planned chosen) r.restores.between output') (sym same) r.restores.restores;
+    restores = subst (λ (k : StoreFields). RestoresDrive (state_in r.restores.middle) (store_of r.restores.middle) (state_in later) k now at order.json (aims_planned chosen) r.restores.between output') (sym kept)
+        (subst (λ (s : State). RestoresDrive (state_in r.restores.middle) (store_of r.restores.middle) s (store_of middle) now at order.json (aims_planned chosen) r.restores.between output') (sym same) r.restores.restores);
   };
 }
 
-restored_on : (d begun middle later : DriveFields) (order : Order) (now : ℕ) (output output' : Option (List ℕ)) → state_in begun ≡ state_in d → store_of begun ≡ store_of d → state_in later ≡ state_in middle
+restored_on : (d begun middle later : DriveFields) (order : Order) (now : ℕ) (output output' : Option (List ℕ)) → state_in begun ≡ state_in d → store_of begun ≡ store_of d → state_in later ≡ state_in middle → store_of later ≡ store_of middle
     → RestoresAt begun middle order now output output' → RestoresAt d later order now output output'
-restored_on d begun middle later order now output output' state store same r = record {
+restored_on d begun middle later order now output output' state store same kept r = record {
   readable = subst (λ (s : State). IsVisible s 0 (moment_said s order.at)) state r.readable;
   chosen = r.chosen;
   choice = subst (λ (s : State). AreChosen s (store_of d) order (moment_said s order.at) r.chosen) state
@@ -66,7 +67,7 @@ restored_on d begun middle later order now output output' state store same r = r
   cleared = r.cleared;
   compacted = r.compacted;
   between = r.between;
-  restores = reached_on r.cleared middle later order now (moment_said (state_in d) order.at) r.chosen output r.between same
+  restores = reached_on r.cleared middle later order now (moment_said (state_in d) order.at) r.chosen output r.between same kept
       (subst (λ (s : State). RestoresInReach r.cleared middle order now (moment_said s order.at) r.chosen output r.between) state r.restores);
   skips = r.skips;
 }
@@ -76,11 +77,11 @@ leaves_one : (had : Bool) (s middle later : State) (to_nothing : Bool) → Match
 leaves_one true s middle later to_nothing before after same unasked = inl (subst HasObject (sym same) (after refl unasked))
 leaves_one false s middle later to_nothing before after same unasked = inr before
 
-pub restores_by : (d begun middle later : DriveFields) (order : Order) (now : ℕ) (had : Bool) (output output' : Option (List ℕ)) → state_in begun ≡ state_in d → store_of begun ≡ store_of d → state_in later ≡ state_in middle
+pub restores_by : (d begun middle later : DriveFields) (order : Order) (now : ℕ) (had : Bool) (output output' : Option (List ℕ)) → state_in begun ≡ state_in d → store_of begun ≡ store_of d → state_in later ≡ state_in middle → store_of later ≡ store_of middle
     → now ≡ asked_at (state_in d) order.time → (IsTooFar (state_in d).clock (state_in d).window order.time order.leap → ⊥) → MatchBool had (HasObject (state_in d)) (HasNone (state_in d))
     → (had ≡ true → order.to_nothing ≡ false → HasObject (state_in middle)) → RestoresAt begun middle order now output output' → RestoresBy d later order output output'
-restores_by d begun middle later order now had output output' state store same is near before after restores = record {
+restores_by d begun middle later order now had output output' state store same kept is near before after restores = record {
   near = near;
-  restores = subst (λ (n : ℕ). RestoresAt d later order n output output') is (restored_on d begun middle later order now output output' state store same restores);
+  restores = subst (λ (n : ℕ). RestoresAt d later order n output output') is (restored_on d begun middle later order now output output' state store same kept restores);
   left = leaves_one had (state_in d) (state_in middle) (state_in later) order.to_nothing before after same;
 }

@@ -68,4 +68,4 @@ pub record RestoresWithRoom (d later : DriveFields) (now at : ℕ) (json : Bool)
   pub middle : DriveFields
   pub between : Option (List ℕ)
   pub hides : HidesAll d now at json aims full middle output between
-  pub restores : RestoresDrive (state_in middle) (state_in later) now at json aims between output'
+  pub restores : RestoresDrive (state_in middle) (store_of middle) (state_in later) (store_of later) now at json aims between output'

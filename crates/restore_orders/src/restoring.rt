@@ -1,6 +1,6 @@
 //! `restore`: the present is made what it was at a moment.
 ghost use Rattle.std.specs.Prelude.{◌≡◌, ◌+◌, ◌^◌, ◌<◌, IfOk, OnOk};
-ghost use Rattle.drive.specs.Fields.{state_in};
+ghost use Rattle.drive.specs.Fields.{state_in, store_of};
 ghost use Rattle.restore_orders.specs.Restoring.{AreRestored, RestoresDrive, SaysWhy};
 
 use crate::dating::Moments;
@@ -33,8 +33,9 @@ pub(crate) fn restore<J: Naming, W: Sink>(
 ) -> Result<(), Failure>
     requires writer { W.failures writer.old + 1 < 2 ^ 64 }
     ensures restores { OnOk result
-        (RestoresDrive (state_in drive.old) (state_in drive.new) wanted.now.moments.asked
-        wanted.now.moments.at wanted.now.json wanted.now.aims.now (W.passed writer.old) (W.passed writer.new)) }
+        (RestoresDrive (state_in drive.old) (store_of drive.old) (state_in drive.new)
+        (store_of drive.new) wanted.now.moments.asked wanted.now.moments.at wanted.now.json wanted.now.aims.now
+        (W.passed writer.old) (W.passed writer.new)) }
     ensures failures { OnOk result (W.failures writer.new ≡ W.failures writer.old) }
 {
     let all = restored(alloc, drive, session, wanted)?;
@@ -50,8 +51,8 @@ fn restored<J: Naming>(
     wanted: &Wanted<'_>,
 ) -> Result<Vec<Restored>, Failure>
     ensures restored { IfOk result
-        (λ all. AreRestored (state_in drive.old) (state_in drive.new) wanted.now.moments.asked
-        wanted.now.moments.at wanted.now.aims.now all.items) }
+        (λ all. AreRestored (state_in drive.old) (store_of drive.old) (state_in drive.new)
+        (store_of drive.new) wanted.now.moments.asked wanted.now.moments.at wanted.now.aims.now all.items) }
 {
     let (at, now) = (wanted.moments.at, wanted.moments.asked);
     match restore_these(alloc, drive, session, wanted.aims, at, now) {

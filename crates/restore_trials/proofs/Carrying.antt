@@ -1,13 +1,12 @@
 -- How trials go on, object by object.
-use Rattle.std.proofs.Common.{◌≡◌, ℕ, List, [], ◌∷◌, ◌++◌, inr, ap, sym, refl, subst}
+use Rattle.std.proofs.Common.{◌≡◌, ℕ, true, List, [], ◌∷◌, ◌++◌, Some, inr, sym, refl, subst}
 use Rattle.std.proofs.SliceLists.{all_by_recursion_push}
-use Rattle.s4_types.specs.declared.refusals.Refusal.TheVariants.{ChainFull, NoSpace}
 use Rattle.drive.specs.Fields.{DriveFields, state_in, store_of}
-use Rattle.history_restore.specs.Restoring.{IsStopped, IsTooFull}
+use Rattle.history_restore.specs.Asking.{is_of_room}
+use Rattle.history_restore.specs.Restoring.{IsStopped, LacksRoom}
 use Rattle.history_restore.specs.declared.aims.Aim.{Aim}
 use Rattle.history_restore.specs.declared.failures.Failure.{Failure}
 use Rattle.restore_search.specs.declared.surveys.Lack.{Lack}
-use Rattle.restore_search.specs.declared.surveys.Lack.TheVariants.{Journal, Blocks}
 use Rattle.restore_search.specs.declared.surveys.Lacking.{Lacking}
 use Rattle.restore_orders.specs.declared.dating.Moments.{Moments}
 use Rattle.restore_trials.specs.Trying.{AreTried, Carries, IsRefusedAfter, IsRefusedOver, IsTried, lack_of}
@@ -43,14 +42,9 @@ carries_refused moments d later aim lacking one here refused base earlier tried 
 abbrev lacking_at : Aim → Lack → Lacking
 lacking_at aim lack = record { object = aim.target; lack = lack }
 
-pub carries_full : (moments : Moments) (d later : DriveFields) (aim : Aim) (failure : Failure) (old new : List Lacking) → IsStopped (state_in d) (state_in later) aim moments.at failure → (failure.refusal ≡ ChainFull → IsTooFull (state_in d) (store_of d) aim moments.at) → failure.refusal ≡ ChainFull
-    → new ≡ old ++ lacking_at aim Journal ∷ [] → Carries moments d old later new
-carries_full moments d later aim failure old new stopped full is pushed =
-    subst (Carries moments d old later) (sym pushed) (carries_refused moments d later aim old (lacking_at aim Journal) (inr (failure, stopped))
-    (record { aim = aim; number = refl; later = later; failure = failure; stopped = stopped; lacks = ap lack_of is; full = λ _. full is }))
-
-pub carries_spaceless : (moments : Moments) (d later : DriveFields) (aim : Aim) (failure : Failure) (old new : List Lacking) → IsStopped (state_in d) (state_in later) aim moments.at failure → failure.refusal ≡ NoSpace
-    → new ≡ old ++ lacking_at aim Blocks ∷ [] → Carries moments d old later new
-carries_spaceless moments d later aim failure old new stopped is pushed =
-    subst (Carries moments d old later) (sym pushed) (carries_refused moments d later aim old (lacking_at aim Blocks) (inr (failure, stopped))
-    (record { aim = aim; number = refl; later = later; failure = failure; stopped = stopped; lacks = ap lack_of is; full = λ (other : Blocks ≡ Journal). cc }))
+pub carries_lacking : (moments : Moments) (d later : DriveFields) (aim : Aim) (failure : Failure) (lack : Lack) (old new : List Lacking) → IsStopped (state_in d) (state_in later) aim moments.at failure
+    → (is_of_room failure.refusal ≡ true → LacksRoom (state_in d) (store_of d) aim moments.at failure.refusal) → is_of_room failure.refusal ≡ true → lack_of failure.refusal ≡ Some lack
+    → new ≡ old ++ lacking_at aim lack ∷ [] → Carries moments d old later new
+carries_lacking moments d later aim failure lack old new stopped found of lacks pushed =
+    subst (Carries moments d old later) (sym pushed) (carries_refused moments d later aim old (lacking_at aim lack) (inr (failure, stopped))
+    (record { aim = aim; number = refl; later = later; failure = failure; stopped = stopped; lacks = lacks; found = found of }))

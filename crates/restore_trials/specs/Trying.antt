@@ -4,10 +4,8 @@ use Rattle.std.specs.List.{AllByRecursion}
 use Rattle.s4_types.specs.declared.refusals.Refusal.{Refusal}
 use Rattle.s4_types.specs.declared.refusals.Refusal.TheVariants.{ChainFull, NoSpace}
 use Rattle.drive.specs.Fields.{DriveFields, state_in, store_of}
-use Rattle.history_restore.specs.Asking.{IsMovedBy}
-use Rattle.history_restore.specs.Keeping.{IsDatedFrom, LeavesOthers, LeavesPast}
-use Rattle.history_restore.specs.Plans.{change_count}
-use Rattle.history_restore.specs.Restoring.{IsStopped, IsTooFull, Restores, number_after}
+use Rattle.history_restore.specs.Restoring.{IsStopped, LacksRoom}
+use Rattle.history_restore.specs.Whole.{RestoresOver}
 use Rattle.history_restore.specs.declared.aims.Aim.{Aim}
 use Rattle.history_restore.specs.declared.failures.Failure.{Failure}
 use Rattle.history_restore.specs.declared.planning.ObjectPlan.{ObjectPlan}
@@ -23,14 +21,10 @@ lack_of ChainFull = Some Journal
 lack_of NoSpace = Some Blocks
 lack_of _ = None
 
--- An object was restored over a drive, by changes that were asked for at a moment. Every other object is what it was, and the past stays.
+-- An object was restored over a drive, by changes that were asked for at a moment, and nothing else was done.
 pub record IsRestoredOver (d : DriveFields) (moments : Moments) (aim : Aim) (later : DriveFields) : Type 0 where
   pub restored : Restored
-  pub restores : Restores (state_in d) (state_in later) aim moments.at restored
-  pub moved : IsMovedBy (state_in d) moments.asked (change_count restored.plan) (state_in later)
-  pub dated : IsDatedFrom moments.asked (state_in d) (state_in later)
-  pub others : LeavesOthers (number_after (state_in d) aim moments.at) (state_in d) (state_in later)
-  pub past : LeavesPast (state_in d) (state_in later)
+  pub restores : RestoresOver (state_in d) (store_of d) moments.asked moments.at aim restored (state_in later) (store_of later)
 
 -- An object was tried over a drive: it was restored, or refused.
 abbrev pub IsTried : DriveFields → Moments → Aim → DriveFields → Type 0
@@ -43,7 +37,7 @@ abbrev pub AreTried : DriveFields → Moments → List Aim → DriveFields → T
 AreTried d moments [] later = later ≡ d
 AreTried d moments (aim ∷ aims) later = (middle : DriveFields) × IsTried d moments aim middle × AreTried middle moments aims later
 
--- An object was refused over a drive, as something was lacking; where that is room in its journal, one of its changes would make it too long.
+-- An object was refused over a drive, as something was lacking: for that one of the changes of the plan that is taken of it was refused.
 pub record IsRefusedOver (d : DriveFields) (moments : Moments) (one : Lacking) : Type 0 where
   pub aim : Aim
   pub number : aim.target ≡ one.object
@@ -51,7 +45,7 @@ pub record IsRefusedOver (d : DriveFields) (moments : Moments) (one : Lacking) :
   pub failure : Failure
   pub stopped : IsStopped (state_in d) (state_in later) aim moments.at failure
   pub lacks : lack_of failure.refusal ≡ Some one.lack
-  pub full : one.lack ≡ Journal → IsTooFull (state_in d) (store_of d) aim moments.at
+  pub found : LacksRoom (state_in d) (store_of d) aim moments.at failure.refusal
 
 -- It was, once others were tried.
 pub record IsRefusedAfter (d : DriveFields) (moments : Moments) (one : Lacking) : Type 0 where

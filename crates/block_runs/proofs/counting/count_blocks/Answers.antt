@@ -14,4 +14,4 @@ loop-run-preserved c =
     let lt : i < length runs = omega arith in
     let more : blocks_in_all (take (i + 1) runs) ≡ blocks_in_all (take i runs) + blocks_in r =
     ap blocks_in_all (take_more runs i d lt) ∙ blocks_more (take i runs) r in
-    omega (arith, more, c.loop-run.invariant, c.blocks_in.ensures, c.saturating_add-count.ensures)
+    omega (arith, more, c.loop-run.invariant, c.blocks_in.ensures.blocks, c.saturating_add-count.ensures)

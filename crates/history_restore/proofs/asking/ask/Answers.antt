@@ -2,7 +2,7 @@ use Rattle.s4_types.specs.declared.requests.Request.TheVariants.{Update}
 use Rattle.drive.specs.Fields.{history_of}
 use Rattle.history_restore.proofs.Stepping.{refused_leaves, granted_leaves, no_read}
 use Rattle.history_restore.proofs.Denying.{is_given}
-use Rattle.history_restore.proofs.Storing.{full_refused, moved_granted, stored_granted}
+use Rattle.history_restore.proofs.Storing.{lacks_refused, moved_granted, stored_granted}
 use Rattle.history_restore.proofs.asking.ask.Goals as goal
 
 pub returns-in-Refused : goal.returns-in-Refused
@@ -16,7 +16,7 @@ returns-in-Refused g c =
       granted = tt;
       refused = is_given h after role (Update c.args.update) c.args.now c.request.result c.in-Refused.refusal tt c.in-Refused.is c.request.ensures.step;
       stored = tt;
-      full = full_refused c.args.drive.now c.request.new.self role (Update c.args.update) c.args.now c.request.result c.in-Refused.refusal tt c.in-Refused.is c.request.ensures.refused;
+      lacks = lacks_refused c.args.drive.now c.request.new.self role (Update c.args.update) c.args.now c.request.result c.in-Refused.refusal tt c.in-Refused.is c.request.ensures.refused;
       moved = tt;
       dated = leaves.dated;
       others = leaves.others;
@@ -34,7 +34,7 @@ returns g c =
       granted = leaves.granted;
       refused = tt;
       stored = stored_granted c.args.drive.now c.request.new.self role (Update c.args.update) c.args.now c.request.result tt c.in_default.not-Refused c.request.ensures.step c.request.ensures.stored;
-      full = tt;
+      lacks = tt;
       moved = moved_granted h after role (Update c.args.update) c.args.now c.request.result c.what_requests_come_to.ensures.by_changes (no_read (Update c.args.update) tt) c.in_default.not-Refused c.request.ensures.step;
       dated = leaves.dated;
       others = leaves.others;

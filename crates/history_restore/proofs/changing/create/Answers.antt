@@ -28,4 +28,4 @@ returns-in_err-ask-clause-asked g c =
     let d = c.args.drive.now in
     let next = (state_in d).next in
     rw (p.1, p.2) (subst (λ (a : List ℕ). AsksFor d c.args.now (change.Create next a ∷ []) (Err c.in_err-ask.field-0.0) c.ask.new.drive) c.in-Ok.ensures
-    (asked_one (Err c.in_err-ask.field-0.0) d c.ask.new.drive c.args.now (request.Update (object_request.Create c.in-Ok.attribute)) (change.Create next c.in-Ok.attribute) refl tt c.in_err-ask.ensures.full tt c.ask.ensures.dated))
+    (asked_one (Err c.in_err-ask.field-0.0) d c.ask.new.drive c.args.now (request.Update (object_request.Create c.in-Ok.attribute)) (change.Create next c.in-Ok.attribute) refl tt c.in_err-ask.ensures.lacks tt c.ask.ensures.dated))

@@ -28,4 +28,4 @@ returns-in-Some-clause-asked g c =
     let o = c.args.object in
     let n = c.in-Some.size in
     subst (λ (x : Option ℕ). AsksFor c.args.drive.now c.args.now (cut_changes o x) c.ask.result c.ask.new.drive) (sym c.in-Some.is)
-    (asked_one c.ask.result c.args.drive.now c.ask.new.drive c.args.now (request.Update (object_request.Truncate o n)) (change.Truncate o n) refl c.ask.ensures.stored c.ask.ensures.full c.ask.ensures.moved c.ask.ensures.dated)
+    (asked_one c.ask.result c.args.drive.now c.ask.new.drive c.args.now (request.Update (object_request.Truncate o n)) (change.Truncate o n) refl c.ask.ensures.stored c.ask.ensures.lacks c.ask.ensures.moved c.ask.ensures.dated)

@@ -54,4 +54,4 @@ returns-in_err-ask-in-Delete-clause-asked g c =
     let o = c.args.object in
     let e = c.in_err-ask-in-Delete.field-0.0 in
     rw (p.1, p.2) (subst (λ (q : Plan). AsksFor {T = ℕ} d c.args.now (changes_by c.args.before.now c.args.runs.now q (state_in d).next o) (Err e) d') (sym c.in-Delete.is)
-    (asked_one (Err e) d d' c.args.now (request.Update (object_request.Delete o)) (change.Delete o) refl tt c.in_err-ask-in-Delete.ensures.full tt c.ask.ensures.dated))
+    (asked_one (Err e) d d' c.args.now (request.Update (object_request.Delete o)) (change.Delete o) refl tt c.in_err-ask-in-Delete.ensures.lacks tt c.ask.ensures.dated))

@@ -36,4 +36,4 @@ returns-clause-asked g c =
     let new : List ℕ = c.in-Ok.attribute in
     subst (λ (w : Bool). AsksFor d c.args.now (attribute_changes o c.args.attribute.now w) c.ask.result d') (sym c.if-not-wanted.false)
     (subst (λ (a : List ℕ). AsksFor d c.args.now (change.SetAttr o a ∷ []) c.ask.result d') c.in-Ok.ensures
-    (asked_one c.ask.result d d' c.args.now (request.Update (object_request.SetAttr o new)) (change.SetAttr o new) refl c.ask.ensures.stored c.ask.ensures.full c.ask.ensures.moved c.ask.ensures.dated))
+    (asked_one c.ask.result d d' c.args.now (request.Update (object_request.SetAttr o new)) (change.SetAttr o new) refl c.ask.ensures.stored c.ask.ensures.lacks c.ask.ensures.moved c.ask.ensures.dated))

@@ -36,4 +36,4 @@ returns-clause-asked g c =
     let new : List ℕ = c.in-Ok.bytes in
     let is : new ≡ part c.args.bytes.now run.offset (run.end - run.offset) = c.in-Ok.ensures ∙ c.part-new.ensures in
     subst (λ (b : List ℕ). AsksFor c.args.drive.now c.args.now (change.Write o run.offset b ∷ []) c.ask.result c.ask.new.drive) is
-    (asked_one c.ask.result c.args.drive.now c.ask.new.drive c.args.now (request.Update (object_request.Write o run.offset new)) (change.Write o run.offset new) refl c.ask.ensures.stored c.ask.ensures.full c.ask.ensures.moved c.ask.ensures.dated)
+    (asked_one c.ask.result c.args.drive.now c.ask.new.drive c.args.now (request.Update (object_request.Write o run.offset new)) (change.Write o run.offset new) refl c.ask.ensures.stored c.ask.ensures.lacks c.ask.ensures.moved c.ask.ensures.dated)

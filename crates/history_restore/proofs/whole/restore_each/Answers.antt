@@ -1,12 +1,12 @@
 use Rattle.std.proofs.Common.{◌≡◌, ◌+◌, ◌++◌, ◌<◌, List, ◌∷◌, [], length, take, sym, subst, arith}
 use Rattle.std.proofs.lemmas.List.{take_all}
 use Rattle.std.proofs.lemmas.Result.{err_from_is_err_and}
-use Rattle.drive.specs.Fields.{state_in}
+use Rattle.drive.specs.Fields.{state_in, store_of}
 use Rattle.history_restore.specs.declared.aims.Aim.{Aim}
 use Rattle.history_restore.specs.declared.restoring.Restored.{Restored}
-use Rattle.history_restore.specs.Whole.{IsCounted}
+use Rattle.history_restore.specs.Whole.{IsCounted, RestoresInTurn}
 use Rattle.history_restore.proofs.Counted.{counted_more, counted_none}
-use Rattle.history_restore.proofs.Each.{StandsBy, GoesOn, stands_none, goes_none, stands_on, stands_after, goes_on, goes_whole, one_more, ascending_item, stops_at}
+use Rattle.history_restore.proofs.Each.{StandsBy, GoesOn, stands_none, goes_none, stands_on, stands_after, goes_on, goes_whole, one_more, ascending_item, stops_at, turn_more, turn_none}
 use Rattle.history_restore.proofs.whole.restore_each.Goals as goal
 
 pub loop-aim-init : goal.loop-aim-init
@@ -15,6 +15,7 @@ loop-aim-init g c =
     record {
       stands = stands_none s;
       goes = subst (λ (l : List Restored). GoesOn s s c.args.at [] l) (sym c.new-all.ensures.items) (goes_none s c.args.at);
+      turn = subst (λ (l : List Restored). RestoresInTurn s (store_of c.args.drive.now) c.args.now c.args.at l s (store_of c.args.drive.now)) (sym c.new-all.ensures.items) (turn_none s (store_of c.args.drive.now) c.args.now c.args.at);
       counted = subst (IsCounted s s c.args.now) (sym c.new-all.ensures.items) (counted_none s c.args.now);
     }
 
@@ -36,6 +37,17 @@ loop-aim-preserved g c =
       goes = subst (λ (l : List Restored). GoesOn s later c.args.at (take (i + 1) aims) l) (sym c.in-Ok.ensures.items)
           (subst (λ (l : List Aim). GoesOn s later c.args.at l (c.loop-aim.all.items ++ c.in_ok-restored.restored ∷ [])) (sym more)
           (goes_on s middle later c.args.at (take i aims) a c.loop-aim.all.items c.in_ok-restored.restored before.stands before.goes item.0 item.1 c.in_ok-restored.ensures.restored calls.others calls.past));
+      turn = subst (λ (l : List Restored). RestoresInTurn s (store_of c.args.drive.now) c.args.now c.args.at l later (store_of c.restore_object.new.drive)) (sym c.in-Ok.ensures.items)
+          (turn_more s (store_of c.args.drive.now) middle (store_of c.loop-aim.drive) later (store_of c.restore_object.new.drive) c.args.now c.args.at c.loop-aim.all.items a c.in_ok-restored.restored before.turn
+          (record {
+            restores = c.in_ok-restored.ensures.restored;
+            taken = c.in_ok-restored.ensures.taken;
+            stored = c.in_ok-restored.ensures.stored;
+            moved = c.in_ok-restored.ensures.moved;
+            dated = calls.dated;
+            others = calls.others;
+            past = calls.past;
+          }));
       counted = subst (IsCounted s later c.args.now) (sym c.in-Ok.ensures.items)
           (counted_more s middle later c.args.now c.loop-aim.all.items c.in_ok-restored.restored before.counted c.in_ok-restored.ensures.restored.next c.in_ok-restored.ensures.moved calls.dated);
     }
@@ -50,6 +62,7 @@ returns g c =
     record {
       each = goes_whole s later c.args.at aims c.loop-aim.all.items (subst (λ (l : List Aim). GoesOn s later c.args.at l c.loop-aim.all.items) all c.loop-aim.invariant.goes);
       stopped = tt;
+      turn = c.loop-aim.invariant.turn;
       counted = c.loop-aim.invariant.counted;
       rest = stands.rest;
       past = stands.past;

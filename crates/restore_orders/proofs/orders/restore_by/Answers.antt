@@ -16,6 +16,6 @@ returns g c =
       restores = on_ok_weaker c.check_left.result
           (λ left. subst (λ (d : DriveFields). RestoresBy d later order before after) c.session.ensures.same
           (restores_by begun c.has_object-had.new.drive c.restore_at.new.drive later order c.in_ok-now.now c.has_object-had.result before after
-          c.has_object-had.ensures.state c.has_object-had.ensures.store c.check_left.ensures.state c.in_ok-now.ensures.at c.in_ok-now.ensures.near c.has_object-had.ensures.there left c.in_ok-restore_at.ensures.restores))
+          c.has_object-had.ensures.state c.has_object-had.ensures.store c.check_left.ensures.state c.check_left.ensures.store c.in_ok-now.ensures.at c.in_ok-now.ensures.near c.has_object-had.ensures.there left c.in_ok-restore_at.ensures.restores))
           c.check_left.ensures.left;
     }

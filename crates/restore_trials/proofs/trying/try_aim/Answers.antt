@@ -1,8 +1,10 @@
-use Rattle.std.proofs.Common.{◌∙◌, inl, inr, refl, sym}
+use Rattle.std.proofs.Common.{◌∙◌, inl, inr, refl, sym, ap}
 use Rattle.std.proofs.lemmas.Bool.{true≢false}
 use Rattle.std.proofs.lemmas.Result.{on_ok_weaker}
-use Rattle.restore_trials.specs.Trying.{IsRestoredOver}
-use Rattle.restore_trials.proofs.Carrying.{carries_full, carries_spaceless, carries_tried}
+use Rattle.history_restore.specs.Asking.{is_of_room}
+use Rattle.restore_search.specs.declared.surveys.Lack.TheVariants.{Blocks, Journal}
+use Rattle.restore_trials.specs.Trying.{IsRestoredOver, lack_of}
+use Rattle.restore_trials.proofs.Carrying.{carries_lacking, carries_tried}
 use Rattle.restore_trials.proofs.Serving.{never_fine}
 use Rattle.restore_trials.proofs.trying.try_aim.Goals as goal
 
@@ -11,11 +13,15 @@ returns-in-Ok g c =
     let over : IsRestoredOver c.args.drive.now c.args.moments.now c.args.aim.now c.restore_object.new.drive =
     record {
       restored = c.in-Ok.field-0;
-      restores = c.in-Ok.ensures.restored;
-      moved = c.in-Ok.ensures.moved;
-      dated = c.restore_object.ensures.dated;
-      others = c.restore_object.ensures.others;
-      past = c.restore_object.ensures.past;
+      restores = record {
+        restores = c.in-Ok.ensures.restored;
+        taken = c.in-Ok.ensures.taken;
+        stored = c.in-Ok.ensures.stored;
+        moved = c.in-Ok.ensures.moved;
+        dated = c.restore_object.ensures.dated;
+        others = c.restore_object.ensures.others;
+        past = c.restore_object.ensures.past;
+      };
     } in
     record {
       carries = carries_tried c.args.moments.now c.args.drive.now c.restore_object.new.drive c.args.aim.now c.args.lacking.now.items (inl over);
@@ -26,7 +32,7 @@ pub returns-in-ChainFull : goal.returns-in-ChainFull
 returns-in-ChainFull g c = record {
   carries =
       on_ok_weaker c.leave.result
-      (carries_full c.args.moments.now c.args.drive.now c.restore_object.new.drive c.args.aim.now c.in-Err.failure c.args.lacking.now.items c.leave.new.lacking.items c.in-Err.ensures.stopped c.in-Err.ensures.full c.in-ChainFull.is)
+      (carries_lacking c.args.moments.now c.args.drive.now c.restore_object.new.drive c.args.aim.now c.in-Err.failure Journal c.args.lacking.now.items c.leave.new.lacking.items c.in-Err.ensures.stopped c.in-Err.ensures.lacks (ap is_of_room c.in-ChainFull.is) (ap lack_of c.in-ChainFull.is))
       c.leave.ensures;
   fine = never_fine c.leave.result c.args.lacking.now.items c.leave.new.lacking.items _ _ c.leave.ensures;
 }
@@ -35,7 +41,7 @@ pub returns-in-NoSpace : goal.returns-in-NoSpace
 returns-in-NoSpace g c = record {
   carries =
       on_ok_weaker c.leave-in-NoSpace.result
-      (carries_spaceless c.args.moments.now c.args.drive.now c.restore_object.new.drive c.args.aim.now c.in-Err.failure c.args.lacking.now.items c.leave-in-NoSpace.new.lacking.items c.in-Err.ensures.stopped c.in-NoSpace.is)
+      (carries_lacking c.args.moments.now c.args.drive.now c.restore_object.new.drive c.args.aim.now c.in-Err.failure Blocks c.args.lacking.now.items c.leave-in-NoSpace.new.lacking.items c.in-Err.ensures.stopped c.in-Err.ensures.lacks (ap is_of_room c.in-NoSpace.is) (ap lack_of c.in-NoSpace.is))
       c.leave-in-NoSpace.ensures;
   fine = never_fine c.leave-in-NoSpace.result c.args.lacking.now.items c.leave-in-NoSpace.new.lacking.items _ _ c.leave-in-NoSpace.ensures;
 }
