@@ -1,5 +1,5 @@
 //! `list`: the objects of a moment.
-ghost use Rattle.std.specs.Prelude.{◌+◌, ◌^◌, ◌<◌, IfOk, OnOk};
+ghost use Rattle.std.specs.Prelude.{◌≡◌, ◌+◌, ◌^◌, ◌<◌, IfOk, OnOk};
 ghost use Rattle.drive.specs.Fields.{state_in, store_of};
 ghost use Rattle.history_versions.specs.Lines.{line_with_versions};
 ghost use Rattle.s4_reading.specs.Listing.{Lists, ListsRows, asked_by, line_asked};
