@@ -1,13 +1,13 @@
 -- How many bytes of entries changes have.
-use Rattle.std.proofs.Common.{inl, inr, nat_lt, ◌≡◌, ◌∙◌, ◌+◌, ◌-◌, ◌*◌, ◌/◌, ◌<◌, ◌≤◌, ◌==◌, min, ℕ, zero, suc, Bool, true, false, cond, List, [], ◌∷◌, ◌++◌, length, take, get_or, sum, Option, None, Some, refl, sym, ap, arith}
+use Rattle.std.proofs.Common.{inl, inr, nat_lt, ◌≡◌, ◌∙◌, ◌+◌, ◌-◌, ◌*◌, ◌/◌, ◌<◌, ◌≤◌, ◌==◌, min, ℕ, zero, suc, Bool, true, false, cond, List, [], ◌∷◌, ◌++◌, length, sum, Option, None, Some, refl, sym, ap, arith}
 use Rattle.std.proofs.lemmas.Bool.{cases_lt, le-ltb, lt-ltb, ne_eqb}
 use Rattle.std.proofs.lemmas.List.Sums.{sum_by-cons}
 use Rattle.std.proofs.lemmas.List.{length-drop, length-take-le}
-use Rattle.std.specs.Prelude.{is_some, drop}
+use Rattle.std.specs.Prelude.{drop}
 use Rattle.s4_types.specs.declared.changes.Change.{Change as ChangeOf}
 use Rattle.s4_model.specs.Refusals.{last_number}
 use Rattle.object_map.specs.declared.map.Row.{Row}
-use Rattle.s4_types.specs.declared.limits.TheConstants.{CHAIN_ENTRY_BYTES, ENTRY_TRIPLES, SHORTEST_ENTRY_BYTES, TRIPLE_BYTES, OBJECT_BLOCKS}
+use Rattle.s4_types.specs.declared.limits.TheConstants.{CHAIN_ENTRY_BYTES, ENTRY_TRIPLES, SHORTEST_ENTRY_BYTES, TRIPLE_BYTES}
 use Rattle.codec.specs.Entry.{pair_length}
 use Rattle.codec.specs.declared.inodes.Inode.{Inode}
 use Rattle.chain_rewriting.proofs.Bytes.{pair_none}

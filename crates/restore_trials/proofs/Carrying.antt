@@ -1,5 +1,5 @@
 -- How trials go on, object by object.
-use Rattle.std.proofs.Common.{◌≡◌, ℕ, true, List, [], ◌∷◌, ◌++◌, Some, inr, sym, refl, subst}
+use Rattle.std.proofs.Common.{◌≡◌, true, List, [], ◌∷◌, ◌++◌, Some, inr, sym, refl, subst}
 use Rattle.std.proofs.SliceLists.{all_by_recursion_push}
 use Rattle.drive.specs.Fields.{DriveFields, state_in, store_of}
 use Rattle.history_restore.specs.Asking.{is_of_room}

@@ -1,4 +1,4 @@
-use Rattle.std.proofs.Common.{◌≡◌, ◌∙◌, ◌+◌, ◌≤◌, ℕ, Bool, cond, sym, ap, arith}
+use Rattle.std.proofs.Common.{◌≡◌, ◌∙◌, ℕ, Bool, cond, sym, ap, arith}
 use Rattle.version_store.specs.Costs.{is_past}
 use Rattle.version_store.proofs.Costing.{past_more}
 use Rattle.history_restore.proofs.costs.blocks_past.Goals as goal
