@@ -45,7 +45,7 @@ _s4_files() {
 
 _s4_options() {
     case "$command" in
-        list) echo --at --deleted --moments --json --help --version ;;
+        list) echo --at --deleted --versions --contents --moments --json --help --version ;;
         log) echo --object --name --since --until --kind --limit --by-object --reverse --stat --moments --json --help --version ;;
         audit) echo --object --since --until --kind --limit --moments --json --help --version ;;
         cat) echo --at --name --help --version ;;

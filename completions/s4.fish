@@ -65,6 +65,8 @@ complete -c s4 -n "__s4_is help 0" -a report -d 'Prints a page for browsers: the
 complete -c s4 -n "__s4_is help 0" -a help -d 'Prints what a command does'
 complete -c s4 -n "__s4_is 'list'" -l at -r -f -d 'At this moment, in place of the clock\'s'
 complete -c s4 -n "__s4_is 'list'" -l deleted -d 'Also those that were deleted before'
+complete -c s4 -n "__s4_is 'list'" -l versions -d 'Each with all its versions up to the moment'
+complete -c s4 -n "__s4_is 'list'" -l contents -d 'Each version with all its bytes, in hex'
 complete -c s4 -n "__s4_is 'list'" -l moments -d 'Prints moments as numbers, also where they are dates'
 complete -c s4 -n "__s4_is 'list'" -l json -d 'Prints one JSON object a line'
 complete -c s4 -n "__s4_is 'list'" -l help -d 'Prints what the program does, or a command'

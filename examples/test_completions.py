@@ -32,6 +32,8 @@ CASES = [
     (["s4", "cat", "--at=5", ""], FILES),
     (["s4", "list", "--json", "--at", "5", "d"], ["drive.image", "drives"]),
     (["s4", "restore", "--object", "1", "--object", "2", "--at", "5", "--dry-run", "o"], ["other drive"]),
+    (["s4", "list", "--json", "--v"], ["--version", "--versions"]),
+    (["s4", "list", "--json", "--versions", "--c"], ["--contents"]),
     (["s4", "list", "--", "--j"], []),
     (["s4", "list", "--", "d"], ["drive.image", "drives"]),
     (["s4", "log", "--kind", ""], ["attribute", "cut", "deleted", "lengthened", "made", "touched", "written"]),

@@ -33,7 +33,8 @@ from .moments import When
 from .pipeline import Pipeline, Reply
 from .retry import NEVER, Retry
 from .rows import (Aged, Change, ChangeKind, Checked, Compacted, Difference, Exported, Flush, Hidden,
-                   HiddenCounts, HiddenVersions, Info, Listed, Range, Restored, Stat, Times, Widened)
+                   HiddenCounts, HiddenVersions, Info, Listed, ListedVersion, Range, Restored, Stat,
+                   Times, Widened)
 from .tls import Tls
 from .wire import ATTRIBUTE_BYTES, AUDIT_ROWS, BODY_BYTES, LAST, OBJECT_BYTES, READ_BYTES, WRITE_BYTES
 from .wire import Attributes, AuditKind, AuditRow, Created
@@ -46,7 +47,7 @@ __all__ = [
     "ClockEnd",
     "Compacted", "Created", "Difference", "Disconnected", "Drive", "Ended", "Error", "Expired", "Export", "Exported", "Facts", "Flush",
     "Flushed", "Future", "Hidden", "HiddenCounts", "HiddenVersions", "Image", "ImageServed", "InUse", "Info", "Kind", "LAST",
-    "Listed", "Moment", "NEVER", "NoMemory", "NoObject", "NoRoom", "NoSpace", "NotAdmin", "NotAsked", "OBJECT_BYTES",
+    "Listed", "ListedVersion", "Moment", "NEVER", "NoMemory", "NoObject", "NoRoom", "NoSpace", "NotAdmin", "NotAsked", "OBJECT_BYTES",
     "Past", "Peer", "Pipeline", "ProgramFailed", "READ_BYTES", "REFUSALS", "Range", "Reader", "Refused", "Reply", "ReplyLost",
     "Restored", "Retry", "Span", "Stale", "Stat", "Times", "Tls", "TooLarge", "TooManySpans", "WRITE_BYTES",
     "When", "Widened", "Writer",

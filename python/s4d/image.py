@@ -83,11 +83,16 @@ class Image:
         return Drive.image(self.path, self.program, role, tick=tick, upkeep=upkeep, waits=True, timeout=self.timeout,
                            retry=retry)
 
-    def list(self, at: Optional[Moment] = None, *, deleted: bool = False) -> List[Listed]:
+    def list(self, at: Optional[Moment] = None, *, deleted: bool = False, versions: bool = False,
+             contents: bool = False) -> List[Listed]:
         """The objects that are live at a moment, now where none is given, by ascending number; with `deleted` also those
         that were deleted before.
+
+        With `versions` each has its versions that can be read at the moment or before, the oldest first, and with
+        `contents` besides each of these has its bytes.
         """
-        return rows.rows_of(self._s4("list", [], at=at, deleted=deleted, json=True), rows.listed)
+        printed = self._s4("list", [], at=at, deleted=deleted, versions=versions, contents=contents, json=True)
+        return rows.rows_of(printed, rows.listed)
 
     def log(self, *, object: Optional[int] = None, name: Optional[str] = None, since: Optional[Moment] = None,
             until: Optional[Moment] = None, kind: Union[ChangeKind, str, None] = None, limit: Optional[int] = None,

@@ -43,8 +43,27 @@ class ChangeKind(Enum):
 
 
 @dataclass(frozen=True)
+class ListedVersion:
+    """A version of an object: the first moment at which it can be read, when it was changed to it, its size in bytes.
+
+    The contents are None where they weren't asked for.
+    """
+
+    moment: int
+    time: Optional[datetime]
+    changed: int
+    changed_time: Optional[datetime]
+    size: int
+    attribute: bytes
+    contents: Optional[bytes]
+
+
+@dataclass(frozen=True)
 class Listed:
-    """An object at a moment: `live` or `deleted`, its size in bytes. The text is None where the attribute is no UTF-8."""
+    """An object at a moment: `live` or `deleted`, its size in bytes. The text is None where the attribute is no UTF-8.
+
+    It has no versions where these weren't asked for.
+    """
 
     object: int
     state: str
@@ -55,6 +74,7 @@ class Listed:
     changed_time: Optional[datetime]
     attribute: bytes
     attribute_text: Optional[str]
+    versions: Tuple[ListedVersion, ...] = ()
 
 
 @dataclass(frozen=True)
@@ -284,7 +304,13 @@ def time_of(text: Optional[str]) -> Optional[datetime]:
 
 def listed(row: Json) -> Listed:
     return Listed(row["object"], row["state"], row["size"], row["created"], time_of(row["created_time"]), row["changed"],
-                  time_of(row["changed_time"]), bytes.fromhex(row["attribute"]), row["attribute_text"])
+                  time_of(row["changed_time"]), bytes.fromhex(row["attribute"]), row["attribute_text"],
+                  tuple(listed_version(it) for it in row.get("versions", ())))
+
+
+def listed_version(row: Json) -> ListedVersion:
+    return ListedVersion(row["moment"], time_of(row["time"]), row["changed"], time_of(row["changed_time"]), row["size"],
+                         bytes.fromhex(row["attribute"]), bytes_of(row.get("contents")))
 
 
 def logged(row: Json) -> Union[Change, Hidden, Flush]:

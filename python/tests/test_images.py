@@ -9,7 +9,7 @@ from datetime import datetime, timedelta, timezone
 from unittest import mock
 
 import s4d
-from s4d import (Aged, AuditKind, AuditRow, Change, ChangeKind, Flush, Hidden, HiddenVersions, Listed, Range, Restored,
+from s4d import (Aged, AuditKind, AuditRow, Change, ChangeKind, Flush, Hidden, HiddenVersions, Listed, ListedVersion, Range, Restored,
                  Stat, Widened, program)
 
 from s4d.moments import moment_of
@@ -44,6 +44,19 @@ class Images(unittest.TestCase):
         self.assertEqual(self.image.list(), [note, tool])
         self.assertEqual(self.image.list(self.before), [Listed(1, "live", 25, 1, None, 5, None, b"note", "note")])
         self.assertEqual(self.image.list(at=4, deleted=True)[1], Listed(2, "deleted", 0, 3, None, 3, None, b"\0\xff", None))
+
+    def test_list_versions(self):
+        whole = b"meet at the mill\nat noon\n"
+        listed = self.image.list(versions=True, contents=True)
+        self.assertEqual(listed[0].versions, (
+            ListedVersion(1, None, 1, None, 0, b"note", b""),
+            ListedVersion(3, None, 2, None, 17, b"note", whole[:17]),
+            ListedVersion(5, None, 5, None, 25, b"note", whole),
+            ListedVersion(6, None, 6, None, 25, b"note", whole[:13] + b"oor" + whole[16:]),
+            ListedVersion(7, None, 7, None, 25, b"--memo", whole[:13] + b"oor" + whole[16:])))
+        then = self.image.list(self.before, versions=True)
+        self.assertEqual([(it.moment, it.size, it.contents) for it in then[0].versions], [(1, 0, None), (3, 17, None), (5, 25, None)])
+        self.assertEqual(self.image.list(deleted=True, versions=True)[1].versions, (ListedVersion(3, None, 3, None, 0, b"\0\xff", None),))
 
     def test_log(self):
         log = self.image.log()

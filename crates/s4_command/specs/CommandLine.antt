@@ -41,11 +41,13 @@ values_rule name = record (new_rule name) { long = Some name; action = Some Appe
 abbrev pub optional_rule : Text → Rule
 optional_rule name = record (new_rule name) { action = Some Set; value_names = 1 }
 
--- `list [--at M] [--deleted] [--moments] [--json] IMAGE`
+-- `list [--at M] [--deleted] [--versions] [--contents] [--moments] [--json] IMAGE`
 abbrev pub list_line : App
-list_line = with_rule (with_rule (with_rule (with_rule (with_rule (new_app (codes "list"))
+list_line = with_rule (with_rule (with_rule (with_rule (with_rule (with_rule (with_rule (new_app (codes "list"))
     (value_rule (codes "at")))
     (flag_rule (codes "deleted")))
+    (flag_rule (codes "versions")))
+    (flag_rule (codes "contents")))
     (flag_rule (codes "moments")))
     (flag_rule (codes "json")))
     (needed_rule (codes "image"))
@@ -243,6 +245,10 @@ IsOneGiven one other rows = first_of one rows ≡ None → first_of other rows �
 abbrev pub AreFlagsApart : Text → Text → List Row → Type 0
 AreFlagsApart one other rows = IsGiven one rows → IsGiven other rows → ⊥
 
+-- where the one flag is given, the other is
+abbrev pub IsFlagBeside : Text → Text → List Row → Type 0
+IsFlagBeside one other rows = IsGiven one rows → IsGiven other rows
+
 -- the numbers are what the texts read as, one of each, in their order
 abbrev pub AreNumbers : List Text → List ℕ → Type 0
 AreNumbers = AllZip (λ text. IsNumber (Some text))
@@ -261,11 +267,16 @@ abbrev pub IsDurationAsked : Text → List Row → Option ℕ → Type 0
 IsDurationAsked name rows None = first_of name rows ≡ None
 IsDurationAsked name rows (Some micros) = IsDurationAt (first_of name rows) micros
 
--- The matches of `list` have this text, this moment and these flags.
+-- The matches of `list` have this text, this moment and these flags, of which `contents` isn't there without `versions`, and `versions` not
+-- without `json`.
 pub record SpellsList (now : ℕ) (rows : List Row) (list : ListAsked) : Type 0 where
   pub image : first_of (codes "image") rows ≡ Some list.image.now
   pub at : IsMomentAsked now (codes "at") rows list.at
+  pub contents_beside : IsFlagBeside (codes "contents") (codes "versions") rows
+  pub versions_beside : IsFlagBeside (codes "versions") (codes "json") rows
   pub deleted : (list.deleted ≡ true) ↔ IsGiven (codes "deleted") rows
+  pub versions : (list.versions ≡ true) ↔ IsGiven (codes "versions") rows
+  pub contents : (list.contents ≡ true) ↔ IsGiven (codes "contents") rows
   pub moments : (list.moments ≡ true) ↔ IsGiven (codes "moments") rows
   pub json : (list.json ≡ true) ↔ IsGiven (codes "json") rows
 

@@ -4,7 +4,7 @@ ghost use Rattle.std.specs.Prelude.{◌≡◌, IfNone, IfSome, None};
 ghost use Rattle.clap.specs.Walk.{rows_of};
 ghost use Rattle.clap.specs.Matches.{found_of};
 ghost use Rattle.s4_command.specs.CommandLine.{AreApart, AreFlagsApart, IsKindAsked, IsOneGiven};
-ghost use Rattle.s4_command.specs.CommandLine.{kind_word};
+ghost use Rattle.s4_command.specs.CommandLine.{IsFlagBeside, kind_word};
 
 use crate::reading::note;
 use crate::{ChangeKind, WordFault};
@@ -64,6 +64,24 @@ pub(crate) fn flags_apart<'a>(
 {
     if is_given(matches, one) && is_given(matches, other) {
         note(noted, WordFault::Both { one, other });
+    }
+}
+
+/// Notes a fault where the one flag is given without the other.
+pub(crate) fn flag_beside<'a>(
+    matches: &ArgMatches<'a>,
+    one: &'static str,
+    other: &'static str,
+    noted: &mut Option<WordFault<'a>>,
+)
+    ensures beside { noted.new ≡ None
+        → IsFlagBeside one.now other.now (rows_of (found_of matches.now)) }
+    ensures kept { noted.new ≡ None → noted.old ≡ None }
+    ensures usage { IsFlagBeside one.now other.now (rows_of (found_of matches.now))
+        → noted.old ≡ None → noted.new ≡ None }
+{
+    if is_given(matches, one) && !is_given(matches, other) {
+        note(noted, WordFault::Alone { one, other });
     }
 }
 

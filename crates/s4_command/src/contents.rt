@@ -4,7 +4,7 @@ ghost use Rattle.clap.specs.Walk.{rows_of};
 ghost use Rattle.clap.specs.Matches.{found_of};
 ghost use Rattle.s4_command.specs.CommandLine.{Spells, SpellsNone};
 
-use crate::choosing::{one_at_least, one_at_most};
+use crate::choosing::{flag_beside, one_at_least, one_at_most};
 use crate::reading::{moment_in, needed_text_in, number_in};
 use crate::{Command, WordFault};
 use clap::ArgMatches;
@@ -20,6 +20,10 @@ pub struct ListAsked<'a> {
     pub at: Option<MomentWord>,
     /// Whether those that were deleted before are listed too.
     pub deleted: bool,
+    /// Whether each has all its versions up to the moment.
+    pub versions: bool,
+    /// Whether each version has all its bytes.
+    pub contents: bool,
     /// Whether moments are numbers also where they could be dates.
     pub moments: bool,
     pub json: bool,
@@ -56,12 +60,16 @@ pub(crate) fn list_asked<'a>(found: &ArgMatches<'a>, now: u64) -> Result<Command
 {
     let mut fault = None;
     let image = needed_text_in(found, "image", &mut fault);
+    flag_beside(found, "contents", "versions", &mut fault);
+    flag_beside(found, "versions", "json", &mut fault);
     let at = moment_in(found, "at", now, &mut fault);
     match fault {
         None => Ok(Command::List(ListAsked {
             image,
             at,
             deleted: is_given(found, "deleted"),
+            versions: is_given(found, "versions"),
+            contents: is_given(found, "contents"),
             moments: is_given(found, "moments"),
             json: is_given(found, "json"),
         })),

@@ -41,6 +41,11 @@ pub enum WordFault<'a> {
         one: &'static str,
         other: &'static str,
     },
+    /// The one is given without the other.
+    Alone {
+        one: &'static str,
+        other: &'static str,
+    },
     /// The words give no command.
     Unspelled,
 }
@@ -64,6 +69,7 @@ impl<'a> WordFault<'a> {
             WordFault::NoKind { word, kinds } => (word, " is no kind of change; give ", kinds, ""),
             WordFault::Both { one, other } => (one, " and ", other, " can't be given together"),
             WordFault::Neither { one, other } => (one, " or ", other, " has to be given"),
+            WordFault::Alone { one, other } => (one, " can't be given without ", other, ""),
             WordFault::Unspelled => ("the words spell no command", "; ", "try --help", ""),
         }
     }

@@ -50,6 +50,14 @@ pub(crate) const ROWS: &[CommandRow] = &[
         arguments: &[
             AT,
             Flag("deleted", "Also those that were deleted before"),
+            Flag(
+                "versions",
+                "Each with all its versions up to the moment; with --json",
+            ),
+            Flag(
+                "contents",
+                "Each version with all its bytes, in hex; with --versions",
+            ),
             MOMENTS,
             JSON,
             IMAGE,

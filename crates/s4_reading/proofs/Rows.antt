@@ -12,41 +12,59 @@ use Rattle.segment_word.specs.Layout.{word_of, frame_at}
 use Rattle.version_store.specs.Store.{StoreFields}
 use Rattle.history_view.specs.declared.listing.Listed.{Listed}
 use Rattle.history_view.specs.Listing.{AreListedFrom, IsListedNext, IsPassed}
-use Rattle.moment_words.specs.declared.printing.MomentStyle.{MomentStyle}
+use Rattle.history_versions.specs.Lines.{line_with_versions}
+use Rattle.history_versions.specs.declared.lines.VersionsAsked.{VersionsAsked}
 use Rattle.segment_word.proofs.Words.{code_below_four}
-use Rattle.s4_reading.specs.Listing.{ListsRows, line_of_listed}
+use Rattle.s4_reading.specs.Listing.{ListsRows}
 use Rattle.s4_reading.specs.Telling.{CountsObjects, objects_hidden}
 use Rattle.history_view.proofs.Fronts.{IsFront, front_begun, front_more, front_whole, flat_more}
 
 -- ---- lists
 
 -- the objects up to one are listed
-pub record ListedTo (s : State) (store : StoreFields) (t : ℕ) (deleted json : Bool) (style : MomentStyle) (last : ℕ) (output output' : Option (List ℕ)) : Type 0 where
+pub record ListedTo (s : State) (store : StoreFields) (t : ℕ) (deleted : Bool) (line : Listed → List ℕ) (last : ℕ) (output output' : Option (List ℕ)) : Type 0 where
   pub rows : List Listed
   pub front : IsFront (AreListedFrom s store deleted t) rows last
-  pub wrote : Appends output output' (flat_map (line_of_listed json style) rows)
+  pub wrote : Appends output output' (flat_map line rows)
 
 -- none is at first
-pub none_listed : (s : State) (store : StoreFields) (t : ℕ) (deleted json : Bool) (style : MomentStyle) (output : Option (List ℕ)) → ListedTo s store t deleted json style 0 output output
-none_listed s store t deleted json style output = record { rows = []; front = front_begun (AreListedFrom s store deleted t); wrote = Appends-nil output }
+pub none_listed : (s : State) (store : StoreFields) (t : ℕ) (deleted : Bool) (line : Listed → List ℕ) (output : Option (List ℕ)) → ListedTo s store t deleted line 0 output output
+none_listed s store t deleted line output = record { rows = []; front = front_begun (AreListedFrom s store deleted t); wrote = Appends-nil output }
 
 -- the next one is
-pub listed_on : (s : State) (store : StoreFields) (t : ℕ) (deleted json : Bool) (style : MomentStyle) (last : ℕ) (row : Listed) (a b c : Option (List ℕ)) → ListedTo s store t deleted json style last a b → IsListedNext s store deleted t last row
-    → Appends b c (line_of_listed json style row) → ListedTo s store t deleted json style row.object a c
-listed_on s store t deleted json style last row a b c before next wrote = record {
+pub listed_on : (s : State) (store : StoreFields) (t : ℕ) (deleted : Bool) (line : Listed → List ℕ) (last : ℕ) (row : Listed) (a b c : Option (List ℕ)) → ListedTo s store t deleted line last a b → IsListedNext s store deleted t last row
+    → Appends b c (line row) → ListedTo s store t deleted line row.object a c
+listed_on s store t deleted line last row a b c before next wrote = record {
   rows = before.rows ++ row ∷ [];
   front = front_more (AreListedFrom s store deleted t) before.rows row last row.object before.front (λ rest more. (next, more));
-  wrote = subst (Appends a c) (sym (flat_more (line_of_listed json style) before.rows row)) (Appends-trans a b c (flat_map (line_of_listed json style) before.rows) (line_of_listed json style row) before.wrote wrote);
+  wrote = subst (Appends a c) (sym (flat_more line before.rows row)) (Appends-trans a b c (flat_map line before.rows) (line row) before.wrote wrote);
 }
 
 -- all are, where nothing is listed after the last
-pub all_listed : (s : State) (store : StoreFields) (t : ℕ) (deleted json : Bool) (style : MomentStyle) (last : ℕ) (a b : Option (List ℕ)) → ListedTo s store t deleted json style last a b → ((o : ℕ) → last < o → IsPassed s store deleted t o)
-    → ListsRows s store t deleted json style a b
-all_listed s store t deleted json style last a b before none = record {
+pub all_listed : (s : State) (store : StoreFields) (t : ℕ) (deleted : Bool) (line : Listed → List ℕ) (last : ℕ) (a b : Option (List ℕ)) → ListedTo s store t deleted line last a b → ((o : ℕ) → last < o → IsPassed s store deleted t o)
+    → ListsRows s store t deleted line a b
+all_listed s store t deleted line last a b before none = record {
   rows = before.rows;
   listed = front_whole (AreListedFrom s store deleted t) before.rows last before.front none;
   wrote = before.wrote;
 }
+
+-- ---- drives that stay
+
+-- what is listed next of an equal drive is the same
+pub next_as_alike : (s s' : State) (store store' : StoreFields) (deleted : Bool) (t after : ℕ) (row : Listed) → s ≡ s' → store ≡ store' → IsListedNext s store deleted t after row → IsListedNext s' store' deleted t after row
+next_as_alike s s' store store' deleted t after row state stored next =
+    subst (λ (x : StoreFields). IsListedNext s' x deleted t after row) stored (subst (λ (x : State). IsListedNext x store deleted t after row) state next)
+
+-- so is what is passed
+pub passed_as_alike : (s s' : State) (store store' : StoreFields) (deleted : Bool) (t o : ℕ) → s ≡ s' → store ≡ store' → IsPassed s store deleted t o → IsPassed s' store' deleted t o
+passed_as_alike s s' store store' deleted t o state stored passed =
+    subst (λ (x : StoreFields). IsPassed s' x deleted t o) stored (subst (λ (x : State). IsPassed x store deleted t o) state passed)
+
+-- and the line of an object with its versions
+pub line_as_alike : (s s' : State) (store store' : StoreFields) (asked : VersionsAsked) (row : Listed) (a b : Option (List ℕ)) → s ≡ s' → store ≡ store' → Appends a b (line_with_versions s store asked row) → Appends a b (line_with_versions s' store' asked row)
+line_as_alike s s' store store' asked row a b state stored wrote =
+    subst (λ (x : StoreFields). Appends a b (line_with_versions s' x asked row)) stored (subst (λ (x : State). Appends a b (line_with_versions x store asked row)) state wrote)
 
 -- ---- counts
 

@@ -1,5 +1,6 @@
 use Rattle.std.proofs.Common.{◌≡◌, ◌-◌, ◌+◌, ◌<◌, ◌^◌}
 use Rattle.drive.specs.Fields.{state_in, store_of}
+use Rattle.s4_reading.specs.Listing.{line_of_listed}
 use Rattle.s4_reading.proofs.Rows.{ListedTo}
 use Rattle.s4_reading.proofs.listing.write_listed.Given as goal
 
@@ -9,7 +10,7 @@ invariant-loop-row g l = record {
   failures : g.W.Sink.failures l.writer + 1 < 2 ^ 64;
   ledger : l.drive.ledger ≡ l.initial.drive.ledger;
   store : store_of l.drive ≡ store_of l.initial.drive;
-  listed : ListedTo (state_in l.initial.drive) (store_of l.initial.drive) l.moment l.deleted l.form.json l.form.style l.last (g.W.Sink.passed l.initial.writer) (g.W.Sink.passed l.writer);
+  listed : ListedTo (state_in l.initial.drive) (store_of l.initial.drive) l.moment l.deleted (line_of_listed l.form.json l.form.style) l.last (g.W.Sink.passed l.initial.writer) (g.W.Sink.passed l.writer);
 }
 
 abbrev pub decreases-loop-row : goal.decreases-loop-row

@@ -1,0 +1,4 @@
+mod Begun
+mod Refused
+mod Texts
+mod Written
