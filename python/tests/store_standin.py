@@ -91,8 +91,8 @@ def listed(words):
                    "changed": last.moment, "changed_time": None, "attribute": last.attribute.hex(), "attribute_text": None}
             if "--versions" in words:
                 ends = [*(it.moment for it in versions[1:]), drive.clock + 1]
-                row["versions"] = [{"moment": it.moment, "size": len(it.data), "contents": it.data.hex()}
-                                   for it, end in zip(versions, ends) if end > drive.floor]
+                row["versions"] = [{"moment": max(it.moment, drive.floor), "changed": it.moment, "size": len(it.data),
+                                    "contents": it.data.hex()} for it, end in zip(versions, ends) if end > drive.floor]
             print(json.dumps(row))
 
 

@@ -19,8 +19,8 @@ from .store_standin import programs
 from .test_store import BYTES, Stores, body, got
 
 ROW = {"object": 1, "state": "live", "size": 1, "created": 2, "created_time": None, "changed": 3, "changed_time": None,
-       "attribute": b"Hk".hex(), "attribute_text": "Hk", "versions": [{"moment": 2, "size": 0, "contents": ""},
-                                                                      {"moment": 3, "size": 1, "contents": "61"}]}
+       "attribute": b"Hk".hex(), "attribute_text": "Hk", "versions": [{"moment": 2, "changed": 2, "size": 0, "contents": ""},
+                                                                      {"moment": 3, "changed": 3, "size": 1, "contents": "61"}]}
 
 
 class Told(Stores):

@@ -20,7 +20,7 @@ Moments = Dict[int, List[int]]  # of each object, the moments of its changes
 
 
 class Kept(NamedTuple):
-    """A version of an object: the moment since which it was there, and its bytes."""
+    """A version of an object: the moment of its change, which may be below the floor, and its bytes."""
 
     moment: int
     data: bytes
@@ -81,4 +81,4 @@ def take_row(found: Found, row: Dict[str, Any]) -> None:
     attribute = bytes.fromhex(row["attribute"])
     found.objects.append(Listed(row["object"], row["state"], row["size"], row["created"], None, row["changed"], None, attribute, None))
     if attribute[:1] != b"P":  # their bytes are read when somebody wants them
-        found.versions[row["object"]] = [Kept(it["moment"], bytes.fromhex(it["contents"])) for it in row["versions"]]
+        found.versions[row["object"]] = [Kept(it["changed"], bytes.fromhex(it["contents"])) for it in row["versions"]]
