@@ -6,7 +6,8 @@ use Rattle.std.specs.Option.{option_to_list}
 use Rattle.std.proofs.lemmas.List.{get_or-map, length-map, map-append, take_more}
 use Rattle.std.proofs.lemmas.List.Elements.{Contains-get_or}
 use Rattle.s4serve_command.specs.declared.doors.Door.{Door as AskedDoor}
-use Rattle.s4serve.specs.Doors.{DoorFields, IsDoorAt, HasRole, ReadsAt, ReadsDoor, asked_door}
+use Rattle.door_files.specs.Paths.{door_path}
+use Rattle.s4serve.specs.Doors.{DoorFields, HasRole, IsDoorAt, IsReadAt, ReadsAt, ReadsDoor, asked_door}
 
 -- so the doors are those that were asked for until then
 pub doors_more : (asked : List AskedDoor) (i : ℕ) (d : AskedDoor) (old new : List DoorFields) → i < length asked → old ≡ map asked_door (take i asked)
@@ -64,3 +65,11 @@ next_input R xs old new r y is some are = last_input R xs new y (subst (λ l. Al
 -- the door of a number has its own role
 pub own_role : (doors : List DoorFields) (number : ℕ) (door : DoorFields) → IsDoorAt doors number door → HasRole doors number door.role
 own_role doors number door at = (at.0, λ d. ap (λ (a : DoorFields). a.role) (at.1 d))
+
+-- the door that was found at a number is the one that was asked for there
+pub door_at : (asked doors : List DoorFields) (number : ℕ) (door : DoorFields) → doors ≡ asked → (number < length doors) × HoldsAt (λ at. door ≡ at) doors number → IsDoorAt asked number door
+door_at asked doors number door are there = subst (λ (l : List DoorFields). IsDoorAt l number door) are (there.0, λ d. sym (there.1 d))
+
+-- and what is read at that number is read at this door
+pub read_at : {Input : Type 0} (reads : Input → List ℕ → Type 0) (doors : List DoorFields) (number : ℕ) (door : DoorFields) (input : Input) → IsDoorAt doors number door → IsReadAt reads doors number input → reads input (door_path door.folder)
+read_at reads doors number door input at is = subst (λ (a : DoorFields). reads input (door_path a.folder)) (at.1 door) (is.1 door)

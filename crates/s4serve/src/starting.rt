@@ -13,7 +13,7 @@ ghost use Rattle.door_files.specs.Paths.{door_path};
 ghost use Rattle.kept_drive.specs.Collecting.{WasHad};
 ghost use Rattle.kept_drive.specs.Images.{IsFlushed};
 ghost use Rattle.s4serve.specs.Ended.{HasBeenEnded, HasBegun};
-ghost use Rattle.s4serve.specs.Doors.{IsAdministrators, ReadsDoor, asked_door};
+ghost use Rattle.s4serve.specs.Doors.{ReadsDoor, asked_door};
 ghost use Rattle.s4serve.specs.Reserves.{most_reserve, reserve_of};
 ghost use Rattle.s4serve.specs.Serving.{HasBeenStopped, HasServed, IsFound};
 ghost use Rattle.s4serve.specs.Starts.{IsStart};
@@ -161,7 +161,7 @@ fn serve_ready<
     requires read { H.has_read rt.now ready.system }
     requires start { IsStart ready.drive.timeline.clock ready.drive.timeline.window asked.now.leap
         ready.system ready.start }
-    requires begins { J.start ≡ ready.start }
+    requires starts { J.start ≡ ready.start }
     requires doors { J.doors ≡ map asked_door asked.now.doors.items }
     requires inputs { AllZip (ReadsDoor D.reads) asked.now.doors.items inputs.items }
     // Clients leave as many blocks of this drive's room as were asked for, or as a drive of so many

@@ -9,7 +9,7 @@ use Rattle.s4serve.proofs.starting.serve_ready.Goals as goal
 pub serve_kept-requires-clause-kept : goal.serve_kept-requires-clause-kept
 serve_kept-requires-clause-kept g c =
     let first = c.in_ok-first.first.kept in
-    λ lifetimes outlives. subst (λ (start : ℕ). IsKept (g.K.Keeper.may_leave first.keeper) (IsFlushed (WasHad g.J.Naming.frames g.J.Naming.base) g.J.Naming.base first.session.told.seen start first.reach)) (sym c.requires.begins) c.in_ok-first.ensures.kept
+    λ lifetimes outlives. subst (λ (start : ℕ). IsKept (g.K.Keeper.may_leave first.keeper) (IsFlushed (WasHad g.J.Naming.frames g.J.Naming.base) g.J.Naming.base first.session.told.seen start first.reach)) (sym c.requires.starts) c.in_ok-first.ensures.kept
 
 pub returns-clause-began : goal.returns-clause-began
 returns-clause-began g c =
@@ -18,5 +18,5 @@ returns-clause-began g c =
       keeper = first.keeper;
       seen = first.session.told.seen;
       reach = first.reach;
-      kept = subst (λ (start : ℕ). IsKept (g.K.Keeper.may_leave first.keeper) (IsFlushed (WasHad g.J.Naming.frames g.J.Naming.base) g.J.Naming.base first.session.told.seen start first.reach)) (sym c.requires.begins) c.in_ok-first.ensures.kept;
+      kept = subst (λ (start : ℕ). IsKept (g.K.Keeper.may_leave first.keeper) (IsFlushed (WasHad g.J.Naming.frames g.J.Naming.base) g.J.Naming.base first.session.told.seen start first.reach)) (sym c.requires.starts) c.in_ok-first.ensures.kept;
     }) c.serve_kept.ensures.stopped
