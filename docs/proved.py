@@ -22,7 +22,7 @@ in `crates/CRATE/src`, in terms of [DEFINITIONS](DEFINITIONS.md).
 **An argument in writing**, of `s4serve`, joins its clauses. A reply goes out where a receipt covers its step
 (`serve_line`), and a receipt shows that a crash left an image of the drive with as many changes, at its reach
 (`what_is_covered_is_kept`). That a crash falls between two calls of the folder, one inside a call being read as a folder whose later calls all fail; that the lock of the
-monitor orders what the receipts of several sessions say; that a real folder is as `Folder` says; that a thread which waits goes on;
+monitor orders what the receipts of several sessions say; that files are as calls answer (see `service_seen`); that a thread which waits goes on;
 that workers reach clients by `open_at` and `serve_line` alone, and which thread reads which door; that
 the end closes the drive: these no clause says.
 """
