@@ -22,7 +22,7 @@
    BATCH         requests that may be done before one wait; one where it isn't given
    FALLS_SILENT  a client may ask no more though its input is open, or not read its reply: nothing
                  may wait for it then, but `main` for a moment
-   FAULT         1 .. 15, a fault: see there */
+   FAULT         1 .. 17, a fault: see there */
 #ifndef SESSIONS
 #define SESSIONS 2
 #endif
@@ -41,6 +41,7 @@ byte kept_number;                 /* the receipt: changes that are kept, */
 byte kept_reach = AHEAD;          /* and the clock of what is kept */
 bit is_flushing, has_failed, is_short, is_stopping, has_ended;
 byte due;                         /* pieces whose replies are */
+byte sending;                     /* those of them whose replies are going out */
 byte waiting, expected;           /* sessions that wait for a flush, now and when the last one ended */
 bit is_counted[SESSIONS];         /* those of `waiting` */
 bit is_asleep[WAITERS];           /* on the one condition variable */
@@ -71,6 +72,7 @@ byte shortages = SHORTAGES;
 /* Only for what is claimed. */
 bit is_waiting[SESSIONS];         /* until its last step is kept */
 bit is_answering[SESSIONS];       /* a piece that it has begun */
+bit is_sending[SESSIONS];         /* its reply, which is kept */
 
 #ifdef FINE
 #define SECTION
@@ -246,6 +248,23 @@ inline end_replies(me) {
 #endif
 }
 
+inline begin_sending(me) {
+  SECTION { LOCK(monitor);
+    sending++;
+    is_sending[me] = 1;
+    is_news = is_stopping;
+    UNLOCK(monitor) }
+#if FAULT != 17 && FAULT != 3
+  if :: is_news -> notify_all() :: else fi
+#endif
+}
+
+inline end_sending(me) {
+  SECTION { LOCK(monitor); sending--; is_sending[me] = 0; UNLOCK(monitor) }
+}
+
+#define MAY_END (has_failed || is_stopping && due <= sending && !is_flushing)
+
 inline stop() {
   SECTION { LOCK(monitor); is_stopping = 1; UNLOCK(monitor) }
 #if FAULT != 8
@@ -268,13 +287,19 @@ inline await_last() {
        if :: unread > 0 -> break :: else fi
     od;
     do
+#if FAULT == 16
     :: is_flushing && !has_failed -> sleep(MAIN)
+#else
+    :: !MAY_END -> sleep(MAIN)
+#endif
     :: else -> break
     od;
     if
     :: !has_failed ->
        assert(flushing == 0);
-       for (each : 0 .. SESSIONS - 1) { assert(!is_answering[each] || unread > 0) }
+       for (each : 0 .. SESSIONS - 1) {
+         assert(!is_answering[each] || unread > 0 && is_sending[each])
+       }
        each = 0
     :: else
     fi;
@@ -372,7 +397,7 @@ mtype = { RECEIPT, NOT_KEPT, TO_FLUSH, WELL, SHORT, FAILED };
 proctype Session(byte me) {
   byte each;
   mtype given, came;
-  bit may_go_on, is_second, gathers, gives_up;
+  bit may_go_on, is_second, gathers, gives_up, is_news;
 #ifdef REQUESTS
   byte asked;
 #define ASKS asked < REQUESTS -> asked++;
@@ -399,10 +424,12 @@ proctype Session(byte me) {
 #endif
         await_kept(me);
         if :: given == NOT_KEPT -> end_replies(me); goto over :: else fi;
+        begin_sending(me);
 #ifdef FALLS_SILENT
         if :: mute++; unread++; false :: skip fi;            /* its client doesn't read */
 #endif
         reply(me);
+        end_sending(me);
         if
         :: !is_second -> is_second = 1                       /* another one of this piece */
         :: is_second = 0; break

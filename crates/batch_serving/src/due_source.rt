@@ -8,18 +8,18 @@ use std::sync::Wait;
 /// A source that gives no more bytes once the service is to stop. From the time that it gave some
 /// until more are asked for, their replies are due.
 #[derive(Drop)]
-pub struct DueSource<'a, S, R, T> {
+pub struct DueSource<'a, S, R, T, Q> {
     source: S,
     rt: &'a R,
-    monitor: &'a Monitor<T>,
+    monitor: &'a Monitor<T, Q>,
     is_due: bool,
     /// How often it gave no more.
     refusals: u64,
 }
 
-impl<'a, S: Source, R: Wait, T: Receipt + Drop> DueSource<'a, S, R, T> {
+impl<'a, S: Source, R: Wait, T: Receipt + Drop, Q: Drop> DueSource<'a, S, R, T, Q> {
     /// A source that gives what `source` does.
-    pub fn new(source: S, rt: &'a R, monitor: &'a Monitor<T>) -> Self
+    pub fn new(source: S, rt: &'a R, monitor: &'a Monitor<T, Q>) -> Self
         ensures source { result.source ≡ source }
         ensures refusals { result.refusals ≡ 0 }
     {
@@ -52,7 +52,7 @@ impl<'a, S: Source, R: Wait, T: Receipt + Drop> DueSource<'a, S, R, T> {
     }
 }
 
-impl<S: Source, R: Wait, T: Receipt + Drop> Source for DueSource<'_, S, R, T> {
+impl<S: Source, R: Wait, T: Receipt + Drop, Q: Drop> Source for DueSource<'_, S, R, T, Q> {
     ghost remaining = { λ s. S.remaining s.source };
 
     ghost failures = { λ s. S.failures s.source + s.refusals };

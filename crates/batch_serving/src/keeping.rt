@@ -30,17 +30,17 @@ pub trait Keeping<B> {
 
 /// What waits at a monitor, and flushes where it is to.
 #[derive(Drop)]
-pub struct AtMonitor<'a, T, R, F, S> {
+pub struct AtMonitor<'a, T, Q, R, F, S> {
     pub rt: &'a R,
-    pub monitor: &'a Monitor<T>,
+    pub monitor: &'a Monitor<T, Q>,
     pub flusher: F,
     pub steps: &'a S,
     /// What it was given last.
     pub receipt: Option<T>,
 }
 
-impl<B: Step, T: Receipt + Drop, R: Wait + Clock, F: Flush<T>, S: Steps> Keeping<B>
-    for AtMonitor<'_, T, R, F, S> {
+impl<B: Step, T: Receipt + Drop, Q: Drop, R: Wait + Clock, F: Flush<T>, S: Steps> Keeping<B>
+    for AtMonitor<'_, T, Q, R, F, S> {
     // Then it holds a receipt that covers the backend's last step.
     ghost waits = { λ old backend is_kept new.
         HasWaited B.is_at T.number T.reach is_kept backend old.receipt new.receipt };

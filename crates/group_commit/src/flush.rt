@@ -1,6 +1,8 @@
 //! What keeps all that was accepted, and what shows that.
 ghost use Rattle.std.specs.Prelude.{◌≡◌, ℕ};
 
+use crate::over::Over;
+
 /// What shows how much is kept. A value of it is made where that is so, and nowhere else.
 pub trait Receipt {
     // How many accepted changes are kept.
@@ -38,10 +40,12 @@ pub trait Flush<T> {
     fn announce_shortage(&mut self, left: Option<u64>);
 }
 
-/// Who asks that a service is to stop.
-pub trait Stopping {
-    // Whether it may.
-    ghost may_stop: { Self → Type 0 };
+/// What keeps all that was accepted a last time, where no receipt `T` is given any more.
+pub trait LastFlush<T, U> {
+    fn flush_last(&mut self, over: &Over<T>) -> Result<U, FlushError>;
+
+    /// As that of `Flush`.
+    fn announce_shortage(&mut self, left: Option<u64>);
 }
 
 /// Nothing is kept any more, since a flush has failed or the service has ended.

@@ -1,10 +1,13 @@
 //! The lock of what sessions wait for, and its one condition variable. Each private method is one
 //! section of the lock.
-ghost use Rattle.std.specs.Prelude.{IfOk};
+ghost use Rattle.std.specs.Prelude.{◌≡◌, IfOk, not, true};
+ghost use Rattle.std.specs.Sync.Mutex.{mutex_guard_value};
 ghost use Rattle.group_commit.specs.Commit.{Covers};
+ghost use Rattle.group_commit.specs.private.Last.{may_end_by};
 ghost use Rattle.group_commit.specs.private.Given.{IsGiven};
 
-use crate::flush::{CommitStep, Flush, FlushError, NotKept, Receipt, Steps, Stopping};
+use crate::flush::{CommitStep, Flush, FlushError, LastFlush, NotKept, Receipt, Steps};
+use crate::over::{Ended, Over};
 use crate::progress::{Progress, Shortage, Turn};
 use std::sync::{Condvar, CondvarTimeouts, Mutex, MutexGuard, Wait};
 use std::thread::sleep;
@@ -31,15 +34,16 @@ enum Given<T> {
     ToFlush,
 }
 
-/// What sessions wait at until their changes are kept.
+/// What sessions wait at until their changes are kept. A `Q` shows that whoever asks for the end
+/// may.
 #[derive(Drop)]
-pub struct Monitor<T> {
-    progress: Mutex<Progress<T>>,
+pub struct Monitor<T, Q> {
+    progress: Mutex<Progress<T, Q>>,
     /// Whoever waits is woken by this.
     news: Condvar,
 }
 
-impl<T: Receipt + Drop> Monitor<T> {
+impl<T: Receipt + Drop, Q: Drop> Monitor<T, Q> {
     /// A monitor where this is kept, and no request was taken up. Once the service is to stop, a
     /// flush that lacks memory or space is tried again for `patience`, in seconds, and a little
     /// longer as flushes take time.
@@ -100,10 +104,10 @@ impl<T: Receipt + Drop> Monitor<T> {
     fn await_turn<'a>(
         &'a self,
         rt: &impl Wait,
-        progress: MutexGuard<'a, Progress<T>>,
+        progress: MutexGuard<'a, Progress<T, Q>>,
         number: u64,
         clock: u64,
-    ) -> MutexGuard<'a, Progress<T>> {
+    ) -> MutexGuard<'a, Progress<T, Q>> {
         let mut counted = None;
         let mut progress = self.news.wait_while(rt, progress, |progress| {
             let waits = progress.turn(number, clock) == Turn::Waits;
@@ -150,9 +154,12 @@ impl<T: Receipt + Drop> Monitor<T> {
                 }
                 Err(FlushError::Short) => {
                     steps.before(CommitStep::PutsOff);
-                    if !self.put_off::<R, T, F>(rt, flusher) {
-                        return;
+                    match self.put_off(rt) {
+                        Shortage::IsOver => return,
+                        Shortage::Begins(left) => flusher.announce_shortage(left),
+                        Shortage::GoesOn => {}
                     }
+                    sleep(rt, Duration::from_secs(PAUSE_SECONDS));
                 }
             }
         }
@@ -170,20 +177,13 @@ impl<T: Receipt + Drop> Monitor<T> {
         self.news.notify_all();
     }
 
-    /// A flush lacked memory or space. That is announced where the one before didn't, and the
-    /// next one waits a second. Answers whether there is a next one.
-    fn put_off<R: Wait + Clock, U, F: Flush<U>>(&self, rt: &R, flusher: &mut F) -> bool {
+    /// A flush lacked memory or space. Answers what is to be done for that.
+    fn put_off(&self, rt: &impl Wait) -> Shortage {
         let shortage = self.progress.lock(rt).put_off();
-        match shortage {
-            Shortage::IsOver => {
-                self.news.notify_all();
-                return false;
-            }
-            Shortage::Begins(left) => flusher.announce_shortage(left),
-            Shortage::GoesOn => {}
+        if shortage == Shortage::IsOver {
+            self.news.notify_all();
         }
-        sleep(rt, Duration::from_secs(PAUSE_SECONDS));
-        true
+        shortage
     }
 
     /// Whether another request may be taken up: not where the service is to stop, or a flush has
@@ -208,57 +208,76 @@ impl<T: Receipt + Drop> Monitor<T> {
         self.news.notify_all();
     }
 
+    /// Replies that are due are being sent, which a receipt covers.
+    pub fn begin_sending(&self, rt: &impl Wait) {
+        let is_news = self.progress.lock(rt).begin_sending();
+        if is_news {
+            self.news.notify_all();
+        }
+    }
+
+    /// They are out, or never will be.
+    pub fn end_sending(&self, rt: &impl Wait) {
+        self.progress.lock(rt).end_sending();
+    }
+
     /// No request is to be taken up from now on, as one asks who may. One that was may still be
     /// answered.
-    pub fn stop<S: Stopping>(&self, rt: &impl Wait, by: &S)
-        requires { S.may_stop by.now }
-    {
-        let _ = by;
-        self.progress.lock(rt).stop();
+    pub fn stop(&self, rt: &impl Wait, by: Q) {
+        self.progress.lock(rt).stop(by);
         self.news.notify_all();
     }
 
-    /// Waits until a flush has failed; or the service is to stop, nobody flushes, and no reply is
-    /// due, where those who read them do so soon. Then no session is given a receipt any more, and
-    /// after that all is flushed a last time: again each second where memory or space is short, as
-    /// long as the service has patience.
+    /// Waits until a flush has failed; or the service is to stop, nobody flushes, and each reply
+    /// that is due is out, or is being sent to who doesn't read it soon. Then no session is given a
+    /// receipt any more, and after that all is flushed a last time: again each second where memory
+    /// or space is short, as long as the service has patience.
     ///
-    /// Gives what that flush gave, which shows that all is kept. `Short` where the service has no
-    /// patience left, now or in a flush of before; `Failed` where a flush failed.
-    pub fn end<R: Wait + Clock, U, F: Flush<U>>(
+    /// Gives what that flush gave, which shows that all is kept, and who asked for the end. It is
+    /// called once. `Short`
+    /// where the service has no patience left, now or in a flush of before; `Failed` where a flush
+    /// failed.
+    pub fn end<R: Wait + Clock, U: Drop, F: LastFlush<T, U>>(
         &self,
         rt: &R,
         last: &mut F,
-    ) -> Result<U, FlushError> {
-        self.await_over(rt)?;
+    ) -> Result<Ended<U, Q>, FlushError> {
+        let (by, over) = self.await_over(rt)?;
         for _ in rt.forever() {
-            match last.flush() {
-                Ok(shown) => return Ok(shown),
+            match last.flush_last(&over) {
+                Ok(kept) => return Ok(Ended::new(kept, by)),
                 Err(FlushError::Failed) => return Err(FlushError::Failed),
-                Err(FlushError::Short) => {
-                    if !self.put_off::<R, U, F>(rt, last) {
-                        return Err(FlushError::Short);
-                    }
-                }
+                Err(FlushError::Short) => {}
             }
+            match self.put_off(rt) {
+                Shortage::IsOver => return Err(FlushError::Short),
+                Shortage::Begins(left) => last.announce_shortage(left),
+                Shortage::GoesOn => {}
+            }
+            sleep(rt, Duration::from_secs(PAUSE_SECONDS));
         }
         unreachable!()
     }
 
-    /// Waits until the service has come to its end, from which on no receipt is given. Answers what
-    /// became of the flush that failed, where one has.
-    fn await_over<R: Wait + Clock>(&self, rt: &R) -> Result<(), FlushError> {
+    /// Waits until the service has come to its end, from which on no receipt is given. Answers who
+    /// asked for that, or what became of the flush that failed, where one has.
+    fn await_over<R: Wait + Clock>(&self, rt: &R) -> Result<(Q, Over<T>), FlushError> {
         let outcome = {
             let mut progress = self.await_last(rt);
-            progress.end();
-            progress.outcome()
+            progress.end()
         };
         self.news.notify_all();
-        outcome
+        match outcome {
+            Ok(by) => Ok((by, Over::new())),
+            Err(error) => Err(error),
+        }
     }
 
-    /// The struct once nothing more is waited for at the end of the service.
-    fn await_last<R: Wait + Clock>(&self, rt: &R) -> MutexGuard<'_, Progress<T>> {
+    /// The struct once nothing more is waited for at the end of the service: for a reply that is
+    /// being sent no longer than a moment, for all else as long as it takes.
+    fn await_last<R: Wait + Clock>(&self, rt: &R) -> MutexGuard<'_, Progress<T, Q>>
+        ensures { may_end_by (mutex_guard_value result) ≡ true }
+    {
         let progress = self.progress.lock(rt);
         let progress = self
             .news
@@ -267,7 +286,13 @@ impl<T: Receipt + Drop> Monitor<T> {
         let (progress, _) = self
             .news
             .wait_timeout_while(rt, progress, most, |progress| !progress.is_over());
-        self.news
-            .wait_while(rt, progress, |progress| progress.is_to_end_a_flush())
+        self.news.wait_while(
+            rt,
+            progress,
+            |progress| -> bool
+                ensures answer { result ≡ not (may_end_by progress.old) }
+                ensures same { progress.new ≡ progress.old }
+            { !progress.may_end() },
+        )
     }
 }

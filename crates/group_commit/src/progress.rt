@@ -1,7 +1,8 @@
 //! What sessions wait for: one struct, which one lock guards.
 ghost use Rattle.std.specs.Prelude.{◌≡◌, ◌≢◌, ◌+◌, ◌-◌, ◌^◌, ◌||◌, ◌&&◌, ◌==◌, true, false, not, min};
-ghost use Rattle.std.specs.Prelude.{nat_le, None, Some, IfErr, OnOk, if◌then◌else◌};
+ghost use Rattle.std.specs.Prelude.{nat_le, None, Some, IfErr, IfOk, if◌then◌else◌, is_some};
 ghost use Rattle.group_commit.specs.Commit.{covers, later_of, left_after, shortage_of, turn_of};
+ghost use Rattle.group_commit.specs.private.Ending.{first_of, is_stopped, may_end};
 
 use crate::flush::{FlushError, Receipt};
 
@@ -42,7 +43,7 @@ pub(crate) enum Shortage {
 /// what is kept then may be at a lower clock than that. Whoever was given one before had taken its
 /// step before, so whoever collects the drive afterwards finds it at no lower clock than that step.
 #[derive(Drop)]
-pub(crate) struct Progress<T> {
+pub(crate) struct Progress<T, S> {
     /// What shows how much is kept.
     pub kept: T,
     /// Somebody flushes.
@@ -53,8 +54,10 @@ pub(crate) struct Progress<T> {
     pub is_short: bool,
     /// Replies that are due: their requests were taken up.
     pub due: u64,
-    /// No request is to be taken up any more.
-    pub is_stopping: bool,
+    /// Those of them that are being sent: a receipt covers them, and their client may never read.
+    pub sending: u64,
+    /// What shows who has asked that no request is taken up any more, where somebody has.
+    pub stopped_by: Option<S>,
     /// How often a flush that lacks memory or space is tried again at most, once that is so.
     pub left: u64,
     /// What is kept at the end is collected, and no receipt is given any more.
@@ -67,11 +70,11 @@ pub(crate) struct Progress<T> {
     pub expected: u64,
 }
 
-impl<T: Receipt + Drop> Progress<T> {
+impl<T: Receipt + Drop, S: Drop> Progress<T, S> {
     /// Before the first request.
     pub(crate) fn new(kept: T, left: u64) -> Self
         ensures { result
-            ≡ record { kept = kept; is_flushing = false; has_failed = false; is_short = false; due = 0; is_stopping = false; left = left; has_ended = false; round = 0; waiting = 0; expected = 0 } }
+            ≡ record { kept = kept; is_flushing = false; has_failed = false; is_short = false; due = 0; sending = 0; stopped_by = None; left = left; has_ended = false; round = 0; waiting = 0; expected = 0 } }
     {
         Progress {
             kept,
@@ -79,7 +82,8 @@ impl<T: Receipt + Drop> Progress<T> {
             has_failed: false,
             is_short: false,
             due: 0,
-            is_stopping: false,
+            sending: 0,
+            stopped_by: None,
             left,
             has_ended: false,
             round: 0,
@@ -188,17 +192,17 @@ impl<T: Receipt + Drop> Progress<T> {
     /// where the service is to stop and it was tried often enough since then.
     pub(crate) fn put_off(&mut self) -> Shortage
         ensures shortage { result
-            ≡ shortage_of self.old.is_stopping self.old.is_short self.old.left }
+            ≡ shortage_of (is_stopped self.old.stopped_by self.old.has_ended) self.old.is_short self.old.left }
         ensures over { result ≡ Shortage.IsOver
             → self.new ≡ record self.old { is_short = true; has_failed = true; is_flushing = false } }
         ensures again { result ≢ Shortage.IsOver → self.new ≡ record self.old {
           is_short = true;
-          left = left_after self.old.is_stopping self.old.left;
+          left = left_after (is_stopped self.old.stopped_by self.old.has_ended) self.old.left;
         } }
     {
         let was_short = self.is_short;
         self.is_short = true;
-        if self.is_stopping && self.left == 0 {
+        if self.is_stopping() && self.left == 0 {
             self.end_badly(true);
             return Shortage::IsOver;
         }
@@ -212,11 +216,11 @@ impl<T: Receipt + Drop> Progress<T> {
 
     /// A flush is tried again. Answers how often that may be, where the service is to stop.
     fn count_again(&mut self) -> Option<u64>
-        ensures left { result ≡ if self.old.is_stopping then Some self.old.left else None }
+        ensures left { result ≡ if is_stopped self.old.stopped_by self.old.has_ended then Some self.old.left else None }
         ensures counted { self.new
-            ≡ record self.old { left = left_after self.old.is_stopping self.old.left } }
+            ≡ record self.old { left = left_after (is_stopped self.old.stopped_by self.old.has_ended) self.old.left } }
     {
-        if !self.is_stopping {
+        if !self.is_stopping() {
             return None;
         }
         let left = self.left;
@@ -242,25 +246,19 @@ impl<T: Receipt + Drop> Progress<T> {
         self.is_short = is_short;
     }
 
-    /// What became of the flush that failed, where one has.
-    pub(crate) fn outcome(&self) -> Result<(), FlushError>
-        ensures well { OnOk result (self.now.has_failed ≡ false) }
-        ensures fault { IfErr result (λ why. (self.now.has_failed ≡ true)
-            × (why ≡ if self.now.is_short then FlushError.Short else FlushError.Failed)) }
+    /// Whether no request is to be taken up any more.
+    fn is_stopping(&self) -> bool
+        ensures { result ≡ is_stopped self.now.stopped_by self.now.has_ended }
     {
-        match (self.has_failed, self.is_short) {
-            (false, _) => Ok(()),
-            (true, true) => Err(FlushError::Short),
-            (true, false) => Err(FlushError::Failed),
-        }
+        self.stopped_by.is_some() || self.has_ended
     }
 
     /// Whether another request may be taken up: not where the service is to stop, or a flush has
     /// failed.
     pub(crate) fn goes_on(&self) -> bool
-        ensures { result ≡ not (self.now.is_stopping || self.now.has_failed) }
+        ensures { result ≡ not (is_stopped self.now.stopped_by self.now.has_ended || self.now.has_failed) }
     {
-        !(self.is_stopping || self.has_failed)
+        !(self.is_stopping() || self.has_failed)
     }
 
     /// Requests were taken up, and their replies are due.
@@ -277,37 +275,77 @@ impl<T: Receipt + Drop> Progress<T> {
         self.due = self.due.saturating_sub(1);
     }
 
-    /// No request is to be taken up from now on. That memory or space is short is announced once
-    /// more, as it is waited for only so long.
-    pub(crate) fn stop(&mut self)
-        ensures { self.new ≡ record self.old {
-          is_stopping = true;
-          is_short = self.old.is_short && self.old.is_stopping;
-        } }
+    /// A receipt covers replies, and they are being sent. Answers whether that may end a wait.
+    pub(crate) fn begin_sending(&mut self) -> bool
+        ensures counted { self.new
+            ≡ record self.old { sending = min (self.old.sending + 1) (2 ^ 64 - 1) } }
+        ensures news { result ≡ is_stopped self.old.stopped_by self.old.has_ended }
     {
-        self.is_short = self.is_short && self.is_stopping;
-        self.is_stopping = true;
+        self.sending = self.sending.saturating_add(1);
+        self.is_stopping()
     }
 
-    /// No receipt is given from now on.
-    pub(crate) fn end(&mut self)
-        ensures { self.new ≡ record self.old { has_ended = true } }
+    /// They are out, or will never be.
+    pub(crate) fn end_sending(&mut self)
+        ensures { self.new ≡ record self.old { sending = self.old.sending - 1 } }
+    {
+        self.sending = self.sending.saturating_sub(1);
+    }
+
+    /// No request is to be taken up from now on, as one asks who may: the first one is noted.
+    /// That memory or space is short is announced once more, as it is waited for only so long.
+    pub(crate) fn stop(&mut self, by: S)
+        ensures { self.new ≡ record self.old {
+          stopped_by = first_of self.old.stopped_by by;
+          is_short = self.old.is_short && is_stopped self.old.stopped_by self.old.has_ended;
+        } }
+    {
+        self.is_short = self.is_short && self.is_stopping();
+        if self.stopped_by.is_none() {
+            self.stopped_by = Some(by);
+        }
+    }
+
+    /// No receipt is given from now on. Answers who asked for the end, or what became of the flush
+    /// that failed.
+    pub(crate) fn end(&mut self) -> Result<S, FlushError>
+        requires { may_end self.old.has_failed (is_some self.old.stopped_by) self.old.is_flushing
+            self.old.due self.old.sending ≡ true }
+        ensures ended { self.new ≡ record self.old { has_ended = true; stopped_by = None } }
+        ensures well { IfOk result
+            (λ by. (self.old.has_failed ≡ false) × (self.old.stopped_by ≡ Some by)) }
+        ensures fault { IfErr result (λ why. (self.old.has_failed ≡ true)
+            × (why ≡ if self.old.is_short then FlushError.Short else FlushError.Failed)) }
     {
         self.has_ended = true;
+        let by = self.stopped_by.take();
+        match (self.has_failed, self.is_short) {
+            (true, true) => return Err(FlushError::Short),
+            (true, false) => return Err(FlushError::Failed),
+            (false, _) => {}
+        }
+        match by {
+            Some(by) => Ok(by),
+            None => unreachable!(),
+        }
     }
 
     /// Whether the service has come to its end: a flush has failed; or it is to stop, no reply is
     /// due, and nobody flushes.
     pub(crate) fn is_over(&self) -> bool
-        ensures { result ≡ self.now.has_failed || (self.now.is_stopping && (self.now.due == 0) && not self.now.is_flushing) }
+        ensures { result ≡ self.now.has_failed
+            || (is_stopped self.now.stopped_by self.now.has_ended && (self.now.due == 0) && not self.now.is_flushing) }
     {
-        self.has_failed || (self.is_stopping && self.due == 0 && !self.is_flushing)
+        self.has_failed || (self.is_stopping() && self.due == 0 && !self.is_flushing)
     }
 
-    /// Whether somebody flushes, and none has failed.
-    pub(crate) fn is_to_end_a_flush(&self) -> bool
-        ensures { result ≡ self.now.is_flushing && not self.now.has_failed }
+    /// Whether it may end though some don't read their replies: a flush has failed; or it is to
+    /// stop, nobody flushes, and each reply that is due is being sent.
+    pub(crate) fn may_end(&self) -> bool
+        ensures { result ≡ may_end self.now.has_failed (is_some self.now.stopped_by)
+            self.now.is_flushing self.now.due self.now.sending }
     {
-        self.is_flushing && !self.has_failed
+        self.has_failed
+            || (self.stopped_by.is_some() && self.due <= self.sending && !self.is_flushing)
     }
 }

@@ -8,30 +8,39 @@ ghost use Rattle.kept_drive.specs.Images.{IsClosed};
 use crate::collecting::DriveLock;
 use crate::keeping::KeptImage;
 use crate::preparing::prepare_last;
-use group_commit::FlushError;
+use crate::receipts::KeptReceipt;
+use group_commit::{FlushError, Over};
 use image_keeping::{KeepError, Keeper};
+use s4_types::Moment;
 use segment_word::Naming;
 use std::alloc::Global;
 
 impl<J: Naming, K: Keeper> KeptImage<J, K> {
     /// Keeps the drive as it is when this session meets it, at its own clock, which may be below the
     /// reach: so a service that goes on from there begins no later than it ended. A drive that has
-    /// seen nothing at all, as a new one, is kept as it is once it has seen where the service began.
+    /// seen nothing at all, as a new one, is kept as it is once it has seen `start`, where the
+    /// service began.
     ///
-    /// It is the last that is asked of the keeper. Whoever calls it makes sure before that no reply
+    /// It is the last that is asked of the keeper. Its monitor has come to its end before: no reply
     /// goes out any more which shows a step that isn't taken yet.
     ///
     /// `Short` where memory or space is short: it may be tried again. `Failed` where the keeper has
     /// failed, now or before, or was asked for the last time.
-    pub fn close<L: DriveLock<J>>(&mut self, alloc: Global, lock: &L) -> Result<(), FlushError>
+    pub fn close<L: DriveLock<J>>(
+        &mut self,
+        alloc: Global,
+        lock: &L,
+        start: Moment,
+        _over: &Over<KeptReceipt<J, K>>,
+    ) -> Result<(), FlushError>
         // Whatever a crash leaves is the drive as it was collected, at its own clock.
         ensures kept { OnOk result
             (IsKept (K.may_leave self.new.keeper)
-            (IsClosed (WasHad J.frames J.base) J.base self.new.session.told.seen self.old.start)) }
+            (IsClosed (WasHad J.frames J.base) J.base self.new.session.told.seen start)) }
         // Whatever it answers, a crash leaves what it might have left before, or that.
         ensures crash { (c : List ℕ) → K.may_leave self.new.keeper c
             → K.may_leave self.old.keeper c
-            ⊎ IsClosed (WasHad J.frames J.base) J.base self.new.session.told.seen self.old.start c }
+            ⊎ IsClosed (WasHad J.frames J.base) J.base self.new.session.told.seen start c }
         ensures short { IsErrOf result FlushError.Short
             → AddsNothing (K.may_leave self.old.keeper) (K.may_leave self.new.keeper) }
         ensures again { IsErrOf result FlushError.Short → self.new.has_failed ≡ false }
@@ -41,13 +50,12 @@ impl<J: Naming, K: Keeper> KeptImage<J, K> {
         ensures over { self.old.has_failed ≡ true
             → IsErrOf result FlushError.Failed × (self.new ≡ self.old) }
         ensures grows { HasSeenMore self.old.session self.new.session }
-        ensures start { self.new.start ≡ self.old.start }
         ensures reach { self.new.reach ≡ self.old.reach }
     {
         if self.has_failed {
             return Err(FlushError::Failed);
         }
-        let Ok(image) = prepare_last(alloc, lock, &mut self.session, self.start) else {
+        let Ok(image) = prepare_last(alloc, lock, &mut self.session, start) else {
             return Err(FlushError::Short);
         };
         match self.keeper.keep(image.as_slice()) {

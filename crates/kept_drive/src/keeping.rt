@@ -21,8 +21,6 @@ pub struct KeptImage<J: Naming, K: Keeper> {
     pub(crate) keeper: K,
     /// What meets the drive at each flush: it has seen all that was collected.
     pub(crate) session: Session<J>,
-    /// Where the service began.
-    pub(crate) start: Moment,
     /// The clock of the image that a flush gave to the keeper last.
     reach: u64,
     /// Nothing more may be asked of the keeper: it has failed, or was asked for the last time.
@@ -36,7 +34,6 @@ impl<J: Naming, K: Keeper + Drop> Drop for KeptImage<J, K> {
         let KeptImage {
             keeper: _,
             session: _,
-            start: _,
             reach: _,
             has_failed: _,
         } = self;
@@ -50,14 +47,12 @@ impl<J: Naming, K: Keeper> KeptImage<J, K> {
         requires { IsTrue (K.is_usable keeper) }
         ensures keeper { result.keeper ≡ keeper }
         ensures session { result.session ≡ session }
-        ensures start { result.start ≡ clock }
         ensures reach { result.reach ≡ clock }
         ensures usable { result.has_failed ≡ false }
     {
         KeptImage {
             keeper,
             session,
-            start: clock,
             reach: clock.number(),
             has_failed: false,
         }
@@ -101,7 +96,6 @@ impl<J: Naming, K: Keeper> KeptImage<J, K> {
             → IsErrOf result FlushError.Failed × (self.new ≡ self.old) }
         ensures grows { HasSeenMore self.old.session self.new.session }
         ensures later { self.old.reach ≤ self.new.reach }
-        ensures start { self.new.start ≡ self.old.start }
     {
         if self.has_failed {
             return Err(FlushError::Failed);

@@ -1,6 +1,8 @@
 pub mod Leaving
 pub mod Lines
 pub mod Doors
+pub mod Heard
+pub mod Duties
 pub mod Seats
 pub mod Traces
 pub mod Owing
@@ -8,4 +10,5 @@ pub mod Ended
 pub mod Collecting
 pub mod Opening
 pub mod Starts
+pub mod Serving
 pub mod Reserves

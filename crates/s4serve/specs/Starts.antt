@@ -9,7 +9,3 @@ pub record IsStart (clock window : ℕ) (leap : Option ℕ) (system start : ℕ)
   pub times : Counts clock → ⊥
   pub near : IsTooFar clock window system (unwrap_or leap 0) → ⊥
   pub begins : start ≡ max (max clock system) FIRST_START
-
--- It may begin there, by a time that was read of the machine.
-abbrev pub MayStart : (has_read : ℕ → Type 0) (clock window : ℕ) (leap : Option ℕ) (start : ℕ) → Type 0
-MayStart has_read clock window leap start = (system : ℕ) × has_read system × IsStart clock window leap system start

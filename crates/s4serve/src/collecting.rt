@@ -7,9 +7,9 @@ use crate::keeping::Explaining;
 use crate::service::{Service, Serving};
 use crate::telling::{News, Telling};
 use drive::{Drive, Session};
-use group_commit::{Flush, FlushError};
+use group_commit::{Flush, FlushError, LastFlush, Over};
 use image_keeping::Keeper;
-use kept_drive::{Announce, Collected, DriveLock, Flushing, collect, collect_last};
+use kept_drive::{Announce, Collected, DriveLock, Flushing, KeptReceipt, collect, collect_last};
 use s4_types::{Moment, Refusal};
 use segment_word::Naming;
 use server::{Pace, Running, SharedDrive, Visit, show};
@@ -160,21 +160,28 @@ pub fn flusher<'a, J: Serving, C: Clock, K: Keeper, R: Wait, D: Telling>(
 
 /// What keeps the drive of a service a last time, at its end.
 #[derive(Drop)]
-pub struct Closing<'a, J: Running, C: Clock, K: Keeper, R: Wait, D: Telling> {
+pub struct Closing<'a, J: Serving, C: Clock, K: Keeper, R: Wait, D: Telling> {
     /// What flushed it before.
     pub flushing: ServiceFlush<'a, J, C, K, R, D>,
+    /// Where the service began.
+    pub start: Moment,
+    ghost began: { start ≡ J.start },
 }
 
-impl<J: Running, C: Clock, K: Keeper + Explaining + Drop, R: Wait, D: Telling> Flush<
+impl<J: Serving, C: Clock, K: Keeper + Explaining + Drop, R: Wait, D: Telling> LastFlush<
+    KeptReceipt<J, K>,
     EndReceipt<J, K>,
 > for Closing<'_, J, C, K, R, D> {
     /// Where the image was removed or replaced since it was kept, all is left in a file beside it.
     /// That is at the reach, so that it is the later one of the two.
-    fn flush(&mut self) -> Result<EndReceipt<J, K>, FlushError> {
+    fn flush_last(
+        &mut self,
+        over: &Over<KeptReceipt<J, K>>,
+    ) -> Result<EndReceipt<J, K>, FlushError> {
         let flushing = &self.flushing;
         let mut kept = flushing.kept.lock(flushing.rt);
         if kept.keeper().is_in_place() {
-            kept.close(flushing.alloc, &flushing.drive)?;
+            kept.close(flushing.alloc, &flushing.drive, self.start, over)?;
             return Ok(EndReceipt { of: PhantomData });
         }
         let _ = kept.flush(flushing.alloc, &flushing.drive)?;

@@ -1,15 +1,15 @@
 //! Who reads the lines at a door.
 ghost use Rattle.std.specs.Prelude.{◌≡◌, ◌+◌, ◌^◌, ◌<◌};
-ghost use Rattle.s4serve.specs.Lines.{is_administrator};
+ghost use Rattle.s4serve.specs.Doors.{IsReadAt};
+ghost use Rattle.s4serve.specs.Heard.{IsOfDoor};
 
+use crate::heard::{AtDoor, Said, StopLine, lines_at};
 use crate::service::{Door, Service, Serving};
 use crate::telling::{News, Telling};
-use crate::waiting::Line;
 use door_files::{Fifos, open_session};
-use door_lines::{DoorLine, DoorReader, PieceSource, SessionName};
+use door_lines::{PieceSource, SessionName};
 use image_keeping::Keeper;
-use s4_types::Role;
-use serving::{Clock, ReadSource};
+use serving::Clock;
 use std::alloc::Global;
 use std::sync::Wait;
 
@@ -21,72 +21,55 @@ pub fn watch_input<J: Serving, C: Clock, K: Keeper, R: Wait, D: Fifos + Telling>
     outside: &D,
     number: usize,
     input: D::Input,
-) {
-    watch(
-        rt,
-        alloc,
-        service,
-        outside,
-        number,
-        &mut ReadSource::new(input),
-    );
+)
+    requires { IsReadAt D.reads J.doors number input }
+{
+    let Some(door) = service.doors.as_slice().get(number) else {
+        return;
+    };
+    let mut lines = lines_at::<J, D>(door, number, input);
+    watch(rt, alloc, service, outside, &mut lines);
 }
 
-/// Reads the lines at the door of this number, as long as that can be read.
+/// Reads the lines at a door, as long as that can be read.
 fn watch<J: Serving, C: Clock, K: Keeper, R: Wait, D: Fifos + Telling, S: PieceSource>(
     rt: &R,
     alloc: Global,
     service: &Service<J, C, K>,
     outside: &D,
-    number: usize,
-    source: &mut S,
+    lines: &mut AtDoor<'_, J, S>,
 )
-    requires { S.failures source.old + 1 < 2 ^ 64 }
+    requires { S.failures lines.old.source + 1 < 2 ^ 64 }
 {
-    let Some(door) = service.doors.as_slice().get(number) else {
-        return;
-    };
-    let mut reader = DoorReader::new();
     for _turn in rt.forever() {
-        match reader.next_line(source) {
-            Ok(line) => heed(rt, alloc, service, outside, door, number, line),
+        match lines.next() {
+            Ok(said) => heed(rt, alloc, service, outside, lines.door(), said),
             Err(_) => break,
         }
     }
-    outside.tell(News::DoorFailed(door.folder()));
+    outside.tell(News::DoorFailed(lines.door().folder()));
 }
 
-/// Does what a line at a door asks for. `stop` ends the service where administrators come.
+/// Does what was said at a door.
 fn heed<J: Serving, C: Clock, K: Keeper, R: Wait, D: Fifos>(
     rt: &R,
     alloc: Global,
     service: &Service<J, C, K>,
     outside: &D,
     door: &Door<J>,
-    number: usize,
-    line: DoorLine,
-) {
-    match line {
-        DoorLine::Session(name) => {
-            let line = Line { door: number, name };
+    said: Said<StopLine<J>>,
+)
+    requires { IsOfDoor J.doors door.now said }
+{
+    match said {
+        Said::Session(line) => {
             if let Err(line) = service.lines.put(rt, door.role(), line) {
                 turn_away(outside, alloc, door, &line.name);
             }
         }
-        DoorLine::Stop => {
-            if may_stop(door.role()) {
-                service.monitor.stop(rt, door);
-            }
-        }
-        DoorLine::Nothing => {}
+        Said::Stop(by) => service.monitor.stop(rt, by),
+        Said::Nothing => {}
     }
-}
-
-/// Whether who comes by a door of this role may end the service.
-fn may_stop(role: Role) -> bool
-    ensures { result ≡ is_administrator role }
-{
-    role == Role::Admin
 }
 
 /// The streams of a session that too many others are ahead of are opened and closed, so that its

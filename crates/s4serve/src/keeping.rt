@@ -1,5 +1,5 @@
 //! How an image is kept in files.
-ghost use Rattle.std.specs.Prelude.{◌&&◌, IsTrue, not};
+ghost use Rattle.std.specs.Prelude.{◌≡◌, ◌&&◌, IsTrue, false, not};
 ghost use Rattle.host_calls.specs.Replay.{replay};
 
 use host_calls::HostCalls;
@@ -11,14 +11,24 @@ use std::marker::Send;
 
 /// What keeps an image, and says why it couldn't.
 pub trait Explaining {
+    // That somebody has removed or replaced the last image that it kept. Nothing but a look shows
+    // that.
+    ghost was_moved: { Self → Type 0 };
+
     /// What was in the way of the last image that it couldn't keep.
     fn obstacle(&self) -> KeepObstacle;
 
     /// Whether the last image that it kept is still where it was put.
-    fn is_in_place(&self) -> bool;
+    fn is_in_place(&self) -> bool
+        ensures { result ≡ false → was_moved self.now };
 }
 
 impl Explaining for WholeImage<FileFolder<HostCalls>> {
+    ghost use Rattle.std.specs.Prelude.{⊤};
+
+    // No clause of the standard library says what becomes of a file.
+    ghost was_moved = { λ _. ⊤ };
+
     fn obstacle(&self) -> KeepObstacle {
         match self.folder().obstacle() {
             Some(obstacle) => obstacle,

@@ -24,6 +24,7 @@ mod collecting;
 mod doors;
 mod ended;
 mod faults;
+mod heard;
 mod keeping;
 mod leaving;
 mod machine;

@@ -36,10 +36,12 @@ impl<
     R: Wait + time::Clock,
     G: Gate,
     K: Keeper,
+    Q: Drop,
     F: Flush<KeptReceipt<J, K>>,
     P: Steps,
     O: SessionOutput<K>,
-> Outlet<Seat<'s, J, C, R, G>, Undrawn, AtMonitor<'k, KeptReceipt<J, K>, R, F, P>> for Replying<O> {
+> Outlet<Seat<'s, J, C, R, G>, Undrawn, AtMonitor<'k, KeptReceipt<J, K>, Q, R, F, P>>
+    for Replying<O> {
     // A session of the door's role that was just had.
     ghost begins = { λ to seat. IsSeated J.base (O.role to.output) seat.seat };
 
@@ -52,11 +54,15 @@ impl<
         bytes: &[u8],
         _backend: &Seat<'s, J, C, R, G>,
         _clock: &Undrawn,
-        keeping: &AtMonitor<'k, KeptReceipt<J, K>, R, F, P>,
+        keeping: &AtMonitor<'k, KeptReceipt<J, K>, Q, R, F, P>,
     ) -> Result<(), StreamFailed> {
-        match &keeping.receipt {
+        // A client may never read them: nobody waits for that without end.
+        keeping.monitor.begin_sending(keeping.rt);
+        let sent = match &keeping.receipt {
             Some(receipt) => self.output.send(bytes, receipt),
             None => unreachable!(),
-        }
+        };
+        keeping.monitor.end_sending(keeping.rt);
+        sent
     }
 }

@@ -1,9 +1,9 @@
 //! What all threads of a service share.
 ghost use Rattle.std.specs.Prelude.{◌≡◌, Contains, string_bytes};
-ghost use Rattle.s4_types.specs.declared.requests.Role.TheVariants.{Admin};
 
+use crate::heard::StopLine;
 use crate::waiting::Lines;
-use group_commit::{Monitor, Stopping};
+use group_commit::Monitor;
 use image_keeping::Keeper;
 use kept_drive::{KeptImage, KeptReceipt};
 use s4_types::Role;
@@ -12,20 +12,25 @@ use serving::Clock;
 use std::marker::{Brand, Model, PhantomData};
 use std::sync::Mutex;
 
-/// Which service it is: its run, and the doors that it was asked to have. Each call that begins a
-/// service picks it, with `Brand`.
+/// Which service it is: its run, the doors that it was asked to have, and where it begins. Each call
+/// that begins a service picks it, with `Brand`.
 pub trait Serving: Running {
-    ghost use Rattle.std.specs.Prelude.{List};
+    ghost use Rattle.std.specs.Prelude.{ℕ, List};
     ghost use Rattle.s4serve.specs.Doors.{DoorFields};
 
     /// The doors that it was asked to have.
     ghost doors: { List DoorFields };
+
+    /// The moment at which it begins.
+    ghost start: { ℕ };
 }
 
 impl Serving for Brand {
     ghost use Rattle.std.specs.Prelude.{[]};
 
     ghost doors = { [] };
+
+    ghost start = { 0 };
 }
 
 /// A door of the service that `J` names. None can be made but one that it was asked to have.
@@ -75,11 +80,6 @@ impl<J: Serving> Door<J> {
     }
 }
 
-// Administrators may stop the service.
-impl<J: Serving> Stopping for Door<J> {
-    ghost may_stop = { λ door. door.role ≡ Admin };
-}
-
 /// What all threads of a service share.
 ///
 /// No thread takes one of these locks while it holds another one, but for two: whoever flushes has
@@ -90,13 +90,15 @@ pub struct Service<J: Serving, C: Clock, K: Keeper> {
     /// How the cleaner and the copier get on.
     pub pace: Pace,
     /// What sessions wait for that want their changes kept.
-    pub monitor: Monitor<KeptReceipt<J, K>>,
+    pub monitor: Monitor<KeptReceipt<J, K>, StopLine<J>>,
     pub kept: Mutex<KeptImage<J, K>>,
     /// The lines that no worker has taken, and the parts of the books that no session has had.
     pub lines: Lines<J>,
     pub doors: Vec<Door<J>>,
     /// The image's path.
     pub image: String,
+    // They are all those that it was asked to have.
+    ghost asked: { doors.items ≡ J.doors },
 }
 
 // Written by hand, so that an owner lets it go by one call.

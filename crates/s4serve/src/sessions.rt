@@ -93,6 +93,7 @@ pub fn serve_seat<
     R: Wait + time::Clock,
     G: Gate,
     K: Keeper,
+    Q: Drop,
     F: Flush<KeptReceipt<J, K>>,
     P: Steps,
     S: Source,
@@ -102,7 +103,7 @@ pub fn serve_seat<
     reader: &mut S,
     writer: &mut Replying<O>,
     seat: &mut Seat<'_, J, C, R, G>,
-    keeping: &mut AtMonitor<'_, KeptReceipt<J, K>, R, F, P>,
+    keeping: &mut AtMonitor<'_, KeptReceipt<J, K>, Q, R, F, P>,
 ) -> BatchEnd
     requires reader { S.failures reader.old + 1 < 2 ^ 64 }
     requires writer { O.failures writer.old.output + 1 < 2 ^ 64 }

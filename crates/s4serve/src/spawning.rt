@@ -1,6 +1,9 @@
 //! The threads of a service.
 ghost use denote.Param.Send.{IsSend};
 ghost use Rattle.std.specs.Prelude.{◌≡◌, true};
+ghost use Rattle.std.specs.List.{AllZip};
+ghost use Rattle.s4serve.specs.Doors.{ReadsAt};
+ghost use Rattle.s4serve.specs.Duties.{IsOwnDuty};
 
 use crate::doors::watch_input;
 use crate::service::{Service, Serving};
@@ -62,12 +65,24 @@ impl<
     /// AllocError where memory, or the system's threads, are too few.
     pub fn start_threads(&self, inputs: Vec<D::Input>) -> Result<(), AllocError>
         requires upkeep { J.has_upkeep ≡ true }
+        // Each door's own input is read, in their order.
+        requires inputs { AllZip (ReadsAt D.reads) J.doors inputs.items }
     {
         self.start(Duty::Clean)?;
         self.start(Duty::Move)?;
         self.start_workers(Role::Client, CLIENT_WORKERS)?;
         self.start_workers(Role::Admin, ADMIN_WORKERS)?;
-        for (number, input) in inputs.into_iter().enumerate() {
+        self.watch_doors(inputs)
+    }
+
+    /// Starts a thread for each door, the last one first.
+    fn watch_doors(&self, inputs: Vec<D::Input>) -> Result<(), AllocError>
+        requires upkeep { J.has_upkeep ≡ true }
+        requires inputs { AllZip (ReadsAt D.reads) J.doors inputs.items }
+    {
+        let mut inputs = inputs;
+        while let Some(input) = inputs.pop() {
+            let number = inputs.len();
             self.start(Duty::Watch { number, input })?;
         }
         Ok(())
@@ -86,6 +101,7 @@ impl<
     /// Starts the thread of a duty.
     fn start(&self, duty: Duty<D::Input>) -> Result<(), AllocError>
         requires upkeep { J.has_upkeep ≡ true }
+        requires own { IsOwnDuty D.reads J.doors duty }
     {
         let (own, alloc, outside) = (*self.rt, self.alloc, *self.outside);
         let theirs = Arc::try_clone(self.service)?;
@@ -94,6 +110,7 @@ impl<
             STACK_BYTES,
             move ||
                 requires upkeep { J.has_upkeep ≡ true }
+                requires own { IsOwnDuty D.reads J.doors duty }
                 requires input { IsSend D.Input.row }
                 requires output { IsSend D.Output.row }
             { perform(&own, alloc, &*theirs, &outside, duty) },
@@ -110,6 +127,7 @@ fn perform<J: Serving, C: Clock, K: Keeper + Drop, R: Wait + time::Clock, D: Fif
     duty: Duty<D::Input>,
 )
     requires upkeep { J.has_upkeep ≡ true }
+    requires own { IsOwnDuty D.reads J.doors duty }
 {
     match duty {
         Duty::Clean => {

@@ -1,5 +1,5 @@
 //! How a service begins, and how it ends.
-ghost use Rattle.std.specs.Prelude.{◌≡◌, ◌≤◌, ◌++◌, ℕ, List, [], ◌∷◌, false, length, map, true};
+ghost use Rattle.std.specs.Prelude.{◌≡◌, ◌≤◌, ◌++◌, ℕ, List, Option, [], ◌∷◌, false, length, map, true};
 ghost use Rattle.std.specs.Prelude.{Contains, IfOk, IfSome, IsTrue, OnErr, OnOk, string_bytes};
 ghost use Rattle.std.specs.List.{AllZip};
 ghost use Rattle.image_keeping.specs.Leaving.{IsKept};
@@ -12,14 +12,16 @@ ghost use Rattle.serving.specs.Drawing.{Drawn};
 ghost use Rattle.door_files.specs.Paths.{door_path};
 ghost use Rattle.kept_drive.specs.Collecting.{WasHad};
 ghost use Rattle.kept_drive.specs.Images.{IsFlushed};
-ghost use Rattle.s4serve.specs.Ended.{HasBeenEnded};
+ghost use Rattle.s4serve.specs.Ended.{HasBeenEnded, HasBegun};
 ghost use Rattle.s4serve.specs.Doors.{ReadsDoor, asked_door};
 ghost use Rattle.s4serve.specs.Reserves.{most_reserve, reserve_of};
-ghost use Rattle.s4serve.specs.Starts.{IsStart, MayStart};
+ghost use Rattle.s4serve.specs.Serving.{HasBeenStopped, HasServed, IsFound};
+ghost use Rattle.s4serve.specs.Starts.{IsStart};
 
 use crate::collecting::{Closing, UnderLock, flusher};
 use crate::ended::EndReceipt;
 use crate::faults::{DoorObstacle, ServeFault};
+use crate::heard::StopLine;
 use crate::keeping::{Explaining, KeptFiles};
 use crate::machine::Machine;
 use crate::opening::{Begun, Opened, make_asked, open_image};
@@ -30,7 +32,7 @@ use crate::telling::{News, Telling};
 use crate::waiting::Lines;
 use door_files::{Fifos, open_door};
 use drive::OpenedDrive;
-use group_commit::Monitor;
+use group_commit::{Ended, Monitor};
 use image_commands::Fault;
 use image_keeping::Keeper;
 use kept_drive::{KeptImage, KeptReceipt};
@@ -91,6 +93,11 @@ pub fn serve_image<
     asked: &ServiceAsked<'a>,
 ) -> Result<(), ServeFault<'a>>
     requires frames { IfSome asked.now.create (λ creation. IsFrameCount creation.frames) }
+    // The drive in its image, as that was found or made, was served from where a service may begin
+    // until administrators stopped it, and was kept at that end.
+    ensures served { OnOk result ((known : Option (List ℕ))
+        × IsFound asked.now.create (F.contents files asked.now.image.now) known
+        × HasServed known F.Kept.may_leave F.Kept.was_moved (H.has_read rt.now) asked.now) }
 {
     let mut own = files;
     make_asked(rt, alloc, &mut own, asked)?;
@@ -150,19 +157,24 @@ fn serve_ready<
     requires parts { (ready.blanks.parts ≡ J.parts) × (J.parts ≡ ALL_PARTS) }
     requires usable { IsTrue (K.is_usable ready.keeper) }
     // It begins where a service may begin over this drive, by the machine's time that was read, and
-    // has the doors that were asked for.
+    // has the doors that were asked for, whose inputs are these.
     requires read { H.has_read rt.now ready.system }
     requires start { IsStart ready.drive.timeline.clock ready.drive.timeline.window asked.now.leap
         ready.system ready.start }
+    requires starts { J.start ≡ ready.start }
     requires doors { J.doors ≡ map asked_door asked.now.doors.items }
+    requires inputs { AllZip (ReadsDoor D.reads) asked.now.doors.items inputs.items }
     // Clients leave as many blocks of this drive's room as were asked for, or as a drive of so many
     // frames has where that isn't said: no more than half of it where nothing is held.
     requires reserve { J.reserve
         ≡ reserve_of asked.now.reserve (length ready.drive.store.table.seat.frames) }
     requires half { J.reserve ≤ most_reserve (length ready.drive.store.table.seat.frames) }
     requires left { ready.reserve ≡ J.reserve }
-    // Where it was stopped, a flush had kept it, or the end did. No clause says which.
-    ensures ended { OnOk result (HasBeenEnded K.may_leave J.frames J.base) }
+    // Where it was stopped, it had been kept there first, an administrator had asked for that, and
+    // it is kept at its end.
+    ensures began { OnOk result (HasBegun K.may_leave J.frames J.base J.start) }
+    ensures stopped { OnOk result (HasBeenStopped J.doors) }
+    ensures ended { OnOk result (HasBeenEnded K.may_leave K.was_moved J.frames J.base J.start) }
 {
     let Ready {
         keeper,
@@ -176,7 +188,7 @@ fn serve_ready<
     let (shared, rest) = SharedDrive::new(drive.named::<J>(), clock, blanks, reserve);
     let drive = Mutex::new(shared);
     let first = keep_first(rt, alloc, &drive, keeper, start, asked.image)?;
-    serve_kept(rt, alloc, outside, asked, drive, first, rest, inputs)
+    serve_kept(rt, alloc, outside, asked, drive, first, start, rest, inputs)
 }
 
 /// Serves a drive that was kept a first time, as it is once it has seen where the service begins.
@@ -194,21 +206,21 @@ fn serve_kept<
     asked: &ServiceAsked<'a>,
     drive: Mutex<SharedDrive<J, C>>,
     first: FirstKept<J, K>,
+    start: Moment,
     rest: Part<J>,
     inputs: Vec<D::Input>,
 ) -> Result<(), ServeFault<'a>>
     requires upkeep { J.has_upkeep ≡ true }
     requires parts { rest.parts ≡ ALL_PARTS }
-    // It begins where a service may begin over this drive, by a machine's time that was read, and
-    // has the doors that were asked for.
-    requires start { MayStart (H.has_read rt.now) J.base.clock J.base.window asked.now.leap
-        first.kept.start }
+    requires start { start ≡ J.start }
     requires doors { J.doors ≡ map asked_door asked.now.doors.items }
+    requires inputs { AllZip (ReadsDoor D.reads) asked.now.doors.items inputs.items }
     // Whatever a crash leaves from now on is the drive, once it has seen what comes after that.
     requires kept { IsKept (K.may_leave first.kept.keeper)
         (IsFlushed (WasHad J.frames J.base) J.base first.kept.session.told.seen
-        first.kept.start first.kept.reach) }
-    ensures ended { OnOk result (HasBeenEnded K.may_leave J.frames J.base) }
+        J.start first.kept.reach) }
+    ensures stopped { OnOk result (HasBeenStopped J.doors) }
+    ensures ended { OnOk result (HasBeenEnded K.may_leave K.was_moved J.frames J.base J.start) }
 {
     let image = asked.image;
     let patience = asked.patience.unwrap_or(PATIENCE) / SECOND;
@@ -236,8 +248,9 @@ fn serve_kept<
         return Err(ServeFault::NoThreads);
     }
     outside.tell(News::Serves(image));
-    let receipt = await_end(rt, alloc, &service, &outside, image)?;
-    receipt.shows();
+    let ended = await_end(rt, alloc, &service, &outside, image, start)?;
+    ended.kept().shows();
+    ended.by().shows();
     Ok(())
 }
 
@@ -251,7 +264,6 @@ fn keep_first<'a, J: Running, C: serving::Clock, K: Keeper + Explaining + Drop, 
     image: &'a str,
 ) -> Result<FirstKept<J, K>, ServeFault<'a>>
     requires usable { IsTrue (K.is_usable keeper) }
-    ensures start { IfOk result (λ first. first.kept.start ≡ start) }
     // Whatever a crash leaves is the drive, once it has seen what comes after the start.
     ensures kept { IfOk result (λ first. IsKept (K.may_leave first.kept.keeper)
         (IsFlushed (WasHad J.frames J.base) J.base first.kept.session.told.seen
@@ -290,7 +302,6 @@ fn flush_first<'a, 'b, J: Running, C: serving::Clock, K: Keeper + Explaining, R:
     ensures number { IfOk result (λ had. had.0.number ≡ length kept.new.session.told.seen) }
     ensures reach { IfOk result (λ had. had.0.reach ≡ kept.new.reach) }
     ensures usable { OnOk result (kept.new.has_failed ≡ false) }
-    ensures start { kept.new.start ≡ kept.old.start }
     ensures path { IfOk result (λ had. string_bytes had.1 ≡ image.entry.now) }
 {
     let lock = UnderLock {
@@ -306,7 +317,8 @@ fn flush_first<'a, 'b, J: Running, C: serving::Clock, K: Keeper + Explaining, R:
     Ok((receipt, path))
 }
 
-/// Waits until the service is to end, and keeps what was accepted, at the drive's own clock.
+/// Waits until the service that began at `start` is to end, and keeps what was accepted, at the
+/// drive's own clock. Gives what that flush showed, and who asked for the end.
 fn await_end<
     'a,
     J: Serving,
@@ -320,12 +332,16 @@ fn await_end<
     service: &Service<J, C, K>,
     outside: &D,
     image: &'a str,
-) -> Result<EndReceipt<J, K>, ServeFault<'a>> {
+    start: Moment,
+) -> Result<Ended<EndReceipt<J, K>, StopLine<J>>, ServeFault<'a>>
+    requires { start ≡ J.start }
+{
     let mut last = Closing {
         flushing: flusher(rt, alloc, service, outside),
+        start,
     };
     match service.monitor.end(rt, &mut last) {
-        Ok(receipt) => Ok(receipt),
+        Ok(ended) => Ok(ended),
         Err(_) => Err(ServeFault::NotKept(image, obstacle_of(rt, service))),
     }
 }

@@ -1,13 +1,15 @@
 //! Lines of doors that wait until a worker takes them.
 ghost use Rattle.std.specs.Prelude.{◌≡◌, ◌++◌, ◌<◌, [], ◌∷◌, IfErr, IfNone, IfOk};
 ghost use Rattle.std.specs.Prelude.{IfSome, OnErr, OnOk, length};
+ghost use Rattle.s4serve.specs.Doors.{HasRole};
 ghost use Rattle.s4serve.specs.Lines.{lines_for, other_role};
 ghost use Rattle.s4serve.specs.declared.parts.TheConstants.{ALL_PARTS};
 
 use crate::parts::{OwnPart, Parts};
+use crate::service::Serving;
 use door_lines::SessionName;
 use s4_types::Role;
-use server::{Part, Running};
+use server::Part;
 use std::alloc::{AllocError, Global};
 use std::collections::VecDeque;
 use std::sync::{Condvar, Mutex, Wait};
@@ -101,14 +103,14 @@ fn put_last(lines: &mut VecDeque<Line>, line: Line) -> Result<(), Line>
 /// What workers wait for: the lines, under one lock, and what wakes whoever waits. With each comes
 /// a part of the books, which nothing else gives.
 #[derive(Drop)]
-pub struct Lines<J: Running> {
+pub struct Lines<J: Serving> {
     waiting: Mutex<Waiting>,
     news: Condvar,
     /// The parts of the books that no session has had.
     parts: Mutex<Parts<J>>,
 }
 
-impl<J: Running> Lines<J> {
+impl<J: Serving> Lines<J> {
     /// No lines, and all parts of the books of a service.
     pub fn new(alloc: Global, all: Part<J>) -> Result<Self, AllocError>
         requires { all.parts ≡ ALL_PARTS }
@@ -121,8 +123,12 @@ impl<J: Running> Lines<J> {
         })
     }
 
-    /// A line has come to a door of this role. It is given back where too many wait already.
-    pub fn put(&self, rt: &impl Wait, role: Role, line: Line) -> Result<(), Line> {
+    /// A line has come to its door, which has this role. It is given back where too many wait
+    /// already.
+    pub fn put(&self, rt: &impl Wait, role: Role, line: Line) -> Result<(), Line>
+        requires role { HasRole J.doors line.door role }
+        ensures back { IfErr result (λ given. given ≡ line) }
+    {
         let put = self.waiting.lock(rt).put(role, line);
         self.news.notify_all();
         put

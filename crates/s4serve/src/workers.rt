@@ -10,6 +10,7 @@ ghost use Rattle.s4serve.specs.Traces.{HasWaitedForAll, TracedSteps, untraced};
 
 use crate::at_doors::{ToFifo, open_at};
 use crate::collecting::{ServiceFlush, flusher};
+use crate::heard::StopLine;
 use crate::parts::OwnPart;
 use crate::reaching::SessionOutput;
 use crate::replying::Replying;
@@ -160,7 +161,7 @@ fn serve_line<
     own: OwnPart<J>,
     reader: &mut S,
     writer: &mut Replying<O>,
-    keeping: &mut AtMonitor<'_, KeptReceipt<J, K>, R, F, P>,
+    keeping: &mut AtMonitor<'_, KeptReceipt<J, K>, StopLine<J>, R, F, P>,
 ) -> Option<BatchEnd>
     requires own { own.number ≡ number }
     requires reader { S.failures reader.old + 1 < 2 ^ 64 }
@@ -221,7 +222,7 @@ fn keeping<'a, J: Serving, C: Clock, K: Keeper, R: Wait, D: Telling>(
     service: &'a Service<J, C, K>,
     outside: &'a D,
     steps: &'a AnyStep,
-) -> AtMonitor<'a, KeptReceipt<J, K>, R, ServiceFlush<'a, J, C, K, R, D>, AnyStep> {
+) -> AtMonitor<'a, KeptReceipt<J, K>, StopLine<J>, R, ServiceFlush<'a, J, C, K, R, D>, AnyStep> {
     AtMonitor {
         rt,
         monitor: &service.monitor,

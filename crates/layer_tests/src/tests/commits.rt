@@ -1,13 +1,13 @@
 //! Sessions that wait until their changes are kept, on threads that are held at steps: a store of
 //! numbers that is flushed, and receipts of it.
-ghost use Rattle.std.specs.Prelude.{◌≡◌, ⊤};
+ghost use Rattle.std.specs.Prelude.{◌≡◌};
 
 mod batches;
 mod gathered;
 mod ordered;
 mod stopping;
 
-use group_commit::{Flush, FlushError, Monitor, NotKept, Receipt, Steps, Stopping};
+use group_commit::{Flush, FlushError, LastFlush, Monitor, NotKept, Over, Receipt, Steps};
 use std::sync::{Mutex, Wait};
 use std::time::Clock;
 
@@ -27,15 +27,11 @@ const NOTHING: Kept = Kept {
     reach: 0,
 };
 
-/// Who may stop a service here.
+/// Who stops a service here: anyone may.
 #[derive(Clone, Copy)]
 struct Anyone;
 
 const ANYONE: Anyone = Anyone;
-
-impl Stopping for Anyone {
-    ghost may_stop = { λ _. ⊤ };
-}
 
 impl Receipt for Kept {
     ghost number = { λ k. k.number };
@@ -132,8 +128,8 @@ struct Last<'a, R: Wait> {
     store: &'a Mutex<Store>,
 }
 
-impl<R: Wait> Flush<()> for Last<'_, R> {
-    fn flush(&mut self) -> Result<(), FlushError> {
+impl<R: Wait> LastFlush<Kept, ()> for Last<'_, R> {
+    fn flush_last(&mut self, _over: &Over<Kept>) -> Result<(), FlushError> {
         match self.store.lock(self.rt).flush() {
             Ok(_) => Ok(()),
             Err(error) => Err(error),
@@ -151,7 +147,7 @@ const PATIENCE: u64 = 1;
 /// A session accepts a change, and waits until it is kept. Answers whether its receipt covers it.
 fn is_kept<R: Wait + Clock, S: Steps>(
     rt: &R,
-    monitor: &Monitor<Kept>,
+    monitor: &Monitor<Kept, Anyone>,
     store: &Mutex<Store>,
     steps: &S,
 ) -> bool {

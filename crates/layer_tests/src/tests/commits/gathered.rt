@@ -2,7 +2,7 @@
 //! that takes, and nobody waits for what doesn't come.
 ghost use Rattle.std.specs.Prelude.{◌≡◌};
 
-use crate::tests::commits::{Kept, NOTHING, PATIENCE, Store, is_kept};
+use crate::tests::commits::{Anyone, Kept, NOTHING, PATIENCE, Store, is_kept};
 use group_commit::{CommitStep, Monitor, Open, Steps};
 use std::io;
 use std::process::Abort;
@@ -55,7 +55,7 @@ impl<'a, R: Wait> Stopped<'a, R> {
 #[derive(Drop)]
 struct Beside<'a, R: Wait> {
     rt: &'a R,
-    monitor: &'a Monitor<Kept>,
+    monitor: &'a Monitor<Kept, Anyone>,
     has_ended: &'a AtomicBool,
 }
 
@@ -82,7 +82,7 @@ impl<R: Wait> Beside<'_, R> {
 /// A session of changes. Answers whether each is kept.
 fn are_kept<R: Wait + Clock, S: Steps>(
     rt: &R,
-    monitor: &Monitor<Kept>,
+    monitor: &Monitor<Kept, Anyone>,
     store: &Mutex<Store>,
     steps: &S,
     has_ended: &AtomicBool,
@@ -98,7 +98,7 @@ fn are_kept<R: Wait + Clock, S: Steps>(
 /// What two sessions share.
 #[derive(Drop)]
 struct Pair {
-    monitor: Monitor<Kept>,
+    monitor: Monitor<Kept, Anyone>,
     store: Mutex<Store>,
     has_ended: AtomicBool,
 }

@@ -1,6 +1,6 @@
 //! Two sessions that wait, one of which is held before a step until the other has come to another:
 //! every run ends, in whichever order they come.
-use crate::tests::commits::{NOTHING, PATIENCE, Store, is_kept};
+use crate::tests::commits::{Anyone, NOTHING, PATIENCE, Store, is_kept};
 use group_commit::{CommitStep, Monitor, Steps};
 use std::process::Abort;
 use std::sync::{Condvar, CondvarTimeouts, Mutex, Wait};
@@ -89,7 +89,7 @@ fn play<R: Threads + Wait + Clock + Sync>(
     held: CommitStep,
     until: CommitStep,
 ) -> (bool, bool, Store) {
-    let monitor = Monitor::new(NOTHING, PATIENCE);
+    let monitor = Monitor::<_, Anyone>::new(NOTHING, PATIENCE);
     let store = Mutex::new(store);
     let order = Order {
         rt,

@@ -24,6 +24,6 @@ ghosts-serve_ready-J-Running g a = record {
   reserve = a.ready.reserve;
 }
 
--- a service with the doors that were asked for
+-- a service with the doors that were asked for, which begins there
 abbrev pub ghosts-serve_ready-J-Serving : goal.ghosts-serve_ready-J-Serving
-ghosts-serve_ready-J-Serving g a = record { doors = map asked_door a.asked.now.doors.items }
+ghosts-serve_ready-J-Serving g a = record { doors = map asked_door a.asked.now.doors.items; start = a.ready.start }

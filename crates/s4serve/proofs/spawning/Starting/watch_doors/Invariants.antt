@@ -1,0 +1,12 @@
+use Rattle.std.proofs.Common.{take, vec_len}
+use Rattle.std.specs.List.{AllZip}
+use Rattle.s4serve.specs.Doors.{ReadsAt}
+use Rattle.s4serve.proofs.spawning.Starting.watch_doors.Given as goal
+
+-- the first doors have the inputs that are left
+abbrev pub invariant-loop-input : goal.invariant-loop-input
+invariant-loop-input g l = record { inputs : AllZip (ReadsAt g.D.Fifos.reads) (take (vec_len l.inputs) g.J.Serving.doors) l.inputs.items }
+
+-- the number of those
+abbrev pub decreases-loop-input : goal.decreases-loop-input
+decreases-loop-input g l = vec_len l.inputs
