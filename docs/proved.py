@@ -22,8 +22,8 @@ Each crate's public calls that have a contract, with the names of its clauses in
 **An argument in writing**, of `s4serve`, joins its clauses. A reply goes out where a receipt covers its step
 (`serve_line`), and a receipt shows that a crash left an image of the drive with as many changes, at its reach
 (`what_is_covered_is_kept`). That a crash falls between two calls of the folder, one inside a call being a folder whose later calls fail;
-that the lock of the monitor orders what receipts of several sessions say; that a real folder is as `Folder` says; that a thread
-which waits goes on; that workers reach clients by `open_at` and `serve_line` alone: these no clause says.
+that the lock of the monitor orders what receipts of several sessions say; that files are as calls answer (see `service_seen`); that a
+thread which waits goes on; that workers reach clients by `open_at` and `serve_line` alone: these no clause says.
 """
 WIDTH = 130
 USUAL = {"same", "unchanged", "others", "refusal", "memory", "none", "failures", "empty", "ledger", "least", "most", "few", "exact",

@@ -1,4 +1,5 @@
 -- What each call leaves.
+use Rattle.std.specs.Prelude.{Result, Ok, Err, OnOk, IsTrue, is_ok}
 use Rattle.std.proofs.Common.{◌≡◌, ℕ, zero, suc, ◌+◌, ◌-◌, ◌<◌, ◌≤◌, ◌==◌, ◌||◌, Bool, true, false, not, if◌then◌else◌, List, [], ◌∷◌, ◌++◌, length, take, drop, refl, sym, ap, subst, ◌∙◌, arith, inl, inr, ◌⊎◌, Option, None, Some}
 use Rattle.std.specs.Str.{bytes_eq}
 use Rattle.std.proofs.lemmas.Slice.Eq.{bytes_eq-Decides}
@@ -6,8 +7,9 @@ use Rattle.std.proofs.lemmas.Bool.{false_from_ne_true}
 use Rattle.std.proofs.lemmas.List.{length-take-le, length-drop}
 use Rattle.std.proofs.Math.Seq.{take-add, take-length}
 use Rattle.std.proofs.lemmas.Bool.Decides.{Decides-eqb}
-use Rattle.host_calls.specs.Events.{Answer, Done, Short, Unsupported, Failed, Event, Written, Cut, Synced, Renamed, Linked, Removed, FolderSynced}
+use Rattle.host_calls.specs.Events.{Answer, Done, Short, Unsupported, Failed, Event, Made, Locked, Written, Cut, Synced, Renamed, Linked, Removed, FolderSynced}
 use Rattle.host_calls.specs.Replay.{Lying, Before, Whole, Front, Nothing, Unknown, World, place_of, unless_at, written, unwritten, cut, uncut, settled, changed_at, changed, synced_at, made_at, maybe_at, names_synced, folder_path, after, replay, Leaves, LeavesOne, MayLeave}
+use Rattle.host_calls.specs.Files.{locked_by, is_locked, mode_by, made_mode}
 use Rattle.host_calls.specs.Worlds.{IsFile, IsAt, Begins, HasBytes, SameAt, SameNames, AddsNone, AddsOnly, IsWriting, GoesOn, ChangesOnly, SamePlaces}
 
 -- the world after one more call
@@ -588,3 +590,25 @@ adds_or was x w v path c one (inr h) = inr h
 -- what a crash leaves after two steps, of which each adds no more than this
 pub adds_then : (was : List ℕ → List ℕ → Type 0) (x : Lying) (w v u : World) → AddsOnly was x w v → AddsOnly was x v u → AddsOnly was x w u
 adds_then was x w v u one two path c h = adds_or was x w v path c one (two path c h)
+
+-- What calls did to a file since it was made.
+
+-- a file is locked after the call that locks it
+pub locked_now : (n : ℕ) (new old : List Event) → new ≡ Locked n true ∷ old → is_locked n new ≡ true
+unfolding is_locked
+locked_now n new old is = ap (is_locked n) is ∙ number_here n true (is_locked n old)
+
+-- it has the mode that it is made with
+pub mode_made : (path : List ℕ) (mode n : ℕ) (new old : List Event) → new ≡ Made path mode n true ∷ old → made_mode n new ≡ mode
+unfolding made_mode
+mode_made path mode n new old is = ap (made_mode n) is ∙ number_here n mode (made_mode n old)
+
+-- which a lock doesn't change
+pub mode_stays : (m n : ℕ) (ok : Bool) (new old : List Event) → new ≡ Locked n ok ∷ old → made_mode m new ≡ made_mode m old
+unfolding made_mode
+mode_stays m n ok new old is = ap (made_mode m) is
+
+-- so it is where the call says that it was done
+pub locked_if : {A E : Type 0} (n : ℕ) (new old : List Event) (r : Result A E) → new ≡ Locked n (is_ok r) ∷ old → OnOk r (IsTrue (is_locked n new))
+locked_if n new old (Ok x) is = locked_now n new old is
+locked_if n new old (Err e) is = tt

@@ -15,8 +15,8 @@ pub data Answer : Type 0 where
 
 -- A call. A file goes by the number that it had from the call which made it; 0 is any file that no call made.
 pub data Event : Type 0 where
-  -- a file at a path where none was, and its number
-  Made : List ℕ → ℕ → Bool → Event
+  -- a file at a path where none was, the mode that was asked for, and its number
+  Made : List ℕ → ℕ → ℕ → Bool → Event
   -- bytes that a file took at an offset
   Written : ℕ → ℕ → List ℕ → Bool → Event
   -- a file got this length

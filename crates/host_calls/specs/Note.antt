@@ -6,10 +6,10 @@ use Rattle.host_calls.specs.Events.{Answer, Done, Short, Unsupported, Failed, Ev
 abbrev pub answer_of : ℕ → Answer
 answer_of code = if code == 1 then Done else if code == 2 then Short else if code == 3 then Unsupported else Failed
 
--- the call of a number: its second number is a file's, its third an offset or a length, its last the answer
+-- the call of a number: its second number is a file's, its third an offset, a length or a mode, its last the answer
 abbrev pub call_of : (kind file at answer : ℕ) → (first second : List ℕ) → Event
 call_of kind file at answer first second =
-    if kind == 1 then Made first file (answer == 1)
+    if kind == 1 then Made first at file (answer == 1)
     else if kind == 2 then Written file at first (answer == 1)
     else if kind == 3 then Cut file at (answer == 1)
     else if kind == 4 then Synced file (answer == 1)

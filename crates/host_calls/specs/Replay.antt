@@ -147,8 +147,8 @@ names_synced folder w = record w { others = λ path. if bytes_eq folder (folder_
 
 -- A call. No sync counts after one that failed. A folder whose names the file system doesn't sync is taken for one whose names last.
 abbrev pub after : Event → World → World
-after (Made path number true) w = made_at path number w
-after (Made path number false) w = w
+after (Made path mode number true) w = made_at path number w
+after (Made path mode number false) w = w
 after (Written number at bytes true) w = changed (written at bytes) (place_of w number) w
 after (Written number at bytes false) w = changed (unwritten at) (place_of w number) w
 after (Cut number len true) w = changed (cut len) (place_of w number) w

@@ -7,7 +7,6 @@ ghost use Rattle.host_calls.specs.Events.{Done, refusal_of, unsynced_by};
 
 use std::fs::{File, Metadata, Permissions, TryLockError};
 use std::io;
-use std::marker::Send;
 
 /// Calls of the system. Each method makes one. Those that change something note it.
 pub trait Calls {
@@ -24,17 +23,17 @@ pub trait Calls {
     ghost place: { Self.Folder → List ℕ };
 
     /// An open file.
-    type File: Send + Drop;
+    type File: Drop;
 
     /// An open folder.
-    type Folder: Send + Drop;
+    type Folder: Drop;
 
     /// Makes a file that can be written, with this mode, at a path where none is.
     fn make(&mut self, path: &str, mode: u32) -> io::Result<Self::File>
         ensures number { IfOk result (λ f. 0 < number f) }
         ensures noted { MatchResult result
-            (λ f. history self.new ≡ Made path.now (number f) true ∷ history self.old)
-            (λ _. history self.new ≡ Made path.now 0 false ∷ history self.old) };
+            (λ f. history self.new ≡ Made path.now mode (number f) true ∷ history self.old)
+            (λ _. history self.new ≡ Made path.now mode 0 false ∷ history self.old) };
 
     /// Writes bytes at an offset, and says how many it took.
     fn write_at(&mut self, file: &Self::File, at: u64, bytes: &[u8]) -> io::Result<usize>
@@ -103,6 +102,9 @@ pub trait Calls {
 
     /// The same open file, to be read.
     fn copy_of(&self, file: &Self::File) -> io::Result<File>;
+
+    /// The open file itself, with its lock, once nothing more is called on it.
+    fn into_file(&self, file: Self::File) -> File;
 
     /// Locks a file that was opened, unless another program has. It changes no file, and isn't
     /// noted.

@@ -122,14 +122,14 @@ impl Calls for HostCalls {
         let file = match how.open(&self.rt, path) {
             Ok(file) => file,
             Err(error) => {
-                self.log.note(&[MADE, 0, 0, FAILED], path.as_bytes(), &[]);
+                self.log
+                    .note(&[MADE, 0, u64::from(mode), FAILED], path.as_bytes(), &[]);
                 return Err(error);
             }
         };
         let number = self.next.max(1);
         self.next = number.wrapping_add(1);
-        self.log
-            .note(&[MADE, number, 0, DONE], path.as_bytes(), &[]);
+        self.log.note(&[MADE, number, u64::from(mode), DONE], path.as_bytes(), &[]);
         Ok(HostFile { file, number })
     }
 
@@ -241,6 +241,10 @@ impl Calls for HostCalls {
 
     fn copy_of(&self, file: &HostFile) -> io::Result<File> {
         file.file.try_clone()
+    }
+
+    fn into_file(&self, file: HostFile) -> File {
+        file.file
     }
 
     fn try_lock_opened(&self, file: &HostFile) -> Result<(), TryLockError> {

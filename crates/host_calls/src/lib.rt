@@ -9,7 +9,8 @@
 //! does what it answers, and while nobody else changes these files.
 //!
 //! That each method of `HostCalls` makes the call that it notes is what no clause says: it has to be
-//! read. A folder whose names its file system doesn't sync is taken for one whose names last.
+//! read, and the transcript `service_seen` sees those of a flush by `strace`. A folder whose names its
+//! file system doesn't sync is taken for one whose names last.
 #![tactic(auto)]
 
 mod calls;

@@ -1,7 +1,9 @@
 //! What each call leaves of the files that others made.
 ghost use Rattle.std.specs.Prelude.{◌≡◌, ◌≢◌, ◌≤◌, ◌+◌, ◌⊎◌, ℕ, List, [], false, length, not};
 ghost use Rattle.std.specs.Prelude.{IfErr, IfOk, OnErr, OnOk, is_ok};
+ghost use Rattle.std.specs.Prelude.{IsTrue};
 ghost use Rattle.host_calls.specs.Events.{Short, refusal_of};
+ghost use Rattle.host_calls.specs.Files.{is_locked, made_mode};
 ghost use Rattle.host_calls.specs.Replay.{World, folder_path, replay};
 ghost use Rattle.host_calls.specs.Worlds.{AddsNone, AddsOnly, GoesOn, HasBytes, HasLasting, IsAt};
 ghost use Rattle.host_calls.specs.Worlds.{ChangesOnly, IsWriting, SameAt, SameNames};
@@ -12,11 +14,12 @@ use std::fs::{Permissions, TryLockError};
 use std::io;
 
 /// Makes a file at a path where none is.
-#[tactic(auto, using(crate::proofs::Effects::at_made, crate::proofs::Effects::file_made, crate::proofs::Effects::others_made), unfolding(crate::specs::Replay::replay))]
+#[tactic(auto, using(crate::proofs::Effects::at_made, crate::proofs::Effects::file_made, crate::proofs::Effects::others_made, crate::proofs::Effects::mode_made), unfolding(crate::specs::Replay::replay))]
 pub fn make_file<C: Calls>(calls: &mut C, path: &str, mode: u32) -> io::Result<C::File>
     ensures at { IfOk result
         (λ f. IsAt (replay (C.history calls.new)) (C.number f) path.now) }
     ensures empty { OnOk result (HasBytes (replay (C.history calls.new)) path.now []) }
+    ensures mode { IfOk result (λ f. made_mode (C.number f) (C.history calls.new) ≡ mode) }
     ensures others { (other : List ℕ) → other ≢ path.now
         → SameAt (replay (C.history calls.old)) (replay (C.history calls.new)) other }
     ensures failed { (replay (C.history calls.new)).failed
@@ -247,9 +250,13 @@ pub fn remove_file<C: Calls>(calls: &mut C, path: &str) -> io::Result<()>
 }
 
 /// Locks a file that was made, unless another program has.
-#[tactic(auto, unfolding(crate::specs::Replay::replay))]
+#[tactic(auto, using(crate::proofs::Effects::mode_stays), unfolding(crate::specs::Replay::replay))]
 pub fn lock_file<C: Calls>(calls: &mut C, file: &C::File) -> Result<(), TryLockError>
-    ensures { replay (C.history calls.new) ≡ replay (C.history calls.old) }
+    ensures locked { OnOk result
+        (IsTrue (is_locked (C.number file.now) (C.history calls.new))) }
+    ensures same { replay (C.history calls.new) ≡ replay (C.history calls.old) }
+    ensures modes { (number : ℕ)
+        → made_mode number (C.history calls.new) ≡ made_mode number (C.history calls.old) }
 {
     calls.try_lock(file)
 }

@@ -81,6 +81,12 @@ fn a_file_is_locked_and_gets_a_mode(rt: HostRuntime) -> Result<(), Fail> {
     assert_eq!(rt; calls.write_at(&file, 0, b"x")?, 1);
     let opened = calls.open("held")?;
     assert!(rt; is_read(&calls, &opened, b'x')?);
+    // The file itself goes on, with its lock.
+    let plain = calls.into_file(file);
+    assert_eq!(rt; plain.metadata()?.len(), 1);
+    assert!(rt; is_locked(&calls, "held")?);
+    drop(plain);
+    assert!(rt; !is_locked(&calls, "held")?);
     calls.remove("held")?;
     Ok(())
 }

@@ -2,7 +2,6 @@
 ghost use Rattle.std.specs.Prelude.{◌≡◌, ◌≤◌, ◌⊎◌, ℕ, Bool, true, false, List, [], Option, None, IfErr, IfOk};
 ghost use Rattle.std.specs.Prelude.{IfSome, IsFalse, IsTrue, OnErr, OnOk, string_bytes};
 ghost use Rattle.std.specs.Io.KnownBytes.{Keeps};
-ghost use Rattle.image_commands.specs.Crashes.{IsShort, LeavesMore, LeavesNoMore, LeavesOnly};
 ghost use Rattle.image_commands.specs.Files.{AreKnown, HasSome};
 ghost use Rattle.image_commands.specs.Leaving.{IsAllThere, IsUnread};
 ghost use Rattle.image_commands.specs.declared.beside.TheConstants.{MOST_BESIDE};
@@ -49,18 +48,6 @@ pub trait Files {
 
     // Whether a path names what a writer writes.
     ghost writes: { Self.Writer → List ℕ → Type 0 };
-
-    // The bytes that the path of what was claimed may have after a crash now.
-    ghost may_leave: { Self → Self.Claim → List ℕ → Type 0 };
-
-    // Those that the file which is at that path now may have then.
-    ghost placed_leaves: { Self → Self.Claim → List ℕ → Type 0 };
-
-    // Those that the file beside an image may have then.
-    ghost beside_leaves: { Self.Beside → List ℕ → Type 0 };
-
-    // Whether the file beside an image was filled with these bytes.
-    ghost is_filled: { Self.Beside → List ℕ → Type 0 };
 
     /// What an opened file is read by.
     type Reader: Read + Send + Drop;
@@ -151,13 +138,11 @@ pub trait Files {
         ensures others { (path : List ℕ) → Keeps (contents self.old path) (contents self.new path) }
         ensures reserved { IfOk result
             (λ b. (path : List ℕ) → is_beside b path ≡ true → reserves claim.now path ≡ true) }
-        ensures unknown { IfOk result (λ b. (path : List ℕ) → is_beside b path ≡ true → contents self.old path ≡ None) }
-        ensures crash { (any : Self.Claim) → LeavesNoMore (may_leave self.old any) (may_leave self.new any) };
+        ensures unknown { IfOk result (λ b. (path : List ℕ) → is_beside b path ≡ true → contents self.old path ≡ None) };
 
     /// Removes the file beside an image.
     fn remove_beside(&mut self, beside: Self::Beside)
-        ensures others { (path : List ℕ) → is_beside beside path ≡ false → Keeps (contents self.old path) (contents self.new path) }
-        ensures crash { (any : Self.Claim) → LeavesNoMore (may_leave self.old any) (may_leave self.new any) };
+        ensures others { (path : List ℕ) → is_beside beside path ≡ false → Keeps (contents self.old path) (contents self.new path) };
 
     /// The file of this number that was left beside a claimed image: of a service's by a number
     /// from `MOST_BESIDE` on one that need not be whole. None only where nothing is at its path, or
@@ -188,8 +173,7 @@ pub trait Files {
 
     /// Removes a leftover.
     fn remove_leftover(&mut self, leftover: Self::Leftover)
-        ensures others { (path : List ℕ) → is_left leftover path ≡ false → Keeps (contents self.old path) (contents self.new path) }
-        ensures crash { (any : Self.Claim) → LeavesNoMore (may_leave self.old any) (may_leave self.new any) };
+        ensures others { (path : List ℕ) → is_left leftover path ≡ false → Keeps (contents self.old path) (contents self.new path) };
 
     /// Fills the file beside an image with these bytes and puts it in the image's place. Whoever
     /// reads the path, at whatever time, finds all bytes of the old file or all of the new one. An
@@ -212,72 +196,6 @@ pub trait Files {
             → is_beside beside path ≡ false
             → Keeps (contents self.old path) (contents self.new path)) }
         ensures kept { IfErr result (λ why. IfSome why.kept (λ path. AreKnown (contents self.new (string_bytes path)) bytes.now)) };
-
-    /// Fills the file beside an image with these bytes. An obstacle leaves any bytes in it.
-    fn fill(&mut self, beside: &mut Self::Beside, bytes: &[u8]) -> Result<(), Obstacle>
-        ensures filled { OnOk result (is_filled beside.new bytes.now) }
-        ensures known { OnOk result
-            ((path : List ℕ) → is_beside beside.old path ≡ true
-            → AreKnown (contents self.new path) bytes.now) }
-        ensures same { (path : List ℕ) → is_beside beside.new path ≡ is_beside beside.old path }
-        ensures others { (path : List ℕ)
-            → is_beside beside.old path ≡ false
-            → Keeps (contents self.old path) (contents self.new path) }
-        ensures crash { (any : Self.Claim) → LeavesNoMore (may_leave self.old any) (may_leave self.new any) };
-
-    /// Writes all bytes of the file beside an image to the disk. After an obstacle they may be
-    /// lost, also where a later call meets none.
-    fn sync_beside(&mut self, beside: &mut Self::Beside) -> Result<(), Obstacle>
-        ensures lasting { OnOk result
-            ((bytes : List ℕ) → is_filled beside.old bytes
-            → LeavesOnly bytes (beside_leaves beside.new)) }
-        ensures filled { (bytes : List ℕ) → is_filled beside.old bytes → is_filled beside.new bytes }
-        ensures same { (path : List ℕ) → is_beside beside.new path ≡ is_beside beside.old path }
-        ensures others { (path : List ℕ) → Keeps (contents self.old path) (contents self.new path) }
-        ensures crash { (any : Self.Claim) → LeavesNoMore (may_leave self.old any) (may_leave self.new any) };
-
-    /// Gives the file beside an image the image's name, where that still names what was claimed.
-    /// Whoever reads the path, at whatever time, finds the old file or the new one, and no other
-    /// program claims it in between: the new one is claimed before it has the name, and the old one
-    /// is let go after that. An obstacle leaves the claim as it was, and gives the file back.
-    fn exchange(
-        &mut self,
-        claim: &mut Self::Claim,
-        beside: Self::Beside,
-    ) -> Result<(), NotExchanged<Self::Beside>>
-        ensures claimed { (path : List ℕ) → leads claim.old path → leads claim.new path }
-        ensures reserved { (path : List ℕ) → reserves claim.new path ≡ reserves claim.old path }
-        ensures kept { OnErr result (claim.new ≡ claim.old) }
-        ensures given { IfErr result (λ why. why.beside ≡ beside) }
-        ensures replaced { OnOk result
-            ((path bytes : List ℕ) → leads claim.old path → is_filled beside bytes
-            → AreKnown (contents self.new path) bytes) }
-        ensures elsewhere { OnOk result
-            ((path other : List ℕ) → leads claim.old path → apart path other
-            → is_beside beside other ≡ false
-            → Keeps (contents self.old other) (contents self.new other)) }
-        ensures others { OnErr result
-            ((path : List ℕ) → Keeps (contents self.old path) (contents self.new path)) }
-        ensures placed { OnOk result (LeavesNoMore (beside_leaves beside) (placed_leaves self.new claim.new)) }
-        ensures crash { LeavesMore (beside_leaves beside) (may_leave self.old claim.old) (may_leave self.new claim.new) }
-        ensures short { IfErr result
-            (λ why. IsShort why.obstacle
-            → LeavesNoMore (may_leave self.old claim.old) (may_leave self.new claim.new)) };
-
-    /// Leaves the file beside an image, which was filled and can't take the image's place, by a name
-    /// at which whoever comes next looks for a whole one, where that can be had. Gives its path.
-    fn set_aside(&mut self, alloc: Global, claim: &Self::Claim, beside: Self::Beside) -> String
-        ensures kept { (bytes : List ℕ) → is_filled beside bytes → AreKnown (contents self.new (string_bytes result)) bytes }
-        ensures others { (path : List ℕ) → is_beside beside path ≡ false → Keeps (contents self.old path) (contents self.new path) }
-        ensures crash { (any : Self.Claim) → LeavesNoMore (may_leave self.old any) (may_leave self.new any) };
-
-    /// Writes the folder of a claimed image to the disk, so that the file which has the image's
-    /// name now keeps it. After an obstacle a failure of the machine may leave either file there,
-    /// also where a later call meets none.
-    fn sync_folder(&mut self, claim: &Self::Claim) -> Result<(), Obstacle>
-        ensures lasting { OnOk result (LeavesNoMore (placed_leaves self.old claim.now) (may_leave self.new claim.now)) }
-        ensures others { (path : List ℕ) → Keeps (contents self.old path) (contents self.new path) }
-        ensures crash { (any : Self.Claim) → LeavesNoMore (may_leave self.old any) (may_leave self.new any) };
 }
 
 /// How an image was put in its place.
@@ -295,11 +213,4 @@ pub struct NotReplaced {
     pub obstacle: Obstacle,
     /// The path of the file that has all of the new image's bytes, where there is one.
     pub kept: Option<String>,
-}
-
-/// Why a file beside an image didn't take its place, and that file.
-#[derive(Drop)]
-pub struct NotExchanged<B> {
-    pub obstacle: Obstacle,
-    pub beside: B,
 }

@@ -1,13 +1,14 @@
 //! The files of this system.
-ghost use Rattle.std.specs.Prelude.{false, None, IfErr, ⊤};
+ghost use Rattle.std.specs.Prelude.{◌≡◌, false, None, IfErr, IsSome, string_bytes, ⊤};
 ghost use Rattle.image_commands.specs.Leaving.{IsUnread};
 
-use crate::beside::{MOST_BESIDE, Names, beside_path, is_beside_name, left_path, whole_path};
-use crate::files::{Files, NotExchanged, NotReplaced, Placed};
+use crate::beside::{MOST_BESIDE, Names, beside_path, is_beside_name, left_path};
+use crate::files::{Files, NotReplaced, Placed};
 use crate::leftovers::LeftFault;
 use crate::obstacles::Obstacle;
 use crate::paths::{
-    are_in_one_folder, are_one_file, are_one_path, end_of_path, folder_of, found, real_path,
+    are_in_one_folder, are_one_file, are_one_path, end_of_path, folder_of, found, is_file_of,
+    real_path,
 };
 use std::alloc::Global;
 use std::fs::{self, File, Metadata, OpenOptions, TryLockError};
@@ -36,10 +37,40 @@ pub struct ImageClaim {
     path: String,
     /// The image, locked, where it is there.
     image: Option<File>,
-    /// The folder that it is in, where it was put there.
-    folder: Option<File>,
     /// By which names files beside it go.
     names: Names,
+}
+
+impl ImageClaim {
+    /// The image's path without links.
+    pub fn path(&self) -> &str
+        ensures { result.now ≡ string_bytes self.now.path }
+    {
+        self.path.as_str()
+    }
+
+    /// The image as it was claimed, locked. None where it isn't there.
+    pub fn image(&self) -> Option<&File>
+        ensures { IsSome self.now.image → IsSome result }
+    {
+        match &self.image {
+            Some(image) => Some(image),
+            None => None,
+        }
+    }
+
+    /// Whether its paths still lead to the file that was claimed, or still to none.
+    pub fn is_as_claimed(&self, rt: &HostRuntime) -> io::Result<bool> {
+        is_as_claimed(rt, self)
+    }
+
+    /// Claims this file, which is locked and has the image's path now, in place of the one that had
+    /// it.
+    pub fn hold(&mut self, image: File)
+        ensures { self.new.path ≡ self.old.path }
+    {
+        self.image = Some(image);
+    }
 }
 
 /// A file of this system beside an image, locked.
@@ -56,6 +87,15 @@ pub struct BesideFile {
 pub struct LeftFile {
     path: String,
     file: File,
+}
+
+impl LeftFile {
+    /// Its path without links.
+    pub fn path(&self) -> &str
+        ensures { result.now ≡ string_bytes self.now.path }
+    {
+        self.path.as_str()
+    }
 }
 
 /// The standard streams. The system opens no socket by a path, so what their paths name is not
@@ -158,15 +198,6 @@ impl Files for HostRuntime {
 
     ghost writes = { λ _ _. ⊤ };
 
-    // Nor what a crash leaves of it: no outcome of one is named.
-    ghost may_leave = { λ _ _ _. ⊥ };
-
-    ghost placed_leaves = { λ _ _ _. ⊥ };
-
-    ghost beside_leaves = { λ _ _. ⊥ };
-
-    ghost is_filled = { λ _ _. ⊤ };
-
     fn open(&self, path: &str) -> io::Result<Input> {
         match standard_stream(path) {
             Some(Standard::Input) => Ok(Input::Standard(self.stdin())),
@@ -221,7 +252,6 @@ impl Files for HostRuntime {
             given,
             path,
             image,
-            folder: None,
             names: Names::OfCommands,
         })
     }
@@ -320,47 +350,6 @@ impl Files for HostRuntime {
         };
         drop(claim);
         replaced
-    }
-
-    fn fill(&mut self, beside: &mut BesideFile, bytes: &[u8]) -> Result<(), Obstacle> {
-        fill(&mut beside.file, bytes)?;
-        Ok(())
-    }
-
-    fn sync_beside(&mut self, beside: &mut BesideFile) -> Result<(), Obstacle> {
-        beside.file.sync_all()?;
-        Ok(())
-    }
-
-    fn exchange(
-        &mut self,
-        claim: &mut ImageClaim,
-        beside: BesideFile,
-    ) -> Result<(), NotExchanged<BesideFile>> {
-        if let Err(obstacle) = rename_over(self, claim, &beside) {
-            return Err(NotExchanged { obstacle, beside });
-        }
-        // Its lock is held since it was made. That of the file which had the name goes with it, now
-        // that nobody finds it there.
-        let BesideFile { file, folder, .. } = beside;
-        claim.image = Some(file);
-        claim.folder = Some(folder);
-        Ok(())
-    }
-
-    fn set_aside(&mut self, alloc: Global, claim: &ImageClaim, beside: BesideFile) -> String {
-        match claim.names {
-            Names::OfCommands => beside.path,
-            Names::OfServices => set_aside(self, alloc, claim, beside),
-        }
-    }
-
-    fn sync_folder(&mut self, claim: &ImageClaim) -> Result<(), Obstacle> {
-        match &claim.folder {
-            Some(folder) => sync_names(folder)?,
-            None => sync_names(&folder_beside(self, claim)?)?,
-        }
-        Ok(())
     }
 }
 
@@ -461,12 +450,7 @@ fn lock(rt: &HostRuntime, file: &File, path: &str) -> io::Result<bool> {
 
 // Whether a path without links leads to this very file.
 fn is_at(rt: &HostRuntime, file: &File, path: &str) -> io::Result<bool> {
-    let about = file.metadata()?;
-    match fs::symlink_metadata(rt, path) {
-        Ok(now) => Ok(are_one_file(&about, &now)),
-        Err(error) if error.kind() == io::ErrorKind::NotFound => Ok(false),
-        Err(error) => Err(error),
-    }
+    is_file_of(rt, &file.metadata()?, path)
 }
 
 // Whether a path, by links or without, leads to this very file.
@@ -718,41 +702,6 @@ fn rename_over(rt: &HostRuntime, claim: &ImageClaim, beside: &BesideFile) -> Res
     }
     fs::rename(rt, beside.path.as_str(), claim.path.as_str())?;
     Ok(())
-}
-
-// Gives the file beside an image the first name of a whole one that is free. Where it gets none it
-// keeps the one that it has.
-fn set_aside(rt: &HostRuntime, alloc: Global, claim: &ImageClaim, beside: BesideFile) -> String {
-    for number in 0..MOST_BESIDE {
-        if let Ok(path) = whole_path(alloc, claim.path.as_str(), number)
-            && let Ok(true) = is_renamed(rt, beside.path.as_str(), path.as_str())
-        {
-            // What is at the path is whole, whether this fails or not.
-            let _ = sync_names(&beside.folder);
-            return path;
-        }
-    }
-    beside.path
-}
-
-// Gives a file another name, where that is free, and says whether it was. No other file that gets
-// the name meanwhile is lost, where the file system knows links.
-fn is_renamed(rt: &HostRuntime, from: &str, to: &str) -> io::Result<bool> {
-    match fs::hard_link(rt, from, to) {
-        Ok(()) => {
-            // Where this fails it has both names.
-            let _ = fs::remove_file(rt, from);
-            Ok(true)
-        }
-        Err(error) if error.kind() == io::ErrorKind::AlreadyExists => Ok(false),
-        Err(_) => match fs::symlink_metadata(rt, to) {
-            Err(error) if error.kind() == io::ErrorKind::NotFound => {
-                fs::rename(rt, from, to)?;
-                Ok(true)
-            }
-            _ => Ok(false),
-        },
-    }
 }
 
 // Has the names of a folder on the disk, where its file system does that for a folder.

@@ -26,10 +26,13 @@ mod saving;
 mod streams;
 mod verifying;
 
+pub use beside::{MOST_BESIDE, part_path, whole_path};
 pub use faults::{Fault, reading, writing};
-pub use files::{Files, NotExchanged, NotReplaced, Placed};
+pub use files::{Files, NotReplaced, Placed};
+pub use host_files::{ImageClaim, LeftFile};
 pub use leftovers::{LeftFault, refuse_whole, remove_leftovers, spent_leftovers};
 pub use obstacles::Obstacle;
+pub use paths::{folder_of, is_file_of};
 pub use reading_past::{write_object, write_version};
 pub use saving::{Place, claim_empty, longest_image, make_file, put_image};
 pub use streams::hold_standard_streams;

@@ -2,6 +2,7 @@
 ghost use Rattle.std.specs.Prelude.{◌≡◌, ◌≢◌, ◌↔◌, IsTrue};
 ghost use Rattle.image_commands.specs.Crashes.{IsShort};
 ghost use Rattle.std.specs.declared.io.ErrorKind.TheVariants.{OutOfMemory};
+ghost use Rattle.host_calls.specs.Events.{Short, refusal_of, says_short};
 
 use std::alloc::AllocError;
 use std::error::Error;
@@ -86,6 +87,7 @@ impl Obstacle {
     pub fn of(kind: io::ErrorKind) -> Obstacle
         ensures memory { kind ≡ OutOfMemory → result ≡ Obstacle.NoMemory }
         ensures only { kind ≢ OutOfMemory → result ≢ Obstacle.NoMemory }
+        ensures short { IsShort result → says_short kind ≡ Short }
     {
         match kind {
             io::ErrorKind::OutOfMemory => Obstacle::NoMemory,
@@ -159,6 +161,9 @@ impl Display for Obstacle {
 impl Error for Obstacle {}
 
 impl From<io::Error> for Obstacle {
+    // Memory or room is short only where the system says so.
+    ghost from_gives = { λ error obstacle. IsShort obstacle → refusal_of error ≡ Short };
+
     fn from(error: io::Error) -> Obstacle {
         Obstacle::of(error.kind()).with_code(error.raw_os_error())
     }

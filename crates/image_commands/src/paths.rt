@@ -27,6 +27,15 @@ pub fn are_one_file(one: &Metadata, other: &Metadata) -> bool {
         && !kind.is_socket()
 }
 
+/// Whether a path without links leads to the file of which the system says this.
+pub fn is_file_of(rt: &HostRuntime, about: &Metadata, path: &str) -> io::Result<bool> {
+    match fs::symlink_metadata(rt, path) {
+        Ok(now) => Ok(are_one_file(about, &now)),
+        Err(error) if error.kind() == io::ErrorKind::NotFound => Ok(false),
+        Err(error) => Err(error),
+    }
+}
+
 /// Whether both paths name one file, of two that aren't there.
 pub fn are_one_path(rt: &HostRuntime, first: &str, second: &str) -> io::Result<bool> {
     let (first, second) = (end_of_links(rt, first)?, end_of_links(rt, second)?);

@@ -74,7 +74,9 @@ pub trait Folder {
         ensures there { OnOk result (IsTrue is_known → LeavesAll (beside self.old) (named self.new)) }
         ensures crash { Adds (beside self.old) (may_leave self.old) (may_leave self.new) }
         ensures refused { IsErrOf result FolderError.NoRoom → AddsNothing (may_leave self.old) (may_leave self.new) }
-        ensures usable { IsTrue (is_usable self.new) };
+        ensures usable { OnOk result (IsTrue (is_usable self.new)) }
+        // After another failure nothing more is asked of it.
+        ensures again { IsErrOf result FolderError.NoRoom → IsTrue (is_usable self.new) };
 
     /// Has the path's name last.
     fn sync_folder(&mut self) -> Result<(), FolderError>

@@ -1,1 +1,3 @@
+pub mod Besides
 pub mod Causes
+pub mod Places

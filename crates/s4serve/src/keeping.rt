@@ -1,6 +1,8 @@
 //! How an image is kept in files.
 ghost use Rattle.std.specs.Prelude.{◌≡◌, ◌&&◌, IsTrue, false, not};
+ghost use Rattle.host_calls.specs.Replay.{replay};
 
+use host_calls::HostCalls;
 use image_commands::{Files, Obstacle};
 use image_keeping::{Keeper, WholeImage};
 use kept_files::{FileFolder, KeepCause, KeepObstacle};
@@ -21,7 +23,7 @@ pub trait Explaining {
         ensures { result ≡ false → was_moved self.now };
 }
 
-impl Explaining for WholeImage<FileFolder<HostRuntime>> {
+impl Explaining for WholeImage<FileFolder<HostCalls>> {
     ghost use Rattle.std.specs.Prelude.{⊤};
 
     // No clause of the standard library says what becomes of a file.
@@ -50,20 +52,23 @@ pub trait KeptFiles: Files {
 
     /// What keeps the image that is claimed. Once one was kept, what was left beside it is removed.
     fn keeper(self, alloc: Global, claim: Self::Claim, left: Vec<Self::Leftover>) -> Self::Kept
-        ensures { IsTrue (Self.Kept.is_usable result) };
+        ensures usable { IsTrue (Self.Kept.is_usable result) }
+        // What a crash leaves of what it keeps is known.
+        ensures known { IsTrue Self.Kept.is_known };
 }
 
 impl KeptFiles for HostRuntime {
-    type Kept = WholeImage<FileFolder<HostRuntime>>;
+    type Kept = WholeImage<FileFolder<HostCalls>>;
 
     fn keeper(
         self,
         alloc: Global,
         claim: Self::Claim,
         left: Vec<Self::Leftover>,
-    ) -> WholeImage<FileFolder<HostRuntime>>
-        ensures { IsTrue (result.folder.is_usable && not result.has_failed) }
+    ) -> WholeImage<FileFolder<HostCalls>>
+        ensures usable { IsTrue ((result.folder.is_usable
+            && not (replay result.folder.calls.log.events).failed) && not result.has_failed) }
     {
-        WholeImage::new(FileFolder::new(alloc, self, claim).removing(left))
+        WholeImage::new(FileFolder::of_host(alloc, self, claim).removing(left))
     }
 }

@@ -34,7 +34,7 @@ fn is_kept<K: Keeper>(rt: &HostRuntime, keeper: &mut K, path: &str, bytes: &[u8]
 /// keeper.
 fn are_kept(rt: &HostRuntime, path: &str) -> Result<bool, Obstacle> {
     let claim = rt.claim(rt.alloc(), path)?;
-    let mut keeper = WholeImage::new(FileFolder::new(rt.alloc(), *rt, claim));
+    let mut keeper = WholeImage::new(FileFolder::of_host(rt.alloc(), *rt, rt.keep_on(claim)));
     let are_kept = is_for_any_thread(&keeper)
         && is_kept(rt, &mut keeper, path, b"one")
         && is_kept(rt, &mut keeper, path, b"more than one")
@@ -52,7 +52,7 @@ fn the_image_is_kept_and_claimed(rt: HostRuntime) -> Result<(), Fail> {
         "each is kept, and claimed by its keeper"
     );
     assert!(rt; has_bytes(&rt, path, b"twice"));
-    assert!(rt; fs::metadata(&rt, "s4d.new").is_err());
+    assert!(rt; fs::metadata(&rt, "kept.image.s4serve.new.part").is_err());
     assert!(rt; !is_claimed(&rt, path));
     fs::remove_file(&rt, path)?;
     Ok(())
@@ -72,7 +72,7 @@ fn replace(rt: &HostRuntime, path: &str) -> io::Result<()> {
 
 /// Removes its folder, and what is there.
 fn remove(rt: &HostRuntime, path: &str) -> io::Result<()> {
-    fs::remove_file(rt, "moved/s4d.new")?;
+    fs::remove_file(rt, "moved/an.image.s4serve.new")?;
     fs::remove_file(rt, path)?;
     fs::remove_dir(rt, "moved")
 }
@@ -81,11 +81,11 @@ fn remove(rt: &HostRuntime, path: &str) -> io::Result<()> {
 /// refused.
 fn is_refused(rt: &HostRuntime, path: &str) -> Result<bool, Obstacle> {
     let claim = rt.claim(rt.alloc(), path)?;
-    let mut keeper = WholeImage::new(FileFolder::new(rt.alloc(), *rt, claim));
+    let mut keeper = WholeImage::new(FileFolder::of_host(rt.alloc(), *rt, rt.keep_on(claim)));
     let is_replaced = replace(rt, path).is_ok();
     let is_refused = keeper.keep(b"new").is_err();
     // The new one has all its bytes beside it.
-    let is_beside = has_bytes(rt, "moved/s4d.new", b"new");
+    let is_beside = has_bytes(rt, "moved/an.image.s4serve.new", b"new");
     drop(keeper);
     Ok(is_replaced && is_refused && is_beside)
 }
