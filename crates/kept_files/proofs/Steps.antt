@@ -4,10 +4,10 @@ use Rattle.std.specs.Prelude.{codes, Option, None, Some, IsSomeAnd, Result, Ok, 
 use Rattle.host_calls.specs.Events.{Event}
 use Rattle.host_calls.specs.Replay.{Lying, Whole, World, Leaves, LeavesOne, MayLeave, replay}
 use Rattle.host_calls.specs.Worlds.{AddsNone, AddsOnly, HasBytes, HasLasting, IsAt, SameAt, SameNames}
-use Rattle.image_commands.specs.Beside.{numbered, part_path}
+use Rattle.image_commands.specs.Beside.{numbered, part_path, whole_path}
 use Rattle.image_keeping.specs.Leaving.{Only}
 use Rattle.kept_files.specs.Besides.{BesideLeaves, IsBesideWritten}
-use Rattle.kept_files.specs.Places.{AreOthersAsBefore, IsAsBefore}
+use Rattle.kept_files.specs.Places.{AreOthersAsBefore, AreRestAsBefore, IsAsBefore}
 use Rattle.kept_files.specs.declared.making.Beside.{Beside}
 
 pub before_of : (path : List ℕ) (w v : World) → SameAt w v path → v.failed ≡ w.failed → IsAsBefore path w v
@@ -37,6 +37,22 @@ others_then path w v u one two = record { each = λ other apart. before_then oth
 pub other_is : (path other : List ℕ) (w v : World) → AreOthersAsBefore path w v → other ≢ path → IsAsBefore other w v
 other_is path other w v so apart = so.each other apart
 
+pub rest_equal : (one two : List ℕ) (w v : World) → v ≡ w → AreRestAsBefore one two w v
+rest_equal one two w v e = record { each = λ other m n. before_equal other w v e }
+
+-- all paths but the first, or but the second
+pub rest_of_first : (one two : List ℕ) (w v : World) → AreOthersAsBefore one w v → AreRestAsBefore one two w v
+rest_of_first one two w v so = record { each = λ other m n. so.each other m }
+
+pub rest_of_second : (one two : List ℕ) (w v : World) → AreOthersAsBefore two w v → AreRestAsBefore one two w v
+rest_of_second one two w v so = record { each = λ other m n. so.each other n }
+
+pub rest_then : (one two : List ℕ) (w v u : World) → AreRestAsBefore one two w v → AreRestAsBefore one two v u → AreRestAsBefore one two w u
+rest_then one two w v u here next = record { each = λ other m n. before_then other w v u (here.each other m n) (next.each other m n) }
+
+pub rest_of : (one two : List ℕ) (w v : World) → ((other : List ℕ) → other ≢ one → other ≢ two → SameAt w v other) → v.failed ≡ w.failed → AreRestAsBefore one two w v
+rest_of one two w v same failed = record { each = λ other m n. record { same = same other m n; failed = failed } }
+
 -- no file beside an image has its path
 pub part_apart : (image : List ℕ) (number : ℕ) (path : List ℕ) → path ≡ part_path image number → image ≢ path
 part_apart image number path is same =
@@ -44,6 +60,15 @@ part_apart image number path is same =
     let both = length-append (codes ".s4serve.new.part") (numbered number) in
     let all = length-append image (codes ".s4serve.new.part" ++ numbered number) in
     let e : length image ≡ length (image ++ (codes ".s4serve.new.part" ++ numbered number)) = ap length (same ∙ is) in
+    absurd (omega (arith, front, both, all, e))
+
+-- nor has a whole one
+pub whole_apart : (image : List ℕ) (number : ℕ) (path : List ℕ) → path ≡ whole_path image number → image ≢ path
+whole_apart image number path is same =
+    let front : length (codes ".s4serve.new") ≡ 12 = refl in
+    let both = length-append (codes ".s4serve.new") (numbered number) in
+    let all = length-append image (codes ".s4serve.new" ++ numbered number) in
+    let e : length image ≡ length (image ++ (codes ".s4serve.new" ++ numbered number)) = ap length (same ∙ is) in
     absurd (omega (arith, front, both, all, e))
 
 -- A crash leaves at a path that is as it was what it might have left before.
@@ -87,6 +112,12 @@ pub numbered_image : (image given : List ℕ) (number : ℕ) (path bytes : List 
     → AreOthersAsBefore bytes w v → IsAsBefore image w v
 numbered_image image given number path bytes w v one two three so =
     so.each image (λ e. part_apart image number path (two ∙ ap (λ (i : List ℕ). part_path i number) one) (e ∙ three))
+
+-- the image's path is as it was where all but those of two files beside it are
+pub whole_image : (image given : List ℕ) (number : ℕ) (path from to : List ℕ) (w v : World) → given ≡ image → path ≡ whole_path given number → to ≡ path → image ≢ from
+    → AreRestAsBefore from to w v → v.named image ≡ w.named image
+whole_image image given number path from to w v one two three apart so =
+    (so.each image apart (λ e. whole_apart image number path (two ∙ ap (λ (i : List ℕ). whole_path i number) one) (e ∙ three))).same.named
 
 -- what a crash leaves of a file that was synced
 pub lasting_leaves : (was : List ℕ → List ℕ → Type 0) (w : World) (path bytes c : List ℕ) → HasLasting w path bytes → Leaves was (w.named path) c → c ≡ bytes

@@ -4,6 +4,7 @@ ghost use Rattle.std.specs.Prelude.{false, not, string_bytes};
 ghost use Rattle.host_calls.specs.Replay.{replay};
 ghost use Rattle.host_calls.specs.Worlds.{AddsNone, AddsOnly, HasBytes, SameNames};
 ghost use Rattle.image_commands.specs.Crashes.{IsShort};
+ghost use Rattle.kept_files.specs.Places.{AreRestAsBefore};
 
 use crate::making::Beside;
 use host_calls::{Calls, link_file, remove_file, rename_file, sync_names};
@@ -67,7 +68,7 @@ pub fn sync_folder_of<C: Calls>(
 /// Gives the file beside an image, which can't take its place, the first name of a whole one that is
 /// free, at which whoever comes next looks for it. Where it gets none it keeps the one that it has.
 /// Gives its path.
-#[tactic(auto, using(crate::proofs::Steps::adds_then, crate::proofs::Steps::none_adds_only, crate::proofs::Steps::bytes_named))]
+#[tactic(auto, using(crate::proofs::Steps::adds_then, crate::proofs::Steps::none_adds_only, crate::proofs::Steps::bytes_named, crate::proofs::Steps::whole_image))]
 pub fn set_aside<C: Calls>(
     rt: &HostRuntime,
     calls: &mut C,
@@ -78,10 +79,16 @@ pub fn set_aside<C: Calls>(
     ensures whole { (bytes : List ℕ)
         → HasBytes (replay (C.history calls.old)) (string_bytes beside.path) bytes
         → HasBytes (replay (C.history calls.new)) (string_bytes result) bytes }
+    ensures image { (replay (C.history calls.new)).named (string_bytes claim.now.path)
+        ≡ (replay (C.history calls.old)).named (string_bytes claim.now.path) }
     ensures crash { AddsOnly C.was
         ((replay (C.history calls.old)).named (string_bytes beside.path))
         (replay (C.history calls.old)) (replay (C.history calls.new)) }
 {
+    // The image's own name is nobody else's.
+    if beside.path.as_str() == claim.path() {
+        return beside.path;
+    }
     for number in 0..MOST_BESIDE {
         if let Ok(path) = whole_path(alloc, claim.path(), number)
             && let Ok(true) = is_renamed(rt, calls, beside.path.as_str(), path.as_str())
@@ -96,7 +103,7 @@ pub fn set_aside<C: Calls>(
 
 /// Gives a file another name, where that is free, and says whether it was. No other file that gets
 /// the name meanwhile is lost, where the file system knows links.
-#[tactic(auto, using(crate::proofs::Steps::adds_then, crate::proofs::Steps::none_adds_only))]
+#[tactic(auto, using(crate::proofs::Steps::adds_then, crate::proofs::Steps::none_adds_only, crate::proofs::Steps::others_of, crate::proofs::Steps::rest_equal, crate::proofs::Steps::rest_of, crate::proofs::Steps::rest_of_first, crate::proofs::Steps::rest_of_second, crate::proofs::Steps::rest_then))]
 fn is_renamed<C: Calls>(rt: &HostRuntime, calls: &mut C, from: &str, to: &str) -> io::Result<bool>
     ensures named { IfOk result (λ is. IsTrue is → (replay (C.history calls.new)).named to.now
         ≡ (replay (C.history calls.old)).named from.now) }
@@ -105,6 +112,8 @@ fn is_renamed<C: Calls>(rt: &HostRuntime, calls: &mut C, from: &str, to: &str) -
         ≡ (replay (C.history calls.old)).named from.now) }
     ensures refused { OnErr result ((replay (C.history calls.new)).named from.now
         ≡ (replay (C.history calls.old)).named from.now) }
+    ensures others { AreRestAsBefore from.now to.now (replay (C.history calls.old))
+        (replay (C.history calls.new)) }
     ensures crash { AddsOnly C.was ((replay (C.history calls.old)).named from.now)
         (replay (C.history calls.old)) (replay (C.history calls.new)) }
 {
