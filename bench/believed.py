@@ -40,6 +40,7 @@ COMMANDS = (
     "s4_compact/compact_image/compacts", "s4_compact/compact_image/tried", "s4_compact/compact_image/kept",
     "s4_folders/salvage_image/salvages",
     "s4serve/SessionOutput::send/owed", "s4serve/open_at/streams", "s4serve/serve_line/covered", "kept_drive/KeptReceipt::shows/", "kept_drive/KeptImage::flush/kept",
+    "s4serve/serve_image/served",
     "image_commands/make_file/image", "image_commands/make_file/empty",
     "s4d/migrate_file/image", "migration/migrate/migrates",
 )
@@ -50,7 +51,7 @@ PASSED_ON = {
     "verifier.begins_with": "open answers what begins so, and is named so",
 }
 # How many lines each may rest on.
-CEILINGS = {"whole": 3_087, "promises": 1_028, "commands": 5_889}
+CEILINGS = {"whole": 3_087, "promises": 1_028, "commands": 5_985}
 WIDTH = 100
 TOKEN = re.compile(r"[^\s(){}\[\],;:→λ×⊎≡&<>|]+")
 ANTT_ITEM = re.compile(r"(  )?(?:abbrev pub|unfoldable pub|pub record|pub data|abbrev|unfoldable|record|data|pub) ([^\s(){}:]+)")

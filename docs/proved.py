@@ -11,8 +11,8 @@ TOP = pathlib.Path(__file__).resolve().parents[1]
 HEAD = """# What is proved, crate by crate
 
 Made by `docs/proved.py` from the sources. "Proved" means: for every input the function meets the contract beside it, is safe
-(no overflow, no index out of range, no use after free), and returns. That calls of `server` return, which wait for a lock, isn't
-shown.
+(no overflow, no index out of range, no use after free), and returns. That calls return which wait for a
+lock, a line or a flush isn't shown.
 
 Each crate's public calls that have a contract, with the names of its clauses in brackets. Left out after a first one are `same`,
 `unchanged` and `others` (what stays), `ledger`, `state` and `store` where history and objects stay, `refusal`, `memory`, `none`,
@@ -20,10 +20,12 @@ Each crate's public calls that have a contract, with the names of its clauses in
 `few` (bounds). A **law** is a theorem: a function without arguments. The contracts are in `crates/CRATE/src`, in terms of [DEFINITIONS](DEFINITIONS.md).
 
 **An argument in writing**, of `s4serve`, joins its clauses. A reply goes out where a receipt covers its step
-(`serve_line`), and a receipt shows that a crash left an image of the drive with as many changes, at its reach
-(`what_is_covered_is_kept`). That a crash falls between two calls of the folder, one inside a call being a folder whose later calls fail;
-that the lock of the monitor orders what receipts of several sessions say; that files are as calls answer (see `service_seen`); that a
-thread which waits goes on; that workers reach clients by `open_at` and `serve_line` alone: these no clause says.
+(`serve_line`), and a receipt shows that a crash left an image of a drive with as many changes, at its reach (`KeptReceipt::shows`).
+No clause says that they are those which the step had seen (`sessions_have_seen_one_list`, then `what_is_covered_is_kept`); that a crash
+falls between two calls of the folder, one inside a call being a folder whose later calls fail; that the lock of the monitor orders what
+receipts of several sessions say; that files are as calls answer (see `service_seen`), and the keeper's path is the image's; that a
+thread which waits goes on; that workers reach clients, and the drive, by `open_at` and `serve_line` alone, and nobody the drive before;
+that a `StopLine` comes of `stop`; that status 0 is `serve_image`'s.
 """
 WIDTH = 130
 USUAL = {"same", "unchanged", "others", "refusal", "memory", "none", "failures", "empty", "ledger", "least", "most", "few", "exact",
