@@ -1,6 +1,8 @@
 -- A copy of an image of the present version: what is asked of it, and what it is.
-use Rattle.std.specs.Prelude.{◌≡◌, ℕ, ◌<◌, ◌≤◌, ◌==◌, ◌||◌, nat_le, min, not, Bool, false, List, length, Option, Some, None, unwrap_or}
-use Rattle.std.specs.List.{filter, list_any}
+use Rattle.std.specs.Prelude.{◌≡◌, ℕ, ◌<◌, ◌≤◌, ◌||◌, nat_le, min, not, Bool, false, List, length, Option, Some, None, unwrap_or}
+use Rattle.std.specs.BTreeSet.{contains}
+use Rattle.std.specs.List.{filter}
+use Rattle.std.specs.Ordering.{nat_cmp}
 use Rattle.s4_types.specs.declared.limits.TheConstants.{MOST_FRAMES}
 use Rattle.codec.specs.declared.versions.ImageVersion.TheVariants.{Second}
 use Rattle.object_map.specs.declared.map.Row.{Row}
@@ -27,7 +29,7 @@ is_made_since (Some since) created = nat_le since created
 
 -- an object is in the copy: it isn't named, and wasn't made since
 abbrev pub stays : CopyAsked → (object created : ℕ) → Bool
-stays asked object created = not (list_any (λ o. o == object) asked.objects.now || is_made_since asked.since created)
+stays asked object created = not (contains nat_cmp asked.objects.now object || is_made_since asked.since created)
 
 -- the rows of the objects that are in the copy
 abbrev pub rows_left : CopyAsked → List ImageRow → List ImageRow

@@ -1,7 +1,6 @@
 //! Copies of images of the present version.
 ghost use Rattle.std.specs.Prelude.{◌≡◌, ◌⊎◌, ◌≤◌, ℕ, List, Some, IfOk, IfErr, length, min};
-ghost use Rattle.std.specs.Prelude.{◌==◌, ◌<◌, unwrap_or};
-ghost use Rattle.std.specs.List.{list_any};
+ghost use Rattle.std.specs.Prelude.{◌<◌, unwrap_or};
 ghost use Rattle.s4_types.specs.declared.limits.TheConstants.{MOST_FRAMES};
 ghost use Rattle.s4_types.specs.declared.refusals.Cause.{Cause as Found};
 ghost use Rattle.s4_types.specs.declared.refusals.Refusal.TheVariants.{NoMemory, Damaged};
@@ -17,6 +16,7 @@ use image_parts::{AuditPart, ImageParts, split_parts};
 use s4_types::limits::MOST_FRAMES;
 use s4_types::{Moment, ObjectId, Refusal};
 use std::alloc::Global;
+use std::collections::BTreeSet;
 use std::thread::Threads;
 use verifier::laws::what_has_a_fault_spells_nothing;
 use verifier::verify;
@@ -28,31 +28,24 @@ pub struct CopyAsked<'a> {
     /// isn't said.
     pub frames: Option<u16>,
     /// Objects that are left out, by their numbers.
-    pub objects: &'a [ObjectId],
+    pub objects: &'a BTreeSet<ObjectId>,
     /// Objects that were made at this moment or later are left out, too.
     pub since: Option<Moment>,
 }
 
 impl CopyAsked<'_> {
-    /// Whether an object is in the copy, by its row.
-    fn stays(&self, row: &ImageRow) -> bool
-        ensures { result ≡ stays self.now row.now.object row.now.created }
+    /// Whether an object that was made at this moment is in the copy.
+    pub fn stays(&self, object: ObjectId, created: Moment) -> bool
+        ensures { result ≡ stays self.now object created }
     {
-        if is_among(self.objects, row.object) {
+        if self.objects.contains(&object) {
             return false;
         }
         match self.since {
             None => true,
-            Some(since) => row.created < since,
+            Some(since) => created < since,
         }
     }
-}
-
-/// Whether a number is among some.
-fn is_among(objects: &[ObjectId], object: ObjectId) -> bool
-    ensures { result ≡ list_any (λ o. o == object) objects.now }
-{
-    objects.iter().any(|one| *one == object)
 }
 
 /// The rows of the objects that are in the copy. NoMemory alone.
@@ -66,7 +59,7 @@ fn left_of(
 {
     let mut left = Vec::new(alloc);
     for row in rows {
-        if !asked.stays(row) {
+        if !asked.stays(row.object, row.created) {
             continue;
         }
         left.push(*row)?;

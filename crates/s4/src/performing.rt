@@ -320,15 +320,19 @@ fn has_no_reader<W: ProgramOutput>(failure: &Failure, writer: &W) -> bool
 }
 
 // The status of a copy, with why it failed where it did.
-fn copied<E: Write>(placed: Result<Placed, CopyFailure>, copy: &CopyAsked<'_>, errors: &mut E) -> u8
+fn copied<E: Write>(
+    placed: Result<Placed, CopyFailure<'_>>,
+    copy: &CopyAsked<'_>,
+    errors: &mut E,
+) -> u8
     ensures status { result ≤ 1 }
     ensures done { result ≡ 0 → IsOk placed }
 {
     match placed {
         Ok(Placed::Lasting) => DONE,
         Ok(Placed::NotLasting) => fail_to_last(errors, copy.copy),
-        Err(CopyFailure::OfImage(failure)) => fail_over(errors, copy.image, failure),
-        Err(CopyFailure::OfCopy(failure)) => fail_over(errors, copy.copy, failure),
+        Err(CopyFailure::OfCopy(fault)) => fail_over(errors, copy.copy, Failure::from(fault)),
+        Err(failure) => fail_over(errors, copy.image, failure.printed()),
     }
 }
 

@@ -1,2 +1,4 @@
 pub mod Asking
+pub mod Counting
 pub mod Copying
+pub mod Failures

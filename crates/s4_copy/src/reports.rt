@@ -17,14 +17,20 @@ pub struct Report {
     pub objects: u32,
     /// How many of the image aren't in it.
     pub left_out: u32,
+    /// How many versions of these could be read, as `check` counts them. The count stops at
+    /// 2^64 - 1, far above what a drive can have.
+    pub versions_left_out: u64,
 }
 
 // The lines that people read.
 fn report_text(alloc: Global, report: &Report) -> Result<String, AllocError>
     ensures { IfOk result (λ text. string_bytes text ≡ report_text report.now) }
 {
-    let (frames, objects, left_out) = (report.frames, report.objects, report.left_out);
-    format!(in alloc; "frames {frames}\nobjects {objects}\nleft_out {left_out}\n")
+    let (frames, objects) = (report.frames, report.objects);
+    let (left_out, versions) = (report.left_out, report.versions_left_out);
+    format!(in alloc;
+        "frames {frames}\nobjects {objects}\nleft_out {left_out}\nversions_left_out {versions}\n"
+    )
 }
 
 fn report_value(alloc: Global, report: &Report) -> Result<Value, AllocError>
@@ -32,7 +38,8 @@ fn report_value(alloc: Global, report: &Report) -> Result<Value, AllocError>
 {
     let made = with_number(alloc, no_members(alloc), "frames", u64::from(report.frames));
     let made = with_number(alloc, made, "objects", u64::from(report.objects));
-    object_of(with_number(alloc, made, "left_out", u64::from(report.left_out)))
+    let made = with_number(alloc, made, "left_out", u64::from(report.left_out));
+    object_of(with_number(alloc, made, "versions_left_out", report.versions_left_out))
 }
 
 // The line that programs read.
