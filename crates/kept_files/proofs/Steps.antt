@@ -4,7 +4,7 @@ use Rattle.std.specs.Prelude.{codes, Option, None, Some, IsSomeAnd, Result, Ok, 
 use Rattle.host_calls.specs.Events.{Event}
 use Rattle.host_calls.specs.Replay.{Lying, Whole, World, Leaves, LeavesOne, MayLeave, replay}
 use Rattle.host_calls.specs.Worlds.{AddsNone, AddsOnly, HasBytes, HasLasting, IsAt, SameAt, SameNames}
-use Rattle.image_commands.specs.Beside.{numbered, part_path, whole_path}
+use Rattle.image_commands.specs.Beside.{numbered, part_path}
 use Rattle.image_keeping.specs.Leaving.{Only}
 use Rattle.kept_files.specs.Besides.{BesideLeaves, IsBesideWritten}
 use Rattle.kept_files.specs.Places.{AreOthersAsBefore, AreRestAsBefore, IsAsBefore}
@@ -53,6 +53,9 @@ rest_then one two w v u here next = record { each = λ other m n. before_then ot
 pub rest_of : (one two : List ℕ) (w v : World) → ((other : List ℕ) → other ≢ one → other ≢ two → SameAt w v other) → v.failed ≡ w.failed → AreRestAsBefore one two w v
 rest_of one two w v same failed = record { each = λ other m n. record { same = same other m n; failed = failed } }
 
+pub rest_named : (one two other : List ℕ) (w v : World) → AreRestAsBefore one two w v → other ≢ one → other ≢ two → v.named other ≡ w.named other
+rest_named one two other w v so m n = (so.each other m n).same.named
+
 -- no file beside an image has its path
 pub part_apart : (image : List ℕ) (number : ℕ) (path : List ℕ) → path ≡ part_path image number → image ≢ path
 part_apart image number path is same =
@@ -60,15 +63,6 @@ part_apart image number path is same =
     let both = length-append (codes ".s4serve.new.part") (numbered number) in
     let all = length-append image (codes ".s4serve.new.part" ++ numbered number) in
     let e : length image ≡ length (image ++ (codes ".s4serve.new.part" ++ numbered number)) = ap length (same ∙ is) in
-    absurd (omega (arith, front, both, all, e))
-
--- nor has a whole one
-pub whole_apart : (image : List ℕ) (number : ℕ) (path : List ℕ) → path ≡ whole_path image number → image ≢ path
-whole_apart image number path is same =
-    let front : length (codes ".s4serve.new") ≡ 12 = refl in
-    let both = length-append (codes ".s4serve.new") (numbered number) in
-    let all = length-append image (codes ".s4serve.new" ++ numbered number) in
-    let e : length image ≡ length (image ++ (codes ".s4serve.new" ++ numbered number)) = ap length (same ∙ is) in
     absurd (omega (arith, front, both, all, e))
 
 -- A crash leaves at a path that is as it was what it might have left before.
@@ -112,12 +106,6 @@ pub numbered_image : (image given : List ℕ) (number : ℕ) (path bytes : List 
     → AreOthersAsBefore bytes w v → IsAsBefore image w v
 numbered_image image given number path bytes w v one two three so =
     so.each image (λ e. part_apart image number path (two ∙ ap (λ (i : List ℕ). part_path i number) one) (e ∙ three))
-
--- the image's path is as it was where all but those of two files beside it are
-pub whole_image : (image given : List ℕ) (number : ℕ) (path from to : List ℕ) (w v : World) → given ≡ image → path ≡ whole_path given number → to ≡ path → image ≢ from
-    → AreRestAsBefore from to w v → v.named image ≡ w.named image
-whole_image image given number path from to w v one two three apart so =
-    (so.each image apart (λ e. whole_apart image number path (two ∙ ap (λ (i : List ℕ). whole_path i number) one) (e ∙ three))).same.named
 
 -- what a crash leaves of a file that was synced
 pub lasting_leaves : (was : List ℕ → List ℕ → Type 0) (w : World) (path bytes c : List ℕ) → HasLasting w path bytes → Leaves was (w.named path) c → c ≡ bytes

@@ -68,7 +68,7 @@ pub fn sync_folder_of<C: Calls>(
 /// Gives the file beside an image, which can't take its place, the first name of a whole one that is
 /// free, at which whoever comes next looks for it. Where it gets none it keeps the one that it has.
 /// Gives its path.
-#[tactic(auto, using(crate::proofs::Steps::adds_then, crate::proofs::Steps::none_adds_only, crate::proofs::Steps::bytes_named, crate::proofs::Steps::whole_image))]
+#[tactic(auto, using(crate::proofs::Steps::adds_then, crate::proofs::Steps::none_adds_only, crate::proofs::Steps::bytes_named))]
 pub fn set_aside<C: Calls>(
     rt: &HostRuntime,
     calls: &mut C,
@@ -85,13 +85,15 @@ pub fn set_aside<C: Calls>(
         ((replay (C.history calls.old)).named (string_bytes beside.path))
         (replay (C.history calls.old)) (replay (C.history calls.new)) }
 {
-    // The image's own name is nobody else's.
-    if beside.path.as_str() == claim.path() {
-        return beside.path;
-    }
     for number in 0..MOST_BESIDE {
         if let Ok(path) = whole_path(alloc, claim.path(), number)
-            && let Ok(true) = is_renamed(rt, calls, beside.path.as_str(), path.as_str())
+            && let Ok(true) = is_set_aside(
+                rt,
+                calls,
+                claim.path(),
+                beside.path.as_str(),
+                path.as_str(),
+            )
         {
             // What is at the path is whole, whether this fails or not.
             let _ = sync_names(calls, &beside.folder);
@@ -99,6 +101,34 @@ pub fn set_aside<C: Calls>(
         }
     }
     beside.path
+}
+
+/// Gives a file beside an image another name, where that is free, and says whether it was. The image
+/// keeps its own.
+#[tactic(auto, using(crate::proofs::Steps::none_adds_only, crate::proofs::Steps::rest_named))]
+fn is_set_aside<C: Calls>(
+    rt: &HostRuntime,
+    calls: &mut C,
+    image: &str,
+    from: &str,
+    to: &str,
+) -> io::Result<bool>
+    ensures named { IfOk result (λ is. IsTrue is → (replay (C.history calls.new)).named to.now
+        ≡ (replay (C.history calls.old)).named from.now) }
+    ensures stays { IfOk result (λ is. is ≡ false
+        → (replay (C.history calls.new)).named from.now
+        ≡ (replay (C.history calls.old)).named from.now) }
+    ensures refused { OnErr result ((replay (C.history calls.new)).named from.now
+        ≡ (replay (C.history calls.old)).named from.now) }
+    ensures image { (replay (C.history calls.new)).named image.now
+        ≡ (replay (C.history calls.old)).named image.now }
+    ensures crash { AddsOnly C.was ((replay (C.history calls.old)).named from.now)
+        (replay (C.history calls.old)) (replay (C.history calls.new)) }
+{
+    if from == image || to == image {
+        return Ok(false);
+    }
+    is_renamed(rt, calls, from, to)
 }
 
 /// Gives a file another name, where that is free, and says whether it was. No other file that gets
