@@ -11,8 +11,8 @@ TOP = pathlib.Path(__file__).resolve().parents[1]
 HEAD = """# What is proved, crate by crate
 
 Made by `docs/proved.py` from the sources. "Proved" means: for every input the function meets the contract beside it, is safe
-(no overflow, no index out of range, no use after free), and returns. That calls of `server` return, which wait for a lock, isn't
-shown.
+(no overflow, no index out of range, no use after free), and returns. That calls which wait return isn't shown: those of `own_stacks`,
+`server`, `s4d`, `group_commit`, `batch_serving`, `kept_drive` and `s4serve`.
 
 Each crate's public calls that have a contract, with the names of its clauses in brackets. Left out after a first one are `same`,
 `unchanged` and `others` (what stays), `ledger`, `state` and `store` where history and objects stay, `refusal`, `memory`, `none`,
@@ -23,7 +23,8 @@ Each crate's public calls that have a contract, with the names of its clauses in
 (`serve_line`), and a receipt shows that a crash left an image of the drive with as many changes, at its reach
 (`what_is_covered_is_kept`). That a crash falls between two calls of the folder, one inside a call being a folder whose later calls fail;
 that the lock of the monitor orders what receipts of several sessions say; that files are as calls answer (see `service_seen`); that a
-thread which waits goes on; that workers reach clients by `open_at` and `serve_line` alone: these no clause says.
+thread which waits goes on; that workers reach clients by `open_at` and `serve_line` alone; that `AtDoor::next` alone makes a `StopLine`,
+and `is_in_place` looks where the image is: these no clause says.
 """
 WIDTH = 130
 USUAL = {"same", "unchanged", "others", "refusal", "memory", "none", "failures", "empty", "ledger", "least", "most", "few", "exact",
