@@ -10,7 +10,7 @@ use Rattle.std.proofs.lemmas.Bool.Decides.{Decides-eqb}
 use Rattle.host_calls.specs.Events.{Answer, Done, Short, Unsupported, Failed, Event, Made, Locked, Written, Cut, Synced, Renamed, Linked, Removed, FolderSynced}
 use Rattle.host_calls.specs.Replay.{Lying, Before, Whole, Front, Nothing, Unknown, World, place_of, unless_at, written, unwritten, cut, uncut, settled, changed_at, changed, synced_at, made_at, maybe_at, names_synced, folder_path, after, replay, Leaves, LeavesOne, MayLeave}
 use Rattle.host_calls.specs.Files.{locked_by, is_locked, mode_by, made_mode}
-use Rattle.host_calls.specs.Worlds.{IsFile, IsAt, Begins, HasBytes, SameAt, SameNames, AddsNone, AddsOnly, IsWriting, GoesOn, ChangesOnly, SamePlaces}
+use Rattle.host_calls.specs.Worlds.{IsFile, IsAt, Begins, HasBytes, SameAt, SameNames, IsSettled, AddsNone, AddsOnly, IsWriting, GoesOn, ChangesOnly, SamePlaces}
 
 -- the world after one more call
 pub replayed : (new old : List Event) (call : Event) → new ≡ call ∷ old → replay new ≡ after call (replay old)
@@ -370,6 +370,23 @@ pub sync_keeps : (n : ℕ) (ok : Bool) (w : World) (path bytes : List ℕ) → H
 sync_keeps n true w path bytes has = if_failed_keeps w.failed w (synced_at (place_of w n) w) path bytes has (synced_keeps (place_of w n) w path bytes has)
 sync_keeps n false w path bytes has = record { lasts = has.lasts; has = has.has }
 
+settled_or : (t : Bool) (x : Lying) → IsSettled x (if t then settled x else x)
+settled_or true x = inr refl
+settled_or false x = inl refl
+
+synced_settles : (place : Option (List ℕ)) (w : World) (path : List ℕ) → IsSettled (w.named path) ((synced_at place w).named path)
+synced_settles None w path = inl refl
+synced_settles (Some other) w path = settled_or (bytes_eq other path) (w.named path)
+
+if_failed_settles : (t : Bool) (w v : World) (path : List ℕ) → IsSettled (w.named path) (v.named path) → IsSettled (w.named path) ((if t then w else v).named path)
+if_failed_settles true w v path h = inl refl
+if_failed_settles false w v path h = h
+
+-- Each path has what it had.
+pub sync_settles : (n : ℕ) (ok : Bool) (w : World) (path : List ℕ) → IsSettled (w.named path) ((after (Synced n ok) w).named path)
+sync_settles n true w path = if_failed_settles w.failed w (synced_at (place_of w n) w) path (synced_settles (place_of w n) w path)
+sync_settles n false w path = inl refl
+
 synced_failed : (place : Option (List ℕ)) (w : World) → (synced_at place w).failed ≡ w.failed
 synced_failed None w = refl
 synced_failed (Some path) w = refl
@@ -460,6 +477,16 @@ rename_adds was from to Failed w = λ q c h. maybe_test was (bytes_eq to q) (w.n
 -- the second path has what the first had
 pub rename_names : (from to : List ℕ) (w : World) → (after (Renamed from to Done) w).named to ≡ w.named from
 rename_names from to w = here to (w.named from) (if bytes_eq from to then Nothing else w.named to)
+
+-- What has neither name is as it was.
+pub rename_others : (from to : List ℕ) (answer : Answer) (w : World) (q : List ℕ) → (q ≡ from → ⊥) → (q ≡ to → ⊥) → SameAt w (after (Renamed from to answer) w) q
+rename_others from to Done w q m n = record {
+  named = there to q (w.named from) (if bytes_eq from q then Nothing else w.named q) n ∙ there from q Nothing (w.named q) m;
+  others = rw (is_other to q n, is_other from q m);
+}
+rename_others from to Short w q m n = record { named = refl; others = refl }
+rename_others from to Unsupported w q m n = record { named = refl; others = there to q (w.named from ∷ w.others q) (w.others q) n }
+rename_others from to Failed w q m n = record { named = refl; others = there to q (w.named from ∷ w.others q) (w.others q) n }
 
 pub rename_failed : (from to : List ℕ) (answer : Answer) (w : World) → (after (Renamed from to answer) w).failed ≡ w.failed
 rename_failed from to Done w = refl

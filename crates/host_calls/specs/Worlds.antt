@@ -1,6 +1,6 @@
 -- What one call leaves of what others left.
 use Rattle.std.specs.Prelude.{◌≡◌, ◌≢◌, ◌⊎◌, ℕ, Bool, true, List, Some, ⊤, take}
-use Rattle.host_calls.specs.Replay.{Lying, Before, Whole, Front, Nothing, Unknown, World, place_of, Leaves, MayLeave}
+use Rattle.host_calls.specs.Replay.{Lying, Before, Whole, Front, Nothing, Unknown, World, place_of, settled, Leaves, MayLeave}
 
 -- a file is there of which calls were noted
 abbrev pub IsFile : Lying → Type 0
@@ -40,6 +40,10 @@ pub record SameAt (w w' : World) (path : List ℕ) : Type 0 where
 -- each path has what it had
 abbrev pub SameNames : (w w' : World) → Type 0
 SameNames w w' = (path : List ℕ) → w'.named path ≡ w.named path
+
+-- a path has what it had, of which more may be on the disk
+abbrev pub IsSettled : (before now : Lying) → Type 0
+IsSettled before now = (now ≡ before) ⊎ (now ≡ settled before)
 
 -- a crash leaves at each path what it might have left before
 abbrev pub AddsNone : (was : List ℕ → List ℕ → Type 0) → (w w' : World) → Type 0

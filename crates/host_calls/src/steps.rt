@@ -6,7 +6,7 @@ ghost use Rattle.host_calls.specs.Events.{Short, refusal_of};
 ghost use Rattle.host_calls.specs.Files.{is_locked, made_mode};
 ghost use Rattle.host_calls.specs.Replay.{World, folder_path, replay};
 ghost use Rattle.host_calls.specs.Worlds.{AddsNone, AddsOnly, GoesOn, HasBytes, HasLasting, IsAt};
-ghost use Rattle.host_calls.specs.Worlds.{ChangesOnly, IsWriting, SameAt, SameNames};
+ghost use Rattle.host_calls.specs.Worlds.{ChangesOnly, IsSettled, IsWriting, SameAt, SameNames};
 ghost use Rattle.host_calls.specs.Worlds.{SamePlaces};
 
 use crate::calls::Calls;
@@ -163,7 +163,7 @@ pub fn write_zeros<C: Calls>(
 }
 
 /// Writes all bytes of a file that was made to the disk.
-#[tactic(auto, using(crate::proofs::Effects::sync_adds, crate::proofs::Effects::sync_place, crate::proofs::Effects::sync_failed), unfolding(crate::specs::Replay::replay))]
+#[tactic(auto, using(crate::proofs::Effects::sync_adds, crate::proofs::Effects::sync_place, crate::proofs::Effects::sync_failed, crate::proofs::Effects::sync_settles), unfolding(crate::specs::Replay::replay))]
 pub fn sync_file<C: Calls>(calls: &mut C, file: &C::File) -> io::Result<()>
     // After a sync that failed nothing is known to last.
     ensures lasting { OnOk result ((replay (C.history calls.old)).failed ≡ false
@@ -173,6 +173,8 @@ pub fn sync_file<C: Calls>(calls: &mut C, file: &C::File) -> io::Result<()>
     ensures places { SamePlaces (replay (C.history calls.old)) (replay (C.history calls.new)) }
     ensures kept { (path bytes : List ℕ) → HasBytes (replay (C.history calls.old)) path bytes
         → HasBytes (replay (C.history calls.new)) path bytes }
+    ensures names { (path : List ℕ) → IsSettled ((replay (C.history calls.old)).named path)
+        ((replay (C.history calls.new)).named path) }
     ensures crash { AddsNone C.was (replay (C.history calls.old)) (replay (C.history calls.new)) }
     ensures failed { (replay (C.history calls.old)).failed ≡ false
         → (replay (C.history calls.new)).failed ≡ not (is_ok result) }
@@ -182,7 +184,7 @@ pub fn sync_file<C: Calls>(calls: &mut C, file: &C::File) -> io::Result<()>
 }
 
 /// Gives what is at a path another one, in place of what is there.
-#[tactic(auto, using(crate::proofs::Effects::rename_adds, crate::proofs::Effects::rename_failed, crate::proofs::Effects::rename_names), unfolding(crate::specs::Replay::replay))]
+#[tactic(auto, using(crate::proofs::Effects::rename_adds, crate::proofs::Effects::rename_failed, crate::proofs::Effects::rename_names, crate::proofs::Effects::rename_others), unfolding(crate::specs::Replay::replay))]
 pub fn rename_file<C: Calls>(calls: &mut C, from: &str, to: &str) -> io::Result<()>
     ensures named { OnOk result ((replay (C.history calls.new)).named to.now
         ≡ (replay (C.history calls.old)).named from.now) }
@@ -190,6 +192,8 @@ pub fn rename_file<C: Calls>(calls: &mut C, from: &str, to: &str) -> io::Result<
         (SameNames (replay (C.history calls.old)) (replay (C.history calls.new))) }
     ensures places { OnErr result
         (SamePlaces (replay (C.history calls.old)) (replay (C.history calls.new))) }
+    ensures others { (other : List ℕ) → other ≢ from.now → other ≢ to.now
+        → SameAt (replay (C.history calls.old)) (replay (C.history calls.new)) other }
     ensures crash { AddsOnly C.was ((replay (C.history calls.old)).named from.now)
         (replay (C.history calls.old)) (replay (C.history calls.new)) }
     ensures short { IfErr result (λ e. refusal_of e ≡ Short

@@ -7,7 +7,7 @@ use Rattle.host_calls.specs.Worlds.{AddsNone, AddsOnly, HasBytes, HasLasting, Is
 use Rattle.image_commands.specs.Beside.{numbered, part_path}
 use Rattle.image_keeping.specs.Leaving.{Only}
 use Rattle.kept_files.specs.Besides.{BesideLeaves, IsBesideWritten}
-use Rattle.kept_files.specs.Places.{AreOthersAsBefore, IsAsBefore}
+use Rattle.kept_files.specs.Places.{AreOthersAsBefore, AreRestAsBefore, IsAsBefore}
 use Rattle.kept_files.specs.declared.making.Beside.{Beside}
 
 pub before_of : (path : List ℕ) (w v : World) → SameAt w v path → v.failed ≡ w.failed → IsAsBefore path w v
@@ -36,6 +36,25 @@ others_then path w v u one two = record { each = λ other apart. before_then oth
 
 pub other_is : (path other : List ℕ) (w v : World) → AreOthersAsBefore path w v → other ≢ path → IsAsBefore other w v
 other_is path other w v so apart = so.each other apart
+
+pub rest_equal : (one two : List ℕ) (w v : World) → v ≡ w → AreRestAsBefore one two w v
+rest_equal one two w v e = record { each = λ other m n. before_equal other w v e }
+
+-- all paths but the first, or but the second
+pub rest_of_first : (one two : List ℕ) (w v : World) → AreOthersAsBefore one w v → AreRestAsBefore one two w v
+rest_of_first one two w v so = record { each = λ other m n. so.each other m }
+
+pub rest_of_second : (one two : List ℕ) (w v : World) → AreOthersAsBefore two w v → AreRestAsBefore one two w v
+rest_of_second one two w v so = record { each = λ other m n. so.each other n }
+
+pub rest_then : (one two : List ℕ) (w v u : World) → AreRestAsBefore one two w v → AreRestAsBefore one two v u → AreRestAsBefore one two w u
+rest_then one two w v u here next = record { each = λ other m n. before_then other w v u (here.each other m n) (next.each other m n) }
+
+pub rest_of : (one two : List ℕ) (w v : World) → ((other : List ℕ) → other ≢ one → other ≢ two → SameAt w v other) → v.failed ≡ w.failed → AreRestAsBefore one two w v
+rest_of one two w v same failed = record { each = λ other m n. record { same = same other m n; failed = failed } }
+
+pub rest_named : (one two other : List ℕ) (w v : World) → AreRestAsBefore one two w v → other ≢ one → other ≢ two → v.named other ≡ w.named other
+rest_named one two other w v so m n = (so.each other m n).same.named
 
 -- no file beside an image has its path
 pub part_apart : (image : List ℕ) (number : ℕ) (path : List ℕ) → path ≡ part_path image number → image ≢ path

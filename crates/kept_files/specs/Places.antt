@@ -12,6 +12,10 @@ pub record IsAsBefore (path : List ℕ) (w w' : World) : Type 0 where
 pub record AreOthersAsBefore (path : List ℕ) (w w' : World) : Type 0 where
   pub each : (other : List ℕ) → other ≢ path → IsAsBefore other w w'
 
+-- so are all paths but these two
+pub record AreRestAsBefore (one two : List ℕ) (w w' : World) : Type 0 where
+  pub each : (other : List ℕ) → other ≢ one → other ≢ two → IsAsBefore other w w'
+
 -- the file of a number is at a path, and has these bytes
 pub record IsWritten (w : World) (number : ℕ) (path bytes : List ℕ) : Type 0 where
   pub at : IsAt w number path

@@ -3,7 +3,6 @@ ghost use Rattle.std.specs.Prelude.{◌≡◌, ◌≢◌, ◌↔◌, ◌&&◌, �
 ghost use Rattle.std.specs.Prelude.{false, is_ok, not, string_bytes, true};
 ghost use Rattle.std.specs.List.{All};
 ghost use Rattle.host_calls.specs.Replay.{replay};
-ghost use Rattle.host_calls.specs.Worlds.{AddsNone};
 ghost use Rattle.image_commands.specs.Crashes.{IsShort};
 ghost use Rattle.kept_files.specs.Causes.{cause_of_sync};
 ghost use Rattle.kept_files.specs.Places.{AreOthersAsBefore, IsAsBefore};
@@ -176,13 +175,13 @@ fn answer_of(has_ended_well: bool) -> Result<(), FolderError>
 }
 
 /// Removes the file beside an image that an earlier try left, where there is one.
-fn remove_earlier<C: Calls>(calls: &mut C, beside: Option<Beside<C::File, C::Folder>>)
-    ensures crash { AddsNone C.was (replay (C.history calls.old)) (replay (C.history calls.new)) }
-    ensures failed { (replay (C.history calls.new)).failed ≡ (replay (C.history calls.old)).failed }
+#[tactic(auto, using(crate::proofs::Steps::before_equal))]
+fn remove_earlier<C: Calls>(calls: &mut C, image: &str, beside: Option<Beside<C::File, C::Folder>>)
+    ensures { IsAsBefore image.now (replay (C.history calls.old)) (replay (C.history calls.new)) }
 {
     if let Some(beside) = beside {
         // It is of no use to anybody, also where it can't be removed.
-        let _ = remove_file(calls, beside.path.as_str());
+        remove_apart(calls, image, beside.path.as_str());
     }
 }
 
@@ -220,7 +219,7 @@ impl<C: Calls + Drop> Folder for FileFolder<C> {
     ghost use Rattle.std.specs.List.{All};
     ghost use Rattle.image_keeping.specs.Leaving.{Adds, AddsNothing, LeavesAll, Only};
     ghost use Rattle.host_calls.specs.Replay.{Leaves, MayLeave};
-    ghost use Rattle.host_calls.specs.Worlds.{HasBytes, SameNames};
+    ghost use Rattle.host_calls.specs.Worlds.{HasBytes, IsSettled, SameNames};
     ghost use Rattle.kept_files.specs.Besides.{BesideLeaves, IsBesideWritten, is_beside_locked};
 
     // What was called, and answered, says what a crash leaves.
@@ -240,6 +239,7 @@ impl<C: Calls + Drop> Folder for FileFolder<C> {
 
     ghost is_usable = { λ f. f.is_usable && not (replay (C.history f.calls)).failed };
 
+    #[tactic(auto, using(crate::proofs::Steps::before_adds, crate::proofs::Steps::before_then))]
     fn write_beside(&mut self, bytes: &[u8]) -> Result<(), FolderError>
         requires { IsTrue (self.old.is_usable && not (replay (C.history self.old.calls)).failed) }
         ensures written { OnOk result (IsBesideWritten C.number
@@ -249,12 +249,15 @@ impl<C: Calls + Drop> Folder for FileFolder<C> {
             (MayLeave C.was (replay (C.history self.new.calls)) (string_bytes self.new.claim.path)) }
         ensures usable { IsTrue (self.new.is_usable
             && not (replay (C.history self.new.calls)).failed) }
+        ensures claim { self.new.claim ≡ self.old.claim }
+        ensures image { IsAsBefore (string_bytes self.old.claim.path)
+            (replay (C.history self.old.calls)) (replay (C.history self.new.calls)) }
         ensures left { self.new.left ≡ self.old.left }
         ensures whole { self.new.whole ≡ self.old.whole }
     {
         // What an earlier try left is of no use, and what was in its way may not be there any more.
         self.cause = None;
-        remove_earlier(&mut self.calls, self.beside.take());
+        remove_earlier(&mut self.calls, self.claim.path(), self.beside.take());
         match filled_beside(&self.rt, &mut self.calls, self.alloc, &self.claim, bytes) {
             Ok(beside) => {
                 self.beside = Some(beside);
@@ -281,6 +284,10 @@ impl<C: Calls + Drop> Folder for FileFolder<C> {
             (MayLeave C.was (replay (C.history self.new.calls)) (string_bytes self.new.claim.path)) }
         ensures usable { (self.new.is_usable && not (replay (C.history self.new.calls)).failed)
             ≡ is_ok result }
+        ensures claim { self.new.claim ≡ self.old.claim }
+        ensures names { (path : List ℕ)
+            → IsSettled ((replay (C.history self.old.calls)).named path)
+            ((replay (C.history self.new.calls)).named path) }
         ensures left { self.new.left ≡ self.old.left }
         ensures whole { self.new.whole ≡ self.old.whole }
     {
@@ -337,6 +344,12 @@ impl<C: Calls + Drop> Folder for FileFolder<C> {
             && not (replay (C.history self.new.calls)).failed)) }
         ensures again { IsErrOf result FolderError.NoRoom → IsTrue (self.new.is_usable
             && not (replay (C.history self.new.calls)).failed) }
+        // The image's path stays the same one, and where the file beside it doesn't take its place, the
+        // one that is there does.
+        ensures path { self.new.claim.path ≡ self.old.claim.path }
+        ensures image { OnErr result ((replay (C.history self.new.calls)).named
+            (string_bytes self.old.claim.path)
+            ≡ (replay (C.history self.old.calls)).named (string_bytes self.old.claim.path)) }
         // Nobody has what is new but the file of this path.
         ensures whole { IsErrOf result FolderError.Failed → IsSomeAnd self.new.whole
             (λ path. (bytes : List ℕ)
@@ -345,6 +358,7 @@ impl<C: Calls + Drop> Folder for FileFolder<C> {
         // It is tried again.
         ensures short { IsErrOf result FolderError.NoRoom
             → (self.new.beside ≡ self.old.beside) × (self.new.whole ≡ self.old.whole) }
+        ensures done { OnOk result (self.new.whole ≡ self.old.whole) }
         ensures left { self.new.left ≡ self.old.left }
     {
         let Some(beside) = self.beside.take() else {
@@ -392,6 +406,9 @@ impl<C: Calls + Drop> Folder for FileFolder<C> {
         ensures usable { (self.new.is_usable && not (replay (C.history self.new.calls)).failed)
             ≡ is_ok result }
         ensures whole { self.new.whole ≡ self.old.whole }
+        ensures claim { self.new.claim ≡ self.old.claim }
+        ensures image { (replay (C.history self.new.calls)).named (string_bytes self.old.claim.path)
+            ≡ (replay (C.history self.old.calls)).named (string_bytes self.old.claim.path) }
         // Nothing is removed before an image is kept.
         ensures left { OnErr result (self.new.left ≡ self.old.left) }
         ensures kept { OnErr result (SameNames (replay (C.history self.old.calls))

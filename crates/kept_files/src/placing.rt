@@ -4,6 +4,7 @@ ghost use Rattle.std.specs.Prelude.{false, not, string_bytes};
 ghost use Rattle.host_calls.specs.Replay.{replay};
 ghost use Rattle.host_calls.specs.Worlds.{AddsNone, AddsOnly, HasBytes, SameNames};
 ghost use Rattle.image_commands.specs.Crashes.{IsShort};
+ghost use Rattle.kept_files.specs.Places.{AreRestAsBefore};
 
 use crate::making::Beside;
 use host_calls::{Calls, link_file, remove_file, rename_file, sync_names};
@@ -78,13 +79,21 @@ pub fn set_aside<C: Calls>(
     ensures whole { (bytes : List ℕ)
         → HasBytes (replay (C.history calls.old)) (string_bytes beside.path) bytes
         → HasBytes (replay (C.history calls.new)) (string_bytes result) bytes }
+    ensures image { (replay (C.history calls.new)).named (string_bytes claim.now.path)
+        ≡ (replay (C.history calls.old)).named (string_bytes claim.now.path) }
     ensures crash { AddsOnly C.was
         ((replay (C.history calls.old)).named (string_bytes beside.path))
         (replay (C.history calls.old)) (replay (C.history calls.new)) }
 {
     for number in 0..MOST_BESIDE {
         if let Ok(path) = whole_path(alloc, claim.path(), number)
-            && let Ok(true) = is_renamed(rt, calls, beside.path.as_str(), path.as_str())
+            && let Ok(true) = is_set_aside(
+                rt,
+                calls,
+                claim.path(),
+                beside.path.as_str(),
+                path.as_str(),
+            )
         {
             // What is at the path is whole, whether this fails or not.
             let _ = sync_names(calls, &beside.folder);
@@ -94,9 +103,37 @@ pub fn set_aside<C: Calls>(
     beside.path
 }
 
+/// Gives a file beside an image another name, where that is free, and says whether it was. The image
+/// keeps its own.
+#[tactic(auto, using(crate::proofs::Steps::none_adds_only, crate::proofs::Steps::rest_named))]
+fn is_set_aside<C: Calls>(
+    rt: &HostRuntime,
+    calls: &mut C,
+    image: &str,
+    from: &str,
+    to: &str,
+) -> io::Result<bool>
+    ensures named { IfOk result (λ is. IsTrue is → (replay (C.history calls.new)).named to.now
+        ≡ (replay (C.history calls.old)).named from.now) }
+    ensures stays { IfOk result (λ is. is ≡ false
+        → (replay (C.history calls.new)).named from.now
+        ≡ (replay (C.history calls.old)).named from.now) }
+    ensures refused { OnErr result ((replay (C.history calls.new)).named from.now
+        ≡ (replay (C.history calls.old)).named from.now) }
+    ensures image { (replay (C.history calls.new)).named image.now
+        ≡ (replay (C.history calls.old)).named image.now }
+    ensures crash { AddsOnly C.was ((replay (C.history calls.old)).named from.now)
+        (replay (C.history calls.old)) (replay (C.history calls.new)) }
+{
+    if from == image || to == image {
+        return Ok(false);
+    }
+    is_renamed(rt, calls, from, to)
+}
+
 /// Gives a file another name, where that is free, and says whether it was. No other file that gets
 /// the name meanwhile is lost, where the file system knows links.
-#[tactic(auto, using(crate::proofs::Steps::adds_then, crate::proofs::Steps::none_adds_only))]
+#[tactic(auto, using(crate::proofs::Steps::adds_then, crate::proofs::Steps::none_adds_only, crate::proofs::Steps::others_of, crate::proofs::Steps::rest_equal, crate::proofs::Steps::rest_of, crate::proofs::Steps::rest_of_first, crate::proofs::Steps::rest_of_second, crate::proofs::Steps::rest_then))]
 fn is_renamed<C: Calls>(rt: &HostRuntime, calls: &mut C, from: &str, to: &str) -> io::Result<bool>
     ensures named { IfOk result (λ is. IsTrue is → (replay (C.history calls.new)).named to.now
         ≡ (replay (C.history calls.old)).named from.now) }
@@ -105,6 +142,8 @@ fn is_renamed<C: Calls>(rt: &HostRuntime, calls: &mut C, from: &str, to: &str) -
         ≡ (replay (C.history calls.old)).named from.now) }
     ensures refused { OnErr result ((replay (C.history calls.new)).named from.now
         ≡ (replay (C.history calls.old)).named from.now) }
+    ensures others { AreRestAsBefore from.now to.now (replay (C.history calls.old))
+        (replay (C.history calls.new)) }
     ensures crash { AddsOnly C.was ((replay (C.history calls.old)).named from.now)
         (replay (C.history calls.old)) (replay (C.history calls.new)) }
 {
