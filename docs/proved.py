@@ -11,8 +11,8 @@ TOP = pathlib.Path(__file__).resolve().parents[1]
 HEAD = """# What is proved, crate by crate
 
 Made by `docs/proved.py` from the sources. "Proved" means: for every input the function meets the contract beside it, is safe
-(no overflow, no index out of range, no use after free), and returns. That calls return which wait for a
-lock, a line or a flush isn't shown.
+(no overflow, no index out of range, no use after free), and returns. That calls which wait return isn't shown: those of `own_stacks`,
+`server`, `s4d`, `group_commit`, `batch_serving`, `kept_drive` and `s4serve`.
 
 Each crate's public calls that have a contract, with the names of its clauses in brackets. Left out after a first one are `same`,
 `unchanged` and `others` (what stays), `ledger`, `state` and `store` where history and objects stay, `refusal`, `memory`, `none`,
@@ -23,9 +23,9 @@ Each crate's public calls that have a contract, with the names of its clauses in
 (`serve_line`), and a receipt shows that a crash left an image of a drive with as many changes, at its reach (`KeptReceipt::shows`).
 No clause says that they are those which the step had seen (`sessions_have_seen_one_list`, then `what_is_covered_is_kept`); that a crash
 falls between two calls of the folder, one inside a call being a folder whose later calls fail; that the lock of the monitor orders what
-receipts of several sessions say; that files are as calls answer (see `service_seen`), and the keeper's path is the image's; that a
-thread which waits goes on; that workers reach clients, and the drive, by `open_at` and `serve_line` alone, and nobody the drive before;
-that a `StopLine` comes of `stop`; that status 0 is `serve_image`'s.
+receipts of several sessions say; that files are as calls answer (see `service_seen`), the keeper's path is the image's, and
+`is_in_place` looks there; that a thread which waits goes on; that workers reach clients, and the drive, by `open_at` and `serve_line`
+alone, and nobody the drive before; that `AtDoor::next` alone makes a `StopLine`; that status 0 is `serve_image`'s.
 """
 WIDTH = 130
 USUAL = {"same", "unchanged", "others", "refusal", "memory", "none", "failures", "empty", "ledger", "least", "most", "few", "exact",

@@ -22,7 +22,8 @@ pub record HasBeenClosed {K : Type 0} (may_leave : K → List ℕ → Type 0) (f
   pub seen : List Accepted
   pub kept : IsKept (may_leave keeper) (IsClosed (WasHad frames base) base seen start)
 
--- A keeper's image was removed or replaced, and then the drive was kept once more by a flush.
+-- The last image that a keeper kept was removed or replaced, and then the drive was kept once more by a flush, whose reach isn't below that
+-- of the flush before. Over the system's own files `was_moved` says nothing: there it is trusted that `is_in_place` looks.
 pub record HasBeenMoved {K : Type 0} (may_leave : K → List ℕ → Type 0) (was_moved : K → Type 0) (frames : TableId) (base : Base) : Type 0 where
   pub before : K
   pub moved : was_moved before

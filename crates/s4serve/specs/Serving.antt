@@ -21,7 +21,8 @@ IsFound (Some creation) before known = HasNew creation.frames creation.keep know
 abbrev pub base_in : OpenedFields → Base
 base_in drive = base_of (fields_of log_of drive.store) drive.timeline drive.next drive.audit
 
--- `stop` was said at the door of this number, which administrators have
+-- A door of administrators has this number: that of the `StopLine` which the end gave back. That `stop` was said at that door is what
+-- `AtDoor::next` ensures, and nothing else makes such a line.
 abbrev pub HasBeenStopped : List DoorFields → Type 0
 HasBeenStopped doors = (number : ℕ) × IsAdministrators doors number
 

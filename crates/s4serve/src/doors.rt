@@ -1,5 +1,5 @@
 //! Who reads the lines at a door.
-ghost use Rattle.std.specs.Prelude.{◌≡◌, ◌+◌, ◌^◌, ◌<◌};
+ghost use Rattle.std.specs.Prelude.{◌≡◌, ◌+◌, ◌^◌, ◌<◌, true};
 ghost use Rattle.s4serve.specs.Doors.{IsReadAt};
 ghost use Rattle.s4serve.specs.Heard.{IsOfDoor};
 
@@ -42,12 +42,31 @@ fn watch<J: Serving, C: Clock, K: Keeper, R: Wait, D: Fifos + Telling, S: PieceS
     requires { S.failures lines.old.source + 1 < 2 ^ 64 }
 {
     for _turn in rt.forever() {
-        match lines.next() {
-            Ok(said) => heed(rt, alloc, service, outside, lines.door(), said),
-            Err(_) => break,
+        if !heed_next(rt, alloc, service, outside, lines) {
+            break;
         }
     }
     outside.tell(News::DoorFailed(lines.door().folder()));
+}
+
+/// Does what the next line at a door says, and answers whether it could be read.
+fn heed_next<J: Serving, C: Clock, K: Keeper, R: Wait, D: Fifos, S: PieceSource>(
+    rt: &R,
+    alloc: Global,
+    service: &Service<J, C, K>,
+    outside: &D,
+    lines: &mut AtDoor<'_, J, S>,
+) -> bool
+    requires { S.failures lines.old.source + 1 < 2 ^ 64 }
+    ensures { result ≡ true → S.failures lines.new.source + 1 < 2 ^ 64 }
+{
+    match lines.next() {
+        Ok(said) => {
+            heed(rt, alloc, service, outside, lines.door(), said);
+            true
+        }
+        Err(_) => false,
+    }
 }
 
 /// Does what was said at a door.

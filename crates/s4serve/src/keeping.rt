@@ -11,8 +11,8 @@ use std::marker::Send;
 
 /// What keeps an image, and says why it couldn't.
 pub trait Explaining {
-    // That somebody has removed or replaced the last image that it kept. Nothing but a look shows
-    // that.
+    // That somebody has removed or replaced the last image that it kept. Nothing but `is_in_place`
+    // shows that.
     ghost was_moved: { Self → Type 0 };
 
     /// What was in the way of the last image that it couldn't keep.
@@ -26,7 +26,8 @@ pub trait Explaining {
 impl Explaining for WholeImage<FileFolder<HostCalls>> {
     ghost use Rattle.std.specs.Prelude.{⊤};
 
-    // No clause of the standard library says what becomes of a file.
+    // No clause of the standard library says which file a path leads to, so of this system's files
+    // nothing is shown. It is trusted that `is_in_place` looks; `served gone` of the tests sees it.
     ghost was_moved = { λ _. ⊤ };
 
     fn obstacle(&self) -> KeepObstacle {

@@ -8,12 +8,14 @@
 //! requires that, and that they are of a session of its door's role, on every thread. A flush that
 //! makes a receipt leaves at the image's path, whatever a crash leaves there, the image of the drive
 //! with these changes at that clock. At its end no session is given a receipt any more, and then a
-//! last flush leaves there the image of the drive at its own clock: a service that ends well shows
-//! that.
+//! last flush leaves there the image of the drive at its own clock; or, where the image isn't where
+//! it was put, one at its reach. A service that ends well shows that, and that it was stopped by
+//! what `stop` at a door of administrators alone gives.
 //!
 //! An argument in writing, and no clause: that a thread goes on; that a crash falls between two
-//! calls, while threads run; that one lock orders what the receipts of several sessions say. The
-//! monitor has a model that is searched, and the program is killed in tests.
+//! calls, while threads run; that one lock orders what the receipts of several sessions say; that
+//! the last flush comes after each change that a receipt covers; that the look for the image is one
+//! at the disk. The monitor has a model that is searched, and the program is killed in tests.
 #![tactic(auto)]
 
 ghost use Rattle.std.specs.Prelude.{◌+◌, ◌^◌, ◌<◌, ◌≤◌};

@@ -15,8 +15,8 @@ invariant_of-result g c = inl (record {
 -- or at the reach, where the image isn't where it was put
 pub invariant_of-result-2 : goal.invariant_of-result-2
 invariant_of-result-2 g c = inr (record {
-  before = c.deref_mut-2.result.now.keeper;
-  moved = search;
+  before = c.keeper.result.now;
+  moved = search (c.is_in_place.ensures);
   keeper = c.flush.new.self.keeper;
   seen = c.flush.new.self.session.told.seen;
   last = c.deref_mut-2.result.now.reach;

@@ -1,8 +1,8 @@
-use Rattle.std.proofs.Common.{List, arith, subst, sym}
+use Rattle.std.proofs.Common.{ℕ, List, arith, subst, sym}
 use Rattle.std.specs.List.{AllZip}
 use Rattle.std.proofs.lemmas.List.{take_all}
 use Rattle.std.proofs.lemmas.Slice.Zip.{AllZip-long}
-use Rattle.s4serve.specs.Doors.{DoorFields, ReadsAt}
+use Rattle.s4serve.specs.Doors.{DoorFields, IsReadAt, ReadsAt}
 use Rattle.s4serve.proofs.DoorLemmas.{next_input}
 use Rattle.s4serve.proofs.spawning.Starting.watch_doors.Goals as goal
 
@@ -18,7 +18,7 @@ loop-input-init g c =
 pub start-requires-clause-own : goal.start-requires-clause-own
 start-requires-clause-own g c =
     let next = next_input (ReadsAt g.D.Fifos.reads) g.J.Serving.doors c.loop-input.inputs.items c.pop.new.self.items c.pop.result c.in-Some.input c.pop.ensures.items c.in-Some.is c.loop-input.invariant.inputs in
-    (next.1, next.2)
+    λ lifetimes outlives. subst (λ (n : ℕ). IsReadAt g.D.Fifos.reads g.J.Serving.doors n c.in-Some.input) (omega (arith, c.pop.new.self.ok.0)) (next.1, next.2)
 
 pub loop-input-preserved : goal.loop-input-preserved
 loop-input-preserved g c = record {
