@@ -2,11 +2,11 @@
 """Ways in which a client can flood a service with a bridge before it: what that takes, what others can do meanwhile and afterwards, and the
 way back.
 
-    floods.py [--frames N] [--seconds N] [--share SHARE] [--minutes N] [--part full|beside] [WAY..]      without a WAY all of them
+    floods.py [--frames N] [--seconds N] [--share SHARE] [--paced] [--minutes N] [--part full|beside] [WAY..]      without a WAY all of them
 
 S4SERVE names the program, and openssl has to be there: who floods comes over a Unix socket, with 16 connections, and another client by TLS,
 which owns as many objects of 2,000 bytes as a tenth of the frames. Two tables are printed, a row as soon as its way is tried, each over a new
-drive of 1,024 frames or N. The first is without a share of changes:
+drive of 1,024 frames or N. The first is without a share of changes, or with --paced with it:
 
 - what was accepted until a change was refused for want of room, or since a journal was full: requests, bytes and seconds; and how long the same
   takes a peer with the share, by reckoning;
@@ -18,8 +18,9 @@ The second is with the share (sessions=12,changes=50/s,bytes=1MiB/min): the othe
 flood, while that has tokens left and once they are used up; how long it waited for one at most; and the parts of what it had alone. With
 --minutes no way is begun for which there may be no time: two thirds of it are for the first table.
 
-The last lines say what was not tried, and the worst of both tables. Status 0: an administrator could hide and delete after each; 1: not after
-one. The figures depend on what else the machine does, requests and bytes hardly."""
+The last lines say what was not tried, and the worst of both tables: the longest way back, which should take 60 seconds at most, the least part
+that the other had beside a flood, and the least beside one without tokens, which should be half. Status 0: an administrator could hide and delete
+after each; 1: not after one. The figures depend on what else the machine does, requests and bytes hardly."""
 import contextlib
 import io
 import json
@@ -32,6 +33,7 @@ import sys
 import threading
 import time
 import urllib.request
+from typing import NamedTuple
 
 sys.dont_write_bytecode = True
 import bridges  # noqa: E402
@@ -49,6 +51,9 @@ FILLING_SECONDS, BESIDE_SECONDS = 60.0, 20.0  # that a way may take, by which no
 FULL_PART = 2 / 3  # of all time that the first table may take
 OWNED, SIZE = 10, 2_000  # frames for each of the owner's objects, and bytes of one
 SHARE = "sessions=12,changes=50/s,bytes=1MiB/min"
+SEATS = "sessions=12"  # without a pace
+PART = 0.5  # of its requests that another has at least beside a peer without tokens
+WAY_BACK_SECONDS = 60.0  # that the way back takes at most
 NO_SPACE, CHAIN_FULL, TOO_LARGE = 9, 12, 6
 LOST = OSError, EOFError
 ONE, THE_ONE = threading.Lock(), []  # the object that all connections overwrite
@@ -394,9 +399,9 @@ def accepted_of(outcomes):
     return ", ".join(name for name, what in outcomes.items() if what == "yes") or "nothing"
 
 
-def filled(way, frames, share, seconds):
+def filled(way, frames, share, is_paced, seconds):
     """A row of the first table, of a flood that has so long: whether an administrator could hide and delete, and how long the way back took."""
-    with Trial(frames, "sessions=12") as it:
+    with Trial(frames, share if is_paced else SEATS) as it:
         flood = it.flood(way, seconds)
         try:
             found = json.loads(flood.communicate()[0])
@@ -411,8 +416,19 @@ def filled(way, frames, share, seconds):
     return set(admins.values()) == {"yes"}, seconds
 
 
+class Parts(NamedTuple):
+    """What the other had beside a flood of the requests that it has alone: at first, and then, when the flood may have had no tokens left."""
+
+    first: float
+    then: float
+    is_paced: bool
+
+    def least(self):
+        return min(self.first, self.then)
+
+
 def beside(way, frames, seconds, share):
-    """A row of the second table: the least part of what the other has alone that it had beside the flood."""
+    """A row of the second table."""
     with Trial(frames, share) as it:
         before, _ = it.rate(seconds)
         flood = it.flood(way, LONGEST)
@@ -422,6 +438,7 @@ def beside(way, frames, seconds, share):
             end = time.monotonic() + (EMPTY_SECONDS if way in FILLING else 0)
             while not it.waited() and time.monotonic() < end:
                 time.sleep(0.2)
+            is_paced = it.waited() > 0
             then, longest_then = it.rate(seconds)
         finally:
             flood.kill()
@@ -430,7 +447,7 @@ def beside(way, frames, seconds, share):
         alone = (before + it.rate(seconds)[0]) / 2  # so that a machine that becomes slower meanwhile doesn't count as much
     print(f"| {way} | {alone:.0f} | {first:.0f}, {longest * 1000:.0f} | {then:.0f}, {longest_then * 1000:.0f} "
           f"| {first / alone:.2f}, {then / alone:.2f} |", flush=True)
-    return min(first, then) / alone
+    return Parts(first / alone, then / alone, is_paced)
 
 
 class Clock:
@@ -450,16 +467,16 @@ class Clock:
         return float("inf") if self.seconds is None else self.began + part * self.seconds - time.monotonic()
 
 
-def full_table(ways, frames, share, clock):
+def full_table(ways, frames, share, is_paced, clock):
     """Whether an administrator could hide and delete after each."""
     ways, found = [way for way in ways if way in FILLING], []
     print(FULL_HEAD, flush=True)
     for way in ways:
         if clock.has(f"{way}, full", FULL_PART, FILLING_SECONDS):
-            found.append(filled(way, frames, share, min(LONGEST, clock.left(FULL_PART))))
-    is_good = all(is_good for is_good, _ in found)
+            found.append(filled(way, frames, share, is_paced, min(LONGEST, clock.left(FULL_PART))))
+    is_good, longest = all(is_good for is_good, _ in found), max((seconds for _, seconds in found), default=0)
     print(f"\nof {len(found)} floods an administrator could hide and delete after {'each' if is_good else 'some'}; the longest way back took "
-          f"{max((seconds for _, seconds in found), default=0):.1f} s\n", flush=True)
+          f"{longest:.1f} s, {'not more' if longest <= WAY_BACK_SECONDS else 'more'} than {WAY_BACK_SECONDS:g}\n", flush=True)
     return is_good
 
 
@@ -468,8 +485,13 @@ def beside_table(ways, frames, seconds, share, clock):
     ways = sorted(ways, key=lambda way: way in ALIKE)
     found = {way: beside(way, frames, seconds, share) for way in ways if clock.has(f"{way}, beside", 1, BESIDE_SECONDS)}
     if found:
-        worst = min(found, key=found.__getitem__)
-        print(f"\nbeside {len(found)} floods another client had {found[worst]:.2f} of its requests at least, beside {worst}", flush=True)
+        worst = min(found, key=lambda way: found[way].least())
+        print(f"\nbeside {len(found)} floods another client had {found[worst].least():.2f} of its requests at least, beside {worst}", flush=True)
+    paced = {way: it.then for way, it in found.items() if it.is_paced}
+    if paced:
+        worst = min(paced, key=paced.__getitem__)
+        print(f"beside {len(paced)} of them, once their share was used up, it had {paced[worst]:.2f} at least, beside {worst}: "
+              f"{'not less' if paced[worst] >= PART else 'less'} than {PART:g}", flush=True)
 
 
 def end(*_):
@@ -497,9 +519,11 @@ def main(words):
     words = list(words)
     frames, seconds, minutes = int(option(words, "--frames", "1024")), float(option(words, "--seconds", "3")), option(words, "--minutes", None)
     share, part, is_good = option(words, "--share", SHARE), option(words, "--part", None), True
+    is_paced = "--paced" in words
+    words = [it for it in words if it != "--paced"]
     ways, clock = words or [*FILLING, *OTHERS], Clock(None if minutes is None else float(minutes))
     if part != "beside":
-        is_good = full_table(ways, frames, share, clock)
+        is_good = full_table(ways, frames, share, is_paced, clock)
     if part != "full":
         beside_table(ways, frames, seconds, share, clock)
     if clock.left_out:

@@ -4,18 +4,20 @@
     store.py [--seconds N] [--drives N,..] [--clients N,..] [--sizes N,..] [--frames N]    puts and gets a second
     store.py --beside NAME,.. [..]          the same of other programs over files: rclone (serve webdav), nginx (its dav module)
     store.py --pages [KEYS ..]              a page of 1,000 keys among so many
-    store.py --full [DRIVES [FRAMES [STARTS]]]       starts (3) over drives without room
+    store.py --full [DRIVES [FRAMES [STARTS]]] [--kept FOLDER]       starts (3) over drives (16) without room
 
 S4D, S4 and S4SERVE name the programs. Puts and gets: each client is a process with one connection, which signs each request; the store keeps a
-second of its past, so that room comes back. A store is made for each number of drives (1 and 4), of so many frames (1,024); each line is N seconds
-(5) of puts, and then of gets, by so many clients (1 and 16) of so many bytes (1,000 and 100,000), where the drives have room for what these put
-at once, beside what they replace. A request that was begun counts with the time that it takes, and after its rate are the milliseconds of
-the processor that it takes in all processes of the server, which say more on a busy machine. Refused is what was answered by an error. Memory
-is the most that the gateway took, and the most that one service took. The others have their files in a folder of the same disk, and sign nothing; nginx doesn't
-wait for the disk, nor does rclone. Pages: the seconds of the processor that a list takes in the gateway, the least of several,
-at the start and in the midst of the bucket, without connections and signatures; among 8,000 and 80,000 keys. A start: each drive is given heads
-of objects of 100 bytes until it has no room, before it is served; then the store is started, and again after an end in order and after a kill,
-and the seconds until it answers are printed, with those of the processor that all its processes take, and the most memory of the gateway."""
+second of its past, so that room comes back. A row is a store, made for each number of drives (1 and 4), of so many frames (1,024). Each cell is N
+seconds (5) of puts, and then of gets, by so many clients (1 and 16) of so many bytes (1,000 and 100,000), where the drives have room for what these
+put at once, beside what they replace: puts, gets a second, and the milliseconds of the processor that each takes in all processes of the server,
+which say more on a busy machine. A request that was begun counts with the time that it takes. Refused is what was answered by an error. Memory
+is the most that the gateway took, and the most that one service took. The others have their files in a folder of the same disk, and sign nothing;
+nginx doesn't wait for the disk, nor does rclone. Standard error has each cell as it comes, and the seconds that it took. Pages: the seconds of the
+processor that a list takes in the gateway, the least of several, at the start and in the midst of the bucket, without connections and signatures;
+among 8,000 and 80,000 keys. A start: each drive is given heads of objects of 100 bytes until it has no room, before it is served; then a copy of
+the store is started, and again after an end in order and after a kill, and the seconds until it answers are printed, with those of the processor
+that all its processes take, and the most memory of the gateway. A start after a kill waits ten seconds by itself. With --kept the full store stays
+in that folder, and the next call starts it without filling it."""
 import argparse
 import hashlib
 import http.client
@@ -28,6 +30,7 @@ import subprocess
 import sys
 import tempfile
 import time
+from typing import NamedTuple
 
 sys.dont_write_bytecode = True
 import service  # noqa: E402
@@ -55,8 +58,10 @@ TOGETHER = 40  # heads that a drive is given at once
 FIRST = 1_000_000  # the number of the next drive's first key
 KEYS_METRIC = "s4_store_keys "
 DONE = (200, 201, 204)
+SAID = {"rclone": "`rclone serve webdav`", "nginx": "nginx, `dav`"}
 NGINX = """daemon off; user root; pid {folder}/pid; error_log {folder}/errors; events {{}}
-http {{ access_log off; client_max_body_size 0; client_body_temp_path {folder}/temp; keepalive_requests 1000000;
+http {{ access_log off; client_max_body_size 0; keepalive_requests 1000000; client_body_temp_path {folder}/temp; proxy_temp_path {folder}/temp;
+fastcgi_temp_path {folder}/temp; uwsgi_temp_path {folder}/temp; scgi_temp_path {folder}/temp;
 server {{ listen 127.0.0.1:{port}; root {folder}/files; location / {{ dav_methods PUT DELETE; }} }} }}
 """
 
@@ -99,7 +104,11 @@ class FileServing:
         with open(f"{folder}/said", "wb") as said:
             self.process = subprocess.Popen(words, stdout=said, stderr=said, stdin=subprocess.DEVNULL)
         end = time.monotonic() + SECONDS
-        while time.monotonic() < end and not self.answers():
+        while not self.answers():
+            if self.process.poll() is not None or time.monotonic() > end:
+                self.process.kill()
+                with open(f"{folder}/said", encoding="utf-8", errors="replace") as said:
+                    sys.exit(f"store.py: {name} doesn't answer: {said.read()[:500]}")
             time.sleep(0.05)
 
     def answers(self):
@@ -116,13 +125,15 @@ class FileServing:
         self.process.wait()
 
 
-def work(port, key, name, keys, kind, size, until, counts):
-    """A client's requests of its keys until a time: how many were done a second, and how many refused."""
+def work(port, key, name, keys, kind, size, seconds, ready, counts):
+    """A client's requests of its keys for so long, one at least, once all clients are ready: how many were done a second, and how many refused."""
     client = client_of(port, key)
     draw, done, refused = random.Random(name), 0, 0
-    data, began = draw.randbytes(size), time.monotonic()
+    data = draw.randbytes(size)
+    ready.wait(SECONDS)
+    began = time.monotonic()
     try:
-        while time.monotonic() < until:
+        while not done + refused or time.monotonic() < began + seconds:
             reply = client.ask(kind, f"/one/{name}-{draw.randrange(keys)}", data if kind == "PUT" else b"")
             done, refused = done + (reply.status in DONE), refused + (reply.status not in DONE)
     except (OSError, http.client.HTTPException) as error:
@@ -132,8 +143,8 @@ def work(port, key, name, keys, kind, size, until, counts):
 
 def run_clients(serving, kind, count, size, seconds):
     """Requests a second of so many clients, how many were done, and how many refused."""
-    counts, until, keys = multiprocessing.Queue(), time.monotonic() + seconds, keys_of_each(count, size)
-    children = [multiprocessing.Process(target=work, args=(serving.port, serving.key, number, keys, kind, size, until, counts))
+    counts, ready, keys = multiprocessing.Queue(), multiprocessing.Barrier(count), keys_of_each(count, size)
+    children = [multiprocessing.Process(target=work, args=(serving.port, serving.key, number, keys, kind, size, seconds, ready, counts))
                 for number in range(count)]
     for it in children:
         it.start()
@@ -143,12 +154,18 @@ def run_clients(serving, kind, count, size, seconds):
     return sum(rate for rate, *_ in found), sum(done for _, done, _ in found), sum(refused for *_, refused in found)
 
 
+class Found(NamedTuple):
+    """What requests of a kind came to: how many a second, the milliseconds of the processor that each took, and how many were refused."""
+
+    rate: float
+    spent: float
+    refused: int
+
+
 def run_kind(serving, kind, clients, size, seconds):
-    """What is printed of requests of a kind."""
     before = processor_of(serving)
     rate, done, refused = run_clients(serving, kind, clients, size, seconds)
-    spent = 1e3 * (processor_of(serving) - before) / max(done, 1)
-    return f"{rate:,.1f} a second, {spent:,.2f} ms" + (f", {refused} refused" if refused else "")
+    return Found(rate, 1e3 * (processor_of(serving) - before) / max(done, 1), refused)
 
 
 def processor_of(serving):
@@ -201,23 +218,25 @@ def measure(drives, found):
         serving.start()
         try:
             serving.client().ask("PUT", "/one")
-            run_all(serving, f"{drives} drives", found, drives * found.frames * FRAME_BYTES)
-            services = [most_memory(pid) for number in range(drives) for pid in serving.services(number)]
-            print(f"{drives} drives: the gateway took {most_memory(serving.process.pid):,} KiB, a service {max(services):,} KiB")
+            cells = run_all(serving, counted(drives, "drive"), found, drives * found.frames * FRAME_BYTES)
+            services = max(most_memory(pid) for number in range(drives) for pid in serving.services(number))
+            print_row([counted(drives, "drive"), *cells, f"{most_memory(serving.process.pid):,}, {services:,}"])
         finally:
             serving.stop()
 
 
 def run_all(serving, said, found, room=None):
-    """Puts and gets of each size by each number of clients, where there is room for that."""
-    for size in found.sizes:
-        for clients in found.clients:
-            if room is not None and 3 * clients * size > room:
-                print(f"{said}, {clients} clients, {size:,} bytes: no room", flush=True)
-                continue
+    """The cells of puts and gets of each size by each number of clients, where there is room for that."""
+    cells = []
+    for clients, size in columns(found):
+        began = time.monotonic()
+        if room is not None and 3 * clients * size > room:
+            cells.append("no room")
+        else:
             fill_keys(serving, clients, size)
-            puts, gets = (run_kind(serving, kind, clients, size, found.seconds) for kind in ("PUT", "GET"))
-            print(f"{said}, {clients} clients, {size:,} bytes: puts {puts}; gets {gets}", flush=True)
+            cells.append(cell_of(*(run_kind(serving, kind, clients, size, found.seconds) for kind in ("PUT", "GET"))))
+        print(f"{said}, {column_of(clients, size)}: {cells[-1]}, after {time.monotonic() - began:.1f} s", file=sys.stderr, flush=True)
+    return cells
 
 
 def beside(name, found):
@@ -225,9 +244,42 @@ def beside(name, found):
         os.chmod(folder, 0o755)
         serving = FileServing(name, folder)
         try:
-            run_all(serving, name, found)
+            cells = run_all(serving, name, found)
+            print_row([SAID[name], *cells, f"{max(map(most_memory, family(serving.process.pid))):,}"])
         finally:
             serving.stop()
+
+
+def columns(found):
+    return [(clients, size) for size in found.sizes for clients in found.clients]
+
+
+def column_of(clients, size):
+    return f"{counted(clients, 'client')}, {size:,} bytes"
+
+
+def counted(count, name):
+    return f"{count} {name}" + ("s" if count > 1 else "")
+
+
+def cell_of(puts, gets):
+    refused = puts.refused + gets.refused
+    return (f"{shown(puts.rate)}, {shown(gets.rate)}; {shown(puts.spent)}, {shown(gets.spent)} ms"
+            + (f"; {refused} refused" if refused else ""))
+
+
+def shown(number):
+    """A number of two digits or more."""
+    return f"{number:,.{0 if number >= 9.95 else 1 if number >= 0.995 else 2}f}"
+
+
+def print_row(cells):
+    print(f"| {' | '.join(cells)} |", flush=True)
+
+
+def print_head(found):
+    print_row(["", *(column_of(*it) for it in columns(found)), "KiB: gateway, a service"])
+    print("|---" * (len(columns(found)) + 2) + "|", flush=True)
 
 
 def bucket_of(keys):
@@ -300,15 +352,30 @@ def small_version(number):
                    hashlib.md5(data).hexdigest(), contents=data)
 
 
-def full(drives, frames, starts):
+def full(drives, frames, starts, kept):
+    """Starts of a copy of the full store that a folder keeps; it is made there where there is none yet."""
     with tempfile.TemporaryDirectory() as folder:
-        make_store(f"{folder}/store", Settings(drives, frames, "30d"), programs())
-        began = time.monotonic()
-        with multiprocessing.Pool() as pool:
-            counts = pool.starmap(fill_drive, [(f"{folder}/store", number, number * FIRST) for number in range(drives)])
-        said = f"{drives} drives of {frames} frames, full of {sum(counts):,} objects"
-        print(f"{said} after {time.monotonic() - began:.1f} s", flush=True)
-        start_full(Serving(f"{folder}/store", programs()), sum(counts), starts)
+        kept = kept or f"{folder}/kept"
+        if not os.path.exists(f"{kept}/objects"):
+            fill_store(kept, drives, frames)
+        with open(f"{kept}/objects", encoding="ascii") as file:
+            count = int(file.read())
+        settings = settings_in(f"{kept}/store")
+        print(f"{settings.drives} drives of {settings.frames} frames, full of {count:,} objects", flush=True)
+        subprocess.run(["cp", "-a", f"{kept}/store", f"{folder}/store"], check=True)
+        start_full(Serving(f"{folder}/store", programs()), count, starts)
+
+
+def fill_store(folder, drives, frames):
+    """Makes a store whose drives are full, and a file that says of how many objects."""
+    began = time.monotonic()
+    os.makedirs(folder, exist_ok=True)
+    make_store(f"{folder}/store", Settings(drives, frames, "30d"), programs())
+    with multiprocessing.Pool() as pool:
+        counts = pool.starmap(fill_drive, [(f"{folder}/store", number, number * FIRST) for number in range(drives)], 1)
+    with open(f"{folder}/objects", "w", encoding="ascii") as file:
+        file.write(f"{sum(counts)}\n")
+    print(f"filled in {time.monotonic() - began:.1f} s", file=sys.stderr, flush=True)
 
 
 def start_full(serving, count, starts):
@@ -352,17 +419,18 @@ def main(words):
     options.add_argument("--beside", type=lambda text: text.split(","), default=[])
     options.add_argument("--pages", type=int, nargs="*", metavar="KEYS")
     options.add_argument("--full", type=int, nargs="*", metavar="N")
+    options.add_argument("--kept", metavar="FOLDER")
     found = options.parse_args(words)
     if found.pages is not None:
         pages(found.pages or [8_000, 80_000])
     elif found.full is not None:
-        full(*(found.full + [16, 1_024, 3][len(found.full):]))
-    elif found.beside:
+        full(*(found.full + [16, 1_024, 3][len(found.full):]), found.kept)
+    else:
+        print_head(found)
+        for drives in [] if found.beside else found.drives:
+            measure(drives, found)
         for name in found.beside:
             beside(name, found)
-    else:
-        for drives in found.drives:
-            measure(drives, found)
 
 
 if __name__ == "__main__":

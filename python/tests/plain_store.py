@@ -4,10 +4,9 @@ import asyncio
 from s4d import Refused, wire
 from s4d.history import shown_before
 from s4d.moments import machine_time
-from s4d.rows import Listed
 from s4d.store.contents import Pieces
 from s4d.store.drives import DriveAway
-from s4d.store.found import Found, Kept
+from s4d.store.found import Found, Kept, Seen
 from s4d.store.loading import Loading
 from s4d.store.store import Store
 
@@ -50,7 +49,7 @@ class TimedDrive(PlainDrive):
 
     def found(self):
         """What `s4 list` and `s4 log` say of it."""
-        live = [Listed(number, "live", len(it.data), it.created, None, it.moment, None, it.attribute, None)
+        live = [Seen(number, len(it.data), it.created, it.moment, it.attribute)
                 for number, (*_, it) in sorted(self.versions.items()) if it.is_live]
         if self.tells_versions:
             return Found(live, {}, {it.object: self.readable(it.object) for it in live if it.attribute[:1] != b"P"})
@@ -142,7 +141,9 @@ class PlainStores:
     async def start(self):
         """The store, and how many objects were left by puts that were cut."""
         pieces = Pieces(self.session_drives())
-        loading = Loading(pieces, [drive.found() for drive in self.drives], self.window)
+        loading = Loading(pieces, self.window)
+        for number, drive in enumerate(self.drives):
+            loading.take(number, drive.found())
         index = await loading.load()
         self.collected, self.uploads = await loading.collect(), loading.uploads
         return Store(pieces, index)

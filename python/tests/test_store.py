@@ -1,7 +1,6 @@
 """A store over plain drives in memory: what is put, what is refused, what is cut, and what a start finds."""
 import asyncio
 import copy
-import dataclasses
 import hashlib
 import os
 import tempfile
@@ -257,7 +256,7 @@ class Away(Stores):
         async def put(store):
             await store.create_bucket("one")
             before = await store.put("one", "k", body(b"old"), {})
-            store._doubts["one", "k"] = Doubt(dataclasses.replace(before.version, sequence=2, id="0"), before.head)
+            store._doubts["one", "k"] = Doubt(before.version._replace(sequence=2, id="0"), before.head)
             await store.settle("one", "k")
             self.assertEqual(store.bucket("one").keys["k"], [before])
 
@@ -296,7 +295,7 @@ class Away(Stores):
         async def put(store):
             await store.create_bucket("one")
             entry = await store.put("one", "k", body(b"mill"), {})
-            first, second = (Doubt(dataclasses.replace(entry.version, id=id), entry.head) for id in ("first", "second"))
+            first, second = (Doubt(entry.version._replace(id=id), entry.head) for id in ("first", "second"))
             store._doubts["one", "k"] = first
             drive = store.pieces.drives[entry.head.drive]
             ask = drive.ask

@@ -1,5 +1,4 @@
 """What a store's objects hold, its names, and the order of its lists: functions that ask no drive."""
-import dataclasses
 import unittest
 
 from s4d.store import layout
@@ -11,8 +10,7 @@ from s4d.store.settings import Settings, StoreFault, microseconds, settings_of
 
 
 def version(**changed):
-    return dataclasses.replace(Version("photos", "a/ü", 3, "0f", 1_700, 5, "d41d", False, {"content-type": "text/plain"}, b"mills"),
-                               **changed)
+    return Version("photos", "a/ü", 3, "0f", 1_700, 5, "d41d", False, {"content-type": "text/plain"}, b"mills")._replace(**changed)
 
 
 class Counted(list):

@@ -1,7 +1,6 @@
 """A store to which drives were added: what is moved to them, what stays as it was, and what a kill leaves."""
 import asyncio
 import copy
-import dataclasses
 import random
 import unittest
 from unittest import mock
@@ -333,7 +332,7 @@ class Refusals(Moving):
         async def work(store):
             await store.create_bucket("one")
             entry = await store.put("one", "k", body(b"mill"), {})
-            moved = dataclasses.replace(entry.version, since=entry.moment)
+            moved = entry.version._replace(since=entry.moment)
             await store._write_on(moved, store.pieces.drives[1 - entry.head.drive])
             await store.put("one", "k", body(b"moor"), {})
 

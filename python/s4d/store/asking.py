@@ -6,10 +6,9 @@ from typing import Awaitable, Callable, List, Optional, Sequence
 
 from ..async_drive import AsyncDrive
 from ..errors import NoObject
-from ..rows import Listed
 from ..wire import Attributes
 from .drives import StoreDrive
-from .found import Found
+from .found import Found, Seen
 from .numbers import Numbers
 
 AT_ONCE = 32  # objects that a session asks for together: a bridge takes up to 64 requests
@@ -28,31 +27,31 @@ async def found_by_asking(drive: StoreDrive, numbers: Numbers) -> Found:
     return Found(objects, {it.object: found for it, found in zip(heads, moments)})
 
 
-async def objects_of(drive: StoreDrive, numbers: Sequence[int]) -> List[Listed]:
+async def objects_of(drive: StoreDrive, numbers: Sequence[int]) -> List[Seen]:
     """Those of these objects that are there."""
     parts = [numbers[start:start + AT_ONCE] for start in range(0, len(numbers), AT_ONCE)]
     found = await asyncio.gather(*[drive.ask(rows_of(part)) for part in parts])
     return [row for rows in found for row in rows]
 
 
-def rows_of(numbers: Sequence[int]) -> Callable[[AsyncDrive], Awaitable[List[Listed]]]:
-    async def ask(session: AsyncDrive) -> List[Listed]:
+def rows_of(numbers: Sequence[int]) -> Callable[[AsyncDrive], Awaitable[List[Seen]]]:
+    async def ask(session: AsyncDrive) -> List[Seen]:
         rows = await asyncio.gather(*[row_of(session, number) for number in numbers])
         return [row for row in rows if row is not None]
 
     return ask
 
 
-async def row_of(session: AsyncDrive, number: int) -> Optional[Listed]:
-    """An object as `s4 list` says it; None where it isn't there."""
+async def row_of(session: AsyncDrive, number: int) -> Optional[Seen]:
+    """An object; None where it isn't there."""
     try:
         it = await session.attributes(number)
     except NoObject:
         return None
-    return Listed(number, "live", it.size, it.created, None, it.changed, None, it.attribute, None)
+    return Seen(number, it.size, it.created, it.changed, it.attribute)
 
 
-def moments_of(row: Listed) -> Callable[[AsyncDrive], Awaitable[List[int]]]:
+def moments_of(row: Seen) -> Callable[[AsyncDrive], Awaitable[List[int]]]:
     """Asks for moments just after those at which the earlier versions of an object can be read."""
     found = Attributes(row.size, row.created, row.changed, row.attribute)
 

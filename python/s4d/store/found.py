@@ -3,6 +3,7 @@ from __future__ import annotations
 
 import asyncio
 import functools
+import io
 import json
 import subprocess
 from typing import Any, Dict, List, NamedTuple, Optional
@@ -10,13 +11,22 @@ from typing import Any, Dict, List, NamedTuple, Optional
 from ..errors import BadReply, ProgramFailed
 from ..image import Image
 from ..program import output_of
-from ..rows import Listed
 from .settings import StoreFault
 
 IMAGES_AT_ONCE = 4  # that are read side by side
 VERSIONS = ("--versions", "--contents")  # options of `s4 list`, which earlier programs haven't
 
 Moments = Dict[int, List[int]]  # of each object, the moments of its changes
+
+
+class Seen(NamedTuple):
+    """An object that is there."""
+
+    object: int
+    size: int
+    created: int
+    changed: int
+    attribute: bytes
 
 
 class Kept(NamedTuple):
@@ -31,7 +41,7 @@ class Found(NamedTuple):
     known `moments` says when each object was changed.
     """
 
-    objects: List[Listed]
+    objects: List[Seen]
     moments: Moments
     versions: Optional[Dict[int, List[Kept]]] = None
 
@@ -55,7 +65,7 @@ def read_image(path: str, program: str) -> Found:
     moments: Moments = {}
     for row in image.log():
         moments.setdefault(row.object, []).append(row.moment)
-    return Found(image.list(), moments)
+    return Found([Seen(it.object, it.size, it.created, it.changed, it.attribute) for it in image.list()], moments)
 
 
 @functools.lru_cache(maxsize=None)
@@ -69,8 +79,8 @@ def read_versions(printed: bytes) -> Found:
     """What the rows say; BadReply where one says nothing of an object."""
     found = Found([], {}, {})
     try:
-        for line in printed.splitlines():
-            take_row(found, json.loads(line))
+        for line in io.BytesIO(printed):
+            take_row(found, json.loads(line.decode()))
     except (ValueError, TypeError, KeyError) as error:
         raise BadReply(f"a row of `s4 list` lacks what belongs there: {error!r}") from None
     return found
@@ -79,6 +89,6 @@ def read_versions(printed: bytes) -> Found:
 def take_row(found: Found, row: Dict[str, Any]) -> None:
     assert found.versions is not None
     attribute = bytes.fromhex(row["attribute"])
-    found.objects.append(Listed(row["object"], row["state"], row["size"], row["created"], None, row["changed"], None, attribute, None))
+    found.objects.append(Seen(row["object"], row["size"], row["created"], row["changed"], attribute))
     if attribute[:1] != b"P":  # their bytes are read when somebody wants them
         found.versions[row["object"]] = [Kept(it["changed"], bytes.fromhex(it["contents"])) for it in row["versions"]]

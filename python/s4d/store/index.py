@@ -128,7 +128,7 @@ class Index:
         left = {self._take(self.buckets[it.version.bucket], it) for it in entries}
         for bucket in self.buckets.values():
             bucket.names = sorted(bucket.keys)  # once: one by one they take long where they are many
-            bucket.live = [key for key in bucket.names if bucket.live_version(key, None) is not None]
+            bucket.live = [key for key in bucket.names if not bucket.keys[key][-1].version.is_marker]
         return {it for it in left if it is not None}
 
     def _take(self, bucket: Bucket, entry: Entry) -> Optional[Place]:

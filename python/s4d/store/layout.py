@@ -12,7 +12,6 @@ import base64
 import hashlib
 import json
 import struct
-from dataclasses import dataclass, field
 from typing import Any, Dict, List, NamedTuple, Optional, Sequence, Tuple
 
 from ..wire import OBJECT_BYTES, READ_BYTES
@@ -48,8 +47,7 @@ class Piece(NamedTuple):
     size: int
 
 
-@dataclass(frozen=True)
-class Version:
+class Version(NamedTuple):
     """A version of a key, as its head has it. A marker says that the key was deleted.
 
     `sequence` counts the key's versions from 1 on; `time` is in microseconds since 1970. `contents` are those that are in
@@ -66,7 +64,7 @@ class Version:
     size: int = 0
     etag: str = ""
     is_marker: bool = False
-    headers: Dict[str, str] = field(default_factory=dict)
+    headers: Dict[str, str] = {}  # which nobody changes
     contents: bytes = b""
     pieces: Tuple[Piece, ...] = ()
     depth: int = 0
@@ -150,7 +148,7 @@ def version_in(data: bytes) -> Version:
     if len(data) < end + inline:
         raise BadHead(f"the head has {end + inline:,} bytes, and {len(data):,} are there")
     try:
-        return version_of(json.loads(data[FRONT.size:end]), data[end:end + inline])
+        return version_of(json.loads(data[FRONT.size:end].decode()), data[end:end + inline])
     except (KeyError, TypeError, ValueError, AttributeError) as error:
         raise BadHead(f"the head lacks what belongs there: {error!r}") from error
 

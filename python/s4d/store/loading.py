@@ -6,15 +6,14 @@ another machine, versions are asked for: the current one now, each other at the 
 from __future__ import annotations
 
 import asyncio
-from typing import Dict, List, Optional, Sequence, Set, Tuple
+from typing import Dict, List, Optional, Set, Tuple
 
 from ..errors import Expired, Flushed, NoObject
 from ..moments import machine_time
-from ..rows import Listed
 from ..wire import READ_BYTES
 from .contents import Gone, Pieces
 from .drives import StoreDrive
-from .found import Found
+from .found import Found, Seen
 from .index import Bucket, Entry, Index, Place, entry_of
 from .layout import BadHead, Piece, created_in, head_attribute, version_in
 from .names import is_bucket_name
@@ -27,10 +26,12 @@ from .uploads_found import FoundUploads
 class Loading:
     """Makes the index of what was found, and deletes what no version needs."""
 
-    def __init__(self, pieces: Pieces, found: Sequence[Found], window: int) -> None:
-        self._pieces, self._found, self._window, self._now = pieces, found, window, machine_time()
+    def __init__(self, pieces: Pieces, window: int) -> None:
+        self._pieces, self._window, self._now = pieces, window, machine_time()
+        self._found: Dict[int, Found] = {}  # of each drive, and the versions of its heads that this says
+        self._known: Dict[int, List[Entry]] = {}
         self.index = Index(window)
-        self._buckets: List[Tuple[Place, Listed]] = []
+        self._buckets: List[Tuple[Place, Seen]] = []
         self._heads: List[Tuple[Place, bytes]] = []
         self._parts: List[Tuple[Place, bytes]] = []
         self._unread: Set[bytes] = set()  # hashes of keys, of which a head says something that isn't known here
@@ -39,8 +40,15 @@ class Loading:
         self.uploads: List[Upload] = []
         self._alone: Dict[Tuple[str, str], Entry] = {}  # the last version of keys whose bucket isn't there
 
+    def take(self, number: int, found: Found) -> None:
+        """Takes what a drive has. What its heads say is read at once: meanwhile other drives are looked at."""
+        self._found[number] = found
+        heads = (it for it in found.objects if it.attribute[:1] == b"H" and it.size)
+        self._known[number] = [entry for it in heads for entry in self._known_versions(Place(number, it.object), it.attribute)]
+
     async def load(self) -> Index:
-        for number, found in enumerate(self._found):
+        """The index, once each drive was taken."""
+        for number, found in sorted(self._found.items()):
             for row in found.objects:
                 self._take(Place(number, row.object), row)
         await self._take_buckets()
@@ -54,7 +62,7 @@ class Loading:
         """The heads of all versions."""
         return {it.head for bucket in self.index.buckets.values() for known in bucket.keys.values() for it in known}
 
-    def _take(self, place: Place, row: Listed) -> None:
+    def _take(self, place: Place, row: Seen) -> None:
         """Takes an object for what its attribute says."""
         kind, rest = row.attribute[:1], row.attribute[1:]
         if kind == b"B" and is_bucket_name(rest.decode("latin-1")):
@@ -78,7 +86,7 @@ class Loading:
             if self.index.buckets.setdefault(name, bucket) is not bucket:
                 self._left.append(place)
 
-    async def _created(self, place: Place, row: Listed) -> Tuple[int, bool, Place, str]:
+    async def _created(self, place: Place, row: Seen) -> Tuple[int, bool, Place, str]:
         """When a bucket was made, as an object says it, and whether that is the first one that did."""
         created, name = None, row.attribute[1:].decode("ascii")
         if row.size:
@@ -90,14 +98,14 @@ class Loading:
 
     async def _entries(self) -> List[Entry]:
         """The versions of all heads that can be read."""
-        found = [entry for place, attribute in self._heads for entry in self._known_versions(place, attribute)]
+        known = [entry for _, entries in sorted(self._known.items()) for entry in entries]
         asked = [self._versions(place, attribute) for place, attribute in self._heads if self._found[place.drive].versions is None]
-        return found + [entry for each in await asyncio.gather(*asked) for entry in each]
+        return known + [entry for each in await asyncio.gather(*asked) for entry in each]
 
     def _known_versions(self, place: Place, attribute: bytes) -> List[Entry]:
-        """Those of a head that were found; none where they have to be asked for."""
-        known = (self._found[place.drive].versions or {}).get(place.object, [])
-        entries = [self._entry(place, attribute, it.data, it.moment) for it in known]
+        """Those of a head that were found, whose bytes aren't kept; none where they have to be asked for."""
+        known = (self._found[place.drive].versions or {}).pop(place.object, [])
+        entries = [self._entry(place, attribute, data, moment) for moment, data in known]
         return [it for it in entries if it is not None]
 
     async def _data(self, place: Place) -> bytes:
@@ -145,8 +153,9 @@ class Loading:
         kept: Set[Place] = set()
         left = self._left + self.index.expire(self._now) + self._markers_alone()
         for bucket in self.index.buckets.values():
-            for key in bucket.live:
-                kept.update(await self._named(bucket.keys[key][-1]))
+            current = (bucket.keys[key][-1] for key in bucket.live)
+            for entry in (it for it in current if it.version.pieces):
+                kept.update(await self._named(entry))
         for entry in self._alone.values():
             kept.update(await self._named(entry))  # whoever makes the bucket again has them
         found = FoundUploads(self.index, {place for place, _ in self._parts} - kept)

@@ -50,12 +50,13 @@ class OpenStore:
         await asyncio.gather(*[service.end_earlier() for service in services])
         self._note_serving()
         await all_done([drive.start() for drive, service in zip(self.drives, services) if not service.is_own])
-        limit = asyncio.Semaphore(IMAGES_AT_ONCE)
-        found = await asyncio.gather(*[self._found(drive, limit) for drive in self.drives])
+        pieces, limit = Pieces(self.drives), asyncio.Semaphore(IMAGES_AT_ONCE)
+        loading = Loading(pieces, self.settings.window)
+        found = await asyncio.gather(*[self._taken(drive, limit, loading) for drive in self.drives])
         unmarked = self._unmarked(found)
         await self._start_own([drive for drive, service in zip(self.drives, services) if service.is_own], found)
         await self._mark([drive for drive in unmarked if drive.number not in self.away])
-        self.store = await self._loaded(found)
+        self.store = await self._loaded(pieces, loading)
         self._looking = asyncio.ensure_future(self.store.look_after())
         return self.store
 
@@ -93,6 +94,12 @@ class OpenStore:
                 service.wait_for_earlier()
         else:
             write_new(self._serving, "")
+
+    async def _taken(self, drive: StoreDrive, limit: asyncio.Semaphore, loading: Loading) -> Found:
+        """What a drive has, which the index takes while others are read."""
+        found = await self._found(drive, limit)
+        loading.take(drive.number, found)
+        return found
 
     async def _found(self, drive: StoreDrive, limit: asyncio.Semaphore) -> Found:
         """What a drive has: its image says it, or where that is elsewhere the drive itself."""
@@ -132,9 +139,7 @@ class OpenStore:
         except DriveAway as error:
             raise StoreFault(f"{error}") from error
 
-    async def _loaded(self, found: List[Found]) -> Store:
-        pieces = Pieces(self.drives)
-        loading = Loading(pieces, found, self.settings.window)
+    async def _loaded(self, pieces: Pieces, loading: Loading) -> Store:
         try:
             index = await loading.load()
             count = 0 if self.away else await loading.collect()

@@ -2,11 +2,13 @@
 from __future__ import annotations
 
 import asyncio
+import contextlib
+import gc
 import ssl
 from collections import Counter
 from dataclasses import dataclass
 from typing import Counter as Counted
-from typing import List, NamedTuple, Optional, Sequence
+from typing import Iterator, List, NamedTuple, Optional, Sequence
 
 from ..access_log import AccessLog
 from ..metrics import Family, Sample
@@ -68,7 +70,8 @@ class Serving:
         """
         wanted = self._wanted
         keys, self._tls = keys_in(wanted.keys), tls_of(wanted)
-        store, window = await self._opened.start(), self._opened.settings.window
+        with making_many_objects():
+            store, window = await self._opened.start(), self._opened.settings.window
         uploads = Uploads(store, OBJECT_BYTES, self._opened.uploads, self._opened.away)
         self._tasks.append(asyncio.ensure_future(uploads.look_after()))
         for host, port, at in [*((it.host, it.port, it.moment) for it in wanted.past), (wanted.host, wanted.port, None)]:
@@ -139,6 +142,19 @@ class Serving:
         if self._tasks:
             await asyncio.wait(set(self._tasks))
         await asyncio.gather(*[server.close(GRACE) for server in self._servers])
+
+
+@contextlib.contextmanager
+def making_many_objects() -> Iterator[None]:
+    """Python looks at all objects again and again where many are made, for cycles that nothing needs. The index has none: it is made
+    without that, in two thirds of the time, and left out of later looks, for which requests would wait.
+    """
+    gc.disable()
+    try:
+        yield
+    finally:
+        gc.freeze()
+        gc.enable()
 
 
 async def moved(store: Store) -> None:

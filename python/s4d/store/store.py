@@ -4,7 +4,6 @@ from __future__ import annotations
 import asyncio
 import contextlib
 import secrets
-from dataclasses import replace
 from typing import AsyncIterator, Callable, Coroutine, Dict, Iterator, NamedTuple, Optional, Set, Tuple, Type
 
 from ..async_drive import AsyncDrive
@@ -199,7 +198,7 @@ class Store:
         that they were. It isn't to be answered before `passed`. Where this raises, and the pieces aren't doubtful, no version has
         them.
         """
-        return await self._commit(replace(version_with(bucket, key, contents, headers), upload=upload), check)
+        return await self._commit(version_with(bucket, key, contents, headers)._replace(upload=upload), check)
 
     async def relabel(self, entry: Entry, headers: Dict[str, str], check: Check) -> Entry:
         """Makes a version of the contents of the current one, in the same pieces, with other headers."""
@@ -229,7 +228,7 @@ class Store:
             bucket = self.index.buckets.get(version.bucket)
             if bucket is None or bucket.current(version.key) is not entry or entry.version is not version:
                 return False
-            moved = replace(version, pieces=contents.pieces, depth=contents.depth, since=entry.moment)
+            moved = version._replace(pieces=contents.pieces, depth=contents.depth, since=entry.moment)
             made = await (self._write(moved, entry.head) if drive is None else self._write_on(moved, drive))
             left = self.index.add(made)
         await self.passed(made)
@@ -379,7 +378,7 @@ def following(version: Version, before: Optional[Entry]) -> Version:
     sequence, now = 1, machine_time()
     if before is not None:
         sequence, now = before.version.sequence + 1, max(now, before.version.time + 1)
-    return replace(version, sequence=sequence, time=now, id=f"{now:016x}{secrets.token_hex(8)}")
+    return version._replace(sequence=sequence, time=now, id=f"{now:016x}{secrets.token_hex(8)}")
 
 
 def contents_of(version: Version) -> Contents:
