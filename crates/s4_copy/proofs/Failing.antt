@@ -1,5 +1,5 @@
 -- What a failure says, from what less of it says.
-use Rattle.std.proofs.Common.{◌≡◌, ◌⊎◌, ◌∙◌, ℕ, List, Option, Some, None, inl, inr, refl, ap, sym, subst}
+use Rattle.std.proofs.Common.{◌≡◌, ◌⊎◌, ◌∙◌, ◌-◌, ◌<◌, ℕ, List, length, Option, Some, None, inl, inr, refl, ap, sym, subst, arith}
 use Rattle.std.specs.Prelude.{string_bytes}
 use Rattle.s4_types.specs.declared.refusals.Cause.{Cause}
 use Rattle.s4_types.specs.declared.refusals.Refusal.{Refusal}
@@ -7,64 +7,75 @@ use Rattle.s4_types.specs.declared.refusals.Refusal.TheVariants.{Busy, Damaged, 
 use Rattle.image_parts.specs.Image.{Image, header_of, image_in}
 use Rattle.image_parts.specs.declared.headers.Header.{Header}
 use Rattle.verifier.specs.Grammar.{FirstFault}
-use Rattle.image_commands.specs.Faults.{KeepsNew, SaysNoPlace, SaysUnread, SaysUnsplit, SaysUnwritten}
+use Rattle.image_commands.specs.Faults.{KeepsNew, SaysNoPlace, SaysUnsplit, SaysUnwritten}
 use Rattle.image_commands.specs.Files.{AreKnown}
 use Rattle.image_commands.specs.declared.faults.Fault.{Fault}
 use Rattle.image_commands.specs.declared.faults.Fault.TheVariants.{CannotRead, CannotWrite, HasBytes, KeptIn, Refused, WriteFailed}
 use Rattle.image_commands.specs.declared.verifying.Asked.TheVariants.{Present}
-use Rattle.image_commands.proofs.Fronts.{known_damaged}
-use Rattle.image_commands.proofs.Said.{unread_unsplit}
 use Rattle.migration.specs.declared.copying.CopyAsked.{CopyAsked as Wanted}
-use Rattle.migration.specs.Copies.{IsTooMuchToCopy}
+use Rattle.migration.specs.Copies.{Copies, IsTooMuchToCopy}
 use Rattle.s4_command.specs.declared.copying.CopyAsked.{CopyAsked}
 use Rattle.s4_copy.specs.Asking.{HasNoMoment, Wants, first_absent}
 use Rattle.s4_copy.specs.Copying.{CopiesImage}
 use Rattle.s4_copy.specs.declared.faults.CopyFailure.{CopyFailure}
 use Rattle.s4_copy.specs.declared.faults.CopyFailure.TheVariants.{NoObject, NoRoom as TooMuch, NoTimes, OfCopy, OfImage}
-use Rattle.s4_copy.specs.Failures.{IsOfImage, IsRefused, KeepsCopy, RefusesBytes, SaysAbsent, SaysUncopied, SaysUnmade, SaysUnprinted}
+use Rattle.s4_copy.specs.Failures.{HasNoParts, IsOfImage, IsRefused, KeepsCopy, RefusesCopy, RefusesCount, SaysAbsent, SaysUncopied, SaysUnmade, SaysUnprinted}
 
--- ---- bytes are refused
+-- ---- a copy that is wanted is refused
 
--- by `verify`, and by `copied`, which has a case more
-pub verified_refused : (old : List ℕ) (e : Refusal) → (e ≡ NoMemory) ⊎ ((cause : Cause) × (e ≡ Damaged cause) × FirstFault old (Some cause)) → RefusesBytes old e
-verified_refused old e (inl memory) = inl memory
-verified_refused old e (inr damaged) = inr (inr damaged)
+-- by `verify`, and by `open`
+pub count_unverified : (old : List ℕ) (objects : ℕ) (e : Refusal) → (e ≡ NoMemory) ⊎ ((cause : Cause) × (e ≡ Damaged cause) × FirstFault old (Some cause)) → RefusesCount old objects e
+count_unverified old objects e (inl memory) = inl memory
+count_unverified old objects e (inr damaged) = inr (inl damaged)
 
-pub opened_refused : (old : List ℕ) (e : Refusal) → (e ≡ NoMemory) ⊎ (e ≡ Busy) → RefusesBytes old e
-opened_refused old e (inl memory) = inl memory
-opened_refused old e (inr busy) = inr (inl busy)
+pub count_unopened : (old : List ℕ) (objects : ℕ) (e : Refusal) → (objects ≡ 0 → ⊥) → (e ≡ NoMemory) ⊎ (e ≡ Busy) → RefusesCount old objects e
+count_unopened old objects e some (inl memory) = inl memory
+count_unopened old objects e some (inr busy) = inr (inr (busy, some))
 
+-- by `copied`
 pub copied_refused : (wanted : Wanted) (old : List ℕ) (e : Refusal)
     → (e ≡ NoMemory) ⊎ (((e ≡ NoRoom) × IsTooMuchToCopy wanted old) ⊎ ((cause : Cause) × (e ≡ Damaged cause) × FirstFault old (Some cause)))
-    → ((e ≡ NoRoom) × IsTooMuchToCopy wanted old) ⊎ RefusesBytes old e
+    → ((e ≡ NoRoom) × IsTooMuchToCopy wanted old) ⊎ RefusesCopy wanted old e
 copied_refused wanted old e (inl memory) = inr (inl memory)
 copied_refused wanted old e (inr (inl much)) = inl much
-copied_refused wanted old e (inr (inr damaged)) = inr (inr (inr damaged))
+copied_refused wanted old e (inr (inr damaged)) = inr (inr (inl damaged))
+
+some_less : (was is objects : ℕ) → objects ≡ was - is → (objects ≡ 0 → ⊥) → is < was
+some_less was is objects less some = omega arith
+
+-- and where the versions are counted that it lacks
+pub uncounted_refused : (wanted : Wanted) (old new : List ℕ) (objects : ℕ) (e : Refusal) → Copies wanted old new → (IsTooMuchToCopy wanted old → ⊥) → objects ≡ length (image_in old).rows - length (image_in new).rows
+    → RefusesCount old objects e → RefusesCopy wanted old e
+uncounted_refused wanted old new objects e copies fits less (inl memory) = inl memory
+uncounted_refused wanted old new objects e copies fits less (inr (inl damaged)) = inr (inl damaged)
+uncounted_refused wanted old new objects e copies fits less (inr (inr (busy, some))) =
+    inr (inr (busy, record { new = new; copies = copies; fits = fits; fewer = some_less (length (image_in old).rows) (length (image_in new).rows) objects less some }))
 
 -- not for lack of room
-not_room : (old : List ℕ) (e : Refusal) → e ≡ NoRoom → RefusesBytes old e → ⊥
-not_room old e is (inl memory) = absurd cc
-not_room old e is (inr (inl busy)) = absurd cc
-not_room old e is (inr (inr (cause, damaged, first))) = absurd cc
-
--- there are too many frames where it is for room
-pub too_much : (wanted : Wanted) (old : List ℕ) (e : Refusal) → ((e ≡ NoRoom) × IsTooMuchToCopy wanted old) ⊎ RefusesBytes old e → e ≡ NoRoom → IsTooMuchToCopy wanted old
-too_much wanted old e (inl (is, much)) room = much
-too_much wanted old e (inr refused) room = absurd (not_room old e room refused)
-
--- and else the bytes are refused
-pub refused_else : (wanted : Wanted) (old : List ℕ) (e : Refusal) → ((e ≡ NoRoom) × IsTooMuchToCopy wanted old) ⊎ RefusesBytes old e → (e ≡ NoRoom → ⊥) → RefusesBytes old e
-refused_else wanted old e (inl (is, much)) other = absurd (other is)
-refused_else wanted old e (inr refused) other = refused
+pub not_room : (wanted : Wanted) (old : List ℕ) (e : Refusal) → e ≡ NoRoom → RefusesCopy wanted old e → ⊥
+not_room wanted old e is (inl memory) = absurd cc
+not_room wanted old e is (inr (inl (cause, damaged, first))) = absurd cc
+not_room wanted old e is (inr (inr (busy, lacks))) = absurd cc
 
 -- ---- no copy is made of bytes
 
-pub unmade_refused : (asked : CopyAsked) (old : List ℕ) (failure : CopyFailure) (e : Refusal) → IsRefused e failure → RefusesBytes old e → SaysUnmade asked old failure
-unmade_refused asked old failure e is refused = subst (SaysUnmade asked old) (sym is) (e, refl, refused)
+pub unmade_parts : (asked : CopyAsked) (old : List ℕ) (failure : CopyFailure) (e : Refusal) → IsRefused e failure → HasNoParts old e → SaysUnmade asked old failure
+unmade_parts asked old failure e is none = subst (SaysUnmade asked old) (sym is) (e, refl, inr (inl none))
+
+pub unmade_memory : (asked : CopyAsked) (old : List ℕ) (failure : CopyFailure) → IsRefused NoMemory failure → SaysUnmade asked old failure
+unmade_memory asked old failure is = subst (SaysUnmade asked old) (sym is) (NoMemory, refl, inl refl)
+
+pub unmade_refused : (asked : CopyAsked) (old : List ℕ) (wanted : Wanted) (failure : CopyFailure) (e : Refusal) → IsRefused e failure → first_absent (image_in old) asked.without.items ≡ None → Wants asked (image_in old) wanted
+    → RefusesCopy wanted old e → SaysUnmade asked old failure
+unmade_refused asked old wanted failure e is named wants refused =
+    subst (SaysUnmade asked old) (sym is) (e, refl, inr (inr (record { named = named; wanted = wanted; wants = wants; holds = refused })))
+
+-- the same objects are named of the same image
+pub names_alike : (asked : CopyAsked) (old : List ℕ) (image : Image) (names : List ℕ) (found : Option ℕ) → image ≡ image_in old → names ≡ asked.without.items → first_absent image names ≡ found → first_absent (image_in old) asked.without.items ≡ found
+names_alike asked old image names found same are is = sym (ap (λ (i : Image). first_absent i names) same ∙ ap (λ (ns : List ℕ). first_absent (image_in old) ns) are) ∙ is
 
 pub unmade_absent : (asked : CopyAsked) (old : List ℕ) (image : Image) (names : List ℕ) (failure : CopyFailure) → image ≡ image_in old → names ≡ asked.without.items → SaysAbsent image names failure → SaysUnmade asked old failure
-unmade_absent asked old image names (NoObject o) same are says =
-    sym (ap (λ (i : Image). first_absent i names) same ∙ ap (λ (ns : List ℕ). first_absent (image_in old) ns) are) ∙ says
+unmade_absent asked old image names (NoObject o) same are says = names_alike asked old image names (Some o) same are says
 unmade_absent asked old image names (OfImage fault) same are says = (NoMemory, says, inl refl)
 unmade_absent asked old image names (NoTimes first last) same are says = absurd says
 unmade_absent asked old image names TooMuch same are says = absurd says
@@ -81,19 +92,8 @@ unmade_times asked old h failure same named none is = subst (SaysUnmade asked ol
 
 -- ---- no numbers are printed
 
--- where the bytes of a file are refused no image was read
-known_refused : (known : Option (List ℕ)) (old image : List ℕ) (fault : Fault) (e : Refusal) → AreKnown known old → fault ≡ Refused e → RefusesBytes old e → SaysUnread known image fault ⊎ (fault ≡ Refused Busy)
-known_refused known old image fault e same is (inl memory) = inl (subst (SaysUnread known image) (sym is) (inl memory))
-known_refused known old image fault e same is (inr (inl busy)) = inr (is ∙ ap (λ (r : Refusal). Refused r) busy)
-known_refused known old image fault e same is (inr (inr (cause, damaged, first))) =
-    inl (subst (SaysUnread known image) (sym (is ∙ ap (λ (r : Refusal). Refused r) damaged)) (inr (known_damaged known old cause same first)))
-
-also : (known : Option (List ℕ)) (image : List ℕ) (fault : Fault) (More : Type 0) → SaysUnread known image fault ⊎ (fault ≡ Refused Busy) → SaysUnread known image fault ⊎ ((fault ≡ Refused Busy) ⊎ More)
-also known image fault More (inl unread) = inl unread
-also known image fault More (inr busy) = inr (inl busy)
-
 pub unprinted_unmade : (known : Option (List ℕ)) (asked : CopyAsked) (old : List ℕ) (failures failures' : ℕ) (failure : CopyFailure) → AreKnown known old → SaysUnmade asked old failure → SaysUnprinted known asked failures failures' failure
-unprinted_unmade known asked old failures failures' (OfImage fault) same (e, is, refused) = also known asked.image.now fault _ (known_refused known old asked.image.now fault e same is refused)
+unprinted_unmade known asked old failures failures' (OfImage fault) same says = inr (inl (record { old = old; read = same; says = says }))
 unprinted_unmade known asked old failures failures' (NoObject o) same says = record { old = old; read = same; says = says }
 unprinted_unmade known asked old failures failures' (NoTimes first last) same says = record { old = old; read = same; says = says }
 unprinted_unmade known asked old failures failures' TooMuch same says = record { old = old; read = same; says = says }
@@ -101,7 +101,7 @@ unprinted_unmade known asked old failures failures' (OfCopy fault) same says = a
 
 pub unprinted_unsplit : (known : Option (List ℕ)) (asked : CopyAsked) (failures failures' : ℕ) (fault : Fault) (failure : CopyFailure) → IsOfImage fault failure → SaysUnsplit Present known asked.image.now fault
     → SaysUnprinted known asked failures failures' failure
-unprinted_unsplit known asked failures failures' fault failure is unsplit = subst (SaysUnprinted known asked failures failures') (sym is) (inl (unread_unsplit known asked.image.now fault unsplit))
+unprinted_unsplit known asked failures failures' fault failure is unsplit = subst (SaysUnprinted known asked failures failures') (sym is) (inl unsplit)
 
 pub unprinted_memory : (known : Option (List ℕ)) (asked : CopyAsked) (failures failures' : ℕ) (failure : CopyFailure) → IsRefused NoMemory failure → SaysUnprinted known asked failures failures' failure
 unprinted_memory known asked failures failures' failure is = subst (SaysUnprinted known asked failures failures') (sym is) (inl (inl refl))
@@ -146,5 +146,6 @@ copy_kept known files' asked output output' (Refused refusal) new copies keeps =
 copy_kept known files' asked output output' (CannotRead path obstacle) new copies keeps = tt
 copy_kept known files' asked output output' (CannotWrite path obstacle) new copies keeps = tt
 copy_kept known files' asked output output' (HasBytes path) new copies keeps = tt
-copy_kept known files' asked output output' (KeptIn path obstacle kept) new copies keeps = record copies { kept = subst (AreKnown (files' (string_bytes kept))) copies.kept keeps }
+copy_kept known files' asked output output' (KeptIn path obstacle kept) new copies keeps =
+    record { old = copies.old; read = copies.read; new = copies.new; kept = subst (AreKnown (files' (string_bytes kept))) copies.kept keeps; report = copies.report; made = copies.made; told = copies.told }
 copy_kept known files' asked output output' WriteFailed new copies keeps = tt

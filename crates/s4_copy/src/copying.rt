@@ -9,12 +9,12 @@ ghost use Rattle.image_commands.specs.Faults.{SaysNoPlace};
 ghost use Rattle.image_commands.specs.Files.{AreKnown, KeepsAll, KeepsOthers};
 ghost use Rattle.migration.specs.Copies.{IsTooMuchToCopy};
 ghost use Rattle.s4_copy.specs.Copying.{CopiesImage, IsCopy, IsMade, Tells};
-ghost use Rattle.s4_copy.specs.Failures.{KeepsCopy, RefusesBytes, SaysUncopied, SaysUnmade};
-ghost use Rattle.s4_copy.specs.Failures.{SaysUnprinted};
+ghost use Rattle.s4_copy.specs.Failures.{HasNoParts, KeepsCopy, RefusesCopy, SaysUncopied};
+ghost use Rattle.s4_copy.specs.Failures.{SaysUnmade, SaysUnprinted};
 
 use crate::asking::{check_named, frames_asked, moment_asked, objects_of};
 use crate::counting::versions_left_out;
-use crate::faults::CopyFailure;
+use crate::faults::{CopyFailure, failure_of};
 use crate::reports::{Report, printed};
 use image_commands::{
     Asked, Fault, Files, Obstacle, Placed, claim_empty, put_image, read_whole, write_out, writing,
@@ -44,8 +44,9 @@ struct Made {
 /// The copy's file is looked at first, then the image's: that it can be read, and split into its
 /// parts. NoObject comes then exactly where an object that is named has no row, with the first of
 /// them; NoTimes exactly where a time is asked for and moments are numbers; a cause of damage where
-/// the bytes are no image; and NoRoom exactly where the copy would have more frames than it may
-/// have.
+/// the bytes are no image; NoRoom exactly where the copy would have more frames than it may have;
+/// and Busy, where a count was full, only for a copy that lacks objects. NoMemory may come at each
+/// of these.
 pub fn copy_image<'a, T: Threads, F: Files, W: CommandOutput>(
     rt: &T,
     alloc: Global,
@@ -158,8 +159,7 @@ fn copy_of<'a, T: Threads>(
     };
     match copy_wanted(rt, alloc, bytes, &parts, &wanted) {
         Ok(made) => Ok(made),
-        Err(Refusal::NoRoom) => Err(CopyFailure::NoRoom),
-        Err(refusal) => Err(CopyFailure::from(refusal)),
+        Err(refusal) => Err(failure_of(refusal)),
     }
 }
 
@@ -175,7 +175,8 @@ fn copy_wanted<T: Threads>(
     ensures copy { IfOk result
         (λ made. IsCopy wanted.now bytes.now made.bytes.items made.report) }
     ensures refused { IfErr result
-        (λ e. ((e ≡ NoRoom) × IsTooMuchToCopy wanted.now bytes.now) ⊎ RefusesBytes bytes.now e) }
+        (λ e. ((e ≡ NoRoom) × IsTooMuchToCopy wanted.now bytes.now)
+        ⊎ RefusesCopy wanted.now bytes.now e) }
 {
     what_has_no_fault_is_an_image();
     let new = migration::copied(rt, alloc, bytes, wanted)?;
@@ -191,7 +192,7 @@ fn copy_wanted<T: Threads>(
 // The parts of an image. No part was looked at yet.
 fn parts_of(bytes: &[u8]) -> Result<ImageParts<'_>, Refusal>
     ensures parts { IfOk result (λ parts. parts ≡ image_in bytes.now) }
-    ensures refused { IfErr result (RefusesBytes bytes.now) }
+    ensures refused { IfErr result (HasNoParts bytes.now) }
 {
     match split_parts(bytes) {
         Ok(parts) => Ok(parts),

@@ -7,7 +7,7 @@ ghost use Rattle.drive.specs.Fields.{state_in, store_of};
 ghost use Rattle.drive.specs.Opened.{base_of};
 ghost use Rattle.s4_images.specs.Commands.{OverOpened};
 ghost use Rattle.s4_copy.specs.Counting.{IsLeftOut, LosesVersions, versions_lost};
-ghost use Rattle.s4_copy.specs.Failures.{RefusesBytes};
+ghost use Rattle.s4_copy.specs.Failures.{RefusesCount};
 
 use drive::{Drive, OpenedDrive};
 use history_export::beginnings;
@@ -21,7 +21,9 @@ use std::thread::Threads;
 use verifier::{open, verify};
 
 /// How many versions that can be read of an image its copy lacks, which has this many objects less.
-/// The image is opened for it where that is any.
+/// The image is opened for it where that is any: Damaged with the cause of the first test that
+/// fails, NoMemory where memory was refused, and Busy where a count of those that share a part of
+/// the drive was full. Busy comes only where there are such objects.
 pub(crate) fn versions_left_out<T: Threads>(
     rt: &T,
     alloc: Global,
@@ -30,7 +32,7 @@ pub(crate) fn versions_left_out<T: Threads>(
     left_out: u32,
 ) -> Result<u64, Refusal>
     ensures left_out { IfOk result (IsLeftOut wanted.now bytes.now left_out) }
-    ensures refused { IfErr result (RefusesBytes bytes.now) }
+    ensures refused { IfErr result (RefusesCount bytes.now left_out) }
 {
     if left_out == 0 {
         return Ok(0);

@@ -1,5 +1,6 @@
 //! Why no copy was made.
-ghost use Rattle.s4_types.specs.declared.refusals.Refusal.TheVariants.{NoMemory};
+ghost use Rattle.std.specs.Prelude.{◌≡◌};
+ghost use Rattle.s4_types.specs.declared.refusals.Refusal.TheVariants.{NoMemory, NoRoom};
 ghost use Rattle.s4_copy.specs.Failures.{IsOfImage, IsRefused};
 
 use image_commands::Fault;
@@ -15,7 +16,8 @@ const MORE_FRAMES: &str =
 #[derive(Debug, Drop)]
 pub enum CopyFailure<'a> {
     /// The image can't be read, its bytes are damaged, or standard output can't be written; or
-    /// memory or a count was full.
+    /// memory was short. Busy where a count was full that those share which have a part of a drive:
+    /// only where objects are left out, whose versions are counted.
     OfImage(Fault<'a>),
     /// This object is to be left out, the first of those that are named, and has no row in the
     /// image.
@@ -42,6 +44,18 @@ impl CopyFailure<'_> {
             },
             CopyFailure::NoRoom => Failure::Refused(Refusal::NoRoom, MORE_FRAMES),
         }
+    }
+}
+
+/// The failure where a copy that is wanted is refused: for room, which more frames would give, or
+/// for what is said of the image.
+pub(crate) fn failure_of<'a>(refusal: Refusal) -> CopyFailure<'a>
+    ensures room { refusal ≡ NoRoom → result ≡ CopyFailure.NoRoom }
+    ensures other { (refusal ≡ NoRoom → ⊥) → IsRefused refusal result }
+{
+    match refusal {
+        Refusal::NoRoom => CopyFailure::NoRoom,
+        refusal => CopyFailure::OfImage(Fault::Refused(refusal)),
     }
 }
 

@@ -10,5 +10,5 @@ abbrev pub invariant-loop-object : goal.invariant-loop-object
 invariant-loop-object g l = record {
   ledger : l.drive.ledger ≡ l.initial.drive.ledger;
   store : store_of l.drive ≡ store_of l.initial.drive;
-  lost : l.lost ≡ capped (sum_by (versions_lost l.wanted (state_in l.initial.drive) (store_of l.initial.drive)) (take l.object-index l.objects));
+  lost : l.lost ≡ capped (sum_by (versions_lost l.wanted (state_in l.initial.drive) (store_of l.initial.drive)) (take l.object-index l.object-items));
 }
