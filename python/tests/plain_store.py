@@ -138,11 +138,11 @@ class PlainStores:
     def session_drives(self):
         return [PlainStoreDrive(number, drive) for number, drive in enumerate(self.drives)]
 
-    async def start(self):
-        """The store, and how many objects were left by puts that were cut."""
+    async def start(self, order=list):
+        """The store, and how many objects were left by puts that were cut. The images of the drives are read in this order."""
         pieces = Pieces(self.session_drives())
         loading = Loading(pieces, self.window)
-        for number, drive in enumerate(self.drives):
+        for number, drive in order(enumerate(self.drives)):
             loading.take(number, drive.found())
         index = await loading.load()
         self.collected, self.uploads = await loading.collect(), loading.uploads

@@ -78,6 +78,29 @@ class Asked(Told):
         self.run_store(put, look)
 
 
+class InAnyOrder(Told):
+    def test_the_index_is_the_same(self):
+        """Whichever drive's image is read first."""
+        async def put(store):
+            for bucket in ("one", "two"):
+                await store.create_bucket(bucket)
+                for key in map(str, range(8)):
+                    for data in (b"mill", BYTES[:1_000]):
+                        await store.put(bucket, key, body(data), {})
+            await store.delete("one", "3")
+
+        async def look(store):
+            first = await self.stores.start()
+            turned = await self.stores.start(lambda drives: reversed(list(drives)))
+            self.assertGreater(len({it.head.drive for known in store.bucket("one").keys.values() for it in known}), 1)
+            for bucket in ("one", "two"):
+                self.assertEqual(turned.bucket(bucket), first.bucket(bucket))
+                self.assertEqual(turned.bucket(bucket).keys, store.bucket(bucket).keys)
+            self.assertEqual(self.stores.collected, 0)
+
+        self.run_store(put, look)
+
+
 class Rows(unittest.TestCase):
     def test_rows(self):
         piece = {**ROW, "object": 2, "attribute": b"Pk".hex()}
