@@ -326,7 +326,7 @@ fn copied<E: Write>(
     errors: &mut E,
 ) -> u8
     ensures status { result ≤ 1 }
-    ensures done { result ≡ 0 → IsOk placed }
+    ensures done { result ≡ 0 → IsOk placed.entry }
 {
     match placed {
         Ok(Placed::Lasting) => DONE,
