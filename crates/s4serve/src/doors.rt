@@ -78,7 +78,7 @@ fn heed<J: Serving, C: Clock, K: Keeper, R: Wait, D: Fifos>(
     door: &Door<J>,
     said: Said<StopLine<J>>,
 )
-    requires { IsOfDoor J.doors door.now said }
+    requires door { IsOfDoor J.doors door.now said }
 {
     match said {
         Said::Session(line) => {

@@ -5,8 +5,8 @@ use Rattle.s4serve.proofs.HeardLemmas.{of_door}
 use Rattle.s4serve.proofs.doors.heed_next.Goals as goal
 
 -- a session is asked for at the door whose line says so
-pub heed-requires : goal.heed-requires
-heed-requires g c =
+pub heed-requires-clause-door : goal.heed-requires-clause-door
+heed-requires-clause-door g c =
     let lines = c.args.lines.now in
     let heard = c.in-Ok.ensures.said in
     let same = c.door.ensures ∙ ap (λ door. door.now) c.next.ensures.same.0 in
