@@ -8,7 +8,21 @@ import unittest
 
 TOP = pathlib.Path(__file__).resolve().parents[1]
 PAGES = sorted(page for folder in (".", "docs", "bench", "examples", "python", "tests") for page in (TOP / folder).glob("*.md"))
+COUNTED = [page for page in PAGES if page.parent.name == "docs" or page == TOP / "README.md"]
 MOST_WORDS, README_LINES, CELL_WORDS = 28_000, 120, 25
+# Sentences of README and docs with more words, and with more than one colon or semicolon. Both may only fall.
+SENTENCE_WORDS, LONG_SENTENCES, JOINED_SENTENCES = 35, 5, 2
+# These list names.
+LISTS = ("PROVED.md", "DEFINITIONS.md")
+
+
+def sentences(text):
+    """The sentences of a page, without its code, tables and headings; what is in backticks is one word."""
+    text = re.sub(r"(?ms)^```.*?^```$|<!--.*?-->", "", text)
+    text = re.sub(r"(?m)^\s*(?:- |\d+\. )", "\n", re.sub(r"(?m)^(?:[#|]| {4}).*$", "", text))
+    text = re.sub(r"\[([^\]]*)\]\([^)]*\)", r"\1", re.sub(r"`[^`]*`", "Code", text)).replace("**", "")
+    blocks = (" ".join(block.split()) for block in re.split(r"\n\s*\n", text))
+    return [it for block in blocks for it in re.split(r"(?<=[.!?])\s+(?=[^a-z])", block) if it]
 
 
 def clauses_of_calls():
@@ -109,9 +123,16 @@ class Documents(unittest.TestCase):
                 self.assertTrue(source.exists())
                 self.assertRegex(source.read_text(encoding="utf-8"), rf"\bfn {name}\b" if name else ".")
 
+    def test_sentences(self):
+        """No more sentences than there were are long, or joined of several."""
+        found = [(page.name, it) for page in COUNTED if page.name not in LISTS for it in sentences(page.read_text(encoding="utf-8"))]
+        long = [it for it in found if len(it[1].split()) > SENTENCE_WORDS]
+        joined = [it for it in found if len(re.findall(r"[:;](?=\s|$)", it[1])) > 1]
+        self.assertLessEqual(len(long), LONG_SENTENCES, long)
+        self.assertLessEqual(len(joined), JOINED_SENTENCES, joined)
+
     def test_lengths(self):
-        pages = [page for page in PAGES if page.parent.name == "docs" or page == TOP / "README.md"]
-        self.assertLess(sum(len(page.read_text(encoding="utf-8").split()) for page in pages), MOST_WORDS)
+        self.assertLess(sum(len(page.read_text(encoding="utf-8").split()) for page in COUNTED), MOST_WORDS)
         self.assertLessEqual(len((TOP / "README.md").read_text(encoding="utf-8").splitlines()), README_LINES)
         for page in PAGES:
             for number, line in enumerate(page.read_text(encoding="utf-8").splitlines(), 1):
