@@ -9,7 +9,7 @@ import unittest
 TOP = pathlib.Path(__file__).resolve().parents[1]
 PAGES = sorted(page for folder in (".", "docs", "bench", "examples", "python", "tests") for page in (TOP / folder).glob("*.md"))
 COUNTED = [page for page in PAGES if page.parent.name == "docs" or page == TOP / "README.md"]
-MOST_WORDS, README_LINES, CELL_WORDS = 28_000, 120, 25
+MOST_WORDS, README_LINES, CELL_WORDS, FIGURE_LINES = 28_000, 120, 25, 25
 # Sentences of README and docs with more words, and with more than one colon or semicolon. Both may only fall.
 SENTENCE_WORDS, LONG_SENTENCES, JOINED_SENTENCES = 35, 5, 2
 # These list names.
@@ -144,6 +144,12 @@ class Documents(unittest.TestCase):
         """The page of what is proved is what its script makes of the sources."""
         made = subprocess.run([TOP / "docs" / "proved.py"], capture_output=True, text=True, check=True).stdout
         self.assertEqual(made, (TOP / "docs" / "PROVED.md").read_text(encoding="utf-8"))
+
+    def test_layers(self):
+        """The figure of the layers is what its script makes of the list of crates."""
+        made = subprocess.run([TOP / "docs" / "layers.py"], capture_output=True, text=True, check=True).stdout
+        self.assertIn(f"<!-- docs/layers.py -->\n```text\n{made}```\n", (TOP / "docs" / "ARCHITECTURE.md").read_text(encoding="utf-8"))
+        self.assertLessEqual(len(made.splitlines()), FIGURE_LINES)
 
     def test_what_has_to_be_believed(self):
         """The main theorems rest on no more lines of definitions than they may."""
