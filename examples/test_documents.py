@@ -8,7 +8,21 @@ import unittest
 
 TOP = pathlib.Path(__file__).resolve().parents[1]
 PAGES = sorted(page for folder in (".", "docs", "bench", "examples", "python", "tests") for page in (TOP / folder).glob("*.md"))
-MOST_WORDS, README_LINES, CELL_WORDS = 28_000, 120, 25
+COUNTED = [page for page in PAGES if page.parent.name == "docs" or page == TOP / "README.md"]
+MOST_WORDS, README_LINES, CELL_WORDS, FIGURE_LINES = 28_000, 120, 25, 25
+# Sentences of README and docs with more words, and with more than one colon or semicolon. Both may only fall.
+SENTENCE_WORDS, LONG_SENTENCES, JOINED_SENTENCES = 35, 5, 2
+# These list names.
+LISTS = ("PROVED.md", "DEFINITIONS.md")
+
+
+def sentences(text):
+    """The sentences of a page, without its code, tables and headings; what is in backticks is one word."""
+    text = re.sub(r"(?ms)^```.*?^```$|<!--.*?-->", "", text)
+    text = re.sub(r"(?m)^\s*(?:- |\d+\. )", "\n", re.sub(r"(?m)^(?:[#|]| {4}).*$", "", text))
+    text = re.sub(r"\[([^\]]*)\]\([^)]*\)", r"\1", re.sub(r"`[^`]*`", "Code", text)).replace("**", "")
+    blocks = (" ".join(block.split()) for block in re.split(r"\n\s*\n", text))
+    return [it for block in blocks for it in re.split(r"(?<=[.!?])\s+(?=[^a-z])", block) if it]
 
 
 def clauses_of_calls():
@@ -109,9 +123,16 @@ class Documents(unittest.TestCase):
                 self.assertTrue(source.exists())
                 self.assertRegex(source.read_text(encoding="utf-8"), rf"\bfn {name}\b" if name else ".")
 
+    def test_sentences(self):
+        """No more sentences than there were are long, or joined of several."""
+        found = [(page.name, it) for page in COUNTED if page.name not in LISTS for it in sentences(page.read_text(encoding="utf-8"))]
+        long = [it for it in found if len(it[1].split()) > SENTENCE_WORDS]
+        joined = [it for it in found if len(re.findall(r"[:;](?=\s|$)", it[1])) > 1]
+        self.assertLessEqual(len(long), LONG_SENTENCES, long)
+        self.assertLessEqual(len(joined), JOINED_SENTENCES, joined)
+
     def test_lengths(self):
-        pages = [page for page in PAGES if page.parent.name == "docs" or page == TOP / "README.md"]
-        self.assertLess(sum(len(page.read_text(encoding="utf-8").split()) for page in pages), MOST_WORDS)
+        self.assertLess(sum(len(page.read_text(encoding="utf-8").split()) for page in COUNTED), MOST_WORDS)
         self.assertLessEqual(len((TOP / "README.md").read_text(encoding="utf-8").splitlines()), README_LINES)
         for page in PAGES:
             for number, line in enumerate(page.read_text(encoding="utf-8").splitlines(), 1):
@@ -123,6 +144,12 @@ class Documents(unittest.TestCase):
         """The page of what is proved is what its script makes of the sources."""
         made = subprocess.run([TOP / "docs" / "proved.py"], capture_output=True, text=True, check=True).stdout
         self.assertEqual(made, (TOP / "docs" / "PROVED.md").read_text(encoding="utf-8"))
+
+    def test_layers(self):
+        """The figure of the layers is what its script makes of the list of crates."""
+        made = subprocess.run([TOP / "docs" / "layers.py"], capture_output=True, text=True, check=True).stdout
+        self.assertIn(f"<!-- docs/layers.py -->\n```text\n{made}```\n", (TOP / "docs" / "ARCHITECTURE.md").read_text(encoding="utf-8"))
+        self.assertLessEqual(len(made.splitlines()), FIGURE_LINES)
 
     def test_what_has_to_be_believed(self):
         """The main theorems rest on no more lines of definitions than they may."""
