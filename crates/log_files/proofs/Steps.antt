@@ -1,9 +1,9 @@
 -- What a call leaves of the file that it is of.
-use Rattle.std.proofs.Common.{◌≡◌, ◌==◌, ◌⊎◌, ℕ, Bool, true, false, if◌then◌else◌, List, [], ◌∷◌, refl, ap, ◌∙◌}
+use Rattle.std.proofs.Common.{◌≡◌, ◌==◌, ℕ, Bool, true, false, if◌then◌else◌, List, ◌∷◌, refl, ap, ◌∙◌}
 use Rattle.std.specs.Prelude.{Result, Ok, Err, OnErr, OnOk, is_ok}
 use Rattle.std.proofs.lemmas.Bool.Decides.{Decides-eqb}
 use Rattle.host_calls.specs.Events.{Event, Made, Written, Cut, Synced}
-use Rattle.log_files.specs.Contents.{Contents, made, written, unwritten, cut, settled, changed, after, before, contents}
+use Rattle.log_files.specs.Contents.{made, written, unwritten, cut, settled, after, before, contents}
 
 -- the contents after one more call
 pub replayed : (number : ℕ) (writes : List (List ℕ)) (new old : List Event) (call : Event) → new ≡ call ∷ old

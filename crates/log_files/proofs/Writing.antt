@@ -1,9 +1,8 @@
 -- How contents are changed.
-use Rattle.std.proofs.Common.{◌≡◌, ◌⊎◌, ◌&&◌, ◌||◌, ℕ, zero, suc, ◌+◌, ◌-◌, ◌<◌, ◌≤◌, Bool, true, false, not, if◌then◌else◌, List, [], ◌∷◌, length, take, drop, slice_index, IsTrue, refl, sym, ap, subst, ◌∙◌, inl, inr, arith, rules, length-take, length-drop, get_or-take, get_or-drop}
-use Rattle.std.proofs.lemmas.Bool.{cases_lt, and_parts, and_from, or_left}
+use Rattle.std.proofs.Common.{◌≡◌, ◌||◌, ℕ, ◌+◌, ◌-◌, ◌<◌, ◌≤◌, Bool, true, false, List, [], ◌∷◌, length, take, drop, slice_index, IsTrue, refl, sym, ap, subst, ◌∙◌, inl, inr, arith, length-take, length-drop, get_or-take, get_or-drop}
+use Rattle.std.proofs.lemmas.Bool.{cases_lt}
 use Rattle.sqlite_disk.specs.Disk.{Holds, Torn, Mixed, Cut, Follows}
-use Rattle.sqlite_disk.specs.Events.{overlaid, padded}
-use Rattle.sqlite_disk.specs.History.{MayLeave}
+use Rattle.sqlite_disk.specs.Events.{overlaid}
 use Rattle.sqlite_disk.proofs.EventLemmas.{Holds-overlaid, Torn-overlaid, Torn-within, Mixed-held, Mixed-refl, Mixed-then, Cut-padded, length-padded}
 use Rattle.log_files.specs.Contents.{Contents, Leaves, LeavesIf, written, unwritten, cut, settled}
 use Rattle.log_files.specs.Taking.{is_sound, Overlays, HasWritten, GoesOn, BreaksOff, Cuts, HasCut, Keeps, Lasts}

@@ -1,5 +1,5 @@
 -- What is known of contents while they are changed.
-use Rattle.std.specs.Prelude.{◌≡◌, ◌&&◌, ◌||◌, ℕ, ◌+◌, ◌<◌, ◌≤◌, Bool, true, false, not, List, length, slice_index, Option, None, Some, IsTrue}
+use Rattle.std.specs.Prelude.{◌≡◌, ◌&&◌, ◌||◌, ℕ, ◌+◌, ◌<◌, ◌≤◌, Bool, true, not, List, length, slice_index, Option, None, Some, IsTrue}
 use Rattle.sqlite_disk.specs.Disk.{Torn, Mixed, Cut, Follows}
 use Rattle.log_files.specs.Contents.{Contents, Leaves}
 

@@ -1,6 +1,4 @@
-use Rattle.std.proofs.Common.{◌≡◌, ◌∙◌, ◌∷◌, ap, true}
 use Rattle.std.specs.Prelude.{is_ok}
-use Rattle.host_calls.specs.Events.{Event, Cut}
 use Rattle.log_files.proofs.Steps.{cut_now, ok_then}
 use Rattle.log_files.proofs.Writing.{cuts, has_cut}
 use Rattle.log_files.proofs.taking.cut_at.Goals as goal

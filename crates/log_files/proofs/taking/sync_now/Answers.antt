@@ -1,4 +1,3 @@
-use Rattle.std.proofs.Common.{◌≡◌, true, false}
 use Rattle.std.specs.Prelude.{is_ok}
 use Rattle.log_files.proofs.Steps.{ok_then, synced_now}
 use Rattle.log_files.proofs.Writing.{keeps, lasts}

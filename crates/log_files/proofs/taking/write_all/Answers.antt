@@ -1,4 +1,4 @@
-use Rattle.std.proofs.Common.{◌≡◌, ◌≤◌, ◌<◌, ℕ, length, subst, arith}
+use Rattle.std.proofs.Common.{◌≡◌, ℕ, length, subst, arith}
 use Rattle.log_files.specs.Contents.{contents}
 use Rattle.log_files.specs.Taking.{HasWritten}
 use Rattle.log_files.proofs.taking.write_all.Goals as goal

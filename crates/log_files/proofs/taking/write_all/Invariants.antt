@@ -1,4 +1,4 @@
-use Rattle.std.proofs.Common.{ℕ, ◌≤◌, ◌-◌, length}
+use Rattle.std.proofs.Common.{◌≤◌, ◌-◌, length}
 use Rattle.log_files.specs.Contents.{contents}
 use Rattle.log_files.specs.Taking.{HasWritten}
 use Rattle.log_files.proofs.taking.write_all.Given as goal

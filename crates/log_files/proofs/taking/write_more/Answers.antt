@@ -1,4 +1,4 @@
-use Rattle.std.proofs.Common.{ℕ, ◌+◌, ◌<◌, ◌≤◌, length, arith, length-drop}
+use Rattle.std.proofs.Common.{◌+◌, ◌<◌, ◌≤◌, length, arith, length-drop}
 use Rattle.host_calls.proofs.Effects.{rest_of}
 use Rattle.log_files.proofs.Steps.{unwritten_now, written_now}
 use Rattle.log_files.proofs.Writing.{breaks_empty, breaks_off, goes_on}

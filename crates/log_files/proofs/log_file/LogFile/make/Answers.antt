@@ -1,4 +1,4 @@
-use Rattle.std.proofs.Common.{◌≡◌, ◌≢◌, ℕ, List, IsTrue, OnErr, refl, sym, subst}
+use Rattle.std.proofs.Common.{IsTrue, refl, sym, subst}
 use Rattle.host_calls.proofs.Effects.{at_made, mode_made, others_made, replayed}
 use Rattle.log_files.specs.Contents.{Contents}
 use Rattle.log_files.specs.Taking.{is_sound}
