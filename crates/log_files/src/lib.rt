@@ -14,6 +14,8 @@
 mod counting;
 mod log_file;
 mod taking;
+#[cfg(test)]
+mod tests;
 mod unwritten;
 
 pub use log_file::LogFile;
