@@ -1,6 +1,7 @@
 //! The file of a log, as a disk.
-ghost use Rattle.std.specs.Prelude.{◌≡◌, ◌≢◌, ◌||◌, ℕ, List, None, IsErr, IsTrue, OnErr, OnOk};
+ghost use Rattle.std.specs.Prelude.{◌≡◌, ◌≢◌, ◌||◌, ◌∷◌, ℕ, List, None, IsErr, IsTrue, OnErr, OnOk};
 ghost use Rattle.std.specs.Prelude.{true, false};
+ghost use Rattle.host_calls.specs.Events.{Made};
 ghost use Rattle.host_calls.specs.Files.{made_mode};
 ghost use Rattle.host_calls.specs.Replay.{replay};
 ghost use Rattle.host_calls.specs.Worlds.{IsAt, SameAt};
@@ -81,6 +82,10 @@ impl<C: Calls> LogFile<C> {
             other }
         ensures failed { (replay (C.history self.new.calls)).failed
             ≡ (replay (C.history self.old.calls)).failed }
+        ensures made { OnOk result (C.history self.new.calls ≡ Made path.now mode
+            (number_of C.number self.new.file) true ∷ C.history self.old.calls) }
+        ensures unmade { OnErr result (C.history self.new.calls ≡ Made path.now mode 0 false
+            ∷ C.history self.old.calls) }
         ensures before { OnErr result ((self.new.file ≡ self.old.file)
             × (self.new.is_usable ≡ self.old.is_usable)
             × (contents (number_of C.number self.old.file) self.new.unwritten.writes

@@ -1,6 +1,7 @@
 //! How a file takes bytes, a length and a sync.
 ghost use Rattle.std.specs.Prelude.{◌≡◌, ℕ, ◌+◌, ◌<◌, ◌≤◌, ◌^◌, List, length, true};
 ghost use Rattle.std.specs.Prelude.{IfOk, IsTrue, OnErr, OnOk};
+ghost use Rattle.log_files.specs.Called.{CallsOnly};
 ghost use Rattle.log_files.specs.Contents.{contents};
 ghost use Rattle.log_files.specs.Taking.{BreaksOff, Cuts, GoesOn, HasCut, HasWritten, Keeps};
 ghost use Rattle.log_files.specs.Taking.{Lasts, Overlays, is_sound, number_of};
@@ -15,6 +16,7 @@ fn not_usable() -> io::Error {
 }
 
 /// Writes more of these bytes at an offset, of which so many are written, and says how many.
+#[tactic(auto, using(crate::proofs::Calling::calls_write))]
 fn write_more<C: Calls>(
     calls: &mut C,
     file: &C::File,
@@ -33,6 +35,7 @@ fn write_more<C: Calls>(
     ensures refused { OnErr result (BreaksOff at done bytes.now
         (contents (C.number file.now) unwritten.old.writes (C.history calls.old))
         (contents (C.number file.now) unwritten.new.writes (C.history calls.new))) }
+    ensures calls { CallsOnly (C.number file.now) (C.history calls.old) (C.history calls.new) }
 {
     let rest = &bytes[done..];
     match calls.write_at(file, (at + done) as u64, rest) {
@@ -46,7 +49,7 @@ fn write_more<C: Calls>(
 }
 
 /// Writes all of these bytes at an offset.
-#[tactic(auto, using(crate::proofs::Writing::overlays_none, crate::proofs::Writing::written_none))]
+#[tactic(auto, using(crate::proofs::Calling::calls_none, crate::proofs::Writing::overlays_none, crate::proofs::Writing::written_none))]
 pub(crate) fn write_all<C: Calls>(
     calls: &mut C,
     file: &Option<C::File>,
@@ -60,6 +63,8 @@ pub(crate) fn write_all<C: Calls>(
     ensures overlays { Overlays at bytes.now
         (contents (number_of C.number file.now) unwritten.old.writes (C.history calls.old))
         (contents (number_of C.number file.now) unwritten.new.writes (C.history calls.new)) }
+    ensures calls { CallsOnly (number_of C.number file.now) (C.history calls.old)
+        (C.history calls.new) }
 {
     let Some(taker) = file else {
         return Err(not_usable());
@@ -75,6 +80,7 @@ pub(crate) fn write_all<C: Calls>(
 }
 
 /// Gives a file a length.
+#[tactic(auto, using(crate::proofs::Calling::calls_none))]
 pub(crate) fn cut_at<C: Calls>(calls: &mut C, file: &Option<C::File>, len: usize) -> io::Result<()>
     ensures cuts { (writes : List (List ℕ)) → Cuts len
         (contents (number_of C.number file.now) writes (C.history calls.old))
@@ -82,6 +88,8 @@ pub(crate) fn cut_at<C: Calls>(calls: &mut C, file: &Option<C::File>, len: usize
     ensures cut { OnOk result ((writes : List (List ℕ)) → HasCut len
         (contents (number_of C.number file.now) writes (C.history calls.old))
         (contents (number_of C.number file.now) writes (C.history calls.new))) }
+    ensures calls { CallsOnly (number_of C.number file.now) (C.history calls.old)
+        (C.history calls.new) }
 {
     let Some(file) = file else {
         return Err(not_usable());
@@ -90,6 +98,7 @@ pub(crate) fn cut_at<C: Calls>(calls: &mut C, file: &Option<C::File>, len: usize
 }
 
 /// Writes what a file has to the disk. Not where a write has failed: it isn't known what it has.
+#[tactic(auto, using(crate::proofs::Calling::calls_none))]
 pub(crate) fn sync_now<C: Calls>(
     calls: &mut C,
     file: &Option<C::File>,
@@ -105,6 +114,8 @@ pub(crate) fn sync_now<C: Calls>(
         (contents (number_of C.number file.now) writes (C.history calls.old)))
         → Lasts is_torn (contents (number_of C.number file.now) writes (C.history calls.old))
         (contents (number_of C.number file.now) writes (C.history calls.new))) }
+    ensures calls { CallsOnly (number_of C.number file.now) (C.history calls.old)
+        (C.history calls.new) }
 {
     let Some(file) = file else {
         return Err(not_usable());

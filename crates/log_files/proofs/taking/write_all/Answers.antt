@@ -1,12 +1,14 @@
 use Rattle.std.proofs.Common.{◌≡◌, ℕ, length, subst, arith}
 use Rattle.log_files.specs.Contents.{contents}
 use Rattle.log_files.specs.Taking.{HasWritten}
+use Rattle.log_files.proofs.Calling.{calls_then}
 use Rattle.log_files.proofs.taking.write_all.Goals as goal
 
 pub loop-done-preserved : goal.loop-done-preserved
 loop-done-preserved g c = record {
   within = c.in_ok-done.ensures.count;
   writing = c.in_ok-done.ensures.written.on _ c.loop-done.invariant.writing;
+  called = calls_then _ _ _ _ c.loop-done.invariant.called c.in_ok-done.ensures.calls;
 }
 
 pub returns-in_err-done-clause-overlays : goal.returns-in_err-done-clause-overlays
@@ -21,3 +23,9 @@ returns-clause-written g c =
 
 pub returns-clause-overlays : goal.returns-clause-overlays
 returns-clause-overlays g c = rw c.in-Some.is c.loop-done.invariant.writing.overlays
+
+pub returns-in_err-done-clause-calls : goal.returns-in_err-done-clause-calls
+returns-in_err-done-clause-calls g c = rw c.in-Some.is (calls_then _ _ _ _ c.loop-done.invariant.called c.in_err-done.ensures.calls)
+
+pub returns-clause-calls : goal.returns-clause-calls
+returns-clause-calls g c = rw c.in-Some.is c.loop-done.invariant.called
