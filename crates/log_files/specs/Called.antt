@@ -1,5 +1,5 @@
 -- Which calls of the system are made.
-use Rattle.std.specs.Prelude.{◌≡◌, ◌==◌, ◌++◌, ℕ, Bool, true, false, List, IsTrue}
+use Rattle.std.specs.Prelude.{◌≡◌, ◌==◌, ◌++◌, ℕ, Bool, false, List, IsTrue}
 use Rattle.std.specs.List.{list_all}
 use Rattle.host_calls.specs.Events.{Event, Written, Cut, Synced}
 
