@@ -8,3 +8,4 @@ pub mod Following
 pub mod Parting
 pub mod Writing
 pub mod Clearing
+pub mod Singling

@@ -4,3 +4,4 @@ pub mod Tails
 pub mod Headers
 pub mod Logs
 pub mod Kept
+pub mod Single

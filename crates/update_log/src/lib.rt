@@ -20,6 +20,7 @@
 
 mod accepting;
 mod headers;
+mod laws;
 mod numbers;
 mod places;
 mod putting;
@@ -30,6 +31,7 @@ mod sectors;
 mod tails;
 
 pub use accepting::{Accepted, accept, tail};
+pub use laws::a_file_is_one_log;
 pub use places::Place;
 pub use putting::{AHEAD_BYTES, LARGEST_LOG, put};
 pub use records::LARGEST_PAYLOAD;

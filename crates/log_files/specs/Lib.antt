@@ -1,0 +1,4 @@
+pub mod Called
+pub mod Contents
+pub mod Staying
+pub mod Taking
