@@ -7,7 +7,7 @@ import subprocess
 import unittest
 
 TOP = pathlib.Path(__file__).resolve().parents[1]
-PAGES = sorted(page for folder in (".", "docs", "bench", "examples", "python", "tests") for page in (TOP / folder).glob("*.md"))
+PAGES = sorted(page for folder in (".", "docs", "bench", "deploy", "examples", "python", "tests") for page in (TOP / folder).glob("*.md"))
 COUNTED = [page for page in PAGES if page.parent.name == "docs" or page == TOP / "README.md"]
 MOST_WORDS, README_LINES, CELL_WORDS, FIGURE_LINES = 28_000, 120, 25, 25
 # Sentences of README and docs with more words, and with more than one colon or semicolon. Both may only fall.
