@@ -1,5 +1,5 @@
 -- What a crash leaves of a log while a record is written.
-use Rattle.std.proofs.Common.{◌≡◌, ◌⊎◌, inl, inr, ℕ, ◌+◌, ◌-◌, ◌*◌, ◌^◌, ◌<◌, ◌≤◌, List, [], ◌∷◌, ◌++◌, length, take, drop, slice_index, refl, sym, ap, subst, ◌∙◌, arith, length-drop, ext_get_or}
+use Rattle.std.proofs.Common.{◌≡◌, ◌⊎◌, inl, inr, ℕ, ◌+◌, ◌-◌, ◌^◌, ◌<◌, ◌≤◌, List, [], ◌∷◌, ◌++◌, length, take, drop, slice_index, sym, ap, subst, ◌∙◌, arith, length-drop, ext_get_or}
 use Rattle.std.specs.Prelude.{Result, Ok, Err, IfErr}
 use Rattle.std.proofs.lemmas.Bool.{cases_lt}
 use Rattle.std.proofs.lemmas.List.{append-nil, length-take, take_all, take_at, get_or-drop, get_or-take}
@@ -8,13 +8,13 @@ use Rattle.sqlite_disk.specs.Disk.{Follows, Holds, Mixed, Only, Torn}
 use Rattle.update_log.specs.declared.places.Place.{Place}
 use Rattle.update_log.specs.Sectors.{size_of, zeros}
 use Rattle.update_log.specs.Records.{Entry, after, entry_of, record_bytes}
-use Rattle.update_log.specs.Tails.{IsOpen, Masks}
+use Rattle.update_log.specs.Tails.{Masks}
 use Rattle.update_log.specs.Logs.{Accepts, Begins, Reaches, payloads_of, tail_of}
 use Rattle.update_log.specs.Headers.{start}
 use Rattle.update_log.specs.Kept.{CanBegin, IsAhead, IsBlank, IsReady, LeavesJust, Recovers, Stays}
 use Rattle.update_log.proofs.Recording.{record_length, whole_or_lost, zero_at, zeros_length}
 use Rattle.update_log.proofs.Following.{tail_front}
-use Rattle.update_log.proofs.Parting.{blank_above, blank_open, front_stays, log_grows, log_stays, mixed_masks, tail_at}
+use Rattle.update_log.proofs.Parting.{blank_above, blank_open, front_stays, log_grows, log_stays, mixed_masks}
 
 module _ (image : List ℕ) (payloads : List (List ℕ)) (p : Place) (e : Entry) (old : List ℕ) (can : CanBegin image payloads p e old) where
   abbrev size : ℕ

@@ -1,4 +1,4 @@
-use Rattle.std.proofs.Common.{◌≡◌, inl, inr, ◌+◌, ◌≤◌, List, ℕ, ◌++◌, arith, subst}
+use Rattle.std.proofs.Common.{inl, inr, List, ℕ, ◌++◌, arith, subst}
 use Rattle.std.proofs.lemmas.Result.{err_from_is_err_and, on_ok_weaker}
 use Rattle.update_log.specs.Kept.{IsReady, Recovers}
 use Rattle.update_log.specs.Refusals.{IsShort}

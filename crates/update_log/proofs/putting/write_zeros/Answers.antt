@@ -1,4 +1,4 @@
-use Rattle.std.proofs.Common.{◌≡◌, inr, ◌+◌, ◌^◌, ◌<◌, ℕ, List, length, subst, ap, ◌∙◌, arith}
+use Rattle.std.proofs.Common.{inr, ◌+◌, ◌^◌, ◌<◌, ℕ, List, length, subst, ap, arith}
 use Rattle.sqlite_disk.specs.Disk.{Mixed}
 use Rattle.update_log.proofs.Recording.{zeros_length}
 use Rattle.update_log.proofs.Writing.{blank_made}
