@@ -1,15 +1,14 @@
 -- Torn bytes are cleared, and a crash leaves a log with the same payloads.
-use Rattle.std.proofs.Common.{◌≡◌, ◌⊎◌, inl, inr, ℕ, zero, suc, ◌+◌, ◌-◌, ◌^◌, ◌<◌, ◌≤◌, List, [], ◌∷◌, ◌++◌, length, take, drop, slice_index, refl, sym, ap, subst, ◌∙◌, arith, ext_get_or}
+use Rattle.std.proofs.Common.{◌≡◌, ◌⊎◌, inl, inr, ℕ, zero, suc, ◌+◌, ◌-◌, ◌<◌, ◌≤◌, List, [], ◌∷◌, length, take, slice_index, refl, sym, ap, subst, ◌∙◌, arith, ext_get_or}
 use Rattle.std.proofs.lemmas.Bool.{cases_lt}
 use Rattle.std.proofs.lemmas.List.{get_or-take, get_or_past, length-take}
-use Rattle.sqlite_disk.specs.declared.Disk.{Ghosts}
 use Rattle.sqlite_disk.specs.Disk.{Holds, Mixed, Only, Torn}
 use Rattle.update_log.specs.declared.places.Place.{Place}
 use Rattle.update_log.specs.Sectors.{zeros}
 use Rattle.update_log.specs.Records.{nonzeros}
-use Rattle.update_log.specs.Tails.{IsOpen, Masks}
+use Rattle.update_log.specs.Tails.{Masks}
 use Rattle.update_log.specs.Logs.{Accepts, tail_of}
-use Rattle.update_log.specs.Kept.{IsAhead, IsBlank, IsReady, LeavesJust}
+use Rattle.update_log.specs.Kept.{IsBlank, LeavesJust}
 use Rattle.update_log.specs.Headers.{header_bytes, start}
 use Rattle.update_log.proofs.Heading.{header_length}
 use Rattle.update_log.proofs.Nonzeros.{bit_more}

@@ -1,10 +1,10 @@
 -- What a header says is read.
-use Rattle.std.proofs.Common.{◌≡◌, ◌≢◌, ◌⊎◌, inl, inr, ℕ, ◌+◌, ◌^◌, ◌<◌, ◌≤◌, List, ◌++◌, length, take, drop, refl, sym, ap, subst, ◌∙◌, arith, append_assoc, length-append}
+use Rattle.std.proofs.Common.{◌≡◌, ◌≢◌, ◌⊎◌, inl, inr, ℕ, ◌^◌, ◌<◌, ◌≤◌, List, ◌++◌, length, take, drop, refl, sym, ap, ◌∙◌, arith, append_assoc, length-append}
 use Rattle.std.proofs.lemmas.List.{drop_at, take_at}
 use Rattle.std.proofs.lemmas.Nat.{from_be_bytes-to_be_bytes_8}
 use Rattle.sha2.proofs.Facts256.{length-sha256}
 use Rattle.sha2.specs.Sha256.{sha256}
-use Rattle.update_log.specs.Headers.{HasNoHeader, IsHeader, header_bytes, header_front, magic}
+use Rattle.update_log.specs.Headers.{HasNoHeader, IsHeader, header_bytes, header_front}
 use Rattle.update_log.specs.Records.{long}
 use Rattle.update_log.specs.Sectors.{zeros}
 use Rattle.update_log.specs.Tails.{long_in}

@@ -1,10 +1,10 @@
 -- What a loss of bytes to zeros does to what is read of a record.
-use Rattle.std.proofs.Common.{◌≡◌, ◌⊎◌, inl, inr, ℕ, zero, suc, ◌+◌, ◌-◌, ◌*◌, ◌/◌, ◌^◌, ◌<◌, ◌≤◌, List, [], ◌∷◌, ◌++◌, length, take, drop, slice_index, get_or, refl, sym, ap, subst, ◌∙◌, arith, length-drop, ext_get_or}
+use Rattle.std.proofs.Common.{◌≡◌, ◌⊎◌, inl, inr, ℕ, zero, suc, ◌+◌, ◌-◌, ◌*◌, ◌<◌, ◌≤◌, List, ◌++◌, take, drop, slice_index, sym, ap, subst, ◌∙◌, arith, length-drop, ext_get_or}
 use Rattle.std.proofs.Math.Seq.{take-add}
 use Rattle.std.proofs.lemmas.Bool.{cases_lt}
 use Rattle.std.proofs.lemmas.List.{length-take, get_or-take, get_or-drop, get_or_past}
 use Rattle.update_log.specs.Records.{nonzeros}
-use Rattle.update_log.specs.Sectors.{further_count, size_of}
+use Rattle.update_log.specs.Sectors.{size_of}
 use Rattle.update_log.specs.Tails.{Masks, IsOpen, IsFurtherMark, count_in, found_in, length_in, weight, word_in}
 use Rattle.update_log.proofs.Nonzeros.{nonzeros_fall, nonzeros_front, nonzeros_same}
 

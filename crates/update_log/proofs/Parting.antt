@@ -1,17 +1,17 @@
 -- What a write leaves of a log's bytes, and which of its records.
-use Rattle.std.proofs.Common.{◌≡◌, ◌⊎◌, inl, inr, ℕ, ◌+◌, ◌-◌, ◌*◌, ◌^◌, ◌<◌, ◌≤◌, List, [], ◌∷◌, ◌++◌, length, take, drop, slice_index, refl, sym, ap, subst, ◌∙◌, arith, length-append, length-drop, ext_get_or}
+use Rattle.std.proofs.Common.{◌≡◌, inl, inr, ℕ, ◌+◌, ◌-◌, ◌<◌, ◌≤◌, List, [], ◌∷◌, ◌++◌, length, take, drop, slice_index, sym, ap, subst, ◌∙◌, arith, length-append, ext_get_or}
 use Rattle.std.proofs.lemmas.Bool.{cases_lt}
-use Rattle.std.proofs.lemmas.List.{drop-take, drop-drop, drop_at, take-take, take_at, take-append-drop, length-take, get_or-drop, get_or-take, get_or_past, get_or_append_left, get_or-append_right}
-use Rattle.sqlite_disk.specs.Disk.{Holds, Mixed, Torn}
+use Rattle.std.proofs.lemmas.List.{drop-take, take-take, length-take, get_or-drop, get_or-take, get_or_past, get_or_append_left}
+use Rattle.sqlite_disk.specs.Disk.{Mixed, Torn}
 use Rattle.update_log.specs.declared.places.Place.{Place}
 use Rattle.update_log.specs.Sectors.{size_of, zeros}
-use Rattle.update_log.specs.Records.{Entry, after, record_bytes}
+use Rattle.update_log.specs.Records.{Entry, after}
 use Rattle.update_log.specs.Tails.{IsOpen, Masks}
 use Rattle.update_log.specs.Headers.{IsHeader, start}
-use Rattle.update_log.specs.Logs.{Accepts, Begins, IsLog, Reaches, payloads_of, tail_of}
+use Rattle.update_log.specs.Logs.{Accepts, Begins, Reaches, payloads_of, tail_of}
 use Rattle.update_log.specs.Kept.{IsBlank}
 use Rattle.update_log.proofs.Recording.{zero_at, zeros_length, zeros_open}
-use Rattle.update_log.proofs.Following.{payloads_more, reaches_more, tail_front, tail_length}
+use Rattle.update_log.proofs.Following.{payloads_more, reaches_more, tail_length}
 
 -- ---- bytes
 

@@ -4,8 +4,8 @@ use Rattle.std.proofs.lemmas.List.{append-nil}
 use Rattle.update_log.specs.declared.places.Place.{Place}
 use Rattle.update_log.specs.Records.{Entry}
 use Rattle.update_log.specs.Headers.{IsHeader, start}
-use Rattle.update_log.specs.Logs.{Accepts, IsLog, Reaches, payloads_of, tail_of}
-use Rattle.update_log.specs.Single.{AreOne, IsOneLog}
+use Rattle.update_log.specs.Logs.{Reaches, payloads_of, tail_of}
+use Rattle.update_log.specs.Single.{IsOneLog}
 use Rattle.update_log.specs.Tails.{IsOpen}
 use Rattle.update_log.proofs.Following.{not_both, rest_reaches}
 use Rattle.update_log.proofs.Heading.{one_image, one_limit}

@@ -1,5 +1,6 @@
 -- What a crash leaves of a log while a record is written.
-use Rattle.std.proofs.Common.{◌≡◌, ◌⊎◌, inl, inr, ℕ, ◌+◌, ◌-◌, ◌*◌, ◌^◌, ◌<◌, ◌≤◌, List, [], ◌∷◌, ◌++◌, length, take, drop, slice_index, refl, sym, ap, subst, ◌∙◌, arith, length-drop, ext_get_or}
+use Rattle.std.proofs.Common.{◌≡◌, ◌⊎◌, inl, inr, ℕ, ◌+◌, ◌-◌, ◌^◌, ◌<◌, ◌≤◌, List, [], ◌∷◌, ◌++◌, length, take, drop, slice_index, sym, ap, subst, ◌∙◌, arith, length-drop, ext_get_or}
+use Rattle.std.specs.Prelude.{Result, Ok, Err, IfErr}
 use Rattle.std.proofs.lemmas.Bool.{cases_lt}
 use Rattle.std.proofs.lemmas.List.{append-nil, length-take, take_all, take_at, get_or-drop, get_or-take}
 use Rattle.sqlite_disk.specs.declared.Disk.{Ghosts}
@@ -7,13 +8,13 @@ use Rattle.sqlite_disk.specs.Disk.{Follows, Holds, Mixed, Only, Torn}
 use Rattle.update_log.specs.declared.places.Place.{Place}
 use Rattle.update_log.specs.Sectors.{size_of, zeros}
 use Rattle.update_log.specs.Records.{Entry, after, entry_of, record_bytes}
-use Rattle.update_log.specs.Tails.{IsOpen, Masks}
+use Rattle.update_log.specs.Tails.{Masks}
 use Rattle.update_log.specs.Logs.{Accepts, Begins, Reaches, payloads_of, tail_of}
 use Rattle.update_log.specs.Headers.{start}
-use Rattle.update_log.specs.Kept.{CanBegin, IsBlank, IsReady, LeavesJust, Recovers}
+use Rattle.update_log.specs.Kept.{CanBegin, IsAhead, IsBlank, IsReady, LeavesJust, Recovers, Stays}
 use Rattle.update_log.proofs.Recording.{record_length, whole_or_lost, zero_at, zeros_length}
 use Rattle.update_log.proofs.Following.{tail_front}
-use Rattle.update_log.proofs.Parting.{blank_above, blank_open, front_stays, log_grows, log_stays, mixed_masks, tail_at}
+use Rattle.update_log.proofs.Parting.{blank_above, blank_open, front_stays, log_grows, log_stays, mixed_masks}
 
 module _ (image : List ℕ) (payloads : List (List ℕ)) (p : Place) (e : Entry) (old : List ℕ) (can : CanBegin image payloads p e old) where
   abbrev size : ℕ
@@ -152,3 +153,21 @@ pub blank_made : (count m : ℕ) (start resized given : List ℕ) → start ≡ 
 blank_made count m start resized given ss ms rs gs =
     let n : count - m ≡ count = omega (arith, ms) in
     gs ∙ rs ∙ ap (λ (x : List ℕ). x ++ zeros (count - m)) (take_all count start (omega (arith, ap length ss)) ∙ ss) ∙ ap zeros n
+
+-- ---- where a record isn't put
+
+-- zeros were, past the limit
+pub stays_ahead : {D : Type 0} (g : Ghosts D) (p : Place) (count : ℕ) (old new : D) → p.at ≤ p.limit → IsAhead g p.limit count old new → Stays g p p old new
+stays_ahead g p count old new at ahead image payloads ready = record {
+  accepted = still_accepted image payloads p count (g.seen old) (g.seen new) ready.accepted ready.blank at ahead.others;
+  blank = below_blank image payloads p count (g.seen old) (g.seen new) ready.accepted ready.blank at ahead.others;
+  synced = ahead.synced;
+}
+
+-- nothing more was done
+pub stays_same : {D : Type 0} (g : Ghosts D) (p q r : Place) (old mid new : D) → Stays g p q old mid → (r ≡ q) × (new ≡ mid) → Stays g p r old new
+stays_same g p q r old mid new stays same = rw (same.0, same.1) stays
+
+pub on_short : {T E : Type 0} (r : Result T E) (A : E → Type 0) (P Q R : Type 0) → (P → Q → R) → IfErr r (λ e. A e → P) → IfErr r (λ e. A e → Q) → IfErr r (λ e. A e → R)
+on_short (Ok x) A P Q R how one other = tt
+on_short (Err e) A P Q R how one other = λ is. how (one is) (other is)

@@ -5,3 +5,4 @@ pub mod Headers
 pub mod Logs
 pub mod Kept
 pub mod Single
+pub mod Refusals

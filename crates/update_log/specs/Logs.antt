@@ -1,5 +1,5 @@
 -- Which bytes are a log, and what it has.
-use Rattle.std.specs.Prelude.{◌≡◌, ℕ, ◌+◌, ◌==◌, if◌then◌else◌, ◌^◌, ◌≤◌, List, [], ◌∷◌, ◌++◌, length, take, drop}
+use Rattle.std.specs.Prelude.{◌≡◌, ℕ, ◌+◌, ◌==◌, if◌then◌else◌, ◌^◌, ◌≤◌, List, [], ◌∷◌, length, take, drop}
 use Rattle.update_log.specs.declared.places.Place.{Place}
 use Rattle.update_log.specs.Sectors.{size_of}
 use Rattle.update_log.specs.Records.{Entry, after, record_bytes}

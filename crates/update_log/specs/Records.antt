@@ -1,5 +1,5 @@
 -- A record of a log, to the byte. Numbers have their highest byte first.
-use Rattle.std.specs.Prelude.{ℕ, ◌+◌, ◌-◌, ◌*◌, ◌^◌, ◌<◌, ◌≤◌, ◌==◌, if◌then◌else◌, List, [], ◌∷◌, ◌++◌, length}
+use Rattle.std.specs.Prelude.{ℕ, ◌+◌, ◌-◌, ◌^◌, ◌<◌, ◌≤◌, ◌==◌, if◌then◌else◌, List, [], ◌∷◌, ◌++◌, length}
 use Rattle.std.specs.Int.{w32, w64, to_be_bytes}
 use Rattle.sha2.specs.Sha256.{sha256}
 use Rattle.update_log.specs.declared.places.Place.{Place}

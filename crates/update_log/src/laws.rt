@@ -5,5 +5,4 @@ ghost use Rattle.update_log.specs.Single.{IsOneLog};
 /// of it is what was put.
 pub fn a_file_is_one_log()
     ensures { IsOneLog }
-{
-}
+{}

@@ -9,6 +9,8 @@
 //!
 //! The layers above may rely on this: `put` answers `Ok` once the record is on the disk, and a
 //! crash at any moment leaves a log with the payloads from before, with the new one or without.
+//! Where memory was refused, or the log is as long as one may be, it goes on as it was; where zeros
+//! can't be written ahead of it, a crash leaves the payloads from before.
 //! `accept` reads a file: it gives the payloads of a log, cuts a record that was torn at its end,
 //! and refuses every other file. A record that misses bytes and isn't the last is damage, as is one
 //! of which a byte was changed otherwise. After `accept`, `clear` puts zeros over torn bytes.

@@ -1,10 +1,11 @@
 //! How records are put to a log on a disk.
 ghost use Rattle.std.specs.Prelude.{◌≡◌, ◌⊎◌, ◌+◌, ◌^◌, ◌<◌, ◌≤◌, ◌∷◌, [], ℕ, List, length};
-ghost use Rattle.std.specs.Prelude.{IsTrue, OnOk};
+ghost use Rattle.std.specs.Prelude.{IfErr, IsTrue, OnOk};
 ghost use Rattle.sqlite_disk.specs.Disk.{Mixed, Torn};
 ghost use Rattle.update_log.specs.Kept.{Continues, IsAhead, LeavesOneMore, LeavesStored};
 ghost use Rattle.update_log.specs.Kept.{LeavesTheSame, Stays, Stores};
 ghost use Rattle.update_log.specs.Records.{entry_of};
+ghost use Rattle.update_log.specs.Refusals.{IsNoRoom, IsShort};
 ghost use Rattle.update_log.specs.Sectors.{size_of, zeros};
 
 use crate::places::Place;
@@ -39,6 +40,9 @@ fn write_record<D: Disk>(
     ensures number { OnOk result (place.new.number ≡ place.old.number + 1) }
     ensures at { OnOk result (place.new.at ≡ place.old.at + size_of (length payload.now)) }
     ensures limit { OnOk result (place.new.limit ≡ limit) }
+    ensures same_place { IfErr result (λ why. IsShort why → place.new ≡ place.old) }
+    ensures same_disk { IfErr result (λ why. IsShort why → disk.new ≡ disk.old) }
+    ensures room { IfErr result (λ why. IsNoRoom why → ⊥) }
 {
     if !disk.mixes() {
         return Err(NotPut::MayTear);
@@ -68,10 +72,13 @@ pub(crate) fn write_zeros<D: Disk>(
     ensures mixed { IsTrue (D.Disk.is_mixing disk.old) → from + count < 2 ^ 64
         → (c : List ℕ) → D.Disk.may_leave disk.new c → D.Disk.may_leave disk.old c
         ⊎ (d : List ℕ) × (D.Disk.may_leave disk.old d × Mixed from (zeros count) d c) }
+    ensures same { IfErr result (λ why. IsShort why → disk.new ≡ disk.old) }
 {
     let mut blank = Vec::new(alloc);
     blank.resize(count, 0)?;
-    disk.write_at(from, &blank)?;
+    if let Err(error) = disk.write_at(from, &blank) {
+        return Err(NotPut::NoRoom(error));
+    }
     disk.sync()?;
     Ok(())
 }
@@ -91,6 +98,9 @@ fn grow<D: Disk>(alloc: Global, disk: &mut D, place: &mut Place, ahead: usize) -
     ensures number { OnOk result (place.new.number ≡ place.old.number + 1) }
     ensures at { OnOk result (place.new.at ≡ place.old.at + 512) }
     ensures limit { OnOk result (place.new.limit ≡ place.old.limit + ahead) }
+    ensures again { IfErr result (λ why. IsShort why
+        → Stays D.Disk place.old place.new disk.old disk.new) }
+    ensures still { IfErr result (λ why. IsShort why → IsTrue (D.Disk.is_usable disk.new)) }
 {
     write_zeros(alloc, disk, place.limit, ahead)?;
     write_record(alloc, disk, place, place.limit + ahead, &[])
@@ -112,6 +122,9 @@ fn make_room<D: Disk>(
     ensures at { OnOk result (place.new.at < 2 ^ 62) }
     ensures room { OnOk result (place.new.at + size ≤ place.new.limit) }
     ensures limit { OnOk result (place.new.limit < 2 ^ 62) }
+    ensures again { IfErr result (λ why. IsShort why
+        → Stays D.Disk place.old place.new disk.old disk.new) }
+    ensures still { IfErr result (λ why. IsShort why → IsTrue (D.Disk.is_usable disk.new)) }
 {
     let is_long = place.at > LARGEST_LOG || place.limit > LARGEST_LOG;
     if is_long || place.number > LARGEST_LOG as u64 {
@@ -127,7 +140,7 @@ fn make_room<D: Disk>(
 }
 
 /// Puts a payload to the log that goes on at a place, and answers once it is on the disk. After
-/// `Failed` the log has to be recovered before it goes on.
+/// `Failed` the log has to be recovered before it goes on, and after `NoRoom`.
 pub fn put<D: Disk>(
     alloc: Global,
     disk: &mut D,
@@ -140,6 +153,13 @@ pub fn put<D: Disk>(
     ensures stored { OnOk result (Stores D.Disk payload.now place.old place.new disk.old disk.new) }
     ensures usable { OnOk result (IsTrue (D.Disk.is_usable disk.new)) }
     ensures crash { LeavesStored D.Disk payload.now place.old disk.old disk.new }
+    // Where memory was refused, or the log is as long as one may be, it goes on.
+    ensures again { IfErr result (λ why. IsShort why
+        → Stays D.Disk place.old place.new disk.old disk.new) }
+    ensures still { IfErr result (λ why. IsShort why → IsTrue (D.Disk.is_usable disk.new)) }
+    // Where there was no room ahead of it, a crash leaves what was put before.
+    ensures no_room { IfErr result (λ why. IsNoRoom why
+        → LeavesTheSame D.Disk place.old disk.old disk.new) }
 {
     make_room(alloc, disk, place, size_of_record(payload.len()))?;
     write_record(alloc, disk, place, place.limit, payload)

@@ -43,6 +43,8 @@ pub enum NotPut {
     NoMemory,
     /// The log is as long as one may be.
     Full,
+    /// Zeros can't be written ahead. A log that was there is as it was, but for bytes after it.
+    NoRoom(io::Error),
     /// The disk may leave any bytes where a write is torn, so that a torn record couldn't be told
     /// from a whole one.
     MayTear,

@@ -1,4 +1,4 @@
-use Rattle.std.proofs.Common.{◌≡◌, ◌^◌, ◌<◌, map, length, ◌-◌}
+use Rattle.std.proofs.Common.{map, length, ◌-◌}
 use Rattle.update_log.proofs.Following.{Found}
 use Rattle.update_log.proofs.accepting.accept.Given as goal
 

@@ -1,4 +1,4 @@
-use Rattle.std.proofs.Common.{◌≡◌, ◌≢◌, ◌⊎◌, inl, inr, ◌-◌, ◌^◌, ◌<◌, length, refl, arith, ◌∙◌}
+use Rattle.std.proofs.Common.{◌≢◌, ◌⊎◌, inl, inr, ◌-◌, ◌^◌, ◌<◌, length, refl, arith, ◌∙◌}
 use Rattle.update_log.specs.Tails.{weight}
 use Rattle.update_log.proofs.Choices.{if_false}
 use Rattle.update_log.proofs.Following.{fails_at}

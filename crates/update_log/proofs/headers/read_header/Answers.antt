@@ -1,4 +1,4 @@
-use Rattle.std.proofs.Common.{◌≡◌, ℕ, List, ◌<◌, ◌^◌, ◌≤◌, ◌⊎◌, inl, inr, refl, length, arith, subst, ◌∙◌}
+use Rattle.std.proofs.Common.{◌≡◌, ℕ, List, ◌<◌, ◌^◌, ◌⊎◌, inl, inr, refl, length, arith, subst, ◌∙◌}
 use Rattle.update_log.specs.Headers.{IsHeader, start}
 use Rattle.update_log.proofs.Choices.{if_false, if_true}
 use Rattle.update_log.proofs.Heading.{header_made, no_limit, not_made}

@@ -1,4 +1,4 @@
-use Rattle.std.proofs.Common.{◌≡◌, ℕ, ◌+◌, ◌^◌, ◌<◌, List, length, sym, subst, ap, ◌∙◌, arith}
+use Rattle.std.proofs.Common.{◌<◌, length, sym, ap, ◌∙◌, arith}
 use Rattle.update_log.specs.Records.{after, entry_of}
 use Rattle.update_log.proofs.Recording.{record_length}
 use Rattle.update_log.proofs.Writing.{outcome_either, ready_made, room_fits, written}

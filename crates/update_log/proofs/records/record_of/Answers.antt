@@ -1,5 +1,4 @@
-use Rattle.std.proofs.Common.{◌≡◌, ap, arith, ◌∙◌}
-use Rattle.update_log.specs.Records.{body}
+use Rattle.std.proofs.Common.{◌∙◌}
 use Rattle.update_log.proofs.Recording.{body_is, body_small, content_room, record_is}
 use Rattle.update_log.proofs.records.record_of.Goals as goal
 

@@ -1,4 +1,4 @@
-use Rattle.std.proofs.Common.{◌≡◌, ◌<◌, ap, ◌∙◌, length, arith, []}
+use Rattle.std.proofs.Common.{◌<◌, ap, ◌∙◌, length, arith, []}
 use Rattle.update_log.specs.Headers.{start}
 use Rattle.update_log.proofs.Clearing.{created}
 use Rattle.update_log.proofs.Heading.{header_length}
